@@ -1,7 +1,9 @@
 //! Paths from the root.
-ghost use Rattle.std.specs.Prelude.{◌≡◌, ◌∷◌, ◌++◌, [], MatchOption, IfSome, IsSome, ◌-◌, ◌<◌, ◌↔◌, take, length};
+ghost use Rattle.std.specs.Prelude.{◌≡◌, ◌∷◌, ◌++◌, [], MatchOption, IfOk, IfErr, IfSome, IsSome, ◌-◌, ◌<◌, ◌↔◌, take, length};
 
+use crate::refusal::Refusal;
 use record_codec::Name;
+use std::alloc::Global;
 use std::marker::Model;
 
 /// A path from the root: its names.
@@ -41,4 +43,25 @@ impl Path {
         let (name, parent) = self.names.as_slice().split_last()?;
         Some((parent, name))
     }
+
+    /// The same path once more.
+    pub fn copy(&self) -> Result<Path, Refusal>
+        ensures ok { IfOk result (λ path. path ≡ self.now) }
+        ensures err { IfErr result (λ refusal. refusal ≡ Refusal.Enomem) }
+    {
+        Ok(Path {
+            names: copies(*self.names.allocator(), self.names.as_slice())?,
+        })
+    }
+}
+
+fn copies(alloc: Global, names: &[Name]) -> Result<Vec<Name>, Refusal>
+    ensures ok { IfOk result (λ v. v.items ≡ names.now) }
+    ensures err { IfErr result (λ refusal. refusal ≡ Refusal.Enomem) }
+{
+    let mut copied = Vec::new(alloc);
+    for name in names {
+        copied.push(name.copy()?)?;
+    }
+    Ok(copied)
 }
