@@ -1,6 +1,6 @@
 //! Lists that contracts see as such.
 
-ghost use Rattle.std.specs.Prelude.{◌≡◌, IfOk};
+ghost use Rattle.std.specs.Prelude.{◌≡◌, ◌↔◌, IfOk, IsTrue};
 ghost use Rattle.std.proofs.Common.{rules};
 ghost use Rattle.std.specs.Cmp.Rules.{comparing};
 
@@ -67,7 +67,10 @@ impl PartialEq for Bytes {
 
     ghost laws = { Prim.search (comparing, rules) };
 
-    fn eq(&self, other: &Bytes) -> bool {
+    fn eq(&self, other: &Bytes) -> bool
+        ensures value { result ≡ pointwise nat_eq self.now other.now }
+        ensures same { IsTrue result ↔ (self.now ≡ other.now) }
+    {
         self.bytes.as_slice() == other.bytes.as_slice()
     }
 }
@@ -139,7 +142,10 @@ impl PartialEq for Events {
 
     ghost laws = { partial_equiv_from_equiv events_eq_equiv };
 
-    fn eq(&self, other: &Events) -> bool {
+    fn eq(&self, other: &Events) -> bool
+        ensures value { result ≡ events_eq self.now other.now }
+        ensures same { IsTrue result ↔ (self.now ≡ other.now) }
+    {
         self.events.as_slice() == other.events.as_slice()
     }
 }
