@@ -3,7 +3,9 @@ use Rattle.std.proofs.Common.{◌≡◌, ℕ, ◌+◌, Bool, true, false, cond, 
 use Rattle.std.specs.Prelude.{nat_le, ◌||◌}
 use Rattle.std.proofs.lemmas.List.{take-append-drop, length-take-le}
 use Rattle.record_codec.specs.declared.event.Event.{Event}
-use Rattle.tree_core.specs.Instances.{Instance, after_read, joining, is_repeated, has_mark, mark, event_eq}
+use Rattle.record_codec.specs.Equality.{event_eq}
+use Rattle.tree_core.specs.Queues.{joining, is_repeated, has_mark, mark}
+use Rattle.tree_core.specs.Instances.{Instance, after_read}
 use Rattle.tree_core.specs.Laws.{total, IsQueue, HasFate}
 
 drop_first : (xs ys : List Event) → drop (length xs) (xs ++ ys) ≡ ys
@@ -28,7 +30,7 @@ or_true true = refl
 or_true false = refl
 
 mark_is_mark : event_eq mark mark ≡ true
-unfolding event_eq mark
+unfolding mark
 mark_is_mark = refl
 
 marked : (xs : List Event) → has_mark (xs ++ mark ∷ []) ≡ true

@@ -9,7 +9,8 @@ use Rattle.tree_core.specs.declared.reply.Reply.{Reply}
 use Rattle.tree_core.specs.declared.reply.Reply.TheVariants as reply
 use Rattle.tree_core.specs.declared.reply.Answer.TheVariants.{Done, Number}
 use Rattle.record_codec.specs.Records.{spelling}
-use Rattle.tree_core.specs.Instances.{Instance, instance_of, with_event, after_read, joining, is_repeated, has_mark}
+use Rattle.tree_core.specs.Queues.{joining, is_repeated, has_mark}
+use Rattle.tree_core.specs.Instances.{Instance, instance_of, after_read}
 use Rattle.tree_core.specs.Tree.{Tree, compacted}
 use Rattle.tree_core.specs.Journal.{IsLawful, IsLawfulFrom, stands_for}
 
@@ -78,6 +79,10 @@ total i = i.taken ++ i.waiting
 
 abbrev pub read_count : Instance → ℕ
 read_count i = length i.taken
+
+-- an instance where an event was raised
+abbrev pub with_event : Instance → Event → Instance
+with_event i e = record i { waiting = i.waiting ++ joining i.limit i.waiting e }
 
 -- what waits is all that joined, from the read count on; an event adds to the end; a read moves the count alone
 pub record IsQueue (i : Instance) : Type 0 where

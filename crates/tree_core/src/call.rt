@@ -4,6 +4,9 @@ ghost use Rattle.std.specs.Prelude.{◌≡◌, IfOk, IfErr};
 
 use tree_paths::{Path, Refusal};
 
+/// The greatest mode: set-user-ID, set-group-ID, the sticky bit, and the nine permission bits (POSIX.1-2017, `<sys/stat.h>`).
+pub const GREATEST_MODE: u32 = 0o7777;
+
 /// What a file is.
 #[derive(Clone, Copy, Debug, PartialEq, Eq)]
 pub enum Kind {
