@@ -30,7 +30,10 @@ pub fn index_of(instances: &[OpenInstance], id: u32) -> Option<usize>
 }
 
 /// The same instances once more.
-pub fn instance_copies(alloc: Global, instances: &[OpenInstance]) -> Result<Vec<OpenInstance>, Refusal>
+pub fn instance_copies(
+    alloc: Global,
+    instances: &[OpenInstance],
+) -> Result<Vec<OpenInstance>, Refusal>
     ensures ok { IfOk result (λ v. v.items ≡ instances.now) }
     ensures err { IfErr result (λ refusal. refusal ≡ Refusal.Enomem) }
 {

@@ -128,7 +128,11 @@ impl Machine {
         if let Some(refusal) = self.files.missing(path.names()) {
             return Some(refusal);
         }
-        new_watch_refusal(&self.limits, opened.watched(), self.files.number_at(path.names()))
+        new_watch_refusal(
+            &self.limits,
+            opened.watched(),
+            self.files.number_at(path.names()),
+        )
     }
 
     // Why an instance cannot be read.
@@ -214,7 +218,8 @@ impl Machine {
         ensures err { IfErr result (λ refusal. refusal ≡ Refusal.Enomem) }
     {
         let id = self.next_id;
-        self.instances.push(OpenInstance::new(self.alloc, id, limit))?;
+        self.instances
+            .push(OpenInstance::new(self.alloc, id, limit))?;
         self.next_id += 1;
         Ok(Reply::Instance(id))
     }
