@@ -1,4 +1,4 @@
-// A machine with the journal of its calls.
+//! A tree with the journal of its calls.
 ghost use Rattle.std.specs.Prelude.{◌≡◌, ◌↔◌, ◌-◌, ◌≤◌, [], ◌∷◌, ◌++◌, ◌⊎◌, IfOk, IfErr, OnOk, OnErr, length};
 ghost use Rattle.tree_core.specs.Tree.{reply_of};
 ghost use Rattle.tree_core.specs.Journal.{IsLawful, now, with_entry, waiting_in};
@@ -10,7 +10,10 @@ use std::alloc::{AllocError, Global};
 use std::marker::Model;
 use tree_paths::{Limits, Refusal};
 
-/// A tree, seen as its limits and the journal of its calls.
+/// A tree of files with its instances, and the journal of the calls that it answered.
+///
+/// Contracts see it as its limits and its journal: the files, the watches and what waits are what the journal stands
+/// for. The journal is lawful at each moment: each reply in it is the one that the tree gives after the calls before.
 #[derive(Drop)]
 pub struct State {
     limits: Limits,
@@ -34,7 +37,10 @@ impl Model for State {
 }
 
 impl State {
-    /// The root alone, and an empty journal.
+    /// The root alone, no instance, and an empty journal.
+    ///
+    /// # Errors
+    /// `ENOMEM`, where there is no memory for it.
     pub fn new(alloc: Global, limits: Limits) -> Result<State, Refusal>
         ensures ok { IfOk result (λ s. s ≡ record { limits = limits; entries = [] }) }
         ensures err { IfErr result (λ refusal. refusal ≡ Refusal.Enomem) }
@@ -46,7 +52,12 @@ impl State {
         })
     }
 
-    /// Carries out a call, and adds it to the journal with its reply.
+    /// Carries out a call, and adds it to the journal with its reply. A refused call changes nothing else.
+    ///
+    /// # Errors
+    /// The first that holds; the state is then as before, the journal too.
+    /// - `JournalFull`, where the journal has as many entries as its limit.
+    /// - `ENOMEM`, where there is no memory for the call.
     pub fn apply(&mut self, caller: u32, call: Call) -> Result<Receipt, Refusal>
         ensures entry { IfOk result (λ r. self.new ≡ with_entry self.old (record { caller = caller; call = call; reply = r.reply })) }
         ensures place { IfOk result (λ r. r.place ≡ length self.new.entries) }
@@ -75,7 +86,7 @@ impl State {
         })
     }
 
-    /// The calls so far, each with its reply.
+    /// The calls so far in order, each with who made it and what it answered.
     pub fn journal(&self) -> &[Entry]
         ensures entries { result.now ≡ self.now.entries }
         ensures lawful { IsLawful self.now.limits self.now.entries }
@@ -83,7 +94,7 @@ impl State {
         self.journal.as_slice()
     }
 
-    /// How many records wait in an open instance.
+    /// How many records wait in an open instance, marks of lost events counted. `None` for any other number.
     pub fn waiting(&self, instance: u32) -> Option<usize>
         ensures { result ≡ waiting_in (now self.now) instance }
     {
@@ -94,7 +105,7 @@ impl State {
         }
     }
 
-    /// How many more calls the journal takes.
+    /// How many more calls the journal takes: its limit less its entries.
     pub fn free_entries(&self) -> u64
         ensures { result ≡ self.now.limits.journal - length self.now.entries }
     {

@@ -1,7 +1,7 @@
-//! The tree met from outside: replies in full, the rules of a queue, and each limit at its last value.
+//! The tree from outside: replies in full, the rules of a queue, and each limit at its last value.
 
 use crate::{Answer, Call, Entry, FileCall, GREATEST_MODE, Reply, State};
-use record_codec::bits::{IN_ALL_EVENTS, IN_CREATE};
+use record_codec::bits::{IN_ALL_EVENTS, IN_CREATE, IN_DELETE};
 use record_codec::{Bytes, Event, Name, encode};
 use std::alloc::Global;
 use std::test::Fail;
@@ -54,60 +54,75 @@ fn watched(alloc: Global, limits: Limits, limit: u32) -> Result<State, Refusal> 
 }
 
 // The records of new files of these names in the watched directory, each of one byte; 0 stands for the mark.
-fn records(alloc: Global, names: &[u8]) -> Result<Reply, Fail> {
+fn records(alloc: Global, names: &[u8]) -> Result<Reply, Refusal> {
     let mut events = Vec::new(alloc);
     for name in names {
-        events.push(match *name {
-            0 => Event {
+        if *name == 0 {
+            events.push(Event {
                 wd: -1,
                 mask: 0x4000,
                 cookie: 0,
                 name: None,
-            },
-            byte => Event {
-                wd: 1,
-                mask: 0x100,
-                cookie: 0,
-                name: Name::new(alloc, &[byte])?,
-            },
-        })?;
+            })?;
+        } else {
+            events.push(event(alloc, 0x100, &[*name])?)?;
+        }
     }
     Ok(Reply::Records(Bytes::from_vec(encode(alloc, events.as_slice())?)))
+}
+
+// Whether a call is answered so.
+fn answers(state: &mut State, call: Call, expected: Reply) -> Result<bool, Refusal> {
+    Ok(reply(state, call)? == expected)
+}
+
+// The bytes of the record of the new file f in the directory of watch descriptor 1.
+fn first_record(alloc: Global) -> Result<Bytes, Refusal> {
+    let mut bytes = Vec::from_slice(alloc, &[1, 0, 0, 0, 0, 1, 0, 0, 0, 0, 0, 0, 16, 0, 0, 0])?;
+    bytes.extend_from_slice(&[0x66, 0, 0, 0, 0, 0, 0, 0, 0, 0, 0, 0, 0, 0, 0, 0])?;
+    Ok(Bytes::from_vec(bytes))
 }
 
 #[test]
 fn five_calls(rt: HostRuntime) -> Result<(), Fail> {
     let alloc = rt.alloc();
     let mut state = State::new(alloc, Limits::full())?;
-    let receipt = state.apply(1, mkdir(alloc, b"/d")?)?;
-    assert_eq!(rt; receipt.reply, number(2));
-    assert_eq!(rt; receipt.place, 1);
-    assert_eq!(rt;
-        reply(&mut state, Call::Init { limit: 10 })?,
-        Reply::Instance(1)
-    );
-    let wd = reply(&mut state, watch(alloc, b"/d", IN_CREATE)?)?;
-    assert_eq!(rt; wd, Reply::Wd(1));
-    assert_eq!(rt; reply(&mut state, create(alloc, b"/d/f")?)?, number(3));
+    assert!(rt; answers(&mut state, mkdir(alloc, b"/d")?, number(2))?);
+    assert!(rt; answers(&mut state, Call::Init { limit: 10 }, Reply::Instance(1))?);
+    assert!(rt; answers(&mut state, watch(alloc, b"/d", IN_CREATE)?, Reply::Wd(1))?);
+    assert!(rt; answers(&mut state, create(alloc, b"/d/f")?, number(3))?);
+    let receipt = state.apply(2, read(ALL))?;
+    assert_eq!(rt; receipt.reply, Reply::Records(first_record(alloc)?));
+    assert_eq!(rt; receipt.place, 5);
+    Ok(())
+}
+
+#[test]
+fn what_a_state_says_of_itself(rt: HostRuntime) -> Result<(), Fail> {
+    let alloc = rt.alloc();
+    let mut state = watched(alloc, Limits::full(), 10)?;
+    reply(&mut state, create(alloc, b"/d/f")?)?;
     assert_eq!(rt; state.waiting(1), Some(1));
     assert_eq!(rt; state.waiting(2), None);
-    let receipt = state.apply(2, read(ALL))?;
-    let bytes = vec![in alloc;
-        1, 0, 0, 0, 0, 1, 0, 0, 0, 0, 0, 0, 16, 0, 0, 0, 0x66, 0, 0, 0, 0, 0, 0, 0, 0, 0, 0, 0, 0,
-        0, 0, 0,
-    ]?;
-    assert_eq!(rt; receipt.reply, Reply::Records(Bytes::from_vec(bytes)));
-    assert_eq!(rt; receipt.place, 5);
-    assert_eq!(rt; state.waiting(1), Some(0));
-    assert_eq!(rt; state.free_entries(), 999_995);
-    assert_eq!(rt; state.journal().len(), 5);
-    let last = Entry {
-        caller: 2,
-        call: read(ALL),
-        reply: receipt.reply.copy()?,
+    assert_eq!(rt; state.free_entries(), 999_996);
+    assert_eq!(rt; state.journal().len(), 4);
+    let entry = Entry {
+        caller: 1,
+        call: create(alloc, b"/d/f")?,
+        reply: number(3),
     };
-    assert_eq!(rt; state.journal()[4], last);
+    assert_eq!(rt; state.journal()[3], entry);
     Ok(())
+}
+
+// The record of this mask and name under watch descriptor 1.
+fn event(alloc: Global, mask: u32, name: &[u8]) -> Result<Event, Refusal> {
+    Ok(Event {
+        wd: 1,
+        mask,
+        cookie: 0,
+        name: Name::new(alloc, name)?,
+    })
 }
 
 #[test]
@@ -119,21 +134,20 @@ fn a_new_file_is_made_opened_and_closed(rt: HostRuntime) -> Result<(), Fail> {
     reply(&mut state, create(alloc, b"/f")?)?;
     reply(&mut state, mkdir(alloc, b"/g")?)?;
     let mut events = Vec::new(alloc);
-    for (mask, name) in [
-        (0x100, b"f"),
-        (0x20, b"f"),
-        (0x8, b"f"),
-        (0x4000_0100, b"g"),
-    ] {
-        events.push(Event {
-            wd: 1,
-            mask,
-            cookie: 0,
-            name: Name::new(alloc, name)?,
-        })?;
+    for mask in [0x100, 0x20, 0x8] {
+        events.push(event(alloc, mask, b"f")?)?;
     }
+    events.push(event(alloc, 0x4000_0100, b"g")?)?;
     let all = Bytes::from_vec(encode(alloc, events.as_slice())?);
-    assert_eq!(rt; reply(&mut state, read(ALL))?, Reply::Records(all));
+    assert!(rt; answers(&mut state, read(ALL), Reply::Records(all))?);
+    Ok(())
+}
+
+// Makes files of these names in the watched directory, each of one byte.
+fn make(alloc: Global, state: &mut State, names: &[u8]) -> Result<(), Refusal> {
+    for name in names {
+        reply(state, create(alloc, &[b'/', b'd', b'/', *name])?)?;
+    }
     Ok(())
 }
 
@@ -141,17 +155,11 @@ fn a_new_file_is_made_opened_and_closed(rt: HostRuntime) -> Result<(), Fail> {
 fn read_sizes(rt: HostRuntime) -> Result<(), Fail> {
     let alloc = rt.alloc();
     let mut state = watched(alloc, Limits::full(), 10)?;
-    reply(&mut state, create(alloc, b"/d/f")?)?;
-    assert_eq!(rt;
-        reply(&mut state, read(31))?,
-        Reply::Refused(Refusal::Einval)
-    );
+    make(alloc, &mut state, b"f")?;
+    assert!(rt; answers(&mut state, read(31), Reply::Refused(Refusal::Einval))?);
     assert_eq!(rt; state.waiting(1), Some(1));
-    assert_eq!(rt; reply(&mut state, read(32))?, records(alloc, b"f")?);
-    assert_eq!(rt;
-        reply(&mut state, read(ALL))?,
-        Reply::Refused(Refusal::Eagain)
-    );
+    assert!(rt; answers(&mut state, read(32), records(alloc, b"f")?)?);
+    assert!(rt; answers(&mut state, read(ALL), Reply::Refused(Refusal::Eagain))?);
     Ok(())
 }
 
@@ -160,66 +168,70 @@ fn read_sizes(rt: HostRuntime) -> Result<(), Fail> {
 fn overflow(rt: HostRuntime) -> Result<(), Fail> {
     let alloc = rt.alloc();
     let mut state = watched(alloc, Limits::full(), 2)?;
-    for path in [b"/d/a", b"/d/b", b"/d/c", b"/d/d"] {
-        reply(&mut state, create(alloc, path)?)?;
-    }
+    make(alloc, &mut state, b"abcd")?;
     assert_eq!(rt; state.waiting(1), Some(3));
-    assert_eq!(rt; reply(&mut state, read(32))?, records(alloc, b"a")?);
-    reply(&mut state, create(alloc, b"/d/e")?)?;
+    assert!(rt; answers(&mut state, read(32), records(alloc, b"a")?)?);
+    make(alloc, &mut state, b"e")?;
     assert_eq!(rt; state.waiting(1), Some(2));
-    assert_eq!(rt; reply(&mut state, read(32))?, records(alloc, b"b")?);
-    reply(&mut state, create(alloc, b"/d/g")?)?;
-    assert_eq!(rt; reply(&mut state, read(ALL))?, records(alloc, b"\0g")?);
-
-    let mut state = watched(alloc, Limits::full(), 1)?;
-    for path in [b"/d/a", b"/d/b", b"/d/c"] {
-        reply(&mut state, create(alloc, path)?)?;
-    }
-    assert_eq!(rt; reply(&mut state, read(ALL))?, records(alloc, b"a\0")?);
+    assert!(rt; answers(&mut state, read(32), records(alloc, b"b")?)?);
+    make(alloc, &mut state, b"g")?;
+    assert!(rt; answers(&mut state, read(ALL), records(alloc, b"\0g")?)?);
     Ok(())
 }
 
 #[test]
-fn refusals(rt: HostRuntime) -> Result<(), Fail> {
+fn overflow_of_one_record(rt: HostRuntime) -> Result<(), Fail> {
+    let alloc = rt.alloc();
+    let mut state = watched(alloc, Limits::full(), 1)?;
+    make(alloc, &mut state, b"abc")?;
+    assert!(rt; answers(&mut state, read(ALL), records(alloc, b"a\0")?)?);
+    Ok(())
+}
+
+// Whether a call is refused so, and nothing waits after it.
+fn refuses(state: &mut State, call: Call, refusal: Refusal) -> Result<bool, Refusal> {
+    Ok(reply(state, call)? == Reply::Refused(refusal) && state.waiting(1) == Some(0))
+}
+
+#[test]
+fn refusals_of_file_calls(rt: HostRuntime) -> Result<(), Fail> {
     let alloc = rt.alloc();
     let mut state = watched(alloc, Limits::full(), 10)?;
-    reply(&mut state, create(alloc, b"/d/f")?)?;
-    reply(&mut state, read(ALL))?;
-    let odd_mode = Call::File(FileCall::Create {
+    reply(&mut state, create(alloc, b"/f")?)?;
+    let odd = Call::File(FileCall::Create {
         path: Path::parse(alloc, b"/")?,
         mode: GREATEST_MODE + 1,
     });
+    assert!(rt; refuses(&mut state, odd, Refusal::Einval)?);
+    assert!(rt; refuses(&mut state, mkdir(alloc, b"/")?, Refusal::Eexist)?);
+    assert!(rt; refuses(&mut state, create(alloc, b"/n/f")?, Refusal::Enoent)?);
+    assert!(rt; refuses(&mut state, create(alloc, b"/f/g")?, Refusal::Enotdir)?);
+    assert!(rt; refuses(&mut state, mkdir(alloc, b"/f/g/h")?, Refusal::Enotdir)?);
+    assert!(rt; refuses(&mut state, mkdir(alloc, b"/f")?, Refusal::Eexist)?);
+    assert_eq!(rt; reply(&mut state, create(alloc, b"/g")?)?, number(4));
+    Ok(())
+}
+
+#[test]
+fn refusals_of_instance_calls(rt: HostRuntime) -> Result<(), Fail> {
+    let alloc = rt.alloc();
+    let mut state = watched(alloc, Limits::full(), 10)?;
     let elsewhere = Call::AddWatch {
         instance: 2,
         path: Path::parse(alloc, b"/n")?,
         mask: 0,
     };
-    let calls = [
-        (odd_mode, Refusal::Einval),
-        (mkdir(alloc, b"/")?, Refusal::Eexist),
-        (create(alloc, b"/n/f")?, Refusal::Enoent),
-        (create(alloc, b"/d/f/g")?, Refusal::Enotdir),
-        (mkdir(alloc, b"/d/f/g/h")?, Refusal::Enotdir),
-        (mkdir(alloc, b"/d/f")?, Refusal::Eexist),
-        (Call::Init { limit: 0 }, Refusal::Einval),
-        (elsewhere, Refusal::Ebadf),
-        (watch(alloc, b"/n", 0x1000)?, Refusal::Einval),
-        (watch(alloc, b"/n", 0)?, Refusal::Einval),
-        (watch(alloc, b"/n", 1)?, Refusal::Enoent),
-        (watch(alloc, b"/d/f/g", 1)?, Refusal::Enotdir),
-        (
-            Call::Read {
-                instance: 2,
-                bytes: 0,
-            },
-            Refusal::Ebadf,
-        ),
-    ];
-    for (call, refusal) in calls {
-        assert_eq!(rt; reply(&mut state, call)?, Reply::Refused(refusal));
-        assert_eq!(rt; state.waiting(1), Some(0));
-    }
-    assert_eq!(rt; reply(&mut state, create(alloc, b"/d/g")?)?, number(4));
+    let unread = Call::Read {
+        instance: 2,
+        bytes: 0,
+    };
+    assert!(rt; refuses(&mut state, Call::Init { limit: 0 }, Refusal::Einval)?);
+    assert!(rt; refuses(&mut state, elsewhere, Refusal::Ebadf)?);
+    assert!(rt; refuses(&mut state, watch(alloc, b"/n", 0x1000)?, Refusal::Einval)?);
+    assert!(rt; refuses(&mut state, watch(alloc, b"/n", 0)?, Refusal::Einval)?);
+    assert!(rt; refuses(&mut state, watch(alloc, b"/n", 1)?, Refusal::Enoent)?);
+    assert!(rt; refuses(&mut state, unread, Refusal::Ebadf)?);
+    assert!(rt; refuses(&mut state, read(0), Refusal::Eagain)?);
     Ok(())
 }
 
@@ -227,83 +239,74 @@ fn refusals(rt: HostRuntime) -> Result<(), Fail> {
 fn a_second_watch_replaces_the_bits(rt: HostRuntime) -> Result<(), Fail> {
     let alloc = rt.alloc();
     let mut state = watched(alloc, Limits::full(), 10)?;
-    assert_eq!(rt;
-        reply(&mut state, watch(alloc, b"/d", 0x200)?)?,
-        Reply::Wd(1)
-    );
-    reply(&mut state, create(alloc, b"/d/f")?)?;
+    assert!(rt; answers(&mut state, watch(alloc, b"/d", IN_DELETE)?, Reply::Wd(1))?);
+    make(alloc, &mut state, b"f")?;
     assert_eq!(rt; state.waiting(1), Some(0));
-    assert_eq!(rt;
-        reply(&mut state, watch(alloc, b"/d/f", 0x200)?)?,
-        Reply::Wd(2)
-    );
+    assert!(rt; answers(&mut state, watch(alloc, b"/d/f", IN_DELETE)?, Reply::Wd(2))?);
     Ok(())
 }
 
 #[test]
-fn last_values(rt: HostRuntime) -> Result<(), Fail> {
+fn the_last_file_number(rt: HostRuntime) -> Result<(), Fail> {
     let alloc = rt.alloc();
-    let full = Limits::full();
+    let mut state = State::new(alloc, Limits::full().with_numbers(3))?;
+    assert!(rt; answers(&mut state, mkdir(alloc, b"/d")?, number(2))?);
+    assert!(rt; answers(&mut state, create(alloc, b"/e")?, number(3))?);
     let spent = Reply::Refused(Refusal::NumbersSpent);
-    let mut state = State::new(alloc, full.with_numbers(3))?;
-    assert_eq!(rt; reply(&mut state, mkdir(alloc, b"/d")?)?, number(2));
-    assert_eq!(rt; reply(&mut state, create(alloc, b"/e")?)?, number(3));
-    assert_eq!(rt; reply(&mut state, create(alloc, b"/f")?)?, spent);
-    assert_eq!(rt; reply(&mut state, mkdir(alloc, b"/f")?)?, spent);
+    assert!(rt; answers(&mut state, create(alloc, b"/f")?, spent)?);
+    Ok(())
+}
 
-    for limits in [full.with_instances(2), full.with_ids(2)] {
-        let mut state = State::new(alloc, limits)?;
-        assert_eq!(rt;
-            reply(&mut state, Call::Init { limit: 1 })?,
-            Reply::Instance(1)
-        );
-        assert_eq!(rt;
-            reply(&mut state, Call::Init { limit: 1 })?,
-            Reply::Instance(2)
-        );
-        assert_eq!(rt;
-            reply(&mut state, Call::Init { limit: 1 })?,
-            Reply::Refused(Refusal::Emfile)
-        );
-    }
+// Whether the second instance is the last one.
+fn ends_at_two_instances(alloc: Global, limits: Limits) -> Result<bool, Refusal> {
+    let mut state = State::new(alloc, limits)?;
+    let spent = Reply::Refused(Refusal::Emfile);
+    Ok(
+        answers(&mut state, Call::Init { limit: 1 }, Reply::Instance(1))?
+            && answers(&mut state, Call::Init { limit: 1 }, Reply::Instance(2))?
+            && answers(&mut state, Call::Init { limit: 1 }, spent)?,
+    )
+}
 
-    for limits in [full.with_watches(2), full.with_wds(2)] {
-        let mut state = watched(alloc, limits, 1)?;
-        reply(&mut state, create(alloc, b"/f")?)?;
-        assert_eq!(rt; reply(&mut state, watch(alloc, b"/", 1)?)?, Reply::Wd(2));
-        assert_eq!(rt;
-            reply(&mut state, watch(alloc, b"/f", 1)?)?,
-            Reply::Refused(Refusal::Enospc)
-        );
-        assert_eq!(rt; reply(&mut state, watch(alloc, b"/", 2)?)?, Reply::Wd(2));
-    }
+#[test]
+fn the_last_instances(rt: HostRuntime) -> Result<(), Fail> {
+    assert!(rt; ends_at_two_instances(rt.alloc(), Limits::full().with_instances(2))?);
+    assert!(rt; ends_at_two_instances(rt.alloc(), Limits::full().with_ids(2))?);
+    Ok(())
+}
 
-    let mut state = State::new(alloc, full.with_queue(2))?;
-    assert_eq!(rt;
-        reply(&mut state, Call::Init { limit: 2 })?,
-        Reply::Instance(1)
-    );
-    assert_eq!(rt;
-        reply(&mut state, Call::Init { limit: 3 })?,
-        Reply::Refused(Refusal::Einval)
-    );
+// Whether the second watch is the last one, and can be given other bits.
+fn ends_at_two_watches(alloc: Global, limits: Limits) -> Result<bool, Refusal> {
+    let mut state = watched(alloc, limits, 1)?;
+    reply(&mut state, create(alloc, b"/f")?)?;
+    let spent = Reply::Refused(Refusal::Enospc);
+    Ok(
+        answers(&mut state, watch(alloc, b"/", 1)?, Reply::Wd(2))?
+            && answers(&mut state, watch(alloc, b"/f", 1)?, spent)?
+            && answers(&mut state, watch(alloc, b"/", 2)?, Reply::Wd(2))?,
+    )
+}
 
-    let mut state = State::new(alloc, full.with_journal(2))?;
+#[test]
+fn the_last_watches(rt: HostRuntime) -> Result<(), Fail> {
+    assert!(rt; ends_at_two_watches(rt.alloc(), Limits::full().with_watches(2))?);
+    assert!(rt; ends_at_two_watches(rt.alloc(), Limits::full().with_wds(2))?);
+    Ok(())
+}
+
+#[test]
+fn the_greatest_queue_and_the_last_entry(rt: HostRuntime) -> Result<(), Fail> {
+    let alloc = rt.alloc();
+    let limits = Limits::full().with_queue(2).with_journal(2);
+    let mut state = State::new(alloc, limits)?;
     assert_eq!(rt; state.free_entries(), 2);
-    assert_eq!(rt;
-        reply(&mut state, Call::Init { limit: 1 })?,
-        Reply::Instance(1)
-    );
-    assert_eq!(rt;
-        reply(&mut state, Call::Init { limit: 1 })?,
-        Reply::Instance(2)
-    );
-    assert_eq!(rt;
-        reply(&mut state, Call::Init { limit: 1 }),
-        Err(Refusal::JournalFull)
-    );
+    assert!(rt; answers(&mut state, Call::Init { limit: 2 }, Reply::Instance(1))?);
+    let above = Reply::Refused(Refusal::Einval);
+    assert!(rt; answers(&mut state, Call::Init { limit: 3 }, above)?);
+    let full = state.apply(1, Call::Init { limit: 1 });
+    assert_eq!(rt; full, Err(Refusal::JournalFull));
     assert_eq!(rt; state.free_entries(), 0);
-    assert_eq!(rt; state.waiting(3), None);
+    assert_eq!(rt; state.waiting(2), None);
     Ok(())
 }
 
