@@ -1,9 +1,9 @@
 -- The pieces of a path's text, and the names among them.
-use Rattle.std.proofs.Common.{◌≡◌, ℕ, zero, suc, ◌-◌, ◌<◌, Bool, true, false, not, ◌&&◌, ◌||◌, cond, eqb, ltb, leb, List, [], ◌∷◌, length, get_or, Ok, Err, refl, sym, ap, subst, ◌∙◌, arith, IsTrue}
+use Rattle.std.proofs.Common.{◌≡◌, ℕ, zero, suc, ◌-◌, ◌<◌, Bool, true, false, not, ◌&&◌, ◌||◌, cond, eqb, ltb, leb, List, [], ◌∷◌, length, get_or, Ok, Err, refl, sym, ap, subst, ◌∙◌, arith}
 use Rattle.std.specs.Prelude.{filter}
 use Rattle.std.specs.List.{list_any, list_all, onto_first, All}
 use Rattle.std.proofs.lemmas.List.Elements.{All-cons}
-use Rattle.std.proofs.lemmas.Bool.{lt-ltb, le-leb, ltb-false, ne_eqb}
+use Rattle.std.proofs.lemmas.Bool.{lt-ltb, le-leb, ltb-false, ne_eqb, and_parts}
 use Rattle.std.specs.Prelude.{codes}
 use Rattle.std.specs.Str.{bytes_eq}
 use Rattle.record_codec.specs.Names.{is_name, is_name_byte, IsName, IsBytes}
@@ -11,7 +11,7 @@ use Rattle.tree_paths.specs.declared.refusal.Refusal.TheVariants.{Enoent, Einval
 use Rattle.tree_paths.specs.Paths.{parsed, names_of, is_dots, is_long}
 use Rattle.tree_paths.specs.Pieces.{pieces, is_nonempty}
 
-nonempty-cons : (b : ℕ) (bs : List ℕ) → is_nonempty (b ∷ bs) ≡ true
+pub nonempty-cons : (b : ℕ) (bs : List ℕ) → is_nonempty (b ∷ bs) ≡ true
 nonempty-cons b bs = ap not (ne_eqb (suc (length bs)) 0 (λ e. omega (arith, e)))
 
 -- what no empty piece has is looked for among the others
@@ -53,10 +53,6 @@ or_none : (a b : Bool) → (a || b) ≡ false → (a ≡ false) × (b ≡ false)
 or_none true b h = absurd cc
 or_none false b h = (refl, h)
 
-and_all : (a b : Bool) → (a && b) ≡ true → (a ≡ true) × (b ≡ true)
-and_all true b h = (refl, h)
-and_all false b h = absurd cc
-
 abbrev are_name_bytes : List (List ℕ) → Bool
 are_name_bytes xs = list_all (list_all is_name_byte) xs
 
@@ -91,7 +87,7 @@ names_among [] d l a = refl
 names_among (x ∷ xs) d l a =
     let dots = or_none (is_dots x) (list_any is_dots xs) d in
     let long = or_none (is_long x) (list_any is_long xs) l in
-    let bytes = and_all (list_all is_name_byte x) (are_name_bytes xs) a in
+    let bytes = and_parts (list_all is_name_byte x) (are_name_bytes xs) a in
     rw (piece_is_name x dots.0 long.0 bytes.0, names_among xs dots.1 long.1 bytes.1) refl
 
 pub names_read : (text : List ℕ) (names : List (List ℕ)) → parsed text ≡ Ok names → filter is_name (pieces 47 text) ≡ names_of text

@@ -1,6 +1,6 @@
 -- What a pathname's text stands for, and how paths lie to one another.
-use Rattle.std.specs.Prelude.{◌≡◌, ℕ, ◌-◌, Bool, not, ◌&&◌, ◌||◌, ◌==◌, nat_lt, nat_le, List, ◌∷◌, ◌++◌, length, slice_index, codes, Result, Ok, Err, if◌then◌else◌}
-use Rattle.std.specs.List.{list_any}
+use Rattle.std.specs.Prelude.{◌≡◌, ℕ, ◌-◌, Bool, not, ◌&&◌, ◌||◌, ◌==◌, nat_lt, nat_le, List, [], ◌∷◌, ◌++◌, length, slice_index, codes, Result, Ok, Err, if◌then◌else◌}
+use Rattle.std.specs.List.{list_any, flat_map}
 use Rattle.std.specs.Str.{bytes_eq}
 use Rattle.tree_paths.specs.declared.refusal.Refusal.{Refusal}
 use Rattle.tree_paths.specs.declared.refusal.Refusal.TheVariants.{Enoent, Einval, Enametoolong}
@@ -42,6 +42,11 @@ parsed text =
     else if list_any is_dots (names_of text) then Err Einval
     else if list_any is_long (names_of text) then Err Enametoolong
     else Ok (names_of text)
+
+-- the pathname of names: a slash before each, and for the root a slash alone
+abbrev pub pathname_of : List (List ℕ) → List ℕ
+pathname_of [] = slash ∷ []
+pathname_of (name ∷ names) = flat_map (λ n. slash ∷ n) (name ∷ names)
 
 -- above is a proper prefix of path
 abbrev pub IsBelow : List (List ℕ) → List (List ℕ) → Type 0
