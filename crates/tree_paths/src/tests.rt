@@ -102,7 +102,8 @@ fn longest_texts(rt: HostRuntime) -> Result<(), Fail> {
         Some(Refusal::Enametoolong)
     );
     text[4094] = b'b';
-    assert_eq!(rt; Path::parse(alloc, &text[..4095])?.names().len(), 2047);
+    text.truncate(4095);
+    assert_eq!(rt; Path::parse(alloc, &text)?.names().len(), 2047);
     Ok(())
 }
 
