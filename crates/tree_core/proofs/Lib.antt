@@ -1,0 +1,13 @@
+pub mod PathOrder
+pub mod WorldRows
+pub mod Told
+pub mod Watched
+pub mod Compacted
+pub mod Accepted
+pub mod Places
+pub mod After
+pub mod Lawful
+pub mod RecordsRead
+pub mod Numbers
+pub mod QueueLaws
+pub mod Cuts
