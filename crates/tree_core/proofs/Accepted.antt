@@ -1,13 +1,16 @@
 -- What holds where a call is accepted.
 use Rattle.std.proofs.Common.{◌≡◌, ℕ, zero, suc, ◌≤◌, Bool, true, false, List, [], ◌∷◌, length, Option, Some, None, refl, sym, ap, ◌∙◌, arith}
 use Rattle.std.proofs.lemmas.Bool.Decides.{nat_tests}
-use Rattle.std.specs.Prelude.{nat_lt, slice_get, is_some, cond, unwrap_or, ◌==◌}
+use Rattle.std.specs.Prelude.{not, bit_and, nat_lt, slice_get, is_some, cond, unwrap_or, ◌==◌}
+use Rattle.record_codec.specs.declared.bits.TheConstants.{IN_ALL_EVENTS}
 use Rattle.tree_paths.specs.declared.refusal.Refusal.{Refusal}
 use Rattle.tree_paths.specs.declared.refusal.Refusal.TheVariants.{NumbersSpent, Emfile, Ebadf, Enoent, Enotdir, Einval, Enospc}
-use Rattle.tree_core.specs.Refusals.{row, first_row, missing_row, longest_there}
-use Rattle.tree_core.specs.Tree.{Tree, make_rows, init_rows, add_watch_rows, watch_rows_of, new_watch_rows, watch_of, read_rows, read_rows_of}
+use Rattle.tree_core.specs.Refusals.{row, first_row}
+use Rattle.tree_core.specs.FileCalls.{make_rows, missing_row, longest_there}
+use Rattle.tree_core.specs.Watches.{WatchMap, mask_rows, new_watch_rows, watch_of}
+use Rattle.tree_core.specs.Tree.{Tree, init_rows, add_watch_rows, watch_rows_of, read_rows, read_rows_of}
 use Rattle.tree_paths.specs.declared.limits.Limits.{Limits}
-use Rattle.tree_core.specs.declared.watch.Watch.{Watch}
+use Rattle.tree_core.specs.declared.watches.Watch.{Watch}
 use Rattle.tree_core.specs.Instances.{Instance, instance_of}
 use Rattle.tree_core.specs.World.{World, number_at, is_directory}
 use Rattle.std.specs.FinMap.{get}
@@ -26,10 +29,10 @@ row-None false r e = refl
 below : (m n : ℕ) → nat_lt m n ≡ false → n ≤ m
 below m n e = grind (arith, nat_tests)
 
-pub next_number-accepted : (t : Tree) (p : List (List ℕ)) (mode : ℕ) → first_row (make_rows t p mode) ≡ None → t.next_number ≤ t.limits.numbers
+pub next_number-accepted : (limits : Limits) (w : World) (next : ℕ) (p : List (List ℕ)) (mode : ℕ) → first_row (make_rows limits w next p mode) ≡ None → next ≤ limits.numbers
 unfolding make_rows
-next_number-accepted t p mode e =
-    below _ _ (row-None _ NumbersSpent (each_passes (make_rows t p mode) 4 (row (nat_lt t.limits.numbers t.next_number) NumbersSpent) e refl))
+next_number-accepted limits w next p mode e =
+    below _ _ (row-None _ NumbersSpent (each_passes (make_rows limits w next p mode) 4 (row (nat_lt limits.numbers next) NumbersSpent) e refl))
 
 pub next_id-accepted : (t : Tree) (limit : ℕ) → first_row (init_rows t limit) ≡ None → t.next_id ≤ t.limits.ids
 unfolding init_rows
@@ -62,19 +65,19 @@ pub read_is_open : (t : Tree) (id bytes : ℕ) → first_row (read_rows t id byt
 unfolding read_rows
 read_is_open t id bytes h e = let k : ◌≡◌ {A = Option Refusal} (Some Ebadf) None = sym (ap (λ o. first_row (read_rows_of bytes o)) e) ∙ h in cc
 
-wds_left_at : (limits : Limits) (i : Instance) (o : Option Watch) → o ≡ None → first_row (new_watch_rows limits i o) ≡ None → i.next_wd ≤ limits.wds
-wds_left_at limits i (Some w) e h = cc
-wds_left_at limits i None e h =
-    below _ _ (row-None _ Enospc (each_passes (new_watch_rows limits i None) 1 (row (nat_lt limits.wds i.next_wd) Enospc) h refl))
+wds_left_at : (limits : Limits) (m : WatchMap) (o : Option Watch) → o ≡ None → first_row (new_watch_rows limits m o) ≡ None → m.next_wd ≤ limits.wds
+wds_left_at limits m (Some w) e h = cc
+wds_left_at limits m None e h =
+    below _ _ (row-None _ Enospc (each_passes (new_watch_rows limits m None) 1 (row (nat_lt limits.wds m.next_wd) Enospc) h refl))
 
 pub wds_left : (t : Tree) (id : ℕ) (p : List (List ℕ)) (mask : ℕ) (i : Instance) → first_row (add_watch_rows t id p mask) ≡ None → instance_of t.instances id ≡ Some i
-    → get i.watches (unwrap_or (number_at t.world p) 0) ≡ None → i.next_wd ≤ t.limits.wds
+    → get i.watched.watches (unwrap_or (number_at t.world p) 0) ≡ None → i.watched.next_wd ≤ t.limits.wds
 unfolding add_watch_rows
 wds_left t id p mask i h e none =
     let all : first_row (watch_rows_of t p mask (Some i)) ≡ None = sym (ap (λ o. first_row (watch_rows_of t p mask o)) e) ∙ h in
-    let new = new_watch_rows t.limits i (watch_of i (number_at t.world p)) in
-    let two = rest_passes (row (mask == 0) Einval) (missing_row t.world p ∷ new) (rest_passes (row (nat_lt 4095 mask) Einval) (row (mask == 0) Einval ∷ missing_row t.world p ∷ new) all) in
+    let new = new_watch_rows t.limits i.watched (watch_of i.watched (number_at t.world p)) in
+    let two = rest_passes (row (mask == 0) Einval) (missing_row t.world p ∷ new) (rest_passes (row (not (bit_and mask IN_ALL_EVENTS == mask)) Einval) (row (mask == 0) Einval ∷ missing_row t.world p ∷ new) all) in
     let there = missing_row-None t.world p (each_passes (missing_row t.world p ∷ new) 0 (missing_row t.world p) two refl) in
-    let watch : watch_of i (number_at t.world p) ≡ None =
-    ap (watch_of i) there.is ∙ (ap (λ o. get i.watches (unwrap_or o 0)) (sym there.is) ∙ none) in
-    wds_left_at t.limits i (watch_of i (number_at t.world p)) watch (rest_passes (missing_row t.world p) new two)
+    let watch : watch_of i.watched (number_at t.world p) ≡ None =
+    ap (watch_of i.watched) there.is ∙ (ap (λ o. get i.watched.watches (unwrap_or o 0)) (sym there.is) ∙ none) in
+    wds_left_at t.limits i.watched (watch_of i.watched (number_at t.world p)) watch (rest_passes (missing_row t.world p) new two)

@@ -9,18 +9,14 @@ use Rattle.tree_core.specs.declared.call.Kind.TheVariants.{Regular, Directory}
 use Rattle.tree_core.specs.declared.call.FileCall.TheVariants.{Create, Mkdir}
 use Rattle.tree_core.specs.declared.call.Call.{Call}
 use Rattle.tree_core.specs.declared.call.Call.TheVariants as call
-use Rattle.tree_core.specs.declared.reply.Reply.TheVariants as reply
-use Rattle.tree_core.specs.declared.watch.Watch.{Watch}
 use Rattle.tree_core.specs.Journal.{waiting_in}
 use Rattle.tree_core.specs.World.{number_at}
 use Rattle.tree_core.specs.Refusals.{first_row}
-use Rattle.tree_core.specs.Instances.{Instance, watching, after_read, fitting, instance_of, without_taken, new_instance, descriptor_of}
-use Rattle.tree_core.specs.Tree.{Tree, compacted, make_rows, init_rows, add_watch_rows, watch_rows_of, read_rows, read_rows_of, rows_of, refusal_of, to_parent, make_bits, after_make, after_init, after_add_watch, after_accepted_read, accepted, answer_of, watch_answer, read_answer, reply_by, tree_by, reply_of, after}
-use Rattle.tree_core.proofs.Compacted.{map-Forgets, told_all-Forgets, watching-Forgets, after_read-Forgets, changed-Forgets, instance_of-without, twice, map_twice}
-
-make_rows-compacted : (t : Tree) (p : List (List ℕ)) (mode : ℕ) → make_rows (compacted t) p mode ≡ make_rows t p mode
-unfolding make_rows compacted
-make_rows-compacted t p mode = refl
+use Rattle.tree_core.specs.Notices.{to_parent, make_masks}
+use Rattle.tree_core.specs.Queues.{fitting}
+use Rattle.tree_core.specs.Instances.{Instance, told, watching_file, after_read, instance_of, without_taken, new_instance}
+use Rattle.tree_core.specs.Tree.{Tree, compacted, init_rows, add_watch_rows, watch_rows_of, read_rows, read_rows_of, rows_of, refusal_of, after_make, after_init, after_add_watch, after_accepted_read, accepted, answer_of, watch_answer, read_answer, reply_by, tree_by, reply_of, after}
+use Rattle.tree_core.proofs.Compacted.{map-Forgets, told-Forgets, watching_file-Forgets, after_read-Forgets, changed-Forgets, instance_of-without, twice, map_twice}
 
 init_rows-compacted : (t : Tree) (limit : ℕ) → init_rows (compacted t) limit ≡ init_rows t limit
 unfolding init_rows compacted
@@ -45,21 +41,16 @@ unfolding read_rows compacted
 read_rows-compacted t id bytes = ap (read_rows_of bytes) (instance_of-without t.instances id) ∙ read_rows-without bytes (instance_of t.instances id)
 
 pub rows_of-compacted : (t : Tree) (c : Call) → rows_of (compacted t) c ≡ rows_of t c
-rows_of-compacted t (call.File (Create p mode)) = make_rows-compacted t p mode
-rows_of-compacted t (call.File (Mkdir p mode)) = make_rows-compacted t p mode
+unfolding compacted
+rows_of-compacted t (call.File f) = refl
 rows_of-compacted t (call.Init limit) = init_rows-compacted t limit
 rows_of-compacted t (call.AddWatch id p mask) = add_watch_rows-compacted t id p mask
 rows_of-compacted t (call.Read id bytes) = read_rows-compacted t id bytes
 
-descriptor-without : (i : Instance) (n : ℕ) (o : Option Watch) → descriptor_of (without_taken i) n o ≡ descriptor_of i n o
-unfolding without_taken descriptor_of
-descriptor-without i n None = refl
-descriptor-without i n (Some w) = refl
-
 watch_answer-without : (n : ℕ) (o : Option Instance) → watch_answer (option_map without_taken o) n ≡ watch_answer o n
 unfolding without_taken
 watch_answer-without n None = refl
-watch_answer-without n (Some i) = ap (λ d. reply.Wd d) (descriptor-without i n (get i.watches n))
+watch_answer-without n (Some i) = refl
 
 read_answer-without : (bytes : ℕ) (o : Option Instance) → read_answer (option_map without_taken o) bytes ≡ read_answer o bytes
 unfolding without_taken
@@ -80,7 +71,7 @@ reply_of-compacted t c = λ k. reply_by (first_row (rows_of-compacted t c k)) (a
 
 make-compacted : (t : Tree) (kind : Kind) (p : List (List ℕ)) (mode : ℕ) → compacted (after_make (compacted t) kind p mode) ≡ compacted (after_make t kind p mode)
 unfolding compacted after_make
-make-compacted t kind p mode = λ k. record (after_make t kind p mode) { instances = map-Forgets _ (told_all-Forgets (to_parent t p (make_bits kind))) t.instances k }
+make-compacted t kind p mode = λ k. record (after_make t kind p mode) { instances = map-Forgets _ (told-Forgets (to_parent t.world p (make_masks kind))) t.instances k }
 
 map_append : (is : List Instance) (i : Instance) → map without_taken (map without_taken is ++ i ∷ []) ≡ map without_taken (is ++ i ∷ [])
 map_append [] i = refl
@@ -93,7 +84,7 @@ init-compacted t limit = λ k. record (after_init t limit) { instances = map_app
 add_watch-compacted : (t : Tree) (id : ℕ) (p : List (List ℕ)) (mask : ℕ) → compacted (after_add_watch (compacted t) id p mask) ≡ compacted (after_add_watch t id p mask)
 unfolding compacted after_add_watch
 add_watch-compacted t id p mask = λ k.
-    record t { instances = changed-Forgets (λ i. watching i (unwrap_or (number_at t.world p) 0) mask) (watching-Forgets (unwrap_or (number_at t.world p) 0) mask) t.instances id k }
+    record t { instances = changed-Forgets (λ i. watching_file i (unwrap_or (number_at t.world p) 0) mask) (watching_file-Forgets (unwrap_or (number_at t.world p) 0) mask) t.instances id k }
 
 read-compacted : (t : Tree) (id bytes : ℕ) → compacted (after_accepted_read (compacted t) id bytes) ≡ compacted (after_accepted_read t id bytes)
 unfolding compacted after_accepted_read

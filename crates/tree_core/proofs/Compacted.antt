@@ -1,49 +1,27 @@
 -- What was read does not matter to later calls.
-use Rattle.std.proofs.Common.{◌≡◌, ℕ, Bool, true, false, cond, List, [], ◌∷◌, map, Option, Some, None, zero, suc, refl, sym, ap, ◌∙◌, bit_and}
+use Rattle.std.proofs.Common.{◌≡◌, ℕ, Bool, true, false, cond, List, [], ◌∷◌, map, Option, Some, None, zero, suc, refl, sym, ap, ◌∙◌}
 use Rattle.std.specs.Prelude.{◌==◌, slice_set}
 use Rattle.tree_core.specs.Tree.{Tree, compacted}
 use Rattle.std.specs.Option.{option_map}
-use Rattle.std.specs.FinMap.{get}
-use Rattle.tree_core.specs.declared.watch.Watch.{Watch}
-use Rattle.tree_core.specs.declared.watch.Notice.{Notice}
-use Rattle.tree_core.specs.Instances.{Instance, told, told_watch, told_all, with_event, event_of, with_bits, watching, after_read, fitting, instance_of, changed, without_taken}
+use Rattle.tree_core.specs.declared.notices.Notice.{Notice}
+use Rattle.tree_core.specs.Queues.{fitting}
+use Rattle.tree_core.specs.Instances.{Instance, told, watching_file, after_read, instance_of, changed, without_taken}
 
 -- a change of an instance that what was read does not matter to
 pub record Forgets (f : Instance → Instance) : Type 0 where
   pub same : (i : Instance) → without_taken (f (without_taken i)) ≡ without_taken (f i)
 
-deaf_or : (i : Instance) (e : Instance) (b : Bool) → without_taken (cond b i e) ≡ cond b (without_taken i) (without_taken e)
-deaf_or i e true = refl
-deaf_or i e false = refl
-
-told_watch-without : (i : Instance) (n : Notice) (o : Option Watch) → told_watch (without_taken i) n o ≡ without_taken (told_watch i n o)
-unfolding without_taken
-told_watch-without i n None = refl
-told_watch-without i n (Some w) = sym (deaf_or i (with_event i (event_of w n)) (bit_and w.bits n.bits == 0))
-
-told-without : (i : Instance) (n : Notice) → told (without_taken i) n ≡ without_taken (told i n)
-unfolding told without_taken
-told-without i n = told_watch-without i n (get i.watches n.number)
-
-pub told_all-without : (i : Instance) (ns : List Notice) → told_all (without_taken i) ns ≡ without_taken (told_all i ns)
-told_all-without i [] = refl
-told_all-without i (n ∷ ns) = ap (λ j. told_all j ns) (told-without i n) ∙ told_all-without (told i n) ns
-
 pub twice : (i : Instance) → without_taken (without_taken i) ≡ without_taken i
 unfolding without_taken
 twice i = refl
 
-pub told_all-Forgets : (ns : List Notice) → Forgets (λ i. told_all i ns)
-told_all-Forgets ns = record { same = λ i. ap without_taken (told_all-without i ns) ∙ twice (told_all i ns) }
+pub told-Forgets : (ns : List Notice) → Forgets (λ i. told i ns)
+unfolding told without_taken
+told-Forgets ns = record { same = λ i. refl }
 
-with_bits-without : (i : Instance) (number bits : ℕ) (o : Option Watch) → without_taken (with_bits (without_taken i) number bits o) ≡ without_taken (with_bits i number bits o)
-unfolding without_taken
-with_bits-without i number bits None = refl
-with_bits-without i number bits (Some w) = refl
-
-pub watching-Forgets : (number bits : ℕ) → Forgets (λ i. watching i number bits)
-unfolding watching without_taken
-watching-Forgets number bits = record { same = λ i. with_bits-without i number bits (get i.watches number) }
+pub watching_file-Forgets : (number bits : ℕ) → Forgets (λ i. watching_file i number bits)
+unfolding watching_file without_taken
+watching_file-Forgets number bits = record { same = λ i. refl }
 
 pub after_read-Forgets : (bytes : ℕ) → Forgets (λ i. after_read (fitting bytes i.waiting) i)
 unfolding after_read without_taken

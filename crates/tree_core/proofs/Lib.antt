@@ -11,3 +11,6 @@ pub mod RecordsRead
 pub mod Numbers
 pub mod QueueLaws
 pub mod Cuts
+pub mod Words
+pub mod Bounds
+pub mod Refused

@@ -2,6 +2,7 @@
 use Rattle.std.proofs.Common.{◌≡◌, ℕ, ◌+◌, List, [], ◌∷◌, ◌++◌, Option, Some, None, refl, sym, subst}
 use Rattle.tree_paths.specs.declared.refusal.Refusal.{Refusal}
 use Rattle.tree_paths.specs.declared.limits.Limits.{Limits}
+use Rattle.tree_core.specs.declared.files.TheConstants.{ROOT_NUMBER}
 use Rattle.tree_core.specs.declared.call.Kind.{Kind}
 use Rattle.tree_core.specs.declared.call.Kind.TheVariants.{Regular, Directory}
 use Rattle.tree_core.specs.declared.call.FileCall.TheVariants.{Create, Mkdir}
@@ -63,7 +64,7 @@ run_turns t (e ∷ es) h =
     subst (λ (r : Reply). AreInTurn t.next_number (number_of r ++ numbers_given es)) (sym h.0)
     ((step_turns t e.call (refusal_of t e.call)).all (numbers_given es) (run_turns (after t e.call) es h.1))
 
-opening_turns : (limits : Limits) → (opening limits).next_number ≡ 2
+opening_turns : (limits : Limits) → (opening limits).next_number ≡ ROOT_NUMBER + 1
 unfolding opening
 opening_turns limits = refl
 

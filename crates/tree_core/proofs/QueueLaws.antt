@@ -3,7 +3,9 @@ use Rattle.std.proofs.Common.{◌≡◌, ℕ, ◌+◌, Bool, true, false, cond, 
 use Rattle.std.specs.Prelude.{nat_le, ◌||◌}
 use Rattle.std.proofs.lemmas.List.{take-append-drop, length-take-le}
 use Rattle.record_codec.specs.declared.event.Event.{Event}
-use Rattle.tree_core.specs.Instances.{Instance, after_read, joining, is_repeated, has_mark, mark, event_eq}
+use Rattle.record_codec.specs.Equality.{event_eq}
+use Rattle.tree_core.specs.Queues.{joining, is_repeated, has_mark, mark}
+use Rattle.tree_core.specs.Instances.{Instance, after_read}
 use Rattle.tree_core.specs.Laws.{total, IsQueue, HasFate}
 
 drop_first : (xs ys : List Event) → drop (length xs) (xs ++ ys) ≡ ys
@@ -19,30 +21,30 @@ every_queue i = record {
   counts = λ k h. length-append i.taken (take k i.waiting) ∙ ap (λ n. length i.taken + n) (length-take-le k i.waiting h);
 }
 
-joined : (limit : ℕ) (waiting : List Event) (e : Event) (a b c : Bool) → is_repeated waiting e ≡ a → nat_le limit (length waiting) ≡ b → has_mark waiting ≡ c
+pub joining_by : (limit : ℕ) (waiting : List Event) (e : Event) (a b c : Bool) → is_repeated waiting e ≡ a → nat_le limit (length waiting) ≡ b → has_mark waiting ≡ c
     → joining limit waiting e ≡ cond a [] (cond b (cond c [] (mark ∷ [])) (e ∷ []))
-joined limit waiting e a b c p q r = λ k. cond (p k) [] (cond (q k) (cond (r k) [] (mark ∷ [])) (e ∷ []))
+joining_by limit waiting e a b c p q r = λ k. cond (p k) [] (cond (q k) (cond (r k) [] (mark ∷ [])) (e ∷ []))
 
 or_true : (b : Bool) → (b || true) ≡ true
 or_true true = refl
 or_true false = refl
 
 mark_is_mark : event_eq mark mark ≡ true
-unfolding event_eq mark
+unfolding mark
 mark_is_mark = refl
 
-marked : (xs : List Event) → has_mark (xs ++ mark ∷ []) ≡ true
+pub marked : (xs : List Event) → has_mark (xs ++ mark ∷ []) ≡ true
 marked [] = ap (λ b. b || false) mark_is_mark
 marked (x ∷ xs) = ap (λ b. event_eq x mark || b) (marked xs) ∙ or_true (event_eq x mark)
 
 lost_with_mark : (limit : ℕ) (waiting : List Event) (e : Event) → is_repeated waiting e ≡ false → nat_le limit (length waiting) ≡ true → (c : Bool) → has_mark waiting ≡ c
     → has_mark (waiting ++ joining limit waiting e) ≡ true
-lost_with_mark limit waiting e p q true r = ap (λ xs. has_mark (waiting ++ xs)) (joined limit waiting e false true true p q r) ∙ ap has_mark (append-nil waiting) ∙ r
-lost_with_mark limit waiting e p q false r = ap (λ xs. has_mark (waiting ++ xs)) (joined limit waiting e false true false p q r) ∙ marked waiting
+lost_with_mark limit waiting e p q true r = ap (λ xs. has_mark (waiting ++ xs)) (joining_by limit waiting e false true true p q r) ∙ ap has_mark (append-nil waiting) ∙ r
+lost_with_mark limit waiting e p q false r = ap (λ xs. has_mark (waiting ++ xs)) (joining_by limit waiting e false true false p q r) ∙ marked waiting
 
 pub every_fate : (limit : ℕ) (waiting : List Event) (e : Event) → HasFate limit waiting e
 every_fate limit waiting e = record {
-  merged = λ p. joined limit waiting e true _ _ p refl refl;
+  merged = λ p. joining_by limit waiting e true _ _ p refl refl;
   lost = λ p q. lost_with_mark limit waiting e p q (has_mark waiting) refl;
-  kept = λ p q. joined limit waiting e false false _ p q refl;
+  kept = λ p q. joining_by limit waiting e false false _ p q refl;
 }

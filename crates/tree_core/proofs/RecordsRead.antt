@@ -2,14 +2,12 @@
 use Rattle.std.proofs.Common.{◌≡◌, ℕ, Bool, true, false, cond, List, [], ◌∷◌, ◌++◌, take, map, Option, Some, None, refl, sym, ap, ◌∙◌, append_assoc, append-nil, arith}
 use Rattle.std.proofs.lemmas.Bool.Decides.{nat_tests}
 use Rattle.std.specs.Prelude.{unwrap_or, ◌==◌, bit_and}
-use Rattle.std.specs.FinMap.{get}
 use Rattle.std.proofs.lemmas.Grind.{flat_map-append}
 use Rattle.tree_paths.specs.declared.refusal.Refusal.{Refusal}
 use Rattle.record_codec.specs.declared.event.Event.{Event}
 use Rattle.record_codec.specs.Records.{record_bytes, spelling}
 use Rattle.tree_paths.specs.declared.limits.Limits.{Limits}
-use Rattle.tree_core.specs.declared.watch.Watch.{Watch}
-use Rattle.tree_core.specs.declared.watch.Notice.{Notice}
+use Rattle.tree_core.specs.declared.notices.Notice.{Notice}
 use Rattle.tree_core.specs.declared.call.Kind.{Kind}
 use Rattle.tree_core.specs.declared.call.Kind.TheVariants.{Regular, Directory}
 use Rattle.tree_core.specs.declared.call.FileCall.TheVariants.{Create, Mkdir}
@@ -18,8 +16,10 @@ use Rattle.tree_core.specs.declared.call.Call.{Call}
 use Rattle.tree_core.specs.declared.call.Call.TheVariants as call
 use Rattle.tree_core.specs.declared.reply.Reply.TheVariants as reply
 use Rattle.tree_core.specs.World.{number_at}
-use Rattle.tree_core.specs.Instances.{Instance, told, told_watch, told_all, with_event, event_of, with_bits, watching, after_read, fitting, instance_of, changed, new_instance}
-use Rattle.tree_core.specs.Tree.{Tree, opening, refusal_of, to_parent, make_bits, after_make, after_init, after_add_watch, after_accepted_read, accepted, answer_of, read_answer, reply_by, tree_by, after}
+use Rattle.tree_core.specs.Notices.{to_parent, make_masks}
+use Rattle.tree_core.specs.Queues.{fitting}
+use Rattle.tree_core.specs.Instances.{Instance, told, watching_file, after_read, instance_of, changed, new_instance}
+use Rattle.tree_core.specs.Tree.{Tree, opening, refusal_of, after_make, after_init, after_add_watch, after_accepted_read, accepted, answer_of, read_answer, reply_by, tree_by, after}
 use Rattle.tree_core.specs.Journal.{tree_after, IsLawfulFrom, IsLawful, stands_for}
 use Rattle.tree_core.specs.Laws.{bytes_of, bytes_read, taken_in, waiting_of, ReadsAreInOrder}
 use Rattle.tree_core.proofs.Accepted.{read_is_open}
@@ -29,48 +29,13 @@ pub record Keeps (f : Instance → Instance) : Type 0 where
   pub same_id : (i : Instance) → (f i).id ≡ i.id
   pub same_taken : (i : Instance) → (f i).taken ≡ i.taken
 
-either_id : (b : Bool) (i j : Instance) → j.id ≡ i.id → (cond b i j).id ≡ i.id
-either_id true i j e = refl
-either_id false i j e = e
-
-either_taken : (b : Bool) (i j : Instance) → j.taken ≡ i.taken → (cond b i j).taken ≡ i.taken
-either_taken true i j e = refl
-either_taken false i j e = e
-
-told_watch-Keeps : (n : Notice) (i : Instance) (o : Option Watch) → (told_watch i n o).id ≡ i.id
-told_watch-Keeps n i None = refl
-told_watch-Keeps n i (Some w) = either_id (bit_and w.bits n.bits == 0) i (with_event i (event_of w n)) refl
-
-told_watch-taken : (n : Notice) (i : Instance) (o : Option Watch) → (told_watch i n o).taken ≡ i.taken
-told_watch-taken n i None = refl
-told_watch-taken n i (Some w) = either_taken (bit_and w.bits n.bits == 0) i (with_event i (event_of w n)) refl
-
-told-Keeps : (n : Notice) → Keeps (λ i. told i n)
+told-Keeps : (ns : List Notice) → Keeps (λ i. told i ns)
 unfolding told
-told-Keeps n = record { same_id = λ i. told_watch-Keeps n i (get i.watches n.number); same_taken = λ i. told_watch-taken n i (get i.watches n.number) }
+told-Keeps ns = record { same_id = λ i. refl; same_taken = λ i. refl }
 
-all_id : (ns : List Notice) (i : Instance) → (told_all i ns).id ≡ i.id
-all_id [] i = refl
-all_id (n ∷ ns) i = all_id ns (told i n) ∙ (told-Keeps n).same_id i
-
-all_taken : (ns : List Notice) (i : Instance) → (told_all i ns).taken ≡ i.taken
-all_taken [] i = refl
-all_taken (n ∷ ns) i = all_taken ns (told i n) ∙ (told-Keeps n).same_taken i
-
-told_all-Keeps : (ns : List Notice) → Keeps (λ i. told_all i ns)
-told_all-Keeps ns = record { same_id = all_id ns; same_taken = all_taken ns }
-
-bits_id : (number bits : ℕ) (i : Instance) (o : Option Watch) → (with_bits i number bits o).id ≡ i.id
-bits_id number bits i None = refl
-bits_id number bits i (Some w) = refl
-
-bits_taken : (number bits : ℕ) (i : Instance) (o : Option Watch) → (with_bits i number bits o).taken ≡ i.taken
-bits_taken number bits i None = refl
-bits_taken number bits i (Some w) = refl
-
-watching-Keeps : (number bits : ℕ) → Keeps (λ i. watching i number bits)
-unfolding watching
-watching-Keeps number bits = record { same_id = λ i. bits_id number bits i (get i.watches number); same_taken = λ i. bits_taken number bits i (get i.watches number) }
+watching_file-Keeps : (number bits : ℕ) → Keeps (λ i. watching_file i number bits)
+unfolding watching_file
+watching_file-Keeps number bits = record { same_id = λ i. refl; same_taken = λ i. refl }
 
 taken_cond : (b : Bool) (i j : Instance) (x y : Option Instance) → i.taken ≡ j.taken → taken_in x ≡ taken_in y → taken_in (cond b (Some i) x) ≡ taken_in (cond b (Some j) y)
 taken_cond true i j x y e f = e
@@ -187,7 +152,7 @@ refused_reads id (call.Read from count) r = refl
 
 make_reads : (t : Tree) (kind : Kind) (p : List (List ℕ)) (mode id : ℕ) → read_from (after_make t kind p mode) id ≡ read_from t id
 unfolding after_make
-make_reads t kind p mode id = ap spelling (taken-map _ (told_all-Keeps (to_parent t p (make_bits kind))) t.instances id)
+make_reads t kind p mode id = ap spelling (taken-map _ (told-Keeps (to_parent t.world p (make_masks kind))) t.instances id)
 
 init_reads : (t : Tree) (limit id : ℕ) → read_from (after_init t limit) id ≡ read_from t id
 unfolding after_init
@@ -196,7 +161,7 @@ init_reads t limit id = ap spelling (taken-append t.instances t.next_id limit id
 watch_reads : (t : Tree) (from : ℕ) (p : List (List ℕ)) (mask id : ℕ) → read_from (after_add_watch t from p mask) id ≡ read_from t id
 unfolding after_add_watch
 watch_reads t from p mask id =
-    ap spelling (taken-changed (λ i. watching i (unwrap_or (number_at t.world p) 0) mask) (watching-Keeps (unwrap_or (number_at t.world p) 0) mask) t.instances from id)
+    ap spelling (taken-changed (λ i. watching_file i (unwrap_or (number_at t.world p) 0) mask) (watching_file-Keeps (unwrap_or (number_at t.world p) 0) mask) t.instances from id)
 
 read_reads : (t : Tree) (from bytes id : ℕ) (o : Option Instance) → instance_of t.instances from ≡ o → (o ≡ None → ⊥)
     → read_from (after_accepted_read t from bytes) id ≡ read_from t id ++ bytes_of id (call.Read from bytes) (read_answer (instance_of t.instances from) bytes)

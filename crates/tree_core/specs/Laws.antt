@@ -1,16 +1,20 @@
 -- Laws of all lawful journals.
-use Rattle.std.specs.Prelude.{◌≡◌, ℕ, ◌+◌, ◌≤◌, true, false, drop, length, nat_le, List, [], ◌∷◌, ◌++◌, Option, Some, None, if◌then◌else◌, ◌==◌}
+use Rattle.std.specs.Prelude.{◌≡◌, ◌↔◌, ℕ, ◌+◌, ◌-◌, ◌≤◌, true, false, drop, length, nat_le, List, [], ◌∷◌, ◌++◌, Option, Some, None, IfSome, Contains, slice_get, if◌then◌else◌, ◌==◌}
 use Rattle.record_codec.specs.declared.event.Event.{Event}
 use Rattle.tree_paths.specs.declared.limits.Limits.{Limits}
+use Rattle.tree_paths.specs.declared.refusal.Refusal.{Refusal}
+use Rattle.tree_core.specs.declared.files.TheConstants.{ROOT_NUMBER}
 use Rattle.tree_core.specs.declared.reply.Entry.{Entry}
 use Rattle.tree_core.specs.declared.call.Call.{Call}
 use Rattle.tree_core.specs.declared.call.Call.TheVariants as call
 use Rattle.tree_core.specs.declared.reply.Reply.{Reply}
 use Rattle.tree_core.specs.declared.reply.Reply.TheVariants as reply
-use Rattle.tree_core.specs.declared.reply.Answer.TheVariants.{Done, Number}
+use Rattle.tree_core.specs.declared.reply.Answer.TheVariants.{Number}
 use Rattle.record_codec.specs.Records.{spelling}
-use Rattle.tree_core.specs.Instances.{Instance, instance_of, with_event, after_read, joining, is_repeated, has_mark}
-use Rattle.tree_core.specs.Tree.{Tree, compacted}
+use Rattle.record_codec.specs.Equality.{event_eq}
+use Rattle.tree_core.specs.Queues.{mark, joining, is_repeated, has_mark}
+use Rattle.tree_core.specs.Instances.{Instance, instance_of, after_read}
+use Rattle.tree_core.specs.Tree.{Tree, reply_of, after, compacted}
 use Rattle.tree_core.specs.Journal.{IsLawful, IsLawfulFrom, stands_for}
 
 abbrev pub read_bytes : ℕ → ℕ → Reply → List ℕ
@@ -52,7 +56,6 @@ ReadsAreInOrder =
 
 abbrev pub number_of : Reply → List ℕ
 number_of (reply.File (Number n)) = n ∷ []
-number_of (reply.File Done) = []
 number_of (reply.Records bytes) = []
 number_of (reply.Instance other) = []
 number_of (reply.Wd wd) = []
@@ -70,7 +73,7 @@ AreInTurn n (x ∷ xs) = (x ≡ n) × AreInTurn (n + 1) xs
 
 -- file numbers are given in turn, so none is given again
 abbrev pub NumbersAreInTurn : Type 0
-NumbersAreInTurn = (limits : Limits) (es : List Entry) → IsLawful limits es → AreInTurn 2 (numbers_given es)
+NumbersAreInTurn = (limits : Limits) (es : List Entry) → IsLawful limits es → AreInTurn (ROOT_NUMBER + 1) (numbers_given es)
 
 -- all records that joined an instance, and how many of them were read
 abbrev pub total : Instance → List Event
@@ -78,6 +81,10 @@ total i = i.taken ++ i.waiting
 
 abbrev pub read_count : Instance → ℕ
 read_count i = length i.taken
+
+-- an instance where an event was raised
+abbrev pub with_event : Instance → Event → Instance
+with_event i e = record i { waiting = i.waiting ++ joining i.limit i.waiting e }
 
 -- what waits is all that joined, from the read count on; an event adds to the end; a read moves the count alone
 pub record IsQueue (i : Instance) : Type 0 where
@@ -91,6 +98,21 @@ pub record HasFate (limit : ℕ) (waiting : List Event) (e : Event) : Type 0 whe
   pub merged : is_repeated waiting e ≡ true → joining limit waiting e ≡ []
   pub lost : is_repeated waiting e ≡ false → nat_le limit (length waiting) ≡ true → has_mark (waiting ++ joining limit waiting e) ≡ true
   pub kept : is_repeated waiting e ≡ false → nat_le limit (length waiting) ≡ false → joining limit waiting e ≡ e ∷ []
+
+-- the words of the queue's rules: equal events are the same, a repeated event is the last that waits, a mark waits
+pub record AreWords : Type 0 where
+  pub same : (a b : Event) → (event_eq a b ≡ true) ↔ (a ≡ b)
+  pub repeated : (waiting : List Event) (e : Event) → (is_repeated waiting e ≡ true) ↔ (slice_get waiting (length waiting - 1) ≡ Some e)
+  pub marked : (waiting : List Event) → (has_mark waiting ≡ true) ↔ Contains waiting mark
+
+-- no more records wait than the limit of the instance allows, and one mark
+abbrev pub QueuesAreBounded : Type 0
+QueuesAreBounded =
+    (limits : Limits) (es : List Entry) (id : ℕ) → IfSome (instance_of (stands_for limits es).instances id) (λ i. length i.waiting ≤ i.limit + 1)
+
+-- a refused call changes nothing
+abbrev pub RefusalsChangeNothing : Type 0
+RefusalsChangeNothing = (t : Tree) (c : Call) (r : Refusal) → reply_of t c ≡ reply.Refused r → after t c ≡ t
 
 -- a journal that is cut goes on with the same replies from the tree without what was read
 abbrev pub CutsKeepReplies : Type 0

@@ -1,16 +1,22 @@
-// The files of a tree, as rows: seen as the map of paths and the map of files.
+//! The files of a tree: rows, which contracts see as the map of paths and the map of files.
 ghost use Rattle.std.specs.Prelude.{IsTrue, ◌↔◌, ◌≡◌, ◌<◌, ◌≤◌, [], IfOk, IfErr, OnOk, map, length, take};
 ghost use Rattle.std.specs.Ordering.{nat_cmp};
 ghost use Rattle.std.specs.FinMap.{find};
 ghost use Rattle.tree_core.specs.World.{path_cmp, opening_world, number_at, is_there, is_directory, is_directory_file, with_file};
-ghost use Rattle.tree_core.specs.Refusals.{longest_there, missing_row, parent_row};
-ghost use Rattle.tree_core.specs.Entries.{path_entry, file_entry};
+ghost use Rattle.tree_core.specs.FileCalls.{longest_there, missing_row, parent_row};
+ghost use Rattle.tree_core.specs.Rows.{path_entry, file_entry};
 
 use crate::call::Kind;
 use record_codec::Name;
 use std::alloc::Global;
 use std::marker::Model;
 use tree_paths::{Path, Refusal};
+
+/// The file number of the root.
+pub const ROOT_NUMBER: u32 = 1;
+
+/// The mode bits of the root of a new tree.
+pub const ROOT_MODE: u32 = 0o755;
 
 /// A path, and the number of its file.
 #[derive(Drop)]
@@ -42,7 +48,7 @@ impl Model for Files {
 
     ghost coded = { world_code };
 
-    ghost use Rattle.tree_core.specs.Rows.{world_of};
+    ghost use Rattle.tree_core.specs.FilesView.{world_of};
 
     ghost view = { world_of };
 }
@@ -57,12 +63,12 @@ impl Files {
         let mut files = Vec::new(alloc);
         paths.push(PathRow {
             path: Path::from_names(Vec::new(alloc)),
-            number: 1,
+            number: ROOT_NUMBER,
         })?;
         files.push(FileRow {
-            number: 1,
+            number: ROOT_NUMBER,
             kind: Kind::Directory,
-            mode: 0o755,
+            mode: ROOT_MODE,
         })?;
         Ok(Files { paths, files })
     }
@@ -107,7 +113,7 @@ impl Files {
     }
 
     /// Why a path is not found.
-    #[tactic(auto, unfolding(crate::specs::Refusals::missing_row))]
+    #[tactic(auto, unfolding(crate::specs::FileCalls::missing_row))]
     pub fn missing(&self, path: &[Name]) -> Option<Refusal>
         ensures { result ≡ missing_row self.now path.now }
     {
@@ -123,7 +129,7 @@ impl Files {
     }
 
     /// Why a name cannot stand in the directory of its path.
-    #[tactic(auto, unfolding(crate::specs::Refusals::parent_row))]
+    #[tactic(auto, unfolding(crate::specs::FileCalls::parent_row))]
     pub fn parent_fault(&self, path: &[Name]) -> Option<Refusal>
         requires { 0 < length path.now }
         ensures { result ≡ parent_row self.now path.now }
@@ -149,6 +155,7 @@ impl Files {
         Ok(())
     }
 
+    /// The same files once more.
     pub fn copy(&self, alloc: Global) -> Result<Files, Refusal>
         ensures ok { IfOk result (λ f. f ≡ self.now) }
         ensures err { IfErr result (λ refusal. refusal ≡ Refusal.Enomem) }

@@ -1,17 +1,23 @@
-// The tree with its instances: what it answers to each call.
-ghost use Rattle.std.specs.Prelude.{◌≡◌, ◌<◌, [], None, IfOk, IfErr, OnOk, MatchOption, map, length, unwrap_or};
+//! The tree with its instances: what it answers to each call.
+ghost use Rattle.std.specs.Prelude.{◌≡◌, None, IfOk, IfErr, OnOk, map, unwrap_or};
 ghost use Rattle.std.specs.Option.{option_copied};
-ghost use Rattle.tree_core.specs.World.{parent_of, last_name, number_at};
+ghost use Rattle.tree_core.specs.World.{parent_of, number_at};
 ghost use Rattle.tree_core.specs.Refusals.{first_row};
-ghost use Rattle.tree_core.specs.Instances.{told_all, instance_of, IsAt};
-ghost use Rattle.tree_core.specs.Tree.{opening, make_rows, init_rows, add_watch_rows, read_rows, new_watch_rows, watch_of, refusal_of, make_bits, to_parent, after_make, after_init, after_add_watch, after_accepted_read, answer_of, reply_of, after, compacted};
+ghost use Rattle.tree_core.specs.FileCalls.{make_rows};
+ghost use Rattle.tree_core.specs.Watches.{watch_of, new_watch_rows};
+ghost use Rattle.tree_core.specs.Notices.{make_masks, to_parent};
+ghost use Rattle.tree_core.specs.Instances.{told, instance_of};
+ghost use Rattle.tree_core.specs.Tree.{opening, init_rows, add_watch_rows, read_rows, refusal_of, after_make, after_init, after_add_watch, after_accepted_read, answer_of, reply_of, after, compacted};
 
-use crate::files::Files;
-use crate::instances::Watcher;
-use crate::call::{Call, FileCall, Kind};
+use crate::call::{Call, FileCall, GREATEST_MODE, Kind};
+use crate::files::{Files, ROOT_NUMBER};
+use crate::instance::OpenInstance;
+use crate::instances::{index_of, instance_copies, instance_in, told_each};
+use crate::notices::{Notice, make_notices};
 use crate::reply::{Answer, Reply};
-use crate::watch::Notice;
+use crate::watches::Watches;
 use record_codec::Name;
+use record_codec::bits::IN_ALL_EVENTS;
 use std::alloc::Global;
 use std::marker::Model;
 use tree_paths::{Limits, Path, Refusal};
@@ -24,7 +30,7 @@ pub struct Machine {
     files: Files,
     next_number: u32,
     next_id: u32,
-    instances: Vec<Watcher>,
+    instances: Vec<OpenInstance>,
 }
 
 impl Model for Machine {
@@ -51,26 +57,26 @@ impl Machine {
             alloc,
             limits,
             files: Files::new(alloc)?,
-            next_number: 2,
+            next_number: ROOT_NUMBER + 1,
             next_id: 1,
             instances: Vec::new(alloc),
         })
     }
 
     /// The open instance of a number.
-    pub fn instance_at(&self, id: u32) -> Option<&Watcher>
+    pub fn instance_at(&self, id: u32) -> Option<&OpenInstance>
         ensures { option_copied result ≡ instance_of self.now.instances id }
     {
         instance_in(self.instances.as_slice(), id)
     }
 
     // Why a file cannot be made.
-    #[tactic(auto, unfolding(crate::specs::Tree::make_rows))]
+    #[tactic(auto, unfolding(crate::specs::FileCalls::make_rows))]
     fn make_refusal(&self, path: &Path, mode: u32) -> Option<Refusal>
-        ensures { result ≡ first_row (make_rows self.now path.now mode) }
+        ensures { result ≡ first_row (make_rows self.now.limits self.now.world self.now.next_number path.now mode) }
     {
         let names = path.names();
-        if mode > 0o7777 {
+        if mode > GREATEST_MODE {
             return Some(Refusal::Einval);
         }
         if names.is_empty() {
@@ -110,10 +116,10 @@ impl Machine {
     fn add_watch_refusal(&self, id: u32, path: &Path, mask: u32) -> Option<Refusal>
         ensures { result ≡ first_row (add_watch_rows self.now id path.now mask) }
     {
-        let Some(watcher) = self.instance_at(id) else {
+        let Some(opened) = self.instance_at(id) else {
             return Some(Refusal::Ebadf);
         };
-        if mask > 0xfff {
+        if mask & IN_ALL_EVENTS != mask {
             return Some(Refusal::Einval);
         }
         if mask == 0 {
@@ -122,7 +128,11 @@ impl Machine {
         if let Some(refusal) = self.files.missing(path.names()) {
             return Some(refusal);
         }
-        new_watch_refusal(&self.limits, watcher, self.files.number_at(path.names()))
+        new_watch_refusal(
+            &self.limits,
+            opened.watched(),
+            self.files.number_at(path.names()),
+        )
     }
 
     // Why an instance cannot be read.
@@ -130,13 +140,13 @@ impl Machine {
     fn read_refusal(&self, id: u32, bytes: u32) -> Option<Refusal>
         ensures { result ≡ first_row (read_rows self.now id bytes) }
     {
-        let Some(watcher) = self.instance_at(id) else {
+        let Some(opened) = self.instance_at(id) else {
             return Some(Refusal::Ebadf);
         };
-        if watcher.waiting() == 0 {
+        if opened.waiting() == 0 {
             return Some(Refusal::Eagain);
         }
-        if watcher.fitting(bytes) == 0 {
+        if opened.fitting(bytes) == 0 {
             return Some(Refusal::Einval);
         }
         None
@@ -161,7 +171,7 @@ impl Machine {
 
     // Makes a file.
     fn make(&mut self, kind: Kind, path: &Path, mode: u32) -> Result<Reply, Refusal>
-        requires { first_row (make_rows self.old path.now mode) ≡ None }
+        requires { first_row (make_rows self.old.limits self.old.world self.old.next_number path.now mode) ≡ None }
         ensures reply { IfOk result (λ r. r ≡ Reply.File (Answer.Number self.old.next_number)) }
         ensures tree { OnOk result (self.new ≡ after_make self.old kind path.now mode) }
         ensures err { IfErr result (λ refusal. refusal ≡ Refusal.Enomem) }
@@ -184,7 +194,7 @@ impl Machine {
 
     // What is told of a new file.
     fn notices_of(&self, kind: Kind, path: &Path) -> Result<Vec<Notice>, Refusal>
-        ensures ok { IfOk result (λ v. v.items ≡ to_parent self.now path.now (make_bits kind)) }
+        ensures ok { IfOk result (λ v. v.items ≡ to_parent self.now.world path.now (make_masks kind)) }
         ensures err { IfErr result (λ refusal. refusal ≡ Refusal.Enomem) }
     {
         let names = path.names();
@@ -192,8 +202,8 @@ impl Machine {
     }
 
     // The instances after they were told of a new file.
-    fn told_of(&self, kind: Kind, path: &Path) -> Result<Vec<Watcher>, Refusal>
-        ensures ok { IfOk result (λ v. v.items ≡ map (λ i. told_all i (to_parent self.now path.now (make_bits kind))) self.now.instances) }
+    fn told_of(&self, kind: Kind, path: &Path) -> Result<Vec<OpenInstance>, Refusal>
+        ensures ok { IfOk result (λ v. v.items ≡ map (λ i. told i (to_parent self.now.world path.now (make_masks kind))) self.now.instances) }
         ensures err { IfErr result (λ refusal. refusal ≡ Refusal.Enomem) }
     {
         let notices = self.notices_of(kind, path)?;
@@ -208,7 +218,8 @@ impl Machine {
         ensures err { IfErr result (λ refusal. refusal ≡ Refusal.Enomem) }
     {
         let id = self.next_id;
-        self.instances.push(Watcher::new(self.alloc, id, limit))?;
+        self.instances
+            .push(OpenInstance::new(self.alloc, id, limit))?;
         self.next_id += 1;
         Ok(Reply::Instance(id))
     }
@@ -224,9 +235,9 @@ impl Machine {
         let Some(place) = index_of(self.instances.as_slice(), id) else {
             unreachable!()
         };
-        let watcher = &mut self.instances[place];
-        let wd = watcher.descriptor(number);
-        watcher.watch(number, mask)?;
+        let opened = &mut self.instances[place];
+        let wd = opened.descriptor(number);
+        opened.watch(number, mask)?;
         Ok(Reply::Wd(wd))
     }
 
@@ -241,10 +252,10 @@ impl Machine {
             unreachable!()
         };
         let alloc = self.alloc;
-        let watcher = &mut self.instances[place];
-        let count = watcher.fitting(bytes);
-        let records = watcher.spelled(alloc, count)?;
-        watcher.read(count)?;
+        let opened = &mut self.instances[place];
+        let count = opened.fitting(bytes);
+        let records = opened.spelled(alloc, count)?;
+        opened.read(count)?;
         Ok(Reply::Records(records))
     }
 
@@ -270,6 +281,7 @@ impl Machine {
         }
     }
 
+    /// The same machine once more.
     pub fn copy(&self) -> Result<Machine, Refusal>
         ensures ok { IfOk result (λ m. m ≡ self.now) }
         ensures err { IfErr result (λ refusal. refusal ≡ Refusal.Enomem) }
@@ -285,108 +297,20 @@ impl Machine {
     }
 }
 
-fn instance_copies(alloc: Global, instances: &[Watcher]) -> Result<Vec<Watcher>, Refusal>
-    ensures ok { IfOk result (λ v. v.items ≡ instances.now) }
-    ensures err { IfErr result (λ refusal. refusal ≡ Refusal.Enomem) }
-{
-    let mut all = Vec::new(alloc);
-    for watcher in instances {
-        all.push(watcher.copy(alloc)?)?;
-    }
-    Ok(all)
-}
-
 // Why a file cannot be watched, where it is not yet.
-fn new_watch_refusal(limits: &Limits, watcher: &Watcher, number: Option<u32>) -> Option<Refusal>
-    ensures { result ≡ first_row (new_watch_rows limits.now watcher.now (watch_of watcher.now number)) }
+fn new_watch_refusal(limits: &Limits, watches: &Watches, number: Option<u32>) -> Option<Refusal>
+    ensures { result ≡ first_row (new_watch_rows limits.now watches.now (watch_of watches.now number)) }
 {
     if let Some(number) = number {
-        if watcher.watch_at(number).is_some() {
+        if watches.of(number).is_some() {
             return None;
         }
     }
-    if watcher.watches() >= limits.watches as usize {
+    if watches.len() >= limits.watches as usize {
         return Some(Refusal::Enospc);
     }
-    if watcher.next_wd() > limits.wds {
+    if watches.next_wd() > limits.wds {
         return Some(Refusal::Enospc);
     }
     None
-}
-
-#[tactic(auto, unfolding(crate::specs::Instances::instance_of))]
-fn instance_in(instances: &[Watcher], id: u32) -> Option<&Watcher>
-    ensures { option_copied result ≡ instance_of instances.now id }
-{
-    instances.iter().find(|watcher| watcher.id() == id)
-}
-
-// The place of the instance of a number.
-fn index_of(instances: &[Watcher], id: u32) -> Option<usize>
-    ensures { MatchOption result (instance_of instances.now id ≡ None) (IsAt instances.now id) }
-{
-    for (place, watcher) in instances.iter().enumerate() {
-        if watcher.id() == id {
-            return Some(place);
-        }
-    }
-    None
-}
-
-// A notice to the directory of a path, with the path's last name.
-fn notice(number: u32, bits: u32, path: &[Name]) -> Result<Notice, Refusal>
-    ensures ok { IfOk result (λ n. n ≡ record { number = number; bits = bits; cookie = 0; name = last_name path.now }) }
-    ensures err { IfErr result (λ refusal. refusal ≡ Refusal.Enomem) }
-{
-    let name = match path.last() {
-        Some(name) => Some(name.copy()?),
-        None => None,
-    };
-    Ok(Notice {
-        number,
-        bits,
-        cookie: 0,
-        name,
-    })
-}
-
-// What is told of a new file.
-fn make_notices(
-    alloc: Global,
-    number: u32,
-    kind: Kind,
-    path: &[Name],
-) -> Result<Vec<Notice>, Refusal>
-    ensures ok { IfOk result (λ v. v.items ≡ map (λ b. record { number = number; bits = b; cookie = 0; name = last_name path.now }) (make_bits kind)) }
-    ensures err { IfErr result (λ refusal. refusal ≡ Refusal.Enomem) }
-{
-    let mut notices = Vec::new(alloc);
-    match kind {
-        Kind::Regular => {
-            notices.push(notice(number, 0x100, path)?)?;
-            notices.push(notice(number, 0x20, path)?)?;
-            notices.push(notice(number, 0x8, path)?)?;
-        }
-        Kind::Directory => {
-            notices.push(notice(number, 0x4000_0100, path)?)?;
-        }
-    }
-    Ok(notices)
-}
-
-fn told_each(
-    alloc: Global,
-    instances: &[Watcher],
-    notices: &[Notice],
-) -> Result<Vec<Watcher>, Refusal>
-    ensures ok { IfOk result (λ v. v.items ≡ map (λ i. told_all i notices.now) instances.now) }
-    ensures err { IfErr result (λ refusal. refusal ≡ Refusal.Enomem) }
-{
-    let mut all = Vec::new(alloc);
-    for watcher in instances {
-        let mut next = watcher.copy(alloc)?;
-        next.tell_all(notices)?;
-        all.push(next)?;
-    }
-    Ok(all)
 }

@@ -89,7 +89,7 @@ impl State {
     {
         let machine = &self.machine;
         match machine.instance_at(instance) {
-            Some(watcher) => Some(watcher.waiting()),
+            Some(opened) => Some(opened.waiting()),
             None => None,
         }
     }

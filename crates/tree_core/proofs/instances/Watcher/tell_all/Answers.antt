@@ -1,9 +1,0 @@
-use Rattle.std.proofs.Common.{sym, ◌∙◌, ap}
-use Rattle.tree_core.specs.Instances.{told}
-use Rattle.tree_core.proofs.Told.{told_all-more}
-use Rattle.tree_core.proofs.instances.Watcher.tell_all.Goals as goal
-
-pub loop-notice-preserved : goal.loop-notice-preserved
-loop-notice-preserved c =
-    c.in_ok-tell.ensures.ok ∙ ap (λ i. told i c.notice-item.result) c.loop-notice.invariant
-    ∙ sym (told_all-more c.args.self.now c.args.notices.now c.loop-notice.notice-index c.notice-item.result c.loop-notice-test.true c.notice-item.is)
