@@ -1,0 +1,27 @@
+-- The lines of a script, and the words of a line.
+use Rattle.std.specs.Prelude.{ℕ, Bool, true, ◌||◌, ◌==◌, List, [], ◌∷◌, Option, Some, None, if◌then◌else◌}
+use Rattle.std.specs.Char.{is_ascii_graphic}
+use Rattle.std.specs.Str.{byte}
+use Rattle.tree_paths.specs.Pieces.{pieces, runs}
+
+-- the lines of a script, parted by line feeds. Behind a last line feed stands one more line, which is empty
+abbrev pub lines_of : List ℕ → List (List ℕ)
+lines_of script = pieces (byte "\n") script
+
+-- the words of a line, parted by one space or more
+abbrev pub words_of : List ℕ → List (List ℕ)
+words_of line = runs (byte " ") line
+
+-- a space, or a byte of a word: a graphic character of ASCII
+abbrev pub is_line_byte : ℕ → Bool
+is_line_byte b = (b == byte " ") || is_ascii_graphic b
+
+-- a line that asks for nothing: it is empty or has spaces alone, or its first byte past spaces is a '#'
+abbrev pub is_silent : List ℕ → Bool
+is_silent [] = true
+is_silent (b ∷ bs) = if b == byte " " then is_silent bs else b == byte "#"
+
+-- the pieces of what stands behind a separator, of which there may be none
+abbrev pub pieces_in : ℕ → Option (List ℕ) → List (List ℕ)
+pieces_in separator None = []
+pieces_in separator (Some bytes) = pieces separator bytes

@@ -1,0 +1,177 @@
+-- What a script prints.
+use Rattle.std.specs.Prelude.{◌≡◌, ◌<◌, ◌≤◌, ◌⊎◌, ⊤, ℕ, ◌+◌, List, [], ◌∷◌, ◌++◌, length, Option, Result, Ok, Err, IfSome}
+use Rattle.std.specs.Io.KnownBytes.{Appends, Keeps}
+use Rattle.record_codec.specs.Ports.{one_more}
+use Rattle.tree_paths.specs.Bounds.{full}
+use Rattle.tree_paths.specs.declared.refusal.Refusal.TheVariants.{Enomem, JournalFull}
+use Rattle.tree_core.specs.declared.call.Call.{Call}
+use Rattle.tree_core.specs.declared.reply.Reply.{Reply}
+use Rattle.tree_core.specs.declared.reply.Reply.TheVariants as replies
+use Rattle.tree_core.specs.Tree.{reply_of}
+use Rattle.tree_core.specs.Journal.{Journaled, now, with_entry}
+use Rattle.watchtree_script.specs.declared.fault.ScriptFault.{ScriptFault}
+use Rattle.watchtree_script.specs.declared.fault.RunFault.{RunFault}
+use Rattle.watchtree_script.specs.declared.fault.RunFault.TheVariants as faults
+use Rattle.watchtree_script.specs.declared.line.Line.{Line}
+use Rattle.watchtree_script.specs.declared.line.Line.TheVariants.{Silent, Run}
+use Rattle.watchtree_script.specs.declared.line.LineError.{LineError}
+use Rattle.watchtree_script.specs.declared.line.LineError.TheVariants.{Fault, Refused, Memory}
+use Rattle.watchtree_script.specs.Lines.{lines_of}
+use Rattle.watchtree_script.specs.Commands.{line_of}
+use Rattle.watchtree_script.specs.Replies.{reply_text, refusal_text}
+
+-- who makes the calls of a script
+abbrev pub caller : ℕ
+caller = 1
+
+-- the call is answered by the tree that the journal stands for, and joins the journal
+pub record IsAnswered (old : Journaled) (call : Call) (reply : Reply) (new : Journaled) : Type 0 where
+  pub room : length old.entries < old.limits.journal
+  pub answer : reply ≡ reply_of (now old) call
+  pub entry : new ≡ with_entry old (record { caller = caller; call = call; reply = reply })
+
+-- want of memory leaves the journal as it is
+pub record IsOutOfMemory (old : Journaled) (reply : Reply) (new : Journaled) : Type 0 where
+  pub answer : reply ≡ replies.Refused Enomem
+  pub same : new ≡ old
+
+-- a full journal stays as it is
+pub record IsFull (old : Journaled) (reply : Reply) (new : Journaled) : Type 0 where
+  pub full : old.limits.journal ≤ length old.entries
+  pub answer : reply ≡ replies.Refused JournalFull
+  pub same : new ≡ old
+
+-- where memory is ample, a call may have this reply and lead from the old journal to the new one
+abbrev pub AmpleReplies : Journaled → Call → Reply → Journaled → Type 0
+AmpleReplies old call reply new = IsAnswered old call reply new ⊎ IsFull old reply new
+
+-- the same, where memory may be spent
+abbrev pub Replies : Journaled → Call → Reply → Journaled → Type 0
+Replies old call reply new = AmpleReplies old call reply new ⊎ IsOutOfMemory old reply new
+
+-- what a line may print, from the old journal to the new one, where calls are replied to so
+abbrev pub PrintsLineBy : (Journaled → Call → Reply → Journaled → Type 0) → Journaled → Result Line LineError → List ℕ → Journaled → Type 0
+PrintsLineBy R old (Ok Silent) text new = (text ≡ []) × (new ≡ old)
+PrintsLineBy R old (Ok (Run call shown)) text new = (reply : Reply) × R old call reply new × (text ≡ reply_text shown reply)
+PrintsLineBy R old (Err (Refused refusal)) text new = (text ≡ refusal_text refusal) × (new ≡ old)
+PrintsLineBy R old (Err (Fault fault)) text new = ⊥
+PrintsLineBy R old (Err Memory) text new = ⊥
+
+-- what lines may print, one after another
+abbrev pub PrintsBy : (Journaled → Call → Reply → Journaled → Type 0) → ℕ → Journaled → List (List ℕ) → List ℕ → Journaled → Type 0
+PrintsBy R queue old [] text new = (text ≡ []) × (new ≡ old)
+PrintsBy R queue old (line ∷ lines) text new =
+    (mid : Journaled) × (first rest : List ℕ) × PrintsLineBy R old (line_of queue line) first mid × PrintsBy R queue mid lines rest new
+    × (text ≡ first ++ rest)
+
+abbrev pub PrintsLine : Journaled → Result Line LineError → List ℕ → Journaled → Type 0
+PrintsLine = PrintsLineBy Replies
+
+abbrev pub Prints : ℕ → Journaled → List (List ℕ) → List ℕ → Journaled → Type 0
+Prints = PrintsBy Replies
+
+-- a tree of the greatest limits, with no journal yet
+abbrev pub opening : Journaled
+opening = record { limits = full; entries = [] }
+
+-- lines may print this from the opening state. Queue is the limit of each instance that names none
+pub record AreText (queue : ℕ) (lines : List (List ℕ)) (text : List ℕ) : Type 0 where
+  pub journal : Journaled
+  pub prints : Prints queue opening lines text journal
+
+-- the most bytes of a script
+abbrev pub script_max : ℕ
+script_max = 1048576
+
+abbrev pub IsShort : List ℕ → Type 0
+IsShort script = length script ≤ script_max
+
+abbrev pub IsTooLong : List ℕ → Type 0
+IsTooLong script = script_max < length script
+
+-- the text of a script
+pub record IsText (queue : ℕ) (script text : List ℕ) : Type 0 where
+  pub short : IsShort script
+  pub prints : AreText queue (lines_of script) text
+
+-- the text of the lines before the first one with a fault. Lines are counted from 1
+pub record IsTextBefore (queue line : ℕ) (fault : ScriptFault) (script text : List ℕ) : Type 0 where
+  pub short : IsShort script
+  pub front : List (List ℕ)
+  pub bad : List ℕ
+  pub back : List (List ℕ)
+  pub lines : lines_of script ≡ front ++ (bad ∷ back)
+  pub number : line ≡ length front + 1
+  pub first_fault : line_of queue bad ≡ Err (Fault fault)
+  pub prints : AreText queue front text
+
+-- a front of the text of some first lines
+pub record IsTextFront (queue : ℕ) (script text : List ℕ) : Type 0 where
+  pub short : IsShort script
+  pub front : List (List ℕ)
+  pub back : List (List ℕ)
+  pub lines : lines_of script ≡ front ++ back
+  pub more : List ℕ
+  pub prints : AreText queue front (text ++ more)
+
+-- where it is known what was read, what was added to the writer's known bytes is so related to it
+abbrev pub Adds : (List ℕ → List ℕ → Type 0) → Option (List ℕ) → Option (List ℕ) → Option (List ℕ) → Type 0
+Adds P read old new = IfSome read (λ script. (text : List ℕ) × P script text × Appends old new text)
+
+-- what each fault says of what was read, and of what the writer held before and after
+abbrev pub FaultTells : ℕ → RunFault → Option (List ℕ) → Option (List ℕ) → Option (List ℕ) → Type 0
+FaultTells queue (faults.Script line f) read old new = Adds (IsTextBefore queue line f) read old new
+FaultTells queue faults.TooLong read old new = IfSome read IsTooLong × Keeps old new
+FaultTells queue faults.Read read old new = Keeps old new
+FaultTells queue faults.Write read old new = Adds (IsTextFront queue) read old new
+FaultTells queue faults.Memory read old new = Keeps old new ⊎ Adds (IsTextFront queue) read old new
+
+-- the count of the reader's faults, and that of the writer's, go up by the run's own fault alone
+abbrev pub read_faults : {A : Type 0} → Result A RunFault → ℕ → ℕ
+read_faults (Ok x) n = n
+read_faults (Err faults.Read) n = one_more n
+read_faults (Err (faults.Script line f)) n = n
+read_faults (Err faults.TooLong) n = n
+read_faults (Err faults.Write) n = n
+read_faults (Err faults.Memory) n = n
+
+abbrev pub write_faults : {A : Type 0} → Result A RunFault → ℕ → ℕ
+write_faults (Ok x) n = n
+write_faults (Err faults.Write) n = one_more n
+write_faults (Err (faults.Script line f)) n = n
+write_faults (Err faults.TooLong) n = n
+write_faults (Err faults.Read) n = n
+write_faults (Err faults.Memory) n = n
+
+-- why a script is not read
+abbrev pub ReadTells : RunFault → Option (List ℕ) → Type 0
+ReadTells (faults.Script line f) read = ⊥
+ReadTells faults.TooLong read = IfSome read IsTooLong
+ReadTells faults.Read read = ⊤
+ReadTells faults.Write read = ⊥
+ReadTells faults.Memory read = ⊤
+
+-- why a line prints nothing
+abbrev pub PrintsNothing : ℕ → ℕ → List ℕ → RunFault → Type 0
+PrintsNothing queue number line (faults.Script n f) = (n ≡ number) × (line_of queue line ≡ Err (Fault f))
+PrintsNothing queue number line faults.TooLong = ⊥
+PrintsNothing queue number line faults.Read = ⊥
+PrintsNothing queue number line faults.Write = ⊥
+PrintsNothing queue number line faults.Memory = ⊤
+
+-- why a line is not printed whole, with what the writer held before and after
+abbrev pub LineTells : ℕ → ℕ → Journaled → List ℕ → RunFault → Option (List ℕ) → Option (List ℕ) → Type 0
+LineTells queue number journal line (faults.Script n f) old new = (n ≡ number) × (line_of queue line ≡ Err (Fault f)) × Keeps old new
+LineTells queue number journal line faults.TooLong old new = ⊥
+LineTells queue number journal line faults.Read old new = ⊥
+LineTells queue number journal line faults.Write old new =
+    (text more : List ℕ) × (after : Journaled) × PrintsLine journal (line_of queue line) (text ++ more) after × Appends old new text
+LineTells queue number journal line faults.Memory old new = Keeps old new
+
+-- a fault of a run whose script was read
+abbrev pub IsRunFault : RunFault → Type 0
+IsRunFault (faults.Script line f) = ⊤
+IsRunFault faults.TooLong = ⊥
+IsRunFault faults.Read = ⊥
+IsRunFault faults.Write = ⊤
+IsRunFault faults.Memory = ⊤

@@ -1,0 +1,20 @@
+//! Scripts of calls on a tree of files, and what they print.
+//!
+//! [`run_script`] reads a whole script, runs it line by line on a new tree, and prints each call's reply.
+#![tactic(auto)]
+
+mod fault;
+mod laws;
+mod line;
+mod numbers;
+mod pieces;
+mod print;
+mod run;
+mod words;
+
+pub use fault::{RunFault, ScriptFault};
+pub use laws::{journals_are_lawful, texts_are_one};
+pub use run::{SCRIPT_MAX, run_script};
+
+#[cfg(test)]
+mod tests;

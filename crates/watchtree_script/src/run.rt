@@ -1,0 +1,163 @@
+//! Runs of scripts.
+
+ghost use Rattle.std.specs.Prelude.{◌≡◌, ◌<◌, ◌≤◌, [], ℕ, List, Some, IfOk, OnOk, IfErr, IfSome, Ok, length, take};
+ghost use Rattle.std.specs.Io.KnownBytes.{Appends};
+ghost use Rattle.record_codec.specs.Ports.{inner_of, faults_of};
+ghost use Rattle.watchtree_script.specs.Commands.{line_of};
+ghost use Rattle.watchtree_script.specs.Script.{PrintsLine, PrintsNothing, LineTells, ReadTells, FaultTells, IsRunFault, IsShort, Adds, IsText, Replies, write_faults, read_faults};
+
+use crate::fault::RunFault;
+use crate::line::{Line, LineError, read_line};
+use crate::pieces::Pieces;
+use crate::print::{push_refusal, push_reply};
+use record_codec::Port;
+use std::alloc::{AllocError, Global};
+use std::io::{Read, Write};
+use tree_core::{Call, Reply, State};
+use tree_paths::Limits;
+
+/// The most bytes of a script.
+pub const SCRIPT_MAX: usize = 1_048_576;
+
+/// How many bytes one read asks for.
+const READ_SIZE: usize = 4096;
+
+/// Who makes the calls of a script, as the journal names it.
+const CALLER: u32 = 1;
+
+/// Runs the script that the reader gives on a new tree of the greatest limits, and prints each call's reply.
+///
+/// `queue` is the limit of each instance that names none. The whole script is read before its first line is run; a
+/// read of nothing ends it, and once more than [`SCRIPT_MAX`] bytes were read there is no further read. A refusal
+/// is a reply like any other, also `ENOMEM`, and the run goes on.
+///
+/// # Errors
+/// [`RunFault`] says why the run ended before its script. What the lines before printed stays written.
+pub fn run_script<R: Read, W: Write>(
+    alloc: Global,
+    input: &mut Port<R>,
+    output: &mut Port<W>,
+    queue: u32,
+) -> Result<(), RunFault>
+    ensures ok { OnOk result (Adds (IsText queue) (R.remaining (inner_of input.old)) (W.contents (inner_of output.old)) (W.contents (inner_of output.new))) }
+    ensures err { IfErr result (λ fault. FaultTells queue fault (R.remaining (inner_of input.old)) (W.contents (inner_of output.old)) (W.contents (inner_of output.new))) }
+    ensures read { faults_of input.new ≡ read_faults result (faults_of input.old) }
+    ensures written { faults_of output.new ≡ write_faults result (faults_of output.old) }
+{
+    let script = read_script(alloc, input)?;
+    run_lines(alloc, &script, output, queue)
+}
+
+/// All that the reader gives.
+fn read_script<R: Read>(alloc: Global, input: &mut Port<R>) -> Result<Vec<u8>, RunFault>
+    ensures short { IfOk result (λ script. IsShort script.items) }
+    ensures whole { IfOk result (λ script. IfSome (R.remaining (inner_of input.old)) (λ known. known ≡ script.items)) }
+    ensures err { IfErr result (λ fault. ReadTells fault (R.remaining (inner_of input.old))) }
+    ensures faults { faults_of input.new ≡ read_faults result (faults_of input.old) }
+{
+    let mut script = Vec::new(alloc);
+    let mut buffer = [0u8; READ_SIZE];
+    while script.len() <= SCRIPT_MAX {
+        let Ok(count) = input.read(&mut buffer) else {
+            return Err(RunFault::Read);
+        };
+        if count == 0 {
+            return Ok(script);
+        }
+        script.extend_from_slice(&buffer[..count])?;
+    }
+    Err(RunFault::TooLong)
+}
+
+/// Runs a script line by line.
+fn run_lines<W: Write>(
+    alloc: Global,
+    script: &[u8],
+    output: &mut Port<W>,
+    queue: u32,
+) -> Result<(), RunFault>
+    requires { IsShort script.now }
+    ensures ok { OnOk result (Adds (IsText queue) (Some script.now) (W.contents (inner_of output.old)) (W.contents (inner_of output.new))) }
+    ensures kind { IfErr result IsRunFault }
+    ensures err { IfErr result (λ fault. FaultTells queue fault (Some script.now) (W.contents (inner_of output.old)) (W.contents (inner_of output.new))) }
+    ensures faults { faults_of output.new ≡ write_faults result (faults_of output.old) }
+{
+    let Ok(mut state) = State::new(alloc, Limits::full()) else {
+        return Err(RunFault::Memory);
+    };
+    let mut lines = Pieces::new(b'\n', script);
+    let mut number = 0;
+    let mut text = Vec::new(alloc);
+    while let Some(line) = lines.next_piece() {
+        number += 1;
+        run_line(&mut state, queue, number, line, &mut text, output)?;
+    }
+    Ok(())
+}
+
+/// Runs one line, and writes what it prints. The text is a buffer, which one line after another uses.
+fn run_line<W: Write>(
+    state: &mut State,
+    queue: u32,
+    number: u64,
+    line: &[u8],
+    text: &mut Vec<u8>,
+    output: &mut Port<W>,
+) -> Result<(), RunFault>
+    ensures ok { OnOk result ((printed : List ℕ) × PrintsLine state.old (line_of queue line.now) printed state.new × Appends (W.contents (inner_of output.old)) (W.contents (inner_of output.new)) printed) }
+    ensures err { IfErr result (λ fault. LineTells queue number state.old line.now fault (W.contents (inner_of output.old)) (W.contents (inner_of output.new))) }
+    ensures faults { faults_of output.new ≡ write_faults result (faults_of output.old) }
+{
+    print_line(text, state, queue, number, line)?;
+    match output.write_all(text) {
+        Ok(()) => Ok(()),
+        Err(_) => Err(RunFault::Write),
+    }
+}
+
+/// Runs one line, and makes the text that it prints.
+fn print_line(
+    text: &mut Vec<u8>,
+    state: &mut State,
+    queue: u32,
+    number: u64,
+    line: &[u8],
+) -> Result<(), RunFault>
+    ensures ok { OnOk result (PrintsLine state.old (line_of queue line.now) text.new.items state.new) }
+    ensures err { IfErr result (PrintsNothing queue number line.now) }
+{
+    text.clear();
+    match read_line(*text.allocator(), queue, line) {
+        Ok(line) => Ok(push_line(text, state, line)?),
+        Err(LineError::Refused(refusal)) => Ok(push_refusal(text, refusal)?),
+        Err(LineError::Memory) => Err(RunFault::Memory),
+        Err(LineError::Fault(fault)) => Err(RunFault::Script {
+            line: number,
+            fault,
+        }),
+    }
+}
+
+/// Does what a line asks for, and adds what it prints to an empty text.
+fn push_line(text: &mut Vec<u8>, state: &mut State, line: Line) -> Result<(), AllocError>
+    requires { text.old.items ≡ [] }
+    ensures { OnOk result (PrintsLine state.old (Ok line) text.new.items state.new) }
+{
+    match line {
+        Line::Silent => Ok(()),
+        Line::Run { call, shown } => {
+            let reply = reply_to(state, call);
+            push_reply(text, shown, &reply)
+        }
+    }
+}
+
+/// A call's reply, which may be that memory or the journal is spent.
+fn reply_to(state: &mut State, call: Call) -> Reply
+    ensures { Replies state.old call result state.new }
+{
+    match state.apply(CALLER, call) {
+        Ok(receipt) => receipt.reply,
+        Err(refusal) => Reply::Refused(refusal),
+    }
+}
