@@ -5,7 +5,7 @@ use Rattle.std.specs.Prelude.{not, bit_and, nat_lt, slice_get, is_some, cond, un
 use Rattle.record_codec.specs.declared.bits.TheConstants.{IN_ALL_EVENTS}
 use Rattle.tree_paths.specs.declared.refusal.Refusal.{Refusal}
 use Rattle.tree_paths.specs.declared.refusal.Refusal.TheVariants.{NumbersSpent, Emfile, Ebadf, Enoent, Enotdir, Einval, Enospc}
-use Rattle.tree_core.specs.Refusals.{row, first_row}
+use Rattle.tree_paths.specs.Rows.{row, first_row}
 use Rattle.tree_core.specs.FileCalls.{make_rows, missing_row, longest_there}
 use Rattle.tree_core.specs.Watches.{WatchMap, mask_rows, new_watch_rows, watch_of}
 use Rattle.tree_core.specs.Tree.{Tree, init_rows, add_watch_rows, watch_rows_of, read_rows, read_rows_of}

@@ -11,7 +11,7 @@ use Rattle.tree_core.specs.declared.call.Call.{Call}
 use Rattle.tree_core.specs.declared.call.Call.TheVariants as call
 use Rattle.tree_core.specs.Journal.{waiting_in}
 use Rattle.tree_core.specs.World.{number_at}
-use Rattle.tree_core.specs.Refusals.{first_row}
+use Rattle.tree_paths.specs.Rows.{first_row}
 use Rattle.tree_core.specs.Notices.{to_parent, make_masks}
 use Rattle.tree_core.specs.Queues.{fitting}
 use Rattle.tree_core.specs.Instances.{Instance, told, watching_file, after_read, instance_of, without_taken, new_instance}

@@ -8,7 +8,7 @@ use Rattle.tree_core.specs.declared.call.TheConstants.{GREATEST_MODE}
 use Rattle.tree_core.specs.declared.call.FileCall.{FileCall}
 use Rattle.tree_core.specs.declared.call.FileCall.TheVariants.{Create, Mkdir}
 use Rattle.tree_core.specs.World.{World, is_there, is_directory, parent_of}
-use Rattle.tree_core.specs.Refusals.{row, first_row}
+use Rattle.tree_paths.specs.Rows.{row, first_row}
 
 -- the longest prefix of at most n names that is there
 abbrev pub longest_there : World → List (List ℕ) → ℕ → List (List ℕ)

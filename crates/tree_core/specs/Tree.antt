@@ -15,7 +15,7 @@ use Rattle.tree_core.specs.declared.reply.Answer.TheVariants.{Number}
 use Rattle.tree_core.specs.declared.reply.Reply.{Reply}
 use Rattle.tree_core.specs.declared.reply.Reply.TheVariants as reply
 use Rattle.tree_core.specs.World.{World, opening_world, number_at, with_file}
-use Rattle.tree_core.specs.Refusals.{row, first_row}
+use Rattle.tree_paths.specs.Rows.{row, first_row}
 use Rattle.tree_core.specs.FileCalls.{file_rows, missing_row}
 use Rattle.tree_core.specs.Watches.{mask_rows, watch_of, new_watch_rows, descriptor_of}
 use Rattle.tree_core.specs.Notices.{to_parent, make_masks}

@@ -7,7 +7,7 @@ use Rattle.tree_paths.specs.declared.limits.Limits.{Limits}
 use Rattle.tree_paths.specs.declared.refusal.Refusal.{Refusal}
 use Rattle.tree_paths.specs.declared.refusal.Refusal.TheVariants.{Einval, Enospc}
 use Rattle.tree_core.specs.declared.watches.Watch.{Watch}
-use Rattle.tree_core.specs.Refusals.{row}
+use Rattle.tree_paths.specs.Rows.{row}
 
 -- the watch of each file number that has one, and the watch descriptor of the next new watch
 pub record WatchMap : Type 0 where

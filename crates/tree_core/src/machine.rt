@@ -2,7 +2,7 @@
 ghost use Rattle.std.specs.Prelude.{◌≡◌, None, IfOk, IfErr, OnOk, map, unwrap_or};
 ghost use Rattle.std.specs.Option.{option_copied};
 ghost use Rattle.tree_core.specs.World.{parent_of, number_at};
-ghost use Rattle.tree_core.specs.Refusals.{first_row};
+ghost use Rattle.tree_paths.specs.Rows.{first_row};
 ghost use Rattle.tree_core.specs.FileCalls.{make_rows};
 ghost use Rattle.tree_core.specs.Watches.{watch_of, new_watch_rows};
 ghost use Rattle.tree_core.specs.Notices.{make_masks, to_parent};

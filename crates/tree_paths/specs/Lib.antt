@@ -3,3 +3,4 @@ pub mod Greatest
 pub mod Paths
 pub mod Pieces
 pub mod Refusals
+pub mod Rows

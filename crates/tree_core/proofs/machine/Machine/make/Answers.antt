@@ -1,5 +1,5 @@
 use Rattle.std.proofs.Common.{◌≡◌, None, refl, sym, subst, arith}
-use Rattle.tree_core.specs.Refusals.{first_row}
+use Rattle.tree_paths.specs.Rows.{first_row}
 use Rattle.tree_core.specs.FileCalls.{make_rows}
 use Rattle.tree_core.specs.Tree.{Tree, after_make}
 use Rattle.tree_core.proofs.Accepted.{next_number-accepted}
