@@ -1,0 +1,50 @@
+//! Why the program ends before its work is done.
+
+use std::alloc::AllocError;
+use std::io::ErrorKind;
+use thiserror::Error;
+use watchtree_script::RunFault;
+
+/// Why the program ends before its work is done.
+#[derive(Clone, Copy, Debug, PartialEq, Eq, Error)]
+pub enum Fault {
+    /// The words of the command line are not those of a subcommand.
+    #[error("bad command line")]
+    CommandLine,
+    /// There is no memory to read the command line.
+    #[error("out of memory")]
+    Memory,
+    /// The run of a script ended early.
+    #[error("{0}")]
+    Run(RunFault),
+}
+
+impl Fault {
+    /// The exit status: 2 where the input is wrong, 3 for a failed read or write and for want of memory.
+    pub fn status(self) -> u8 {
+        match self {
+            Fault::CommandLine | Fault::Run(RunFault::Script { .. } | RunFault::TooLong) => 2,
+            Fault::Memory | Fault::Run(RunFault::Read | RunFault::Write | RunFault::Memory) => 3,
+        }
+    }
+
+    /// The fault of words that could not be had: they are no UTF-8, if memory is not spent.
+    pub fn of_words(kind: ErrorKind) -> Fault {
+        match kind {
+            ErrorKind::OutOfMemory => Fault::Memory,
+            _ => Fault::CommandLine,
+        }
+    }
+}
+
+impl From<AllocError> for Fault {
+    fn from(_error: AllocError) -> Fault {
+        Fault::Memory
+    }
+}
+
+impl From<RunFault> for Fault {
+    fn from(fault: RunFault) -> Fault {
+        Fault::Run(fault)
+    }
+}
