@@ -15,7 +15,7 @@ use tree_paths::Refusal;
 /// The records of an inotify instance that wait to be read, the oldest first.
 ///
 /// [`Queue::with_limit`] makes all the room that is ever needed. No other call takes memory, and each succeeds.
-#[derive(Drop)]
+#[derive(Debug, Drop)]
 pub struct Queue {
     limit: u32,
     // How many of the records are overflow marks.
@@ -95,7 +95,7 @@ impl Queue {
             }
             left -= len;
         }
-        self.records.len()
+        self.len()
     }
 
     /// The record that is read after `index` others.
