@@ -1,1 +1,4 @@
 pub mod Bounds
+pub mod Paths
+pub mod Pieces
+pub mod Refusals

@@ -1,11 +1,26 @@
 //! Paths from the root.
-ghost use Rattle.std.specs.Prelude.{◌≡◌, ◌∷◌, ◌++◌, [], MatchOption, IfSome, IsSome, ◌-◌, ◌<◌, ◌↔◌, take, length};
 
+ghost use Rattle.std.specs.Prelude.{◌≡◌, ◌⊎◌, ◌∷◌, ◌++◌, [], MatchOption, IfSome, IsSome, IfOk, IfErr, IsTrue, ◌-◌, ◌<◌, ◌↔◌, take, length};
+ghost use Rattle.std.specs.Prelude.{nat_eq};
+ghost use Rattle.std.proofs.Common.{rules};
+ghost use Rattle.std.specs.Cmp.Rules.{comparing};
+ghost use Rattle.std.specs.Cmp.Lexicographic.{pointwise};
+
+use crate::Refusal;
+use crate::parse::{names_in, refusal_of};
 use record_codec::Name;
+use std::alloc::{AllocError, Global};
 use std::marker::Model;
 
+/// Bytes of a path's text that are too many, by one, as for POSIX, which counts a zero byte at the end: 4,095 are the most.
+pub const PATH_MAX: usize = 4096;
+/// The most bytes of a name.
+pub const NAME_MAX: usize = 255;
+/// What parts the names of a path's text: a slash.
+pub const SEPARATOR: u8 = b'/';
+
 /// A path from the root: its names.
-#[derive(Drop)]
+#[derive(Debug, Drop)]
 pub struct Path {
     names: Vec<Name>,
 }
@@ -15,17 +30,54 @@ impl Model for Path {
 
     ghost Value = { List (List ℕ) };
 
-    ghost view = { λ p. p.names.items };
+    ghost view = { λ path. path.names.items };
+}
+
+impl PartialEq for Path {
+    ghost eq = { pointwise (pointwise nat_eq) };
+
+    ghost laws = { Prim.search (comparing, rules) };
+
+    fn eq(&self, other: &Path) -> bool
+        ensures value { result ≡ pointwise (pointwise nat_eq) self.now other.now }
+        ensures same { IsTrue result ↔ (self.now ≡ other.now) }
+    {
+        self.names.as_slice() == other.names.as_slice()
+    }
+}
+
+impl Eq for Path {
+    ghost laws = { Prim.search (comparing, rules) };
 }
 
 impl Path {
-    /// The path of these names.
+    ghost use Rattle.tree_paths.specs.Paths.{parsed, IsBelow};
+    ghost use Rattle.tree_paths.specs.declared.refusal.Refusal.TheVariants.{Enomem};
+
+    /// The path of a text. Several slashes together count as one.
+    ///
+    /// A text that is no path is refused without memory.
+    pub fn parse(alloc: Global, text: &[u8]) -> Result<Path, Refusal>
+        ensures ok { IfOk result (λ path. parsed text.now ≡ Ok path) }
+        ensures err { IfErr result (λ refusal. (refusal ≡ Enomem) ⊎ (parsed text.now ≡ Err refusal)) }
+        ensures refused { IfErr (parsed text.now) (λ refusal. result ≡ Err refusal) }
+    {
+        if let Some(refusal) = refusal_of(text) {
+            return Err(refusal);
+        }
+        Ok(Path {
+            names: names_in(alloc, text)?,
+        })
+    }
+
+    /// The path of these names, the first one in the root. It takes no memory.
     pub fn from_names(names: Vec<Name>) -> Path
         ensures { result ≡ names.items }
     {
         Path { names }
     }
 
+    /// The names, from the root on. The root's own path has none.
     pub fn names(&self) -> &[Name]
         ensures { result.now ≡ self.now }
     {
@@ -41,4 +93,33 @@ impl Path {
         let (name, parent) = self.names.as_slice().split_last()?;
         Some((parent, name))
     }
+
+    /// Whether the other path is a proper prefix of this one.
+    pub fn is_below(&self, other: &Path) -> bool
+        ensures { IsTrue result ↔ IsBelow self.now other.now }
+    {
+        other.names.len() < self.names.len()
+            && self.names.as_slice().starts_with(other.names.as_slice())
+    }
+
+    /// The same path once more. `Err` is want of memory.
+    pub fn copy(&self) -> Result<Path, Refusal>
+        ensures ok { IfOk result (λ path. path ≡ self.now) }
+        ensures err { IfErr result (λ refusal. refusal ≡ Enomem) }
+    {
+        Ok(Path {
+            names: copies(*self.names.allocator(), self.names.as_slice())?,
+        })
+    }
+}
+
+/// The same names once more.
+pub(crate) fn copies(alloc: Global, names: &[Name]) -> Result<Vec<Name>, AllocError>
+    ensures { IfOk result (λ copied. copied.items ≡ names.now) }
+{
+    let mut copied = Vec::with_capacity(alloc, names.len())?;
+    for name in names {
+        copied.push(name.copy()?)?;
+    }
+    Ok(copied)
 }
