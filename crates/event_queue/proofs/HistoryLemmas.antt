@@ -117,7 +117,6 @@ holds_less h waiting k o l = record {
 }
 
 pub follows_history : (b : Backlog) (h : History) → Holds h b.waiting → FollowsHistory b h
-unfolding after_offer
 follows_history b h o = record {
   befalls = λ e. subst (λ (w : List Event). let answer = offered b.limit w e in Befalls b.limit h e answer (with_joined h (joining answer e))) o.rest (befalls_at b.limit h e);
   offers = λ e. holds_more h b.waiting (joining (offered b.limit b.waiting e) e) o;

@@ -56,7 +56,6 @@ pub offered_marked : (limit : ℕ) (waiting : List Event) (e : Event) → is_rep
 offered_marked limit waiting e p h m = offered_at limit waiting e false false false p (le-ltb _ _ h) m
 
 pub after_offer-waiting : (b : Backlog) (e : Event) (answer : Offered) → offered b.limit b.waiting e ≡ answer → after_offer b e ≡ record b { waiting = b.waiting ++ joining answer e }
-unfolding after_offer
 after_offer-waiting b e answer p = λ k. record b { waiting = b.waiting ++ joining (p k) e }
 
 after_offer-none : (b : Backlog) (e : Event) (answer : Offered) → offered b.limit b.waiting e ≡ answer → joining answer e ≡ [] → after_offer b e ≡ b

@@ -4,7 +4,7 @@ use Rattle.std.specs.Option.{option_map_or}
 use Rattle.record_codec.specs.declared.event.Event.{Event}
 use Rattle.record_codec.specs.declared.bits.TheConstants.{IN_Q_OVERFLOW}
 use Rattle.record_codec.specs.Equality.{event_eq}
-use Rattle.tree_paths.specs.Bounds.{full}
+use Rattle.tree_paths.specs.declared.limits.TheConstants.{MAX_QUEUE}
 use Rattle.event_queue.specs.declared.offered.Offered.{Offered}
 use Rattle.event_queue.specs.declared.offered.Offered.TheVariants.{Kept, Merged, Marked, Lost}
 
@@ -15,7 +15,7 @@ pub record Backlog : Type 0 where
 
 -- a limit that a queue can have
 abbrev pub IsLimit : ℕ → Type 0
-IsLimit limit = (1 ≤ limit) × (limit ≤ full.queue)
+IsLimit limit = (1 ≤ limit) × (limit ≤ MAX_QUEUE)
 
 -- the record that says that events were lost: its wd is -1, its mask IN_Q_OVERFLOW
 unfoldable pub overflow_mark : Event
@@ -53,7 +53,7 @@ joining Marked e = overflow_mark ∷ []
 joining Lost e = []
 
 -- a queue after an event was offered
-unfoldable pub after_offer : Backlog → Event → Backlog
+abbrev pub after_offer : Backlog → Event → Backlog
 after_offer b e = record b { waiting = b.waiting ++ joining (offered b.limit b.waiting e) e }
 
 -- a queue after its oldest record was read

@@ -1,6 +1,7 @@
 use super::*;
 use record_codec::Name;
 use std::alloc::AllocError;
+use tree_paths::Limits;
 
 /// A file of this name was made in the directory of watch 1.
 fn made(alloc: Global, name: &[u8]) -> Result<Event, AllocError> {
@@ -45,6 +46,51 @@ fn limit_two(rt: HostRuntime) -> Result<(), Refusal> {
     assert_eq!(rt; queue.take(), Some(overflow_mark()));
     assert_eq!(rt; queue.take(), Some(last));
     assert_eq!(rt; queue.take(), None);
+    assert!(rt; queue.is_empty());
+    Ok(())
+}
+
+/// An event of watch 1 that has no name. It takes no memory.
+fn touched(cookie: u32) -> Event {
+    Event {
+        wd: 1,
+        mask: bits::IN_ATTRIB,
+        cookie,
+        name: None,
+    }
+}
+
+#[test]
+fn least_limit(rt: HostRuntime) -> Result<(), Refusal> {
+    let mut queue = Queue::with_limit(rt.alloc(), 1)?;
+    assert_eq!(rt; queue.offer(touched(1)), Offered::Kept);
+    assert_eq!(rt; queue.offer(touched(1)), Offered::Merged);
+    assert_eq!(rt; queue.offer(touched(2)), Offered::Marked);
+    assert_eq!(rt; queue.offer(touched(1)), Offered::Lost);
+    assert_eq!(rt; queue.len(), 2);
+    assert_eq!(rt; queue.take(), Some(touched(1)));
+    assert_eq!(rt; queue.offer(touched(1)), Offered::Lost);
+    assert_eq!(rt; queue.take(), Some(overflow_mark()));
+    assert_eq!(rt; queue.offer(touched(1)), Offered::Kept);
+    assert_eq!(rt; queue.len(), 1);
+    Ok(())
+}
+
+#[test]
+fn greatest_limit(rt: HostRuntime) -> Result<(), Refusal> {
+    let limit = Limits::full().queue;
+    let mut queue = Queue::with_limit(rt.alloc(), limit)?;
+    for cookie in 0..limit {
+        assert_eq!(rt; queue.offer(touched(cookie)), Offered::Kept);
+    }
+    assert_eq!(rt; queue.offer(touched(0)), Offered::Marked);
+    assert_eq!(rt; queue.offer(touched(1)), Offered::Lost);
+    assert_eq!(rt; queue.len(), 65_536);
+    assert_eq!(rt; queue.fit(16 * 65_535), 65_535);
+    for cookie in 0..limit {
+        assert_eq!(rt; queue.take(), Some(touched(cookie)));
+    }
+    assert_eq!(rt; queue.take(), Some(overflow_mark()));
     assert!(rt; queue.is_empty());
     Ok(())
 }
