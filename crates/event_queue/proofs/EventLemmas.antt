@@ -1,7 +1,7 @@
 -- Two events pass `==` exactly where they are one.
 use Rattle.std.proofs.Common.{◌≡◌, ℕ, Bool, true, false, List, Option, Some, None, refl, ap, ◌∙◌, nat_eq}
 use Rattle.std.specs.Bool.{Decides}
-use Rattle.std.specs.Prelude.{◌&&◌, IsTrue, ◌↔◌}
+use Rattle.std.specs.Prelude.{◌&&◌}
 use Rattle.std.specs.Option.{option_eq}
 use Rattle.std.specs.Ordering.{int_eq}
 use Rattle.std.specs.Cmp.Lexicographic.{pointwise}
@@ -31,9 +31,9 @@ names_decide (Some x) (Some y) = Decides-like (pointwise nat_eq x y) (ap Some) (
 pub event_eq-Decides : (a b : Event) → Decides (event_eq a b) (a ≡ b)
 event_eq-Decides a b =
     Decides-like (event_eq a b)
-        (λ p. λ k. record { wd = p.0.0.0 k; mask = p.0.0.1 k; cookie = p.0.1 k; name = p.1 k })
-        (λ e. (((ap (λ (x : Event). x.wd) e, ap (λ (x : Event). x.mask) e), ap (λ (x : Event). x.cookie) e), ap (λ (x : Event). x.name) e))
-        (Decides-and _ _ (Decides-and _ _ (Decides-and _ _ (Decides-int_eq a.wd b.wd) (Decides-eqb a.mask b.mask)) (Decides-eqb a.cookie b.cookie)) (names_decide a.name b.name))
+    (λ p. λ k. record { wd = p.0.0.0 k; mask = p.0.0.1 k; cookie = p.0.1 k; name = p.1 k })
+    (λ e. (((ap (λ (x : Event). x.wd) e, ap (λ (x : Event). x.mask) e), ap (λ (x : Event). x.cookie) e), ap (λ (x : Event). x.name) e))
+    (Decides-and _ _ (Decides-and _ _ (Decides-and _ _ (Decides-int_eq a.wd b.wd) (Decides-eqb a.mask b.mask)) (Decides-eqb a.cookie b.cookie)) (names_decide a.name b.name))
 
 pub is_mark-Decides : (e : Event) → Decides (is_mark e) (e ≡ overflow_mark)
 unfolding is_mark

@@ -1,14 +1,13 @@
 -- Nothing is lost unsaid, and a queue keeps its bounds.
-use Rattle.std.proofs.Common.{◌≡◌, ◌≢◌, ℕ, zero, suc, ◌+◌, ◌-◌, ◌<◌, ◌≤◌, Bool, true, false, List, [], ◌∷◌, ◌++◌, length, drop, Option, Some, None, refl, sym, ap, subst, ◌∙◌, arith, length-append, ⊎_elim}
-use Rattle.std.specs.Prelude.{slice_get, nat_lt, Contains}
-use Rattle.std.specs.Bool.{Decides}
-use Rattle.std.proofs.lemmas.Bool.{lt-ltb, le-ltb, ltb-true, ltb-false, cases_Bool, cases_lt}
+use Rattle.std.proofs.Common.{◌≡◌, ◌≢◌, ℕ, zero, suc, ◌<◌, ◌≤◌, Bool, true, false, List, [], ◌∷◌, length, drop, refl, sym, ap, subst, arith, length-append, ⊎_elim}
+use Rattle.std.specs.Prelude.{Contains}
+use Rattle.std.proofs.lemmas.Bool.{ltb-true, ltb-false, cases_Bool, cases_lt}
 use Rattle.std.proofs.lemmas.List.{length-drop}
 use Rattle.std.proofs.lemmas.Option.{slice_get_within, get_or_from_slice_get}
 use Rattle.record_codec.specs.declared.event.Event.{Event}
 use Rattle.event_queue.specs.declared.offered.Offered.{Offered}
 use Rattle.event_queue.specs.declared.offered.Offered.TheVariants.{Kept, Merged, Marked, Lost}
-use Rattle.event_queue.specs.Backlogs.{Backlog, is_mark, marks, has_mark, is_repeated, offered, joining, overflow_mark, after_offer}
+use Rattle.event_queue.specs.Backlogs.{Backlog, is_mark, marks, has_mark, is_repeated, offered, overflow_mark, after_offer}
 use Rattle.event_queue.specs.Fates.{HasFate, IsBounded, KeepsBounds}
 use Rattle.event_queue.proofs.EventLemmas.{is_mark-Decides}
 use Rattle.event_queue.proofs.OfferLemmas.{marks-take_mark, marks-take_other, marks-push_mark, marks-push_other, is_mark-mark, offered_merged, offered_kept, offered_lost, offered_marked, after_merged, after_kept, after_lost, after_marked}
@@ -26,6 +25,7 @@ case_of b e = by_repeat (is_repeated b.waiting e) refl where
   by_mark : (m : Bool) → has_mark b.waiting ≡ m → is_repeated b.waiting e ≡ false → b.limit ≤ length b.waiting → Case b e (offered b.limit b.waiting e)
   by_mark true m p l = loses p l m (offered_lost b.limit b.waiting e p l m)
   by_mark false m p l = leaves_mark p l m (offered_marked b.limit b.waiting e p l m)
+
   by_repeat : (r : Bool) → is_repeated b.waiting e ≡ r → Case b e (offered b.limit b.waiting e)
   by_repeat true p = merges p (offered_merged b.limit b.waiting e p)
   by_repeat false p = ⊎_elim (λ (l : length b.waiting < b.limit). keeps p l (offered_kept b.limit b.waiting e p l)) (λ (l : b.limit ≤ length b.waiting). by_mark (has_mark b.waiting) refl p l) (cases_lt (length b.waiting) b.limit)
@@ -37,8 +37,12 @@ fate_by : (b : Backlog) (e : Event) (answer : Offered) → Case b e answer → H
 fate_by b e answer (merges p q) = record { kept = λ r. cc; merged = λ r. ((is_repeated-Decides b.waiting e).0 p, after_merged b e p); marked = λ r. absurd (cc); lost = λ r. absurd (cc) }
 fate_by b e answer (keeps p l q) = record { kept = λ r. ap (λ (x : Backlog). x.waiting) (after_kept b e p l); merged = λ r. absurd (cc); marked = λ r. absurd (cc); lost = λ r. absurd (cc) }
 fate_by b e answer (loses p l m q) = record { kept = λ r. cc; merged = λ r. absurd (cc); marked = λ r. absurd (cc); lost = λ r. (waiting_mark b.waiting m, after_lost b e p l m) }
-fate_by b e answer (leaves_mark p l m q) = record { kept = λ r. cc; merged = λ r. absurd (cc); lost = λ r. absurd (cc);
-  marked = λ r. ((let n : marks b.waiting ≤ 0 = ltb-false _ _ m in omega arith), ap (λ (x : Backlog). x.waiting) (after_marked b e p l m)) }
+fate_by b e answer (leaves_mark p l m q) = record {
+  kept = λ r. cc;
+  merged = λ r. absurd (cc);
+  lost = λ r. absurd (cc);
+  marked = λ r. ((let n : marks b.waiting ≤ 0 = ltb-false _ _ m in omega arith), ap (λ (x : Backlog). x.waiting) (after_marked b e p l m));
+}
 
 pub has_fate : (b : Backlog) (e : Event) → HasFate b e (offered b.limit b.waiting e)
 has_fate b e = fate_by b e _ (case_of b e)

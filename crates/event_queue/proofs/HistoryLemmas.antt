@@ -1,17 +1,16 @@
 -- A queue follows its history.
 use Rattle.std.proofs.Common.{◌≡◌, ℕ, zero, suc, ◌+◌, ◌-◌, ◌<◌, ◌≤◌, Bool, true, false, List, [], ◌∷◌, ◌++◌, length, take, drop, Option, Some, None, refl, sym, ap, subst, ◌∙◌, arith, append-nil, length-append, ⊎_elim}
-use Rattle.std.specs.Prelude.{slice_get, nat_lt}
+use Rattle.std.specs.Prelude.{slice_get}
 use Rattle.std.specs.Bool.{Decides}
 use Rattle.std.specs.Option.{option_map_or}
-use Rattle.std.proofs.lemmas.Bool.{lt-ltb, le-ltb, ltb-true, cases_lt}
+use Rattle.std.proofs.lemmas.Bool.{lt-ltb, ltb-true, cases_lt}
 use Rattle.std.proofs.lemmas.List.{length-drop, drop-append-le, drop-drop, take-append-drop}
-use Rattle.std.proofs.lemmas.Option.{slice_get_within, slice_get_past, same_Some}
+use Rattle.std.proofs.lemmas.Option.{slice_get_within, same_Some}
 use Rattle.record_codec.specs.declared.event.Event.{Event}
 use Rattle.record_codec.specs.Equality.{event_eq}
 use Rattle.event_queue.specs.declared.offered.Offered.{Offered}
-use Rattle.event_queue.specs.declared.offered.Offered.TheVariants.{Kept, Merged, Marked, Lost}
-use Rattle.event_queue.specs.Backlogs.{Backlog, is_mark, marks, has_mark, is_repeated, offered, joining, overflow_mark, after_offer, after_take}
-use Rattle.event_queue.specs.Histories.{History, Holds, Repeats, IsFull, IsMarked, Befalls, with_record, with_read, with_joined, FollowsHistory}
+use Rattle.event_queue.specs.Backlogs.{Backlog, is_mark, marks, has_mark, is_repeated, offered, joining, overflow_mark}
+use Rattle.event_queue.specs.Histories.{History, Holds, Repeats, IsFull, IsMarked, Befalls, with_read, with_joined, FollowsHistory}
 use Rattle.event_queue.proofs.EventLemmas.{event_eq-Decides, is_mark-Decides}
 use Rattle.event_queue.proofs.OfferLemmas.{marks-take_mark, marks-take_other, is_mark-mark, offered_merged, offered_kept, offered_lost, offered_marked}
 
@@ -64,6 +63,7 @@ repeats_to : (h : History) (e : Event) → is_repeated (drop h.read h.joined) e 
 repeats_to h e p = (some, sym (last_of h some) ∙ last) where
   last : slice_get (drop h.read h.joined) (length (drop h.read h.joined) - 1) ≡ Some e
   last = (is_repeated-Decides (drop h.read h.joined) e).0 p
+
   some : h.read < length h.joined
   some = let l = slice_get_within (drop h.read h.joined) _ e last in omega (arith, length-drop h.read h.joined)
 
@@ -99,8 +99,10 @@ befalls_at limit h e = record {
 } where
   waiting : List Event
   waiting = drop h.read h.joined
+
   other : ¬ Repeats h e → is_repeated (drop h.read h.joined) e ≡ false
   other r = when_not _ (repeats h e) r
+
   full : IsFull limit h → limit ≤ length (drop h.read h.joined)
   full f = omega (arith, length-drop h.read h.joined)
 

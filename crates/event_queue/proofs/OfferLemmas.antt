@@ -1,6 +1,6 @@
 -- What becomes of an event, case by case, and how many marks wait then.
-use Rattle.std.proofs.Common.{◌≡◌, ℕ, ◌+◌, ◌-◌, ◌<◌, ◌≤◌, Bool, true, false, cond, List, [], ◌∷◌, ◌++◌, length, drop, take, refl, sym, ap, ◌∙◌, arith, append-nil, length-append}
-use Rattle.std.specs.Prelude.{nat_lt, slice_get, Option, Some, None}
+use Rattle.std.proofs.Common.{◌≡◌, ℕ, ◌+◌, ◌-◌, ◌<◌, ◌≤◌, Bool, true, false, cond, List, [], ◌∷◌, ◌++◌, length, drop, refl, ap, ◌∙◌, arith, append-nil, length-append}
+use Rattle.std.specs.Prelude.{nat_lt, slice_get, Some}
 use Rattle.std.proofs.lemmas.Bool.{lt-ltb, le-ltb}
 use Rattle.std.proofs.lemmas.List.Sums.{sum_by-cons, sum_by_push}
 use Rattle.std.proofs.lemmas.Option.{same_Some}
@@ -74,5 +74,7 @@ pub after_marked : (b : Backlog) (e : Event) → is_repeated b.waiting e ≡ fal
 after_marked b e p h m = after_offer-waiting b e Marked (offered_marked b.limit b.waiting e p h m)
 
 pub ruleset offers = (offered_merged, offered_kept, offered_lost, offered_marked, after_merged, after_kept, after_lost, after_marked, is_mark-mark)
+
 pub ruleset joins = (marks-push_mark, marks-push_other, keep_last-room)
+
 pub ruleset takes = (marks-take_mark, marks-take_other)

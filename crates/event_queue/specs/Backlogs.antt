@@ -1,4 +1,4 @@
--- A queue of events (inotify(7)): what waits in it, and what becomes of an event that is offered to it.
+-- The event queue of an inotify instance: what waits in it, and what becomes of an event that is offered to it.
 use Rattle.std.specs.Prelude.{ℕ, ◌-◌, ◌≤◌, Bool, false, nat_lt, if◌then◌else◌, negsuc, List, [], ◌∷◌, ◌++◌, length, drop, slice_get, None, count_by}
 use Rattle.std.specs.Option.{option_map_or}
 use Rattle.record_codec.specs.declared.event.Event.{Event}
@@ -13,11 +13,11 @@ pub record Backlog : Type 0 where
   pub limit : ℕ
   pub waiting : List Event
 
--- a limit that a queue can have
+-- a limit that a queue can have: inotify(7)'s max_queued_events
 abbrev pub IsLimit : ℕ → Type 0
 IsLimit limit = (1 ≤ limit) × (limit ≤ MAX_QUEUE)
 
--- the record that says that events were lost: its wd is -1, its mask IN_Q_OVERFLOW
+-- the record that says that events were lost ("Event queue overflowed (wd is -1 for this event)")
 unfoldable pub overflow_mark : Event
 overflow_mark = record { wd = negsuc 0; mask = IN_Q_OVERFLOW; cookie = 0; name = None }
 
@@ -36,8 +36,10 @@ has_mark waiting = nat_lt 0 (marks waiting)
 unfoldable pub is_repeated : List Event → Event → Bool
 is_repeated waiting e = option_map_or (λ last. event_eq last e) (slice_get waiting (length waiting - 1)) false
 
--- what becomes of an event: "if successive events are identical, they are coalesced if the older one has not
--- yet been read"; "events in excess of this limit are dropped, but an IN_Q_OVERFLOW event is always generated"
+-- what becomes of an event. "If successive events are identical, they are coalesced into a single event if the older
+-- event has not yet been read" (inotify(7), NOTES): this is looked at first. "Events in excess of this limit are dropped,
+-- but an IN_Q_OVERFLOW event is always generated" (max_queued_events): one such mark waits at a time, and says it for all
+-- events that are lost while it waits
 unfoldable pub offered : ℕ → List Event → Event → Offered
 offered limit waiting e =
     if is_repeated waiting e then Merged

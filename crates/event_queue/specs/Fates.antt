@@ -1,9 +1,9 @@
 -- What may be relied on, whatever is raised and read: nothing is lost unsaid, and a queue keeps its bounds.
-use Rattle.std.specs.Prelude.{◌≡◌, ◌≢◌, ℕ, ◌+◌, ◌-◌, ◌<◌, ◌≤◌, ◌⊎◌, [], ◌∷◌, ◌++◌, length, drop, slice_get, Some, Contains}
+use Rattle.std.specs.Prelude.{◌≡◌, ◌≢◌, ℕ, ◌+◌, ◌-◌, ◌<◌, ◌≤◌, [], ◌∷◌, ◌++◌, length, drop, slice_get, Some, Contains}
 use Rattle.record_codec.specs.declared.event.Event.{Event}
 use Rattle.event_queue.specs.declared.offered.Offered.{Offered}
 use Rattle.event_queue.specs.declared.offered.Offered.TheVariants.{Kept, Merged, Marked, Lost}
-use Rattle.event_queue.specs.Backlogs.{Backlog, offered, overflow_mark, marks, after_offer}
+use Rattle.event_queue.specs.Backlogs.{Backlog, overflow_mark, marks, after_offer}
 
 -- what an event's fate means: a kept one waits behind all others; the record that stands for a merged one waits last;
 -- once one was lost, a mark waits, and a mark that joins is the only one

@@ -1,4 +1,4 @@
--- How many records a read gives.
+-- How many records a read gives: read(2) returns as many as fit whole into its buffer (inotify(7), "Reading events").
 use Rattle.std.proofs.Common.{suc}
 use Rattle.std.specs.Prelude.{ℕ, ◌-◌, ◌<◌, ◌≤◌, nat_le, if◌then◌else◌, List, [], ◌∷◌, length, take}
 use Rattle.record_codec.specs.declared.event.Event.{Event}

@@ -36,8 +36,8 @@ impl Model for Queue {
 }
 
 impl Queue {
-    /// A queue that keeps up to `limit` records and one overflow mark beyond them. Its limit is that of
-    /// inotify(7)'s `max_queued_events`, from 1 to 65,535.
+    /// A queue that keeps up to `limit` records, 1 to 65,535, and one overflow mark beyond them (inotify(7),
+    /// `max_queued_events`).
     ///
     /// The room for `limit + 1` records is made here: `ENOMEM` where it cannot be had.
     pub fn with_limit(alloc: Global, limit: u32) -> Result<Queue, Refusal>
@@ -56,9 +56,10 @@ impl Queue {
     /// Takes in an event that was raised.
     ///
     /// - Where it is identical to the last record that waits (the same wd, mask, cookie and name), it is merged.
-    ///   This is looked at first.
+    ///   This is looked at first; Linux looks at the limit first.
     /// - Else, where fewer records than the limit wait, it is kept.
-    /// - Else it is lost, and an overflow mark waits, which joins now unless one waits already.
+    /// - Else it is lost, and an overflow mark (wd -1, mask `IN_Q_OVERFLOW`, cookie 0, no name) waits, which joins now
+    ///   unless one waits already.
     #[tactic(auto, using(crate::proofs::OfferLemmas::offers))]
     pub fn offer(&mut self, event: Event) -> Offered
         ensures answer { result ≡ offered self.old.limit self.old.waiting event }

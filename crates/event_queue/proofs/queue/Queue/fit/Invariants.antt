@@ -1,4 +1,4 @@
-use Rattle.std.proofs.Common.{◌+◌, ◌<◌, ◌≡◌, ◌≤◌, length}
+use Rattle.std.proofs.Common.{◌+◌, ◌<◌, ◌≡◌, length}
 use Prim.Native.Nat.{◌^◌}
 use Rattle.event_queue.specs.Reads.{fitting}
 use Rattle.event_queue.proofs.queue.Queue.fit.Given as goal
