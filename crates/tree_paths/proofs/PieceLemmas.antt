@@ -1,17 +1,17 @@
 -- The pieces of a path's text, and the names among them.
-use Rattle.std.proofs.Common.{◌≡◌, ℕ, suc, ◌-◌, Bool, true, false, not, ◌&&◌, ◌||◌, cond, eqb, ltb, leb, List, [], ◌∷◌, length, get_or, Ok, Err, refl, sym, ap, ◌∙◌, arith}
+use Rattle.std.proofs.Common.{◌≡◌, ℕ, zero, suc, ◌-◌, ◌<◌, Bool, true, false, not, ◌&&◌, ◌||◌, cond, eqb, ltb, leb, List, [], ◌∷◌, length, get_or, Ok, Err, refl, sym, ap, subst, ◌∙◌, arith}
 use Rattle.std.specs.Prelude.{filter}
-use Rattle.std.specs.List.{list_any, list_all, onto_first}
-use Rattle.std.proofs.lemmas.Bool.{lt-ltb, le-leb, ltb-false, ne_eqb}
+use Rattle.std.specs.List.{list_any, list_all, onto_first, All}
+use Rattle.std.proofs.lemmas.List.Elements.{All-cons}
+use Rattle.std.proofs.lemmas.Bool.{lt-ltb, le-leb, ltb-false, ne_eqb, and_parts}
 use Rattle.std.specs.Prelude.{codes}
 use Rattle.std.specs.Str.{bytes_eq}
-use Rattle.record_codec.specs.Names.{is_name, is_name_byte}
-use Rattle.tree_paths.specs.declared.path.TheConstants.{PATH_MAX}
+use Rattle.record_codec.specs.Names.{is_name, is_name_byte, IsName, IsBytes}
 use Rattle.tree_paths.specs.declared.refusal.Refusal.TheVariants.{Enoent, Einval, Enametoolong}
 use Rattle.tree_paths.specs.Paths.{parsed, names_of, is_dots, is_long}
 use Rattle.tree_paths.specs.Pieces.{pieces, is_nonempty}
 
-nonempty-cons : (b : ℕ) (bs : List ℕ) → is_nonempty (b ∷ bs) ≡ true
+pub nonempty-cons : (b : ℕ) (bs : List ℕ) → is_nonempty (b ∷ bs) ≡ true
 nonempty-cons b bs = ap not (ne_eqb (suc (length bs)) 0 (λ e. omega (arith, e)))
 
 -- what no empty piece has is looked for among the others
@@ -44,7 +44,7 @@ pub accepted : (text : List ℕ) (names : List (List ℕ)) → parsed text ≡ O
     → Passes (list_any (λ b. eqb b 0) text) (list_any is_dots (names_of text)) (list_any is_long (names_of text)) (names_of text) names
 unfolding parsed
 accepted text names h =
-    passes (eqb (length text) 0) (leb PATH_MAX (length text)) (not (eqb (get_or text 0 0) 47)) (list_any (λ b. eqb b 0) text)
+    passes (eqb (length text) 0) (leb 4096 (length text)) (not (eqb (get_or text 0 0) 47)) (list_any (λ b. eqb b 0) text)
     (ltb 1 (length text) && eqb (get_or text (length text - 1) 0) 47) (list_any is_dots (names_of text)) (list_any is_long (names_of text)) (names_of text) names h
 
 -- ---- the bytes of pieces
@@ -52,10 +52,6 @@ accepted text names h =
 or_none : (a b : Bool) → (a || b) ≡ false → (a ≡ false) × (b ≡ false)
 or_none true b h = absurd cc
 or_none false b h = (refl, h)
-
-and_all : (a b : Bool) → (a && b) ≡ true → (a ≡ true) × (b ≡ true)
-and_all true b h = (refl, h)
-and_all false b h = absurd cc
 
 abbrev are_name_bytes : List (List ℕ) → Bool
 are_name_bytes xs = list_all (list_all is_name_byte) xs
@@ -91,7 +87,7 @@ names_among [] d l a = refl
 names_among (x ∷ xs) d l a =
     let dots = or_none (is_dots x) (list_any is_dots xs) d in
     let long = or_none (is_long x) (list_any is_long xs) l in
-    let bytes = and_all (list_all is_name_byte x) (are_name_bytes xs) a in
+    let bytes = and_parts (list_all is_name_byte x) (are_name_bytes xs) a in
     rw (piece_is_name x dots.0 long.0 bytes.0, names_among xs dots.1 long.1 bytes.1) refl
 
 pub names_read : (text : List ℕ) (names : List (List ℕ)) → parsed text ≡ Ok names → filter is_name (pieces 47 text) ≡ names_of text
@@ -99,3 +95,40 @@ names_read text names h =
     let a = accepted text names h in
     names_among (pieces 47 text) (list_any-nonempty is_dots refl (pieces 47 text) ∙ a.no_dots) (list_any-nonempty is_long refl (pieces 47 text) ∙ a.none_long)
     (pieces-name_bytes text a.no_zero)
+
+-- ---- what is parsed are names
+
+named-cons : (x : List ℕ) (xs : List (List ℕ)) (t : Bool) → is_name x ≡ t → IsBytes x → All IsName xs → All IsName (cond t (x ∷ xs) xs)
+named-cons x xs true e f all = All-cons IsName x xs (record { named = e; bytes = f }) all
+named-cons x xs false e f all = all
+
+abbrev AreBytes : List (List ℕ) → Type 0
+AreBytes [] = Unit {0}
+AreBytes (x ∷ xs) = IsBytes x × AreBytes xs
+
+are_named : (xs : List (List ℕ)) → AreBytes xs → All IsName (filter is_name xs)
+are_named [] h = λ k d lt. absurd (omega (arith, lt))
+are_named (x ∷ xs) h = named-cons x (filter is_name xs) (is_name x) refl h.0 (are_named xs h.1)
+
+IsBytes-nil : IsBytes []
+IsBytes-nil i = omega arith
+
+IsBytes-cons : (b : ℕ) (bs : List ℕ) → b < 256 → IsBytes bs → IsBytes (b ∷ bs)
+IsBytes-cons b bs h f zero = h
+IsBytes-cons b bs h f (suc i) = f i
+
+AreBytes-onto : (b : ℕ) (xs : List (List ℕ)) → b < 256 → AreBytes xs → AreBytes (onto_first b xs)
+AreBytes-onto b [] h f = (IsBytes-cons b [] h IsBytes-nil, tt)
+AreBytes-onto b (x ∷ xs) h f = (IsBytes-cons b x h f.0, f.1)
+
+AreBytes-step : (b : ℕ) (xs : List (List ℕ)) (t : Bool) → b < 256 → AreBytes xs → AreBytes (cond t ([] ∷ xs) (onto_first b xs))
+AreBytes-step b xs true h f = (IsBytes-nil, f)
+AreBytes-step b xs false h f = AreBytes-onto b xs h f
+
+pieces-bytes : (text : List ℕ) → IsBytes text → AreBytes (pieces 47 text)
+pieces-bytes [] f = (IsBytes-nil, tt)
+pieces-bytes (b ∷ bs) f = AreBytes-step b (pieces 47 bs) (eqb b 47) (f 0) (pieces-bytes bs (λ i. f (suc i)))
+
+pub parsed-named : (text : List ℕ) (names : List (List ℕ)) → IsBytes text → parsed text ≡ Ok names → All IsName names
+parsed-named text names f h =
+    subst (All IsName) (names_read text names h ∙ (accepted text names h).all) (are_named (pieces 47 text) (pieces-bytes text f))

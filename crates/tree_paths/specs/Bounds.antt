@@ -1,22 +1,22 @@
 -- How much a tree takes at most.
 use Rattle.std.proofs.Common.{ℕ, lit≤}
 use Rattle.tree_paths.specs.declared.limits.Limits.{Limits}
-use Rattle.tree_paths.specs.declared.limits.TheConstants.{MAX_NUMBERS, MAX_FILE_BYTES, MAX_LINKS, MAX_INSTANCES, MAX_IDS, MAX_WATCHES, MAX_WDS, MAX_QUEUE, MAX_COOKIES, MAX_JOURNAL, MAX_SEATS}
+use Rattle.tree_paths.specs.Greatest.{most_numbers, most_file_bytes, most_links, most_instances, most_ids, most_watches, most_wds, most_queue, most_cookies, most_journal, most_seats}
 
 -- the greatest limits
 abbrev pub full : Limits
 full = record {
-  numbers = MAX_NUMBERS;
-  file_bytes = MAX_FILE_BYTES;
-  links = MAX_LINKS;
-  instances = MAX_INSTANCES;
-  ids = MAX_IDS;
-  watches = MAX_WATCHES;
-  wds = MAX_WDS;
-  queue = MAX_QUEUE;
-  cookies = MAX_COOKIES;
-  journal = MAX_JOURNAL;
-  seats = MAX_SEATS;
+  numbers = most_numbers;
+  file_bytes = most_file_bytes;
+  links = most_links;
+  instances = most_instances;
+  ids = most_ids;
+  watches = most_watches;
+  wds = most_wds;
+  queue = most_queue;
+  cookies = most_cookies;
+  journal = most_journal;
+  seats = most_seats;
   numbers_in = (lit≤ tt, lit≤ tt);
   file_bytes_in = (lit≤ tt, lit≤ tt);
   links_in = (lit≤ tt, lit≤ tt);

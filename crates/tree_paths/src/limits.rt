@@ -1,30 +1,7 @@
 //! How much a tree takes.
 
 ghost use Rattle.std.specs.Prelude.{◌≡◌, ◌≤◌};
-ghost use Rattle.tree_paths.specs.declared.limits.TheConstants.{MAX_NUMBERS, MAX_FILE_BYTES, MAX_LINKS, MAX_INSTANCES, MAX_IDS, MAX_WATCHES, MAX_WDS, MAX_QUEUE, MAX_COOKIES, MAX_JOURNAL, MAX_SEATS};
-
-/// The greatest [`Limits::numbers`].
-pub const MAX_NUMBERS: u32 = 1_048_576;
-/// The greatest [`Limits::file_bytes`].
-pub const MAX_FILE_BYTES: u32 = 16_777_216;
-/// The greatest [`Limits::links`].
-pub const MAX_LINKS: u32 = 65_000;
-/// The greatest [`Limits::instances`].
-pub const MAX_INSTANCES: u32 = 128;
-/// The greatest [`Limits::ids`].
-pub const MAX_IDS: u32 = 2_147_483_647;
-/// The greatest [`Limits::watches`].
-pub const MAX_WATCHES: u32 = 8192;
-/// The greatest [`Limits::wds`].
-pub const MAX_WDS: u32 = 2_147_483_647;
-/// The greatest [`Limits::queue`].
-pub const MAX_QUEUE: u32 = 65_535;
-/// The greatest [`Limits::cookies`].
-pub const MAX_COOKIES: u32 = 4_294_967_295;
-/// The greatest [`Limits::journal`].
-pub const MAX_JOURNAL: u32 = 1_000_000;
-/// The greatest [`Limits::seats`].
-pub const MAX_SEATS: u32 = 65_536;
+ghost use Rattle.tree_paths.specs.Greatest.{most_numbers, most_file_bytes, most_links, most_instances, most_ids, most_watches, most_wds, most_queue, most_cookies, most_journal, most_seats};
 
 /// The last value of each kind that is still given; the next one is refused.
 ///
@@ -53,17 +30,17 @@ pub struct Limits {
     pub journal: u32,
     /// Seats: up to 65,536. Beyond it `SeatsSpent`.
     pub seats: u32,
-    pub ghost numbers_in: { (1 ≤ numbers) × (numbers ≤ MAX_NUMBERS) },
-    pub ghost file_bytes_in: { (1 ≤ file_bytes) × (file_bytes ≤ MAX_FILE_BYTES) },
-    pub ghost links_in: { (1 ≤ links) × (links ≤ MAX_LINKS) },
-    pub ghost instances_in: { (1 ≤ instances) × (instances ≤ MAX_INSTANCES) },
-    pub ghost ids_in: { (1 ≤ ids) × (ids ≤ MAX_IDS) },
-    pub ghost watches_in: { (1 ≤ watches) × (watches ≤ MAX_WATCHES) },
-    pub ghost wds_in: { (1 ≤ wds) × (wds ≤ MAX_WDS) },
-    pub ghost queue_in: { (1 ≤ queue) × (queue ≤ MAX_QUEUE) },
-    pub ghost cookies_in: { (1 ≤ cookies) × (cookies ≤ MAX_COOKIES) },
-    pub ghost journal_in: { (1 ≤ journal) × (journal ≤ MAX_JOURNAL) },
-    pub ghost seats_in: { (1 ≤ seats) × (seats ≤ MAX_SEATS) },
+    pub ghost numbers_in: { (1 ≤ numbers) × (numbers ≤ most_numbers) },
+    pub ghost file_bytes_in: { (1 ≤ file_bytes) × (file_bytes ≤ most_file_bytes) },
+    pub ghost links_in: { (1 ≤ links) × (links ≤ most_links) },
+    pub ghost instances_in: { (1 ≤ instances) × (instances ≤ most_instances) },
+    pub ghost ids_in: { (1 ≤ ids) × (ids ≤ most_ids) },
+    pub ghost watches_in: { (1 ≤ watches) × (watches ≤ most_watches) },
+    pub ghost wds_in: { (1 ≤ wds) × (wds ≤ most_wds) },
+    pub ghost queue_in: { (1 ≤ queue) × (queue ≤ most_queue) },
+    pub ghost cookies_in: { (1 ≤ cookies) × (cookies ≤ most_cookies) },
+    pub ghost journal_in: { (1 ≤ journal) × (journal ≤ most_journal) },
+    pub ghost seats_in: { (1 ≤ seats) × (seats ≤ most_seats) },
 }
 
 impl Limits {
@@ -74,24 +51,24 @@ impl Limits {
         ensures { result ≡ full }
     {
         Limits {
-            numbers: MAX_NUMBERS,
-            file_bytes: MAX_FILE_BYTES,
-            links: MAX_LINKS,
-            instances: MAX_INSTANCES,
-            ids: MAX_IDS,
-            watches: MAX_WATCHES,
-            wds: MAX_WDS,
-            queue: MAX_QUEUE,
-            cookies: MAX_COOKIES,
-            journal: MAX_JOURNAL,
-            seats: MAX_SEATS,
+            numbers: 1_048_576,
+            file_bytes: 16_777_216,
+            links: 65_000,
+            instances: 128,
+            ids: 2_147_483_647,
+            watches: 8192,
+            wds: 2_147_483_647,
+            queue: 65_535,
+            cookies: 4_294_967_295,
+            journal: 1_000_000,
+            seats: 65_536,
         }
     }
 
     /// These limits with another [`Limits::numbers`].
     pub fn with_numbers(self, numbers: u32) -> Limits
         requires least { 1 ≤ numbers }
-        requires most { numbers ≤ MAX_NUMBERS }
+        requires most { numbers ≤ most_numbers }
         ensures { values_of result ≡ record (values_of self) { numbers = numbers } }
     {
         let mut limits = self;
@@ -102,7 +79,7 @@ impl Limits {
     /// These limits with another [`Limits::file_bytes`].
     pub fn with_file_bytes(self, file_bytes: u32) -> Limits
         requires least { 1 ≤ file_bytes }
-        requires most { file_bytes ≤ MAX_FILE_BYTES }
+        requires most { file_bytes ≤ most_file_bytes }
         ensures { values_of result ≡ record (values_of self) { file_bytes = file_bytes } }
     {
         let mut limits = self;
@@ -113,7 +90,7 @@ impl Limits {
     /// These limits with another [`Limits::links`].
     pub fn with_links(self, links: u32) -> Limits
         requires least { 1 ≤ links }
-        requires most { links ≤ MAX_LINKS }
+        requires most { links ≤ most_links }
         ensures { values_of result ≡ record (values_of self) { links = links } }
     {
         let mut limits = self;
@@ -124,7 +101,7 @@ impl Limits {
     /// These limits with another [`Limits::instances`].
     pub fn with_instances(self, instances: u32) -> Limits
         requires least { 1 ≤ instances }
-        requires most { instances ≤ MAX_INSTANCES }
+        requires most { instances ≤ most_instances }
         ensures { values_of result ≡ record (values_of self) { instances = instances } }
     {
         let mut limits = self;
@@ -135,7 +112,7 @@ impl Limits {
     /// These limits with another [`Limits::ids`].
     pub fn with_ids(self, ids: u32) -> Limits
         requires least { 1 ≤ ids }
-        requires most { ids ≤ MAX_IDS }
+        requires most { ids ≤ most_ids }
         ensures { values_of result ≡ record (values_of self) { ids = ids } }
     {
         let mut limits = self;
@@ -146,7 +123,7 @@ impl Limits {
     /// These limits with another [`Limits::watches`].
     pub fn with_watches(self, watches: u32) -> Limits
         requires least { 1 ≤ watches }
-        requires most { watches ≤ MAX_WATCHES }
+        requires most { watches ≤ most_watches }
         ensures { values_of result ≡ record (values_of self) { watches = watches } }
     {
         let mut limits = self;
@@ -157,7 +134,7 @@ impl Limits {
     /// These limits with another [`Limits::wds`].
     pub fn with_wds(self, wds: u32) -> Limits
         requires least { 1 ≤ wds }
-        requires most { wds ≤ MAX_WDS }
+        requires most { wds ≤ most_wds }
         ensures { values_of result ≡ record (values_of self) { wds = wds } }
     {
         let mut limits = self;
@@ -168,7 +145,7 @@ impl Limits {
     /// These limits with another [`Limits::queue`].
     pub fn with_queue(self, queue: u32) -> Limits
         requires least { 1 ≤ queue }
-        requires most { queue ≤ MAX_QUEUE }
+        requires most { queue ≤ most_queue }
         ensures { values_of result ≡ record (values_of self) { queue = queue } }
     {
         let mut limits = self;
@@ -179,7 +156,7 @@ impl Limits {
     /// These limits with another [`Limits::cookies`].
     pub fn with_cookies(self, cookies: u32) -> Limits
         requires least { 1 ≤ cookies }
-        requires most { cookies ≤ MAX_COOKIES }
+        requires most { cookies ≤ most_cookies }
         ensures { values_of result ≡ record (values_of self) { cookies = cookies } }
     {
         let mut limits = self;
@@ -190,7 +167,7 @@ impl Limits {
     /// These limits with another [`Limits::journal`].
     pub fn with_journal(self, journal: u32) -> Limits
         requires least { 1 ≤ journal }
-        requires most { journal ≤ MAX_JOURNAL }
+        requires most { journal ≤ most_journal }
         ensures { values_of result ≡ record (values_of self) { journal = journal } }
     {
         let mut limits = self;
@@ -201,7 +178,7 @@ impl Limits {
     /// These limits with another [`Limits::seats`].
     pub fn with_seats(self, seats: u32) -> Limits
         requires least { 1 ≤ seats }
-        requires most { seats ≤ MAX_SEATS }
+        requires most { seats ≤ most_seats }
         ensures { values_of result ≡ record (values_of self) { seats = seats } }
     {
         let mut limits = self;

@@ -1,13 +1,19 @@
 //! Pathnames as texts.
 
-ghost use Rattle.std.specs.Prelude.{◌≡◌, ◌==◌, IfOk, MatchOption};
+ghost use Rattle.std.specs.Prelude.{◌≡◌, IfOk, MatchOption};
 ghost use Rattle.std.specs.List.{list_any};
-ghost use Rattle.tree_paths.specs.Paths.{parsed, names_of, is_dots, is_long};
+ghost use Rattle.tree_paths.specs.Paths.{parsed, names_of, is_null, is_dots, is_long};
 
 use crate::Refusal;
-use crate::path::{NAME_MAX, PATH_MAX, SEPARATOR};
 use record_codec::Name;
 use std::alloc::{AllocError, Global};
+
+/// The bytes of a path's text with a zero byte behind it, as POSIX counts them.
+const PATH_MAX: usize = 4096;
+
+const NAME_MAX: usize = 255;
+
+const SEPARATOR: u8 = b'/';
 
 /// Why a text is no path.
 #[tactic(auto, unfolding(crate::specs::Paths::parsed))]
@@ -36,7 +42,7 @@ pub(crate) fn refusal_of(text: &[u8]) -> Option<Refusal>
 }
 
 fn has_zero(text: &[u8]) -> bool
-    ensures { result ≡ list_any (λ b. b == 0) text.now }
+    ensures { result ≡ list_any is_null text.now }
 {
     text.iter().any(|b| *b == 0)
 }

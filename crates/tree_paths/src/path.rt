@@ -4,20 +4,16 @@ ghost use Rattle.std.specs.Prelude.{◌≡◌, ◌⊎◌, ◌∷◌, ◌++◌, [
 ghost use Rattle.std.specs.Prelude.{nat_eq};
 ghost use Rattle.std.proofs.Common.{rules};
 ghost use Rattle.std.specs.Cmp.Rules.{comparing};
-ghost use Rattle.std.specs.Cmp.Lexicographic.{pointwise};
+ghost use Rattle.std.specs.Cmp.{partial_order_from_own_ties};
+ghost use Rattle.std.specs.Cmp.Lexicographic.{pointwise, slice_cmp, lists_ties};
+ghost use Rattle.std.specs.Ordering.{as_partial_cmp, nat_cmp};
 
 use crate::Refusal;
 use crate::parse::{names_in, refusal_of};
 use record_codec::Name;
 use std::alloc::{AllocError, Global};
+use std::cmp::Ordering;
 use std::marker::Model;
-
-/// Bytes of a path's text that are too many, by one, as for POSIX, which counts a zero byte at the end: 4,095 are the most.
-pub const PATH_MAX: usize = 4096;
-/// The most bytes of a name.
-pub const NAME_MAX: usize = 255;
-/// What parts the names of a path's text: a slash.
-pub const SEPARATOR: u8 = b'/';
 
 /// A path from the root: its names.
 #[derive(Debug, Drop)]
@@ -42,12 +38,36 @@ impl PartialEq for Path {
         ensures value { result ≡ pointwise (pointwise nat_eq) self.now other.now }
         ensures same { IsTrue result ↔ (self.now ≡ other.now) }
     {
-        self.names.as_slice() == other.names.as_slice()
+        self.names() == other.names()
     }
 }
 
 impl Eq for Path {
     ghost laws = { Prim.search (comparing, rules) };
+}
+
+impl Ord for Path {
+    ghost cmp = { slice_cmp (slice_cmp nat_cmp) };
+
+    ghost total = { Prim.search (comparing, rules) };
+
+    ghost matches_partial_cmp = { Prim.search (comparing, rules) };
+
+    ghost matches_eq = { lists_ties (slice_cmp nat_cmp) (lists_ties nat_cmp (λ x y. Prim.search (comparing, rules))) };
+
+    fn cmp(&self, other: &Path) -> Ordering {
+        self.names().cmp(&other.names())
+    }
+}
+
+impl PartialOrd for Path {
+    ghost partial_cmp = { as_partial_cmp (slice_cmp (slice_cmp nat_cmp)) };
+
+    ghost laws = { partial_order_from_own_ties (Prim.search (comparing, rules)) (lists_ties (slice_cmp nat_cmp) (lists_ties nat_cmp (λ x y. Prim.search (comparing, rules)))) };
+
+    fn partial_cmp(&self, other: &Path) -> Option<Ordering> {
+        Some(self.cmp(other))
+    }
 }
 
 impl Path {
@@ -81,7 +101,7 @@ impl Path {
     pub fn names(&self) -> &[Name]
         ensures { result.now ≡ self.now }
     {
-        self.names.as_slice()
+        &self.names
     }
 
     /// The names of the directory of the last name, and that name. `None` for the root.
@@ -90,7 +110,7 @@ impl Path {
         ensures parent { IfSome result (λ parts. parts.0.now ≡ take (length self.now - 1) self.now) }
         ensures some { IsSome result ↔ (0 < length self.now) }
     {
-        let (name, parent) = self.names.as_slice().split_last()?;
+        let (name, parent) = self.names().split_last()?;
         Some((parent, name))
     }
 
@@ -98,8 +118,7 @@ impl Path {
     pub fn is_below(&self, other: &Path) -> bool
         ensures { IsTrue result ↔ IsBelow self.now other.now }
     {
-        other.names.len() < self.names.len()
-            && self.names.as_slice().starts_with(other.names.as_slice())
+        other.names().len() < self.names().len() && self.names().starts_with(other.names())
     }
 
     /// The same path once more. `Err` is want of memory.
@@ -108,7 +127,7 @@ impl Path {
         ensures err { IfErr result (λ refusal. refusal ≡ Enomem) }
     {
         Ok(Path {
-            names: copies(*self.names.allocator(), self.names.as_slice())?,
+            names: copies(*self.names.allocator(), self.names())?,
         })
     }
 }
