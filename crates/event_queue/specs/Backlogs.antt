@@ -4,7 +4,7 @@ use Rattle.std.specs.Option.{option_map_or}
 use Rattle.record_codec.specs.declared.event.Event.{Event}
 use Rattle.record_codec.specs.declared.bits.TheConstants.{IN_Q_OVERFLOW}
 use Rattle.record_codec.specs.Equality.{event_eq}
-use Rattle.tree_paths.specs.declared.limits.TheConstants.{MAX_QUEUE}
+use Rattle.tree_paths.specs.Greatest.{most_queue}
 use Rattle.event_queue.specs.declared.offered.Offered.{Offered}
 use Rattle.event_queue.specs.declared.offered.Offered.TheVariants.{Kept, Merged, Marked, Lost}
 
@@ -15,7 +15,7 @@ pub record Backlog : Type 0 where
 
 -- a limit that a queue can have: inotify(7)'s max_queued_events
 abbrev pub IsLimit : ℕ → Type 0
-IsLimit limit = (1 ≤ limit) × (limit ≤ MAX_QUEUE)
+IsLimit limit = (1 ≤ limit) × (limit ≤ most_queue)
 
 -- the record that says that events were lost ("Event queue overflowed (wd is -1 for this event)")
 unfoldable pub overflow_mark : Event
