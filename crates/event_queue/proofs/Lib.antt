@@ -1,0 +1,5 @@
+pub mod EventLemmas
+pub mod OfferLemmas
+pub mod ReadLemmas
+pub mod HistoryLemmas
+pub mod FateLemmas

@@ -1,0 +1,15 @@
+-- How a ring of records shows as what waits.
+use Rattle.std.specs.Prelude.{◌≡◌, ◌+◌, ◌<◌, ◌≤◌, length}
+use Rattle.event_queue.specs.Backlogs.{Backlog, IsLimit, marks}
+use Rattle.event_queue.specs.declared.queue.Queue.TheInside.{Inside}
+
+abbrev pub backlog_of : Inside → Backlog
+backlog_of q = record { limit = q.limit; waiting = q.records.items }
+
+-- a place beyond the limit is taken by a record only while a mark waits, so a mark that joins finds room
+pub record IsRing (q : Inside) : Type 0 where
+  pub limit : IsLimit q.limit
+  pub capacity : q.records.capacity ≡ q.limit + 1
+  pub marks : q.marks ≡ marks q.records.items
+  pub within : length q.records.items ≤ q.limit + 1
+  pub room : q.limit < length q.records.items → 0 < q.marks

@@ -1,0 +1,206 @@
+//! A bounded queue of events.
+ghost use Rattle.std.specs.Prelude.{◌≡◌, ◌≤◌, ◌+◌, ◌==◌, [], ◌∷◌, ◌++◌, false, true, IfOk, IfErr, length, slice_get, option_copied};
+ghost use Rattle.event_queue.specs.Backlogs.{IsLimit, overflow_mark, is_mark, has_mark, is_repeated, offered, after_offer, after_take};
+ghost use Rattle.record_codec.specs.Equality.{event_eq};
+ghost use Rattle.event_queue.specs.Reads.{fitting, IsGreatestFit};
+ghost use Rattle.tree_paths.specs.declared.refusal.Refusal.TheVariants.{Enomem};
+
+use crate::offered::Offered;
+use circular_buffer::HeapCircularBuffer;
+use record_codec::{Event, bits, record_len};
+use std::alloc::Global;
+use std::marker::Model;
+use tree_paths::Refusal;
+
+/// The records of an inotify instance that wait to be read, the oldest first.
+///
+/// [`Queue::with_limit`] makes all the room that is ever needed. No other call takes memory, and each succeeds.
+#[derive(Debug, Drop)]
+pub struct Queue {
+    limit: u32,
+    // How many of the records are overflow marks.
+    marks: usize,
+    records: HeapCircularBuffer<Event>,
+}
+
+impl Model for Queue {
+    ghost use Rattle.event_queue.specs.Backlogs.{Backlog};
+
+    ghost Value = { Backlog };
+
+    ghost use Rattle.event_queue.specs.Rings.{backlog_of, IsRing};
+
+    ghost view = { backlog_of };
+
+    ghost invariant = { IsRing };
+}
+
+impl Queue {
+    /// A queue that keeps up to `limit` records, 1 to 65,535, and one overflow mark beyond them (inotify(7),
+    /// `max_queued_events`).
+    ///
+    /// The room for `limit + 1` records is made here: `ENOMEM` where it cannot be had.
+    pub fn with_limit(alloc: Global, limit: u32) -> Result<Queue, Refusal>
+        requires { IsLimit limit }
+        ensures queue { IfOk result (λ queue. queue ≡ record { limit = limit; waiting = [] }) }
+        ensures err { IfErr result (λ refusal. refusal ≡ Enomem) }
+    {
+        let records = HeapCircularBuffer::with_capacity(alloc, limit as usize + 1)?;
+        Ok(Queue {
+            limit,
+            marks: 0,
+            records,
+        })
+    }
+
+    /// Takes in an event that was raised.
+    ///
+    /// - Where it is identical to the last record that waits (the same wd, mask, cookie and name), it is merged.
+    ///   This is looked at first; Linux looks at the limit first.
+    /// - Else, where fewer records than the limit wait, it is kept.
+    /// - Else it is lost, and an overflow mark (wd -1, mask `IN_Q_OVERFLOW`, cookie 0, no name) waits, which joins now
+    ///   unless one waits already.
+    #[tactic(auto, using(crate::proofs::OfferLemmas::offers))]
+    pub fn offer(&mut self, event: Event) -> Offered
+        ensures answer { result ≡ offered self.old.limit self.old.waiting event }
+        ensures queue { self.new ≡ after_offer self.old event }
+    {
+        if self.ends_with(&event) {
+            return Offered::Merged;
+        }
+        if self.len() < self.limit as usize {
+            self.join(event);
+            return Offered::Kept;
+        }
+        if self.has_mark() {
+            return Offered::Lost;
+        }
+        self.join(overflow_mark());
+        Offered::Marked
+    }
+
+    /// How many of the oldest records fit whole into `bytes` bytes, as read(2) gives them: as many as possible.
+    /// 0 where none waits, or where the oldest does not fit.
+    ///
+    /// It looks at those records and the next one alone.
+    #[tactic(auto, using(crate::proofs::ReadLemmas::fitting_is_greatest))]
+    pub fn fit(&self, bytes: usize) -> usize
+        ensures value { result ≡ fitting bytes self.now.waiting }
+        ensures greatest { IsGreatestFit bytes self.now.waiting result }
+    {
+        let mut left = bytes;
+        for (count, event) in self.records.iter().enumerate() {
+            let len = record_len(event);
+            if left < len {
+                return count;
+            }
+            left -= len;
+        }
+        self.len()
+    }
+
+    /// The record that is read after `index` others.
+    pub fn peek(&self, index: usize) -> Option<&Event>
+        ensures { option_copied result ≡ slice_get self.now.waiting index }
+    {
+        self.records.get(index)
+    }
+
+    /// Reads the oldest record: it is moved out of the queue. `None` where none waits.
+    #[tactic(auto, using(crate::proofs::OfferLemmas::takes))]
+    pub fn take(&mut self) -> Option<Event>
+        ensures record { result ≡ slice_get self.old.waiting 0 }
+        ensures queue { self.new ≡ after_take self.old }
+    {
+        let event = self.records.pop_front()?;
+        if is_mark(&event) {
+            self.marks -= 1;
+        }
+        Some(event)
+    }
+
+    /// How many records wait, an overflow mark counted: at most one more than the limit.
+    pub fn len(&self) -> usize
+        ensures len { result ≡ length self.now.waiting }
+        ensures within { result ≤ self.now.limit + 1 }
+    {
+        self.records.len()
+    }
+
+    /// Whether no record waits.
+    pub fn is_empty(&self) -> bool
+        ensures { result ≡ (length self.now.waiting == 0) }
+    {
+        self.records.is_empty()
+    }
+
+    /// How many records may wait before events are lost: 1 to 65,535.
+    pub fn limit(&self) -> u32
+        ensures value { result ≡ self.now.limit }
+        ensures within { IsLimit result }
+    {
+        self.limit
+    }
+
+    // Whether the last record that waits is identical to the event.
+    #[tactic(auto, unfolding(crate::specs::Backlogs::is_repeated))]
+    fn ends_with(&self, event: &Event) -> bool
+        ensures { result ≡ is_repeated self.now.waiting event.now }
+    {
+        match self.records.back() {
+            Some(last) => is_identical(last, event),
+            None => false,
+        }
+    }
+
+    // Whether an overflow mark waits. Where none does, the place beyond the limit is free.
+    fn has_mark(&self) -> bool
+        ensures value { result ≡ has_mark self.now.waiting }
+        ensures room { result ≡ false → length self.now.waiting ≤ self.now.limit }
+    {
+        0 < self.marks
+    }
+
+    // Puts a record behind all others. The place beyond the limit is that of a mark.
+    #[tactic(auto, using(crate::proofs::OfferLemmas::joins))]
+    fn join(&mut self, event: Event)
+        requires room { length self.old.waiting ≤ self.old.limit }
+        requires place { self.old.limit ≤ length self.old.waiting → is_mark event ≡ true }
+        ensures { self.new ≡ record self.old { waiting = self.old.waiting ++ event ∷ [] } }
+    {
+        if is_mark(&event) {
+            self.marks += 1;
+        }
+        self.records.push_back(event);
+    }
+}
+
+// The record that says that events were lost.
+#[tactic(auto, unfolding(crate::specs::Backlogs::overflow_mark))]
+fn overflow_mark() -> Event
+    ensures { result ≡ overflow_mark }
+{
+    Event {
+        wd: -1,
+        mask: bits::IN_Q_OVERFLOW,
+        cookie: 0,
+        name: None,
+    }
+}
+
+#[tactic(auto, unfolding(crate::specs::Backlogs::is_mark))]
+fn is_mark(event: &Event) -> bool
+    ensures { result ≡ is_mark event.now }
+{
+    is_identical(event, &overflow_mark())
+}
+
+#[tactic(auto, using(crate::proofs::EventLemmas::event_eq_regrouped))]
+fn is_identical(left: &Event, right: &Event) -> bool
+    ensures { result ≡ event_eq left.now right.now }
+{
+    left == right
+}
+
+#[cfg(test)]
+mod tests;
