@@ -29,14 +29,15 @@ impl Bytes {
     pub fn from_vec(bytes: Vec<u8>) -> Bytes
         ensures { result ≡ bytes.items }
     {
-        Bytes { bytes }
+        Self { bytes }
     }
 
     /// The vector of the bytes. It takes no memory.
     pub fn into_vec(self) -> Vec<u8>
         ensures { result.items ≡ self }
     {
-        self.bytes
+        let Bytes { bytes } = self;
+        bytes
     }
 
     /// The bytes, to read.
@@ -101,14 +102,15 @@ impl Events {
     pub fn from_vec(events: Vec<Event>) -> Events
         ensures { result ≡ events.items }
     {
-        Events { events }
+        Self { events }
     }
 
     /// The vector of the events. It takes no memory.
     pub fn into_vec(self) -> Vec<Event>
         ensures { result.items ≡ self }
     {
-        self.events
+        let Events { events } = self;
+        events
     }
 
     /// The events, to read.
@@ -127,7 +129,7 @@ impl Events {
     {
         let alloc = *self.events.allocator();
         let mut events = Vec::with_capacity(alloc, self.events.len())?;
-        for event in &self.events {
+        for event in self.events.iter() {
             events.push(event.copy()?)?;
         }
         Ok(Events { events })
