@@ -1,6 +1,6 @@
 -- What each call makes of sound watches, and of descriptors whose watches have ended.
 use Rattle.std.proofs.Common.{◌≡◌, ◌≢◌, ◌⊎◌, ℕ, Bool, true, false, Option, Some, None, refl, sym, ap, ◌∙◌, subst, inl, inr, arith}
-use Rattle.std.specs.Prelude.{ℤ, pos, ◌<ℤ◌, option_map}
+use Rattle.std.specs.Prelude.{ℤ, pos, ◌≤ℤ◌, ◌<ℤ◌, option_map}
 use Rattle.std.proofs.lemmas.Int.{ints}
 use Rattle.watch_table.specs.Masks.{stored}
 use Rattle.watch_table.specs.Watching.{HasEnded, IsSound, Watch, Watching, added, add_refusal, dropped, is_barred, is_full, next_bits, number_of, removed, watch_of, wd_of, with_bits, with_new_watch, without}
@@ -48,21 +48,21 @@ removed-IsSound w wd sound = without-by IsSound w (number_of w wd) sound (λ num
 -- ---- descriptors whose watches have ended
 
 -- by the files
-ended_by : (w : Watching) (wd : ℤ) → wd <ℤ pos w.next_wd → ((n : ℕ) → wd_of w n ≢ Some wd) → HasEnded w wd
+ended_by : (w : Watching) (wd : ℤ) → (pos 1 ≤ℤ wd) × (wd <ℤ pos w.next_wd) → ((n : ℕ) → wd_of w n ≢ Some wd) → HasEnded w wd
 ended_by w wd given none = record { given = given; unwatched = number_of-unwatched w wd none }
 
 dropped-next : (w : Watching) (number : ℕ) → (dropped w number).next_wd ≡ w.next_wd
 unfolding dropped
 dropped-next w number = refl
 
-still_given : (w : Watching) (number : ℕ) (wd : ℤ) → wd <ℤ pos w.next_wd → wd <ℤ pos (dropped w number).next_wd
-still_given w number wd given = subst (λ n. wd <ℤ pos n) (sym (dropped-next w number)) given
+still_given : (w : Watching) (number : ℕ) (wd : ℤ) → (pos 1 ≤ℤ wd) × (wd <ℤ pos w.next_wd) → (pos 1 ≤ℤ wd) × (wd <ℤ pos (dropped w number).next_wd)
+still_given w number wd given = (given.0, subst (λ n. wd <ℤ pos n) (sym (dropped-next w number)) given.1)
 
 pub ends_by_drop : (w : Watching) (wd : ℤ) (number : ℕ) → IsSound w → wd_of w number ≡ Some wd → HasEnded (dropped w number) wd
 ends_by_drop w wd number sound was =
-    ended_by (dropped w number) wd (still_given w number wd (sound.given number wd was).1) (λ n h.
-      let there = wd_of-dropped w number n wd h in
-      there.0 (sound.apart n number wd there.1 was))
+    ended_by (dropped w number) wd (still_given w number wd (sound.given number wd was)) (λ n h.
+    let there = wd_of-dropped w number n wd h in
+    there.0 (sound.apart n number wd there.1 was))
 
 pub ends_by_remove : (w : Watching) (wd : ℤ) (number : ℕ) → IsSound w → number_of w wd ≡ Some number → HasEnded (removed w wd) wd
 ends_by_remove w wd number sound found =
@@ -82,15 +82,15 @@ HasEnded-added w wd number mask ended =
           let kept = with_bits w number found.0.0 (next_bits mask found.0.1) in
           let stays = wd_of-kept w number found.0.0 (next_bits mask found.0.1) (ap (option_map (λ (x : Watch). x.0)) found.1) in
           subst (λ x. HasEnded x wd) (sym (added-watched w number mask found.0 found.1))
-            (ended_by kept wd ended.given (λ n h. number_of-none w wd n ended.unwatched (sym (stays n) ∙ h)))
+          (ended_by kept wd ended.given (λ n h. number_of-none w wd n ended.unwatched (sym (stays n) ∙ h)))
       | inr none ↦
           let made = with_new_watch w number (stored mask) in
-          let given = ended.given in
+          let given = ended.given.1 in
           subst (λ x. HasEnded x wd) (sym (added-new w number mask (ap (option_map (λ (x : Watch). x.0)) none)))
-            (ended_by made wd (omega (arith, ints)) (λ n h. elim (wd_of-new w number (stored mask) n wd h) [
-              | inl t ↦
-                  let below : pos w.next_wd <ℤ pos w.next_wd = subst (λ z. z <ℤ pos w.next_wd) t.1 given in
-                  absurd (omega (arith, ints))
-              | inr t ↦ number_of-none w wd n ended.unwatched t.1
-            ]))
+          (ended_by made wd (ended.given.0, omega (arith, ints)) (λ n h. elim (wd_of-new w number (stored mask) n wd h) [
+            | inl t ↦
+                let below : pos w.next_wd <ℤ pos w.next_wd = subst (λ z. z <ℤ pos w.next_wd) t.1 given in
+                absurd (omega (arith, ints))
+            | inr t ↦ number_of-none w wd n ended.unwatched t.1
+          ]))
     ]

@@ -64,14 +64,14 @@ module _ {X : Type 0} where
   pub from_map-insert : (m n : BTreeMap ℕ X) (k : ℕ) (v : X) → tree.Updates nat_cmp m n k (Some v) → from_entries {R = nat_cmp} n.entries ≡ finmap.insert (from_entries m.entries) k v
   from_map-insert m n k v h =
       same_map nat_cmp_total nat_cmp-IsAntisymmetric _ _ (λ q.
-        get-from_map n q ∙ h.0 q ∙ ap (λ b. cond b (Some v) (tree.get nat_cmp m q)) ((eq_by_cmp_equiv nat_cmp_total).symm k q)
-        ∙ ap (cond (eq_by_cmp nat_cmp q k) (Some v)) (sym (get-from_map m q)) ∙ sym (get-insert nat_cmp_total (from_entries m.entries) k v q))
+      get-from_map n q ∙ h.0 q ∙ ap (λ b. cond b (Some v) (tree.get nat_cmp m q)) ((eq_by_cmp_equiv nat_cmp_total).symm k q)
+      ∙ ap (cond (eq_by_cmp nat_cmp q k) (Some v)) (sym (get-from_map m q)) ∙ sym (get-insert nat_cmp_total (from_entries m.entries) k v q))
 
   pub from_map-remove : (m n : BTreeMap ℕ X) (k : ℕ) → tree.Updates nat_cmp m n k None → from_entries {R = nat_cmp} n.entries ≡ finmap.remove (from_entries m.entries) k
   from_map-remove m n k h =
       same_map nat_cmp_total nat_cmp-IsAntisymmetric _ _ (λ q.
-        get-from_map n q ∙ h.0 q ∙ ap (λ b. cond b None (tree.get nat_cmp m q)) ((eq_by_cmp_equiv nat_cmp_total).symm k q)
-        ∙ ap (cond (eq_by_cmp nat_cmp q k) None) (sym (get-from_map m q)) ∙ sym (get-remove nat_cmp_total (from_entries m.entries) k q))
+      get-from_map n q ∙ h.0 q ∙ ap (λ b. cond b None (tree.get nat_cmp m q)) ((eq_by_cmp_equiv nat_cmp_total).symm k q)
+      ∙ ap (cond (eq_by_cmp nat_cmp q k) None) (sym (get-from_map m q)) ∙ sym (get-remove nat_cmp_total (from_entries m.entries) k q))
 
   all_below : (k : ℕ) (es : List (ℕ × X)) → AllByRecursion (λ y. nat_cmp k y ≡ Less) (keys_of es) → T (below_all nat_cmp k es)
   all_below k [] h = tt

@@ -118,5 +118,5 @@ pub record IsSound (w : Watching) : Type 0 where
 
 -- a descriptor was given, and its watch has ended
 pub record HasEnded (w : Watching) (wd : ℤ) : Type 0 where
-  pub given : wd <ℤ pos w.next_wd
+  pub given : (pos 1 ≤ℤ wd) × (wd <ℤ pos w.next_wd)
   pub unwatched : number_of w wd ≡ None

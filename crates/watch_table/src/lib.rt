@@ -8,3 +8,6 @@ mod watches;
 pub use laws::{descriptors_end_for_good, descriptors_tell_files, watches_stay_sound};
 pub use mask::Mask;
 pub use watches::Watches;
+
+#[cfg(test)]
+mod tests;

@@ -1,5 +1,5 @@
 //! The watches of an instance.
-ghost use Rattle.std.specs.Prelude.{◌≡◌, ◌⊎◌, ℕ, ℤ, pos, false, Some, None, Ok, Err, IfOk, IfErr, OnOk, OnErr, OnSome, IfNone, IsErr, IsNone, ◌↔◌};
+ghost use Rattle.std.specs.Prelude.{◌≡◌, ◌⊎◌, ℕ, ℤ, pos, false, Some, None, Ok, Err, IfOk, IfErr, OnOk, OnErr, OnSome, IfNone, IsErr, IsNone, IsTrue, ◌↔◌};
 ghost use Rattle.std.specs.FinMap as map;
 ghost use Rattle.std.specs.Map.Iter.{ShowsInOrder, deref};
 ghost use Rattle.tree_paths.specs.declared.refusal.Refusal.{Refusal};
@@ -74,6 +74,13 @@ impl Watches {
         ensures { result ≡ map.len self.now.watches }
     {
         self.by_number.len()
+    }
+
+    /// Whether no file is watched.
+    pub fn is_empty(&self) -> bool
+        ensures { IsTrue result ↔ (map.len self.now.watches ≡ 0) }
+    {
+        self.len() == 0
     }
 
     /// The descriptor of the next new watch: one more than were given so far. 2^31 where all are spent.
