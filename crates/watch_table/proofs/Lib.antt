@@ -1,0 +1,4 @@
+pub mod Ended
+pub mod Indexed
+pub mod Maps
+pub mod Watched

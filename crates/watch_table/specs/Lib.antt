@@ -1,0 +1,4 @@
+pub mod Index
+pub mod Masks
+pub mod Rows
+pub mod Watching

@@ -1,0 +1,139 @@
+use crate::{Mask, Watches};
+use bitflags::Flags;
+use record_codec::bits;
+use std::process::Abort;
+use tree_paths::{Limits, Refusal};
+
+/// Watches a file. A call that lacks memory has changed nothing, and is made once more.
+fn watch(
+    rt: &impl Abort,
+    watches: &mut Watches,
+    number: u32,
+    bits: u32,
+    is_directory: bool,
+) -> Result<i32, Refusal> {
+    let mask = Mask::of(bits);
+    if let Some(refusal) = mask.fault() {
+        return Err(refusal);
+    }
+    let before = (watches.len(), watches.next_wd(), watches.of(number));
+    match watches.add(number, mask, is_directory) {
+        Err(Refusal::Enomem) => {
+            assert_eq!(rt;
+                (watches.len(), watches.next_wd(), watches.of(number)),
+                before
+            );
+            watches.add(number, mask, is_directory)
+        }
+        answer => answer,
+    }
+}
+
+#[test]
+fn masks(rt: HostRuntime) {
+    for (bits, known, stored, fault) in [
+        (0x0000_0001, 0x0000_0001, 0x001, None),
+        (0xffff_ffff, 0xb700_0fff, 0x8000_0fff, Some(Refusal::Einval)),
+        (0xa100_0100, 0xa100_0100, 0x8000_0100, None),
+        (0x4000_f000, 0, 0, Some(Refusal::Einval)),
+        (0x8000_0000, 0x8000_0000, 0x8000_0000, Some(Refusal::Einval)),
+        (0x1000_0100, 0x1000_0100, 0x100, Some(Refusal::Einval)),
+        (0x0600_0002, 0x0600_0002, 0x002, None),
+    ] {
+        let mask = Mask::of(bits);
+        assert_eq!(rt; mask.bits(), known);
+        assert_eq!(rt; mask.stored(), stored);
+        assert_eq!(rt; mask.fault(), fault);
+    }
+    assert!(rt; (Mask::CREATE | Mask::DELETE).contains(Mask::CREATE));
+    assert!(rt; Mask::from_name("ONESHOT") == Some(Mask::ONESHOT));
+}
+
+#[test]
+fn joins_and_replaces(rt: HostRuntime) {
+    let mut watches = Watches::new(rt.alloc(), &Limits::full());
+    assert_eq!(rt; watches.of(7), None);
+    assert!(rt; watches.is_empty());
+    assert_eq!(rt; watch(&rt, &mut watches, 7, bits::IN_CREATE, true), Ok(1));
+    assert_eq!(rt; watches.of(7), Some((1, 0x100)));
+    assert_eq!(rt; watch(&rt, &mut watches, 7, 0xa000_0200, true), Ok(1));
+    assert_eq!(rt; watches.of(7), Some((1, 0x8000_0300)));
+    assert_eq!(rt; watch(&rt, &mut watches, 7, 0x2000_0001, true), Ok(1));
+    assert_eq!(rt; watches.of(7), Some((1, 0x8000_0301)));
+    assert_eq!(rt; watch(&rt, &mut watches, 7, 0x0100_0200, true), Ok(1));
+    assert_eq!(rt; watches.of(7), Some((1, 0x200)));
+
+    // A file that is not watched yet gets the bits of the call, also to be joined.
+    assert_eq!(rt; watch(&rt, &mut watches, 3, 0x2600_4002, false), Ok(2));
+    assert_eq!(rt; watches.of(3), Some((2, 0x2)));
+    assert_eq!(rt;
+        watch(&rt, &mut watches, 3, 0x0100_0fff, false),
+        Err(Refusal::Enotdir)
+    );
+    assert_eq!(rt; watches.of(3), Some((2, 0x2)));
+    assert_eq!(rt; watches.len(), 2);
+    assert!(rt; !watches.is_empty());
+    assert_eq!(rt; watches.next_wd(), 3);
+}
+
+#[test]
+fn ends(rt: HostRuntime) {
+    let mut watches = Watches::new(rt.alloc(), &Limits::full());
+    for number in [9, 4, 6] {
+        assert!(rt; watch(&rt, &mut watches, number, bits::IN_ALL_EVENTS, false).is_ok());
+    }
+    assert_eq!(rt; watches.number_of(1), Some(9));
+    assert_eq!(rt; watches.number_of(-1), None);
+    let mut sum = 0;
+    for number in watches.numbers() {
+        assert!(rt; *number > sum);
+        sum = *number;
+    }
+    assert_eq!(rt; sum, 9);
+    assert_eq!(rt; watches.remove(1), Ok(()));
+    assert_eq!(rt; watches.remove(1), Err(Refusal::Einval));
+    assert_eq!(rt; watches.of(9), None);
+    assert_eq!(rt; watches.drop_file(6), Some(3));
+    assert_eq!(rt; watches.drop_file(6), None);
+    assert_eq!(rt; watches.remove(3), Err(Refusal::Einval));
+    assert_eq!(rt;
+        watch(&rt, &mut watches, 9, bits::IN_ALL_EVENTS, false),
+        Ok(4)
+    );
+    assert_eq!(rt; watches.len(), 2);
+}
+
+#[test]
+fn limits(rt: HostRuntime) {
+    let mut limits = Limits::full();
+    limits.watches = 1;
+    let mut watches = Watches::new(rt.alloc(), &limits);
+    assert_eq!(rt; watch(&rt, &mut watches, 5, bits::IN_MODIFY, false), Ok(1));
+    assert_eq!(rt;
+        watch(&rt, &mut watches, 6, bits::IN_MODIFY, false),
+        Err(Refusal::Enospc)
+    );
+    assert_eq!(rt;
+        watch(&rt, &mut watches, 6, 0x0100_0002, false),
+        Err(Refusal::Enotdir)
+    );
+    assert_eq!(rt; watch(&rt, &mut watches, 5, bits::IN_ATTRIB, false), Ok(1));
+    assert_eq!(rt; watches.drop_file(5), Some(1));
+    assert_eq!(rt; watch(&rt, &mut watches, 6, bits::IN_MODIFY, false), Ok(2));
+
+    let mut limits = Limits::full();
+    limits.wds = 2;
+    let mut watches = Watches::new(rt.alloc(), &limits);
+    assert_eq!(rt; watch(&rt, &mut watches, 5, bits::IN_MODIFY, false), Ok(1));
+    assert_eq!(rt; watch(&rt, &mut watches, 6, bits::IN_MODIFY, false), Ok(2));
+    assert_eq!(rt;
+        watch(&rt, &mut watches, 7, bits::IN_MODIFY, false),
+        Err(Refusal::Enospc)
+    );
+    assert_eq!(rt; watches.remove(1), Ok(()));
+    assert_eq!(rt;
+        watch(&rt, &mut watches, 7, bits::IN_MODIFY, false),
+        Err(Refusal::Enospc)
+    );
+    assert_eq!(rt; watch(&rt, &mut watches, 6, bits::IN_ATTRIB, false), Ok(2));
+}
