@@ -12,7 +12,7 @@ use borrow.Author.Tests.{leb-false, ltb-false}
 use Rattle.tree_paths.specs.declared.limits.Limits.{Limits}
 use Rattle.tree_paths.specs.declared.refusal.Refusal.TheVariants.{Enotdir, Enospc}
 use Rattle.watch_table.specs.Masks.{stored}
-use Rattle.watch_table.specs.Rows.{row, first_row}
+use Rattle.tree_paths.specs.Rows.{row, first_row}
 use Rattle.watch_table.specs.Watching.{Watch, Watching, IsSound, added, added_to, add_refusal, dropped, has_wd, is_barred, is_full, next_bits, no_watches, number_of, watch_of, wd_added, wd_of, wd_or, with_bits, with_new_watch}
 use Rattle.watch_table.proofs.Maps.{tie, get-insert_here, get-insert_other, get-remove_here, get-remove_other}
 

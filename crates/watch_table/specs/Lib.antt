@@ -1,4 +1,3 @@
 pub mod Index
 pub mod Masks
-pub mod Rows
 pub mod Watching

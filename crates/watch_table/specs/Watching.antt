@@ -9,7 +9,7 @@ use Rattle.tree_paths.specs.declared.limits.Limits.{Limits}
 use Rattle.tree_paths.specs.declared.refusal.Refusal.{Refusal}
 use Rattle.tree_paths.specs.declared.refusal.Refusal.TheVariants.{Enotdir, Enospc}
 use Rattle.watch_table.specs.Masks.{has_any, stored}
-use Rattle.watch_table.specs.Rows.{row, first_row}
+use Rattle.tree_paths.specs.Rows.{row, first_row}
 
 -- a watch: its descriptor, and the bits that it keeps
 abbrev pub Watch : Type 0
