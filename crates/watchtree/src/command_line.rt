@@ -1,7 +1,11 @@
 //! The command line: `watchtree run [--queue N]`.
 
-ghost use Rattle.std.specs.Prelude.{IfOk, IfSome};
-ghost use Rattle.watchtree.specs.CommandLine.{IsQueueLimit};
+ghost use Rattle.std.specs.Prelude.{◌≡◌, ◌<◌, ◌^◌, IfOk, IfSome, length, true};
+ghost use Rattle.std.specs.Char.{is_ascii_digit};
+ghost use Rattle.std.specs.List.{list_all};
+ghost use Rattle.std.specs.Option.{SomeIff};
+ghost use Rattle.std.specs.Str.Parse.{digits_value};
+ghost use Rattle.watchtree.specs.CommandLine.{queue_of, IsQueueLimit};
 
 use crate::fault::Fault;
 use clap::error::ErrorKind;
@@ -69,14 +73,30 @@ fn command<'a>(alloc: Global) -> Result<Command<'a>, AllocError> {
 }
 
 /// A limit: 1 to 5 decimal digits, from 1 to 65,535.
+#[tactic(auto, unfolding(crate::specs::CommandLine::queue_of))]
 fn queue_of(number: &str) -> Option<u32>
-    ensures { IfSome result IsQueueLimit }
+    ensures value { result ≡ queue_of number.now }
+    ensures limit { IfSome result IsQueueLimit }
 {
-    if QUEUE_DIGITS < number.len() || !number.bytes().all(|b| b.is_ascii_digit()) {
+    if QUEUE_DIGITS < number.len() || !are_digits(number) {
         return None;
     }
-    match number.parse::<u32>() {
-        Ok(limit) if QUEUE_MIN <= limit && limit <= QUEUE_MAX => Some(limit),
+    match value_of(number) {
+        Some(limit) if QUEUE_MIN <= limit && limit <= QUEUE_MAX => Some(limit),
         _ => None,
     }
+}
+
+fn are_digits(number: &str) -> bool
+    ensures { result ≡ list_all is_ascii_digit number.now }
+{
+    number.bytes().all(|b| b.is_ascii_digit())
+}
+
+/// The number of digits, if there are any and it fits.
+fn value_of(digits: &str) -> Option<u32>
+    requires { list_all is_ascii_digit digits.now ≡ true }
+    ensures { SomeIff result ((0 < length digits.now) × (digits_value 10 digits.now < 2 ^ 32)) (digits_value 10 digits.now) }
+{
+    digits.parse::<u32>().ok()
 }
