@@ -1,95 +1,23 @@
-//! What stands under a key.
-ghost use Rattle.std.specs.Prelude.{◌≡◌, OnOk, OnErr, IfSome, IsSome, true, false, None, Some, ℕ, ◌≤◌};
-ghost use Rattle.slab.specs.Slab.{slab_len};
-ghost use Rattle.inode_table.specs.Rows.{rows_of, is_directory, child, SetsChild, SetsKey, body_of, bytes_in, key_in, what, is_live, Label};
-ghost use Rattle.inode_table.specs.Tree.{LosesLink, ChangesWhat, with_links, with_mode, with_bytes};
-ghost use Rattle.inode_table.specs.Room.{HasRoomAs};
-ghost use Rattle.inode_table.specs.Stands.{kind_of, has_names_in};
+//! Nodes, and the writes of one node.
 
+ghost use Rattle.std.specs.Prelude.{◌≡◌, ◌<◌, ◌≤◌, ◌+◌, OnOk, OnErr, IfSome, IsSome, true, false, None, Some, ℕ, length};
+ghost use Rattle.slab.specs.Slab.{slab_len};
+ghost use Rattle.inode_table.specs.Rows.{rows_of, is_directory, child, SetsChild, what, is_live, reserved, Label};
+ghost use Rattle.inode_table.specs.Tree.{LosesLink, ChangesWhat, with_links, with_mode, with_bytes, with_written, with_len};
+ghost use Rattle.inode_table.specs.Room.{HasRoomAs};
+
+use crate::content::Content;
 use record_codec::Name;
-use crate::seen::Kind;
 use slab::Slab;
 use std::alloc::AllocError;
-use std::collections::BTreeMap;
 
+/// A file or a directory: its number, its mode bits, how many paths lead to it, and what it holds.
 #[derive(Drop)]
 pub struct Node {
     pub number: u32,
     pub mode: u32,
     pub links: u64,
     pub content: Content,
-}
-
-#[derive(Drop)]
-pub enum Content {
-    Regular(Vec<u8>),
-    Directory(BTreeMap<Name, usize>),
-}
-
-impl Content {
-    /// Whether this is a file or a directory.
-    pub(crate) fn kind(&self) -> Kind
-        ensures { result ≡ kind_of (bytes_in (body_of self.now)) }
-    {
-        match self {
-            Content::Regular(_) => Kind::Regular,
-            Content::Directory(_) => Kind::Directory,
-        }
-    }
-
-    /// Whether this is a directory that is not empty.
-    pub(crate) fn has_names(&self) -> bool
-        ensures { result ≡ has_names_in (body_of self.now) }
-    {
-        match self {
-            Content::Regular(_) => false,
-            Content::Directory(names) => !names.is_empty(),
-        }
-    }
-
-    /// Puts `key` under the name, in the place of the key that is there, if any.
-    fn set(&mut self, name: Name, key: usize) -> Result<(), AllocError>
-        requires { bytes_in (body_of self.old) ≡ None }
-        ensures ok { OnOk result (SetsKey (body_of self.old) (body_of self.new) name (Some key)) }
-        ensures err { OnErr result (body_of self.new ≡ body_of self.old) }
-    {
-        match self {
-            Content::Directory(names) => {
-                names.insert(name, key)?;
-                Ok(())
-            }
-            Content::Regular(_) => unreachable!(),
-        }
-    }
-
-    /// Puts `key` in the place of the key that is under the name.
-    fn point(&mut self, name: &Name, key: usize)
-        requires directory { bytes_in (body_of self.old) ≡ None }
-        requires there { IsSome (key_in (body_of self.old) name.now) }
-        ensures { SetsKey (body_of self.old) (body_of self.new) name.now (Some key) }
-    {
-        match self {
-            Content::Directory(names) => {
-                if let Some(slot) = names.get_mut(name) {
-                    *slot = key;
-                }
-            }
-            Content::Regular(_) => unreachable!(),
-        }
-    }
-
-    /// Takes the name out.
-    fn unset(&mut self, name: &Name)
-        requires { bytes_in (body_of self.old) ≡ None }
-        ensures { SetsKey (body_of self.old) (body_of self.new) name.now None }
-    {
-        match self {
-            Content::Directory(names) => {
-                names.remove(name);
-            }
-            Content::Regular(_) => unreachable!(),
-        }
-    }
 }
 
 /// Puts `key` under the name in the directory, in the place of the key that is there, if any.
@@ -189,6 +117,47 @@ pub(crate) fn set_bytes(nodes: &mut Slab<Node>, key: usize, bytes: Vec<u8>)
     ensures room { HasRoomAs nodes.old nodes.new }
 {
     nodes[key].content = Content::Regular(bytes);
+}
+
+/// Makes room for `len` bytes in a file.
+pub(crate) fn reserve_bytes(
+    nodes: &mut Slab<Node>,
+    key: usize,
+    len: usize,
+) -> Result<(), AllocError>
+    requires live { is_live (rows_of nodes.old) key ≡ true }
+    requires regular { is_directory (rows_of nodes.old) key ≡ false }
+    ensures child { (k : ℕ) (l : Label) → child (rows_of nodes.new) k l ≡ child (rows_of nodes.old) k l }
+    ensures what { (k : ℕ) → what (rows_of nodes.new) k ≡ what (rows_of nodes.old) k }
+    ensures reserved { OnOk result (len ≤ reserved (rows_of nodes.new) key) }
+    ensures err { OnErr result (rows_of nodes.new ≡ rows_of nodes.old) }
+    ensures room { HasRoomAs nodes.old nodes.new }
+{
+    nodes[key].content.reserve(len)
+}
+
+/// Writes over the bytes of a file from `offset` on. There is room for them.
+pub(crate) fn write_bytes(nodes: &mut Slab<Node>, key: usize, offset: usize, bytes: &[u8])
+    requires live { is_live (rows_of nodes.old) key ≡ true }
+    requires regular { is_directory (rows_of nodes.old) key ≡ false }
+    requires reserved { 0 < length bytes.now → offset + length bytes.now ≤ reserved (rows_of nodes.old) key }
+    ensures child { (k : ℕ) (l : Label) → child (rows_of nodes.new) k l ≡ child (rows_of nodes.old) k l }
+    ensures what { ChangesWhat (rows_of nodes.old) (rows_of nodes.new) key (with_written offset bytes.now) }
+    ensures room { HasRoomAs nodes.old nodes.new }
+{
+    nodes[key].content.write(offset, bytes);
+}
+
+/// Cuts a file, or fills it up with zero bytes. There is room for `len` bytes.
+pub(crate) fn set_len(nodes: &mut Slab<Node>, key: usize, len: usize)
+    requires live { is_live (rows_of nodes.old) key ≡ true }
+    requires regular { is_directory (rows_of nodes.old) key ≡ false }
+    requires reserved { len ≤ reserved (rows_of nodes.old) key }
+    ensures child { (k : ℕ) (l : Label) → child (rows_of nodes.new) k l ≡ child (rows_of nodes.old) k l }
+    ensures what { ChangesWhat (rows_of nodes.old) (rows_of nodes.new) key (with_len len) }
+    ensures room { HasRoomAs nodes.old nodes.new }
+{
+    nodes[key].content.set_len(len);
 }
 
 /// The key under the name in the directory, if there is one.
