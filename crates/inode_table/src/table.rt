@@ -1,6 +1,7 @@
 //! The table of nodes.
 
 ghost use Rattle.std.specs.Prelude.{◌≡◌, ◌≤◌, ℕ, List, None, Some, IfOk, IfErr, OnOk, OnErr, IsSome, if◌then◌else◌};
+ghost use Rattle.std.specs.FinMap as finmap;
 ghost use Rattle.inode_table.specs.Rows.{Label, rows_of, is_directory, row, row_of};
 ghost use Rattle.inode_table.specs.Tree.{at, what_at};
 
@@ -47,14 +48,15 @@ impl Model for Table {
 }
 
 impl Table {
-    ghost use Rattle.inode_table.specs.World.{World, look, opening_world};
+    ghost use Rattle.inode_table.specs.World.{World, IsWorld, IsWhole, look, opening_world};
     ghost use Rattle.inode_table.specs.Refusals.{find};
-    ghost use Rattle.inode_table.specs.Stands.{HasWorld, Stands, look_in};
-    ghost use Rattle.inode_table.specs.Tree.{IsTable};
+    ghost use Rattle.inode_table.specs.Stands.{HasWorld, Stands, IsUnused, look_in};
+    ghost use Rattle.inode_table.specs.Tree.{IsTable, IsNamedBut};
 
     /// The root alone: number 1, mode 0755.
     pub fn new(alloc: Global) -> Result<Self, Refusal>
         ensures world { IfOk result (λ table. Stands table opening_world) }
+        ensures named { IfOk result (λ table. IsNamedBut table None) }
         ensures memory { IfErr result (λ refusal. refusal ≡ Refusal.Enomem) }
     {
         let mut nodes = Slab::new(alloc);
@@ -102,6 +104,9 @@ impl Table {
     pub fn law(&self)
         ensures table { IsTable self.now.rows }
         ensures world { HasWorld self.now }
+        ensures unused { (w : World) (n : ℕ) → Stands self.now w → finmap.get w.files n ≡ None → IsUnused self.now n }
+        ensures whole { (w : World) → Stands self.now w → IsNamedBut self.now None → IsWhole w }
+        ensures sound { (w : World) → Stands self.now w → IsWorld w }
         ensures looks { (w : World) → Stands self.now w → (p : List Label) → look w p ≡ look_in self.now p }
     {
         let _ = &self.nodes;

@@ -1,12 +1,12 @@
 //! The changes of a table, by whole paths.
 
-ghost use Rattle.std.specs.Prelude.{◌≡◌, ◌≢◌, ℕ, List, [], Some, None, IfOk, IfErr, OnOk, OnErr, true, false, IsSome, IfSome, ◌&&◌, ◌+◌, ◌<◌, ◌≤◌, ◌^◌, ◌++◌, ◌∷◌};
+ghost use Rattle.std.specs.Prelude.{◌≡◌, ◌≢◌, ℕ, List, [], Option, Some, None, IfOk, IfErr, OnOk, OnErr, true, false, IsSome, IfSome, ◌&&◌, ◌+◌, ◌<◌, ◌≤◌, ◌^◌, ◌++◌, ◌∷◌};
 ghost use Rattle.std.specs.Option.{IsSomeAnd};
 ghost use Rattle.std.specs.FinMap as finmap;
 ghost use Rattle.inode_table.specs.Paths.{is_below};
 ghost use Rattle.inode_table.specs.Refusals.{parent_of};
 ghost use Rattle.inode_table.specs.Rows.{Label};
-ghost use Rattle.inode_table.specs.Tree.{at, what_at};
+ghost use Rattle.inode_table.specs.Tree.{at, what_at, IsNamedBut};
 
 use super::Table;
 use crate::content::Content;
@@ -34,6 +34,7 @@ impl Table {
         requires free { look_in self.old path.now ≡ None }
         requires unused { IsUnused self.old number }
         ensures world { OnOk result ((w : World) → Stands self.old w → Stands self.new (with_file w path.now number (record { kind = kind; mode = mode; bytes = [] }))) }
+        ensures named { OnOk result (IsNamedBut self.old None → IsNamedBut self.new None) }
         ensures room { OnOk result (self.new.room + 1 ≡ self.old.room) }
         ensures err { OnErr result (self.new ≡ self.old) }
         ensures memory { IfErr result (λ refusal. refusal ≡ Refusal.Enomem) }
@@ -56,6 +57,7 @@ impl Table {
         requires directory { is_directory_seen (look_in self.old (parent_of new.now)) ≡ true }
         requires free { look_in self.old new.now ≡ None }
         ensures world { OnOk result ((w : World) → Stands self.old w → Stands self.new (linked w new.now (finmap.get w.paths old.now))) }
+        ensures named { OnOk result (IsNamedBut self.old None → IsNamedBut self.new None) }
         ensures room { OnOk result (self.new.room ≡ self.old.room) }
         ensures err { OnErr result (self.new ≡ self.old) }
         ensures memory { IfErr result (λ refusal. refusal ≡ Refusal.Enomem) }
@@ -82,6 +84,7 @@ impl Table {
         ensures world { OnOk result ((w : World) → Stands self.old w → Stands self.new (with_move w old.now new.now)) }
         ensures replaced { IfOk result (λ key. key ≡ at self.old new.now) }
         ensures there { IfOk result (λ key. IfSome key (λ replaced. IsSome (what_at self.new replaced))) }
+        ensures named { IfOk result (λ key. IsNamedBut self.old None → IsNamedBut self.new key) }
         ensures number { IfOk result (λ key. (w : World) → Stands self.old w → finmap.get w.paths new.now ≡ number_of self.new key) }
         ensures room { OnOk result (self.new.room ≡ self.old.room) }
         ensures err { OnErr result (self.new ≡ self.old) }
@@ -105,6 +108,7 @@ impl Table {
         ensures world { (w : World) → Stands self.old w → Stands self.new (without_path w path.now) }
         ensures key { at self.old path.now ≡ Some result }
         ensures there { IsSome (what_at self.new result) }
+        ensures named { IsNamedBut self.old None → IsNamedBut self.new (Some result) }
         ensures number { (w : World) → Stands self.old w → finmap.get w.paths path.now ≡ number_of self.new (Some result) }
         ensures room { self.new.room ≡ self.old.room }
     {
@@ -119,6 +123,7 @@ impl Table {
         requires there { IsSome (what_at self.old key) }
         requires lost { (p : List Label) → at self.old p ≢ Some key }
         ensures world { (w : World) (n : ℕ) → Stands self.old w → number_of self.old (Some key) ≡ Some n → Stands self.new (without_file w n) }
+        ensures named { IsNamedBut self.old (Some key) → IsNamedBut self.new None }
         ensures room { self.new.room ≡ self.old.room + 1 }
     {
         self.drop_node_at(key.slot());
@@ -127,7 +132,8 @@ impl Table {
     /// Takes a node away if it has lost its last name.
     pub fn drop_if_lost(&mut self, key: Key)
         requires there { IsSome (what_at self.old key) }
-        ensures { (w : World) → Stands self.old w → Stands self.new (without_lost w (number_of self.old (Some key))) }
+        ensures world { (w : World) → Stands self.old w → Stands self.new (without_lost w (number_of self.old (Some key))) }
+        ensures named { IsNamedBut self.old (Some key) → IsNamedBut self.new None }
     {
         if self.links(key) == 0 {
             self.drop_node(key);
@@ -142,6 +148,7 @@ impl Table {
         requires below { (is_directory_seen (look_in self.old one.now) && is_below one.now other.now) ≡ false }
         requires above { (is_directory_seen (look_in self.old other.now) && is_below other.now one.now) ≡ false }
         ensures world { (w : World) → Stands self.old w → Stands self.new (with_swap w one.now other.now) }
+        ensures named { (lost : Option ℕ) → IsNamedBut self.old lost → IsNamedBut self.new lost }
         ensures room { self.new.room ≡ self.old.room }
     {
         self.law();
@@ -156,6 +163,7 @@ impl Table {
     pub fn set_mode(&mut self, path: &[Name], mode: u32)
         requires there { IsSome (look_in self.old path.now) }
         ensures world { (w : World) → Stands self.old w → Stands self.new (changed_at w path.now (λ f. record f { mode = mode })) }
+        ensures named { (lost : Option ℕ) → IsNamedBut self.old lost → IsNamedBut self.new lost }
         ensures room { self.new.room ≡ self.old.room }
     {
         self.law();

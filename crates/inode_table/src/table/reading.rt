@@ -3,6 +3,10 @@
 ghost use Rattle.std.specs.Prelude.{◌≡◌, ℕ, List, [], Some, None, IfOk, IfErr, IsSome, unwrap_or};
 ghost use Rattle.std.specs.Option.{option_map, IsSomeAnd};
 ghost use Rattle.std.specs.FinMap as finmap;
+ghost use Rattle.std.specs.List.Sorted.{IsStrictlySortedBy};
+ghost use Rattle.std.specs.Ordering.{nat_cmp};
+ghost use Rattle.std.specs.Cmp.Lexicographic.{slice_cmp};
+ghost use Rattle.std.specs.Map.Iter.{ShowsInOrder, deref};
 ghost use Rattle.inode_table.specs.Rows.{Label};
 ghost use Rattle.inode_table.specs.Count.{IsCount};
 ghost use Rattle.inode_table.specs.Tree.{at, what_at};
@@ -11,10 +15,11 @@ use super::Table;
 use crate::key::Key;
 use crate::seen::{Kind, Seen};
 use record_codec::Name;
+use std::collections::btree_map::Keys;
 use tree_paths::Refusal;
 
 impl Table {
-    ghost use Rattle.inode_table.specs.World.{World, file_at, links};
+    ghost use Rattle.inode_table.specs.World.{World, AreNamesOf, file_at, links};
     ghost use Rattle.inode_table.specs.Refusals.{find};
     ghost use Rattle.inode_table.specs.Stands.{Stands, kind_of, look_in, number_of, seen_at};
 
@@ -63,6 +68,17 @@ impl Table {
     {
         self.law();
         self.node(key).links
+    }
+
+    /// The names in a directory, in the order of their bytes, lent one by one.
+    pub fn child_names(&self, key: Key) -> Keys<'_, Name, usize>
+        requires there { IsSome (what_at self.now key) }
+        requires directory { option_map (λ node. kind_of node.bytes) (what_at self.now key) ≡ Some Kind.Directory }
+        ensures world { (w : World) → Stands self.now w → (p : List Label) → at self.now p ≡ Some key → AreNamesOf w p result }
+        ensures ordered { IsStrictlySortedBy (slice_cmp nat_cmp) result }
+        ensures runs { ShowsInOrder (deref {X = Label}) }
+    {
+        self.node(key).content.names()
     }
 
     /// What decides whether a call on a node is refused.

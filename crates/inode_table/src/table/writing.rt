@@ -2,9 +2,9 @@
 //!
 //! A write in place is `reserve_content` and then `write`, which takes no memory: n bytes at the end of a file cost n, amortised.
 
-ghost use Rattle.std.specs.Prelude.{◌≡◌, ℕ, List, OnOk, OnErr, IfErr, false, IsSome, ◌+◌, ◌<◌, ◌≤◌, length};
+ghost use Rattle.std.specs.Prelude.{◌≡◌, ℕ, List, Option, OnOk, OnErr, IfErr, false, IsSome, ◌+◌, ◌<◌, ◌≤◌, length};
 ghost use Rattle.inode_table.specs.Rows.{Label};
-ghost use Rattle.inode_table.specs.Tree.{at, what_at};
+ghost use Rattle.inode_table.specs.Tree.{at, what_at, IsNamedBut};
 ghost use Rattle.inode_table.specs.Bytes.{resized, written};
 
 use super::Table;
@@ -21,6 +21,7 @@ impl Table {
         requires there { IsSome (look_in self.old path.now) }
         requires regular { is_directory_seen (look_in self.old path.now) ≡ false }
         ensures world { (w : World) → Stands self.old w → Stands self.new (changed_at w path.now (λ f. record f { bytes = bytes.items })) }
+        ensures named { (lost : Option ℕ) → IsNamedBut self.old lost → IsNamedBut self.new lost }
         ensures room { self.new.room ≡ self.old.room }
     {
         self.law();
@@ -53,6 +54,7 @@ impl Table {
         requires regular { is_directory_seen (look_in self.old path.now) ≡ false }
         requires reserved { 0 < length bytes.now → offset + length bytes.now ≤ reserved_at self.old path.now }
         ensures world { (w : World) → Stands self.old w → Stands self.new (changed_at w path.now (λ f. record f { bytes = written offset bytes.now f.bytes })) }
+        ensures named { (lost : Option ℕ) → IsNamedBut self.old lost → IsNamedBut self.new lost }
         ensures room { self.new.room ≡ self.old.room }
     {
         self.law();
@@ -66,6 +68,7 @@ impl Table {
         requires regular { is_directory_seen (look_in self.old path.now) ≡ false }
         requires reserved { len ≤ reserved_at self.old path.now }
         ensures world { (w : World) → Stands self.old w → Stands self.new (changed_at w path.now (λ f. record f { bytes = resized len f.bytes })) }
+        ensures named { (lost : Option ℕ) → IsNamedBut self.old lost → IsNamedBut self.new lost }
         ensures room { self.new.room ≡ self.old.room }
     {
         self.law();

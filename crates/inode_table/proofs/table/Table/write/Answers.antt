@@ -7,6 +7,7 @@ use Rattle.inode_table.proofs.FindLemmas.{live-there}
 use Rattle.inode_table.proofs.SeenLemmas.{is_value}
 use Rattle.inode_table.proofs.StandsLemmas.{changed-is}
 use Rattle.inode_table.proofs.CallLemmas.{file-regular, file-mapped}
+use Rattle.inode_table.proofs.ChangeLemmas.{named-changes}
 use Rattle.inode_table.proofs.table.Table.write.Goals as goal
 
 pub returns-clause-world : goal.returns-clause-world
@@ -17,3 +18,6 @@ returns-clause-world c w stands =
     subst (Stands c.write_bytes_at.new.self)
     (ap (with_content w v.0.number) (file-mapped (written c.args.offset c.args.bytes.now) v.0 regular) ∙ sym (changed-is stands c.args.path.now c.key_at-key.result v.0 c.key_at-key.ensures v.1 (λ f. record f { bytes = written c.args.offset c.args.bytes.now f.bytes })))
     (c.write_bytes_at.ensures.world w v.0 stands v.1)
+
+pub returns-clause-named : goal.returns-clause-named
+returns-clause-named c = named-changes c.args.self.now c.write_bytes_at.new.self c.write_bytes_at.ensures.node (λ w h. h)
