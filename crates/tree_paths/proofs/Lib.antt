@@ -1,1 +1,3 @@
-
+mod PathLemmas
+mod PathnameLemmas
+mod PieceLemmas

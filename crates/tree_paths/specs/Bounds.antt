@@ -1,21 +1,22 @@
 -- How much a tree takes at most.
-use Rattle.std.proofs.Common.{lit≤}
+use Rattle.std.proofs.Common.{ℕ, lit≤}
 use Rattle.tree_paths.specs.declared.limits.Limits.{Limits}
+use Rattle.tree_paths.specs.Greatest.{most_numbers, most_file_bytes, most_links, most_instances, most_ids, most_watches, most_wds, most_queue, most_cookies, most_journal, most_seats}
 
 -- the greatest limits
 abbrev pub full : Limits
 full = record {
-  numbers = 1048576;
-  file_bytes = 16777216;
-  links = 65000;
-  instances = 128;
-  ids = 2147483647;
-  watches = 8192;
-  wds = 2147483647;
-  queue = 65535;
-  cookies = 4294967295;
-  journal = 1000000;
-  seats = 65536;
+  numbers = most_numbers;
+  file_bytes = most_file_bytes;
+  links = most_links;
+  instances = most_instances;
+  ids = most_ids;
+  watches = most_watches;
+  wds = most_wds;
+  queue = most_queue;
+  cookies = most_cookies;
+  journal = most_journal;
+  seats = most_seats;
   numbers_in = (lit≤ tt, lit≤ tt);
   file_bytes_in = (lit≤ tt, lit≤ tt);
   links_in = (lit≤ tt, lit≤ tt);
@@ -27,4 +28,33 @@ full = record {
   cookies_in = (lit≤ tt, lit≤ tt);
   journal_in = (lit≤ tt, lit≤ tt);
   seats_in = (lit≤ tt, lit≤ tt);
+}
+
+-- limits without the facts that keep them in range
+pub record Values : Type 0 where
+  pub numbers : ℕ
+  pub file_bytes : ℕ
+  pub links : ℕ
+  pub instances : ℕ
+  pub ids : ℕ
+  pub watches : ℕ
+  pub wds : ℕ
+  pub queue : ℕ
+  pub cookies : ℕ
+  pub journal : ℕ
+  pub seats : ℕ
+
+abbrev pub values_of : Limits → Values
+values_of limits = record {
+  numbers = limits.numbers;
+  file_bytes = limits.file_bytes;
+  links = limits.links;
+  instances = limits.instances;
+  ids = limits.ids;
+  watches = limits.watches;
+  wds = limits.wds;
+  queue = limits.queue;
+  cookies = limits.cookies;
+  journal = limits.journal;
+  seats = limits.seats;
 }

@@ -1,1 +1,5 @@
 pub mod Bounds
+pub mod Greatest
+pub mod Paths
+pub mod Pieces
+pub mod Refusals

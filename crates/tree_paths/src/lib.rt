@@ -1,12 +1,18 @@
 //! Paths, refusals and limits of a file tree.
 #![tactic(auto)]
 
+mod laws;
 mod limits;
 mod names;
+mod parse;
 mod path;
 mod refusal;
 
+pub use laws::{parsed_names_are_names, pathnames_are_parsed};
 pub use limits::Limits;
 pub use names::Names;
 pub use path::Path;
 pub use refusal::Refusal;
+
+#[cfg(test)]
+mod tests;

@@ -1,11 +1,22 @@
 //! Paths from the root.
-ghost use Rattle.std.specs.Prelude.{◌≡◌, ◌∷◌, ◌++◌, [], MatchOption, IfSome, IsSome, ◌-◌, ◌<◌, ◌↔◌, take, length};
 
+ghost use Rattle.std.specs.Prelude.{◌≡◌, ◌⊎◌, ◌∷◌, ◌++◌, [], MatchOption, IfSome, IsSome, IfOk, IfErr, IsTrue, ◌-◌, ◌<◌, ◌↔◌, take, length};
+ghost use Rattle.std.specs.Prelude.{nat_eq};
+ghost use Rattle.std.proofs.Common.{rules};
+ghost use Rattle.std.specs.Cmp.Rules.{comparing};
+ghost use Rattle.std.specs.Cmp.{partial_order_from_own_ties};
+ghost use Rattle.std.specs.Cmp.Lexicographic.{pointwise, slice_cmp, lists_ties};
+ghost use Rattle.std.specs.Ordering.{as_partial_cmp, nat_cmp};
+
+use crate::Refusal;
+use crate::parse::{names_in, refusal_of};
 use record_codec::Name;
+use std::alloc::{AllocError, Global};
+use std::cmp::Ordering;
 use std::marker::Model;
 
 /// A path from the root: its names.
-#[derive(Drop)]
+#[derive(Debug, Drop)]
 pub struct Path {
     names: Vec<Name>,
 }
@@ -15,21 +26,82 @@ impl Model for Path {
 
     ghost Value = { List (List ℕ) };
 
-    ghost view = { λ p. p.names.items };
+    ghost view = { λ path. path.names.items };
+}
+
+impl PartialEq for Path {
+    ghost eq = { pointwise (pointwise nat_eq) };
+
+    ghost laws = { Prim.search (comparing, rules) };
+
+    fn eq(&self, other: &Path) -> bool
+        ensures value { result ≡ pointwise (pointwise nat_eq) self.now other.now }
+        ensures same { IsTrue result ↔ (self.now ≡ other.now) }
+    {
+        self.names() == other.names()
+    }
+}
+
+impl Eq for Path {
+    ghost laws = { Prim.search (comparing, rules) };
+}
+
+impl Ord for Path {
+    ghost cmp = { slice_cmp (slice_cmp nat_cmp) };
+
+    ghost total = { Prim.search (comparing, rules) };
+
+    ghost matches_partial_cmp = { Prim.search (comparing, rules) };
+
+    ghost matches_eq = { lists_ties (slice_cmp nat_cmp) (lists_ties nat_cmp (λ x y. Prim.search (comparing, rules))) };
+
+    fn cmp(&self, other: &Path) -> Ordering {
+        self.names().cmp(&other.names())
+    }
+}
+
+impl PartialOrd for Path {
+    ghost partial_cmp = { as_partial_cmp (slice_cmp (slice_cmp nat_cmp)) };
+
+    ghost laws = { partial_order_from_own_ties (Prim.search (comparing, rules)) (lists_ties (slice_cmp nat_cmp) (lists_ties nat_cmp (λ x y. Prim.search (comparing, rules)))) };
+
+    fn partial_cmp(&self, other: &Path) -> Option<Ordering> {
+        Some(self.cmp(other))
+    }
 }
 
 impl Path {
-    /// The path of these names.
+    ghost use Rattle.tree_paths.specs.Paths.{parsed, IsBelow};
+    ghost use Rattle.tree_paths.specs.declared.refusal.Refusal.TheVariants.{Enomem};
+
+    /// The path of a text. Several slashes together count as one.
+    ///
+    /// A text that is no path is refused without memory.
+    pub fn parse(alloc: Global, text: &[u8]) -> Result<Path, Refusal>
+        ensures ok { IfOk result (λ path. parsed text.now ≡ Ok path) }
+        ensures err { IfErr result (λ refusal. (refusal ≡ Enomem) ⊎ (parsed text.now ≡ Err refusal)) }
+        ensures refused { IfErr (parsed text.now) (λ refusal. result ≡ Err refusal) }
+    {
+        if let Some(refusal) = refusal_of(text) {
+            return Err(refusal);
+        }
+        Ok(Path {
+            names: names_in(alloc, text)?,
+        })
+    }
+
+    /// The path of these names, the first one in the root. It takes no memory.
     pub fn from_names(names: Vec<Name>) -> Path
         ensures { result ≡ names.items }
     {
         Path { names }
     }
 
+    /// The names, from the root on. The root's own path has none.
     pub fn names(&self) -> &[Name]
         ensures { result.now ≡ self.now }
     {
-        self.names.as_slice()
+        &self.names
     }
 
     /// The names of the directory of the last name, and that name. `None` for the root.
@@ -38,7 +110,35 @@ impl Path {
         ensures parent { IfSome result (λ parts. parts.0.now ≡ take (length self.now - 1) self.now) }
         ensures some { IsSome result ↔ (0 < length self.now) }
     {
-        let (name, parent) = self.names.as_slice().split_last()?;
+        let (name, parent) = self.names().split_last()?;
         Some((parent, name))
     }
+
+    /// Whether the other path is a proper prefix of this one.
+    pub fn is_below(&self, other: &Path) -> bool
+        ensures { IsTrue result ↔ IsBelow self.now other.now }
+    {
+        other.names().len() < self.names().len() && self.names().starts_with(other.names())
+    }
+
+    /// The same path once more. `Err` is want of memory.
+    pub fn copy(&self) -> Result<Path, Refusal>
+        ensures ok { IfOk result (λ path. path ≡ self.now) }
+        ensures err { IfErr result (λ refusal. refusal ≡ Enomem) }
+    {
+        Ok(Path {
+            names: copies(*self.names.allocator(), self.names())?,
+        })
+    }
+}
+
+/// The same names once more.
+pub(crate) fn copies(alloc: Global, names: &[Name]) -> Result<Vec<Name>, AllocError>
+    ensures { IfOk result (λ copied. copied.items ≡ names.now) }
+{
+    let mut copied = Vec::with_capacity(alloc, names.len())?;
+    for name in names {
+        copied.push(name.copy()?)?;
+    }
+    Ok(copied)
 }

@@ -1,0 +1,104 @@
+//! Names and records as text.
+
+ghost use Rattle.std.specs.Prelude.{◌≡◌, ◌≤◌, ◌+◌, ◌*◌, ◌++◌, length, vec_len, vec_capacity, OnOk, OnErr};
+ghost use Rattle.record_codec.specs.Lines.{is_plain, printed_byte, printed_name, printed_numbers, record_line};
+
+use crate::event::Event;
+use crate::name::Name;
+use crate::writing::add;
+use itoa::Buffer;
+use percent_encoding::percent_encode_byte;
+use std::alloc::AllocError;
+
+/// The most bytes that one byte of a name is printed as.
+const PRINTED_BYTE_LEN: usize = 3;
+
+/// The most bytes that the three numbers of a record line take, with the spaces between them.
+const NUMBERS_LEN: usize = 11 + 1 + 8 + 1 + 10;
+
+/// Adds the printed name at the end: its bytes 0x21 to 0x7e but `%` as they are, each other one as `%` and two
+/// upper-case hexadecimal digits.
+///
+/// # Errors
+/// `AllocError`, where there is no room and no memory for more. The bytes of `out` are then as they were.
+pub fn append_name(name: &Name, out: &mut Vec<u8>) -> Result<(), AllocError>
+    ensures ok { OnOk result (out.new.items ≡ out.old.items ++ printed_name name.now) }
+    ensures err { OnErr result (out.new.items ≡ out.old.items) }
+{
+    let name = name.bytes();
+    out.reserve(PRINTED_BYTE_LEN * name.len())?;
+    add_name(name, out);
+    Ok(())
+}
+
+/// Adds the event's record as a line at the end, without a line feed: wd in decimal, mask as eight lower-case
+/// hexadecimal digits and cookie in decimal, and where it has a name the printed name (`append_name`), with a space
+/// between each two of them.
+///
+/// # Errors
+/// `AllocError`, where there is no room and no memory for more. The bytes of `out` are then as they were.
+pub fn append_record_line(event: &Event, out: &mut Vec<u8>) -> Result<(), AllocError>
+    ensures ok { OnOk result (out.new.items ≡ out.old.items ++ record_line event.now) }
+    ensures err { OnErr result (out.new.items ≡ out.old.items) }
+{
+    match &event.name {
+        None => {
+            out.reserve(NUMBERS_LEN)?;
+            add_numbers(event, out);
+        }
+        Some(name) => {
+            let name = name.bytes();
+            out.reserve(NUMBERS_LEN + 1 + PRINTED_BYTE_LEN * name.len())?;
+            add_numbers(event, out);
+            add(out, b" ");
+            add_name(name, out);
+        }
+    }
+    Ok(())
+}
+
+/// Adds the numbers of the event's record line.
+fn add_numbers(event: &Event, out: &mut Vec<u8>)
+    requires { vec_len out.old + NUMBERS_LEN ≤ vec_capacity out.old }
+    ensures items { out.new.items ≡ out.old.items ++ printed_numbers event.now }
+    ensures len { vec_len out.new ≤ vec_len out.old + NUMBERS_LEN }
+    ensures room { vec_capacity out.old ≤ vec_capacity out.new }
+{
+    let mut digits = Buffer::new();
+    add(out, digits.format(event.wd).as_bytes());
+    add(out, b" ");
+    let mut mask = [0; 8];
+    hex::encode_to_slice(event.mask.to_be_bytes().as_slice(), &mut mask).unwrap();
+    add(out, &mask);
+    add(out, b" ");
+    add(out, digits.format(event.cookie).as_bytes());
+}
+
+/// Adds the printed name of these bytes.
+fn add_name(name: &[u8], out: &mut Vec<u8>)
+    requires { vec_len out.old + PRINTED_BYTE_LEN * length name.now ≤ vec_capacity out.old }
+    ensures { out.new.items ≡ out.old.items ++ printed_name name.now }
+{
+    for byte in name {
+        add_byte(*byte, out);
+    }
+}
+
+fn add_byte(byte: u8, out: &mut Vec<u8>)
+    requires { vec_len out.old + PRINTED_BYTE_LEN ≤ vec_capacity out.old }
+    ensures items { out.new.items ≡ out.old.items ++ printed_byte byte }
+    ensures len { vec_len out.new ≤ vec_len out.old + PRINTED_BYTE_LEN }
+    ensures room { vec_capacity out.old ≤ vec_capacity out.new }
+{
+    if is_plain(byte) {
+        add(out, &[byte]);
+    } else {
+        add(out, percent_encode_byte(byte).as_bytes());
+    }
+}
+
+fn is_plain(byte: u8) -> bool
+    ensures { result ≡ is_plain byte }
+{
+    byte.is_ascii_graphic() && byte != b'%'
+}

@@ -1,0 +1,53 @@
+-- What a pathname's text stands for, and how paths lie to one another.
+use Rattle.std.specs.Prelude.{◌≡◌, ℕ, ◌-◌, Bool, not, ◌&&◌, ◌||◌, ◌==◌, nat_lt, nat_le, List, [], ◌∷◌, ◌++◌, length, slice_index, codes, Result, Ok, Err, if◌then◌else◌}
+use Rattle.std.specs.List.{list_any, flat_map}
+use Rattle.std.specs.Str.{bytes_eq}
+use Rattle.tree_paths.specs.declared.refusal.Refusal.{Refusal}
+use Rattle.tree_paths.specs.declared.refusal.Refusal.TheVariants.{Enoent, Einval, Enametoolong}
+use Rattle.tree_paths.specs.Pieces.{runs}
+
+-- the bytes of a pathname with the null byte that ends it for C, and the bytes of a filename (PATH_MAX and NAME_MAX of <limits.h>)
+abbrev pub path_max : ℕ
+path_max = 4096
+
+abbrev pub name_max : ℕ
+name_max = 255
+
+-- the null byte and the slash, which no filename has
+abbrev pub is_null : ℕ → Bool
+is_null b = b == 0
+
+abbrev pub slash : ℕ
+slash = 47
+
+-- the filenames of a pathname, between slashes, of which several together count as one (POSIX.1-2017, 3.271 Pathname, 3.170 Filename)
+abbrev pub names_of : List ℕ → List (List ℕ)
+names_of text = runs slash text
+
+-- dot and dot-dot, which no path here has (4.13 Pathname Resolution)
+abbrev pub is_dots : List ℕ → Bool
+is_dots name = bytes_eq name (codes ".") || bytes_eq name (codes "..")
+
+abbrev pub is_long : List ℕ → Bool
+is_long name = nat_lt name_max (length name)
+
+-- the names of an absolute pathname's text, or why it is refused: the first row that holds
+unfoldable pub parsed : List ℕ → Result (List (List ℕ)) Refusal
+parsed text =
+    if length text == 0 then Err Enoent
+    else if nat_le path_max (length text) then Err Enametoolong
+    else if not (slice_index text 0 == slash) then Err Einval
+    else if list_any is_null text then Err Einval
+    else if nat_lt 1 (length text) && (slice_index text (length text - 1) == slash) then Err Einval
+    else if list_any is_dots (names_of text) then Err Einval
+    else if list_any is_long (names_of text) then Err Enametoolong
+    else Ok (names_of text)
+
+-- the pathname of names: a slash before each, and for the root a slash alone
+abbrev pub pathname_of : List (List ℕ) → List ℕ
+pathname_of [] = slash ∷ []
+pathname_of (name ∷ names) = flat_map (λ n. slash ∷ n) (name ∷ names)
+
+-- above is a proper prefix of path
+abbrev pub IsBelow : List (List ℕ) → List (List ℕ) → Type 0
+IsBelow path above = (name : List ℕ) × (rest : List (List ℕ)) × (path ≡ above ++ name ∷ rest)
