@@ -12,7 +12,7 @@ take-filled offset end old le =
     elim (cases_lt (length old) offset) [
       | inl past ↦
           let n : (offset - length old) + (end - offset) ≡ end - length old = omega arith in
-          let len : length (old ++ replicate (offset - length old) 0) ≡ offset = omega (arith, length-append old (replicate (offset - length old) 0), length-replicate (offset - length old) 0) in
+          let len : length (old ++ replicate (offset - length old) 0) ≡ offset = omega (arith, length-append old (replicate (offset - length old) 0), length-replicate {A = ℕ} (offset - length old) 0) in
           ap (λ z. take offset (old ++ z)) (sym (replicate-append-replicate (offset - length old) (end - offset) 0 ∙ ap (λ k. replicate k 0) n))
           ∙ ap (take offset) (sym (append_assoc old (replicate (offset - length old) 0) (replicate (end - offset) 0)))
           ∙ take_at (old ++ replicate (offset - length old) 0) (replicate (end - offset) 0) offset len
@@ -28,7 +28,7 @@ drop-filled end old =
     elim (cases_lt end (length old)) [
       | inl within ↦ let none : end - length old ≡ 0 = omega arith in ap (λ k. drop end (old ++ replicate k 0)) none ∙ ap (drop end) (append-nil old)
       | inr past ↦
-          drop_all end (filled end old) (omega (arith, length-append old (replicate (end - length old) 0), length-replicate (end - length old) 0))
+          drop_all end (filled end old) (omega (arith, length-append old (replicate (end - length old) 0), length-replicate {A = ℕ} (end - length old) 0))
           ∙ sym (drop_all end old past)
     ]
 

@@ -40,9 +40,9 @@ module _ {t : Tree} {w : World} (stands : Stands t w) where
       elim (at t p) as (λ o. at t p ≡ o → option_and_then (λ j. walk (child t.rows) j (l ∷ s)) o ≡ Some k.0 → IsDirectoryAt w p) [
         | None ↦ λ _ e. absurd (some_none refl e)
         | Some j ↦ λ there e. elim (child t.rows j l) as (λ o. child t.rows j l ≡ o → option_and_then (λ i. walk (child t.rows) i s) o ≡ Some k.0 → IsDirectoryAt w p) [
-            | None ↦ λ _ f. absurd (some_none refl f)
-            | Some i ↦ λ edge _. directory-at p j there (stands.table.tree.parents j i l edge)
-          ] refl e
+          | None ↦ λ _ f. absurd (some_none refl f)
+          | Some i ↦ λ edge _. directory-at p j there (stands.table.tree.parents j i l edge)
+        ] refl e
       ] refl led
 
   one_path-of : (p q : List Label) → IsDirectoryAt w p → finmap.get w.paths p ≡ finmap.get w.paths q → p ≡ q
@@ -61,6 +61,7 @@ module _ {t : Tree} {w : World} (stands : Stands t w) where
       none_at : (o : Option ℕ) → o ≡ None → IsSomeAnd (option_and_then (finmap.get w.files) o) (λ (f : world.File). f.kind ≡ Directory) → ⊥
       none_at None e h = h
       none_at (Some n) e h = absurd (cc)
+
       kind_at : (o : Option world.File) (f : world.File) → o ≡ Some f → IsSomeAnd o (λ (f : world.File). f.kind ≡ Directory) → f.kind ≡ Directory
       kind_at None f e h = absurd h
       kind_at (Some g) f e h = let same : g ≡ f = same_some g f e in sym (ap (λ (x : world.File). x.kind) same) ∙ h

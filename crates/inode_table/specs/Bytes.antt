@@ -9,4 +9,4 @@ resized len bytes = take len bytes ++ replicate (len - length bytes) 0
 -- A write of no bytes changes nothing
 abbrev pub written : ℕ → List ℕ → List ℕ → List ℕ
 written offset [] bytes = bytes
-written offset (b ∷ new) bytes = resized offset bytes ++ (b ∷ new) ++ drop (offset + length (b ∷ new)) bytes
+written offset (b ∷ new) bytes = resized offset bytes ++ ((b ∷ new) ++ drop (offset + length (b ∷ new)) bytes)

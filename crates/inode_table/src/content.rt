@@ -139,6 +139,37 @@ impl Content {
     }
 
     /// Writes over the bytes from `offset` on, and fills a gap with zero bytes. There is room for them.
+    pub(crate) fn write(&mut self, offset: usize, new: &[u8])
+        requires regular { is_none (bytes_in (body_of self.old)) ≡ false }
+        requires reserved { 0 < length new.now → offset + length new.now ≤ reserved_in (body_of self.old) }
+        ensures bytes { bytes_in (body_of self.new) ≡ option_map (written offset new.now) (bytes_in (body_of self.old)) }
+        ensures names { (l : Label) → key_in (body_of self.new) l ≡ key_in (body_of self.old) l }
+    {
+        match self {
+            Content::Regular(bytes) => write_at(bytes, offset, new),
+            Content::Directory(_) => unreachable!(),
+        }
+    }
+
+    /// Cuts the file, or fills it up with zero bytes. There is room for `len` bytes.
+    pub(crate) fn set_len(&mut self, len: usize)
+        requires regular { is_none (bytes_in (body_of self.old)) ≡ false }
+        requires reserved { len ≤ reserved_in (body_of self.old) }
+        ensures bytes { bytes_in (body_of self.new) ≡ option_map (resized len) (bytes_in (body_of self.old)) }
+        ensures names { (l : Label) → key_in (body_of self.new) l ≡ key_in (body_of self.old) l }
+    {
+        match self {
+            Content::Regular(bytes) => {
+                let Ok(()) = bytes.resize(len, 0) else {
+                    unreachable!()
+                };
+            }
+            Content::Directory(_) => unreachable!(),
+        }
+    }
+}
+
+// Writes over the bytes from `offset` on, and fills a gap with zero bytes. There is room for them.
 fn write_at(bytes: &mut Vec<u8>, offset: usize, new: &[u8])
     requires { 0 < length new.now → offset + length new.now ≤ vec_capacity bytes.old }
     ensures { bytes.new.items ≡ written offset new.now bytes.old.items }

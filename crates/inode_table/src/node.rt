@@ -1,7 +1,7 @@
 //! Nodes, and the writes of one node.
 
 ghost use Rattle.std.specs.Prelude.{◌≡◌, ◌<◌, ◌≤◌, ◌+◌, OnOk, OnErr, IfSome, IsSome, true, false, None, Some, ℕ, length};
-ghost use Rattle.slab.specs.Slab.{slab_len};
+ghost use Rattle.slab.specs.Slab.{slab_len, ContainsKey, HasRoomFor, Updates};
 ghost use Rattle.inode_table.specs.Rows.{rows_of, is_directory, child, SetsChild, what, is_live, reserved, Label};
 ghost use Rattle.inode_table.specs.Tree.{LosesLink, ChangesWhat, with_links, with_mode, with_bytes, with_written, with_len};
 ghost use Rattle.inode_table.specs.Room.{HasRoomAs};
@@ -158,6 +158,17 @@ pub(crate) fn set_len(nodes: &mut Slab<Node>, key: usize, len: usize)
     ensures room { HasRoomAs nodes.old nodes.new }
 {
     nodes[key].content.set_len(len);
+}
+
+/// Takes a node away.
+pub(crate) fn remove_node(nodes: &mut Slab<Node>, key: usize)
+    requires { ContainsKey nodes.old key }
+    ensures updates { Updates nodes.old nodes.new key None }
+    ensures len { slab_len nodes.new + 1 ≡ slab_len nodes.old }
+    ensures capacity { nodes.new.capacity ≡ nodes.old.capacity }
+    ensures room { HasRoomFor nodes.new 1 }
+{
+    nodes.remove(key);
 }
 
 /// The key under the name in the directory, if there is one.

@@ -21,7 +21,9 @@ mod reading;
 mod writing;
 
 const ROOT: usize = 0;
+
 const ROOT_NUMBER: u32 = 1;
+
 const ROOT_MODE: u32 = 0o755;
 
 /// A tree of directories and files, which contracts see as the map from paths to what stands there.
@@ -144,10 +146,12 @@ fn refusal_at(nodes: &Slab<Node>, key: usize) -> Refusal
     ensures { result ≡ (if is_directory (rows_of nodes.now) key then Refusal.Enoent else Refusal.Enotdir) }
 {
     match nodes.get(key) {
-        Some(Node {
-            content: Content::Directory(_),
-            ..
-        }) => Refusal::Enoent,
+        Some(
+            Node {
+                content: Content::Directory(_),
+                ..
+            },
+        ) => Refusal::Enoent,
         _ => Refusal::Enotdir,
     }
 }

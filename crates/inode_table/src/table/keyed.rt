@@ -6,7 +6,10 @@ ghost use Rattle.inode_table.specs.Tree.{at, what_at};
 
 use super::Table;
 use crate::content::Content;
-use crate::node::{Node, child, lose_any_link, point_child, reserve_bytes, set_bytes, set_child, set_len, set_links, set_mode, unset_child, write_bytes};
+use crate::node::{
+    Node, child, lose_any_link, point_child, remove_node, reserve_bytes, set_bytes, set_child,
+    set_len, set_links, set_mode, unset_child, write_bytes,
+};
 use record_codec::Name;
 use std::alloc::AllocError;
 
@@ -82,7 +85,7 @@ impl Table {
         ensures world { (w : World) (v : What) → Stands self.old w → what_at self.old key ≡ Some v → Stands self.new (without_file w v.number) }
         ensures room { self.new.room ≡ self.old.room + 1 }
     {
-        self.nodes.remove(key);
+        remove_node(&mut self.nodes, key);
     }
 
     /// Moves a name, and all that is below it, to another one, which may be taken.
@@ -144,7 +147,12 @@ impl Table {
     }
 
     /// Gives one more name to a regular file.
-    pub(crate) fn add_name_at(&mut self, directory: usize, name: Name, key: usize) -> Result<(), AllocError>
+    pub(crate) fn add_name_at(
+        &mut self,
+        directory: usize,
+        name: Name,
+        key: usize,
+    ) -> Result<(), AllocError>
         requires directory { IsOpen self.old directory }
         requires free { child self.old.rows directory name ≡ None }
         requires regular { is_directory self.old.rows key ≡ false }

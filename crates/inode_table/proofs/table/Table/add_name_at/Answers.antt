@@ -15,7 +15,7 @@ linked c =
     let same : rows_of c.self.inside.nodes ≡ old = ap (λ t. t.rows) c.self.view_is in
     let names : SetsChild old mid c.args.directory c.args.name (Some c.args.key) = subst (λ rs. SetsChild rs mid c.args.directory c.args.name (Some c.args.key)) same c.in_ok-set_child.ensures.ok in
     let was : what old c.args.key ≡ Some (shown (row_of c.in-Some.node.now)) =
-        ap (λ rs. what rs c.args.key) (sym same) ∙ ap (option_map shown) (row-rows_of c.self.inside.nodes c.args.key ∙ ap (option_map row_of) (sym c.in-Some.ensures)) in
+    ap (λ rs. what rs c.args.key) (sym same) ∙ ap (option_map shown) (row-rows_of c.self.inside.nodes c.args.key ∙ ap (option_map row_of) (sym c.in-Some.ensures)) in
     record {
       table = subst IsTable same c.self.invariant;
       directory = c.requires.directory.kind;

@@ -15,8 +15,8 @@ returns-clause-world c w stands p there =
     record {
       ordered = c.names.ensures.ordered;
       members = λ l.
-        c.names.ensures.members l
-        ∙ sym (there-same stands (p ++ l ∷ [])
+          c.names.ensures.members l
+          ∙ sym (there-same stands (p ++ l ∷ [])
           ∙ ap is_some (walk_end (child c.args.self.now.rows) c.args.key p l there)
           ∙ ap (λ o. is_some (option_and_then (λ (r : Row). key_in r.body l) o)) c.node.ensures);
     }

@@ -6,15 +6,15 @@ use Rattle.inode_table.proofs.RowsLemmas.{SetsRow, SetsRow-from_updates}
 use Rattle.inode_table.proofs.ChangeLemmas.{RemovesRow, IsTable-remove, remove-paths, remove-others}
 use Rattle.inode_table.proofs.StandsLemmas.{Stands-without_file}
 use Rattle.inode_table.proofs.table.Table.drop_node_at.Goals as goal
-use Rattle.inode_table.proofs.table.Table.drop_node_at.Goals.{Joined-remove}
+use Rattle.inode_table.proofs.table.Table.drop_node_at.Goals.{After-remove_node}
 
-removed : (c : Joined-remove) → RemovesRow c.args.self.now.rows (rows_of c.remove.new.self) c.args.key
+removed : (c : After-remove_node) → RemovesRow c.args.self.now.rows (rows_of c.remove_node.new.nodes) c.args.key
 removed c =
     let same : rows_of c.self.inside.nodes ≡ c.args.self.now.rows = ap (λ t. t.rows) c.self.view_is in
     record {
       table = subst IsTable same c.self.invariant;
       lost = c.requires.lost;
-      gone = subst (λ rs. SetsRow rs (rows_of c.remove.new.self) c.args.key None) same (SetsRow-from_updates c.self.inside.nodes c.remove.new.self c.args.key None c.remove.ensures.updates);
+      gone = subst (λ rs. SetsRow rs (rows_of c.remove_node.new.nodes) c.args.key None) same (SetsRow-from_updates c.self.inside.nodes c.remove_node.new.nodes c.args.key None c.remove_node.ensures.updates);
     }
 
 pub invariant_of-self : goal.invariant_of-self
