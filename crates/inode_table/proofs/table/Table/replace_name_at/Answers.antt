@@ -1,0 +1,45 @@
+use Rattle.std.proofs.Common.{◌≡◌, ◌≢◌, ◌++◌, ◌∷◌, [], ℕ, List, Option, Some, None, IfSome, ◌≤◌, refl, sym, ap, subst, ◌∙◌}
+use Rattle.inode_table.specs.Rows.{rows_of, Rows, child, what, is_live, SetsChild}
+use Rattle.inode_table.specs.Tree.{IsTable, at, what_at, LosesLink}
+use Rattle.inode_table.proofs.ChangeLemmas.{MovesRow, MovesRow-from, IsTable-move, move-empty, move-MovesPath, positive_target}
+use Rattle.inode_table.proofs.StandsLemmas.{SameFiles-loses, Stands-with_move}
+use Rattle.inode_table.proofs.table.Table.replace_name_at.Goals as goal
+use Rattle.inode_table.proofs.table.Table.replace_name_at.Goals.{After-lose_any_link}
+
+moved : (c : After-lose_any_link) → MovesRow c.args.self.now.rows (rows_of c.lose_any_link.new.nodes) c.args.directory c.args.name.now c.args.other_directory c.args.other_name c.in-Some.key
+moved c =
+    let old = c.args.self.now.rows in
+    let first = rows_of c.set_child.new.nodes in
+    let same : rows_of c.self.inside.nodes ≡ old = ap (λ t. t.rows) c.self.view_is in
+    let from = c.requires.directory in
+    let to = c.requires.other_directory in
+    MovesRow-from old first (rows_of c.unset_child.new.nodes) _ c.args.directory c.args.name.now c.args.other_directory c.args.other_name c.in-Some.key c.child-replaced.result
+    (subst IsTable same c.self.invariant) from.kind to.kind from.path to.path from.there to.there
+    (c.requires.apart from.path to.path from.there to.there)
+    (ap (λ rs. child rs c.args.directory c.args.name.now) (sym same) ∙ sym c.in-Some.ensures)
+    c.requires.empty
+    (subst (λ rs. SetsChild rs first c.args.other_directory c.args.other_name (Some c.in-Some.key)) same c.in_ok-set_child-in-Some.ensures.ok)
+    c.unset_child.ensures.names
+    c.lose_any_link.ensures.child
+    (c.child-replaced.ensures ∙ ap (λ rs. child rs c.args.other_directory c.args.other_name) same)
+    c.lose_any_link.ensures.what
+
+pub lose_any_link-requires-clause-positive : goal.lose_any_link-requires-clause-positive
+lose_any_link-requires-clause-positive c k is =
+    positive_target (rows_of c.self.inside.nodes) (rows_of c.unset_child.new.nodes) c.self.invariant
+    (λ j. c.unset_child.ensures.names.what j ∙ c.in_ok-set_child-in-Some.ensures.ok.what j)
+    c.args.other_directory c.args.other_name k (sym c.child-replaced.ensures ∙ is)
+
+pub invariant_of-self-in-Some : goal.invariant_of-self-in-Some
+invariant_of-self-in-Some c =
+    let from = c.requires.directory in
+    let to = c.requires.other_directory in
+    IsTable-move (moved c) from.path to.path from.there to.there (c.requires.apart from.path to.path from.there to.there)
+
+pub returns-clause-paths : goal.returns-clause-paths
+returns-clause-paths c p q to_p to_q = move-MovesPath (moved c) p q to_p to_q (c.requires.apart p q to_p to_q)
+
+pub returns-clause-world : goal.returns-clause-world
+returns-clause-world c w p q stands to_p to_q =
+    let apart = c.requires.apart p q to_p to_q in
+    Stands-with_move (SameFiles-loses _ _ _ (moved c).links) stands (IsTable-move (moved c) p q to_p to_q apart) _ _ apart (move-empty (moved c) p q to_p to_q apart) (move-MovesPath (moved c) p q to_p to_q apart)

@@ -1,0 +1,43 @@
+use Rattle.std.proofs.Common.{◌≡◌, ℕ, Some, sym, ap, subst, ◌∙◌}
+use Rattle.inode_table.specs.Rows.{rows_of, Rows, child, SetsChild}
+use Rattle.inode_table.specs.Tree.{IsTable}
+use Rattle.inode_table.proofs.ChangeLemmas.{SwapsRow, SwapsRow-from, IsTable-swap, swap-SwapsPaths}
+use Rattle.std.specs.Option.{option_map}
+use Rattle.inode_table.proofs.TreeLemmas.{apart_below}
+use Rattle.inode_table.proofs.StandsLemmas.{named}
+use Rattle.inode_table.proofs.SwapLemmas.{Stands-with_swap}
+use Rattle.inode_table.proofs.table.Table.swap_names_at.Goals as goal
+use Rattle.inode_table.proofs.table.Table.swap_names_at.Goals.{After-point_child-2}
+
+swapped : (c : After-point_child-2) → SwapsRow c.args.self.now.rows (rows_of c.point_child-2.new.nodes) c.args.directory c.args.name.now c.args.other_directory c.args.other_name.now c.in-Some.key c.in-Some-child.other_key
+swapped c =
+    let old = c.args.self.now.rows in
+    let first = rows_of c.point_child.new.nodes in
+    let same : rows_of c.self.inside.nodes ≡ old = ap (λ t. t.rows) c.self.view_is in
+    let from = c.requires.directory in
+    let to = c.requires.other_directory in
+    SwapsRow-from old first _ c.args.directory c.args.name.now c.args.other_directory c.args.other_name.now c.in-Some.key c.in-Some-child.other_key
+    (subst IsTable same c.self.invariant) from.kind to.kind from.path to.path from.there to.there
+    (c.requires.below from.path to.path from.there to.there)
+    (ap (λ rs. child rs c.args.directory c.args.name.now) (sym same) ∙ sym c.in-Some.ensures)
+    (ap (λ rs. child rs c.args.other_directory c.args.other_name.now) (sym same) ∙ sym c.in-Some-child.ensures)
+    (subst (λ rs. SetsChild rs first c.args.directory c.args.name.now (Some c.in-Some-child.other_key)) same c.point_child.ensures.names)
+    c.point_child-2.ensures.names
+
+pub invariant_of-self : goal.invariant_of-self
+invariant_of-self c =
+    let from = c.requires.directory in
+    let to = c.requires.other_directory in
+    IsTable-swap (swapped c) from.path to.path from.there to.there (c.requires.below from.path to.path from.there to.there) (c.requires.above from.path to.path from.there to.there)
+
+pub returns-in-Some-child-clause-paths : goal.returns-in-Some-child-clause-paths
+returns-in-Some-child-clause-paths c p q to_p to_q = swap-SwapsPaths (swapped c) p q to_p to_q (c.requires.below p q to_p to_q) (c.requires.above p q to_p to_q)
+
+pub returns-in-Some-child-clause-world : goal.returns-in-Some-child-clause-world
+returns-in-Some-child-clause-world c w p q stands to_p to_q =
+    let from = c.requires.directory in
+    let to = c.requires.other_directory in
+    let below = c.requires.below p q to_p to_q in
+    let above = c.requires.above p q to_p to_q in
+    Stands-with_swap _ _ below above (λ s. apart_below _ _ below above s) (record { same = λ k. ap (option_map named) ((swapped c).nodes k) }) stands
+    (IsTable-swap (swapped c) p q to_p to_q below above) (swap-SwapsPaths (swapped c) p q to_p to_q below above)
