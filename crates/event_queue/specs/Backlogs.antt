@@ -17,7 +17,7 @@ pub record Backlog : Type 0 where
 abbrev pub IsLimit : ℕ → Type 0
 IsLimit limit = (1 ≤ limit) × (limit ≤ most_queue)
 
--- the record that says that events were lost ("Event queue overflowed (wd is -1 for this event)")
+-- the record that says that events were lost (inotify(7), IN_Q_OVERFLOW: its wd is -1)
 unfoldable pub overflow_mark : Event
 overflow_mark = record { wd = negsuc 0; mask = IN_Q_OVERFLOW; cookie = 0; name = None }
 
@@ -36,10 +36,9 @@ has_mark waiting = nat_lt 0 (marks waiting)
 unfoldable pub is_repeated : List Event → Event → Bool
 is_repeated waiting e = option_map_or (λ last. event_eq last e) (slice_get waiting (length waiting - 1)) false
 
--- what becomes of an event. "If successive events are identical, they are coalesced into a single event if the older
--- event has not yet been read" (inotify(7), NOTES): this is looked at first. "Events in excess of this limit are dropped,
--- but an IN_Q_OVERFLOW event is always generated" (max_queued_events): one such mark waits at a time, and says it for all
--- events that are lost while it waits
+-- what becomes of an event. One identical to the last that waits is coalesced with it (inotify(7), NOTES): this is looked
+-- at first. Events in excess of the limit are dropped, but an IN_Q_OVERFLOW event is always generated (inotify(7),
+-- max_queued_events): one such mark waits at a time, and says it for all events that are lost while it waits
 unfoldable pub offered : ℕ → List Event → Event → Offered
 offered limit waiting e =
     if is_repeated waiting e then Merged

@@ -1,5 +1,5 @@
--- A queue told as the list of all records that ever joined it, and how many of them were read: "an event has not yet been
--- read" where it stands at the read count or behind it.
+-- A queue told as the list of all records that ever joined it, and how many of them were read. A record
+-- is not read yet where it stands at the read count or behind it.
 use Rattle.std.specs.Prelude.{◌≡◌, ℕ, ◌+◌, ◌-◌, ◌<◌, ◌≤◌, List, [], ◌∷◌, ◌++◌, length, take, drop, slice_get, Some}
 use Rattle.record_codec.specs.declared.event.Event.{Event}
 use Rattle.event_queue.specs.declared.offered.Offered.{Offered}

@@ -13,10 +13,9 @@ fn made(alloc: Global, name: &[u8]) -> Result<Event, AllocError> {
     })
 }
 
-// No call but `with_limit` asks for memory, so none can be refused it. In the order in which they run, the three tests ask
-// 13 times: `greatest_limit` and `least_limit` once each, for their queue, and `limit_two` ten times for its events and
-// then for its queue. `rt try --test --fail-alloc N` refuses the N-th time. For N of 1, 2 and 13 the test ends in `Enomem`,
-// and for 14 all pass: whatever would be asked for after `with_limit` would be refused there.
+// No call but `with_limit` asks for memory. Each test counts its own requests: `limit_two` makes ten for its events, all of
+// them before the queue, and the eleventh is the queue's. With `rt try --test --fail-alloc 11` it ends in `Enomem`; with 12,
+// 13 or 14, by which a later request would be refused, its answers are the same.
 #[test]
 fn limit_two(rt: HostRuntime) -> Result<(), Refusal> {
     let alloc = rt.alloc();
