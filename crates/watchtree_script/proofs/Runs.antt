@@ -1,15 +1,15 @@
 -- Runs of lines, one line after another.
-use Rattle.std.proofs.Common.{◌≡◌, ◌<◌, ◌≤◌, ℕ, ◌+◌, List, [], ◌∷◌, ◌++◌, length, take, drop, Option, Some, Result, Ok, Err, refl, sym, ap, subst, ◌∙◌, arith, append_assoc, length-append, inl, inr}
+use Rattle.std.proofs.Common.{◌≡◌, ◌≤◌, ℕ, ◌+◌, List, [], ◌∷◌, ◌++◌, length, take, drop, Option, Some, Result, Ok, Err, refl, sym, ap, subst, ◌∙◌, arith, append_assoc, length-append, inr}
 use Rattle.std.specs.Prelude.{IfErr}
 use Rattle.std.proofs.lemmas.List.{append-nil, take-append-drop}
-use Rattle.std.specs.Io.KnownBytes.{Appends, Keeps}
+use Rattle.std.specs.Io.KnownBytes.{Appends}
 use Rattle.tree_core.specs.Journal.{Journaled}
 use Rattle.watchtree_script.specs.declared.fault.RunFault.{RunFault}
 use Rattle.watchtree_script.specs.declared.fault.RunFault.TheVariants as faults
 use Rattle.std.specs.Str.{byte}
 use Rattle.watchtree_script.specs.Lines.{lines_of}
 use Rattle.watchtree_script.specs.Commands.{line_of}
-use Rattle.watchtree_script.specs.Script.{Prints, PrintsLine, PrintsNothing, AreText, IsText, IsTextBefore, IsTextFront, IsShort, IsRunFault, script_max, read_faults, Adds, LineTells, FaultTells, opening}
+use Rattle.watchtree_script.specs.Script.{Prints, PrintsLine, PrintsNothing, IsText, IsShort, IsRunFault, script_max, read_faults, Adds, LineTells, FaultTells, opening}
 use Rattle.watchtree_script.proofs.Known.{Appends-nil, Appends-more, Appends-keeps, Keeps-same}
 use Rattle.watchtree_script.proofs.PieceLemmas.{length-pieces-le}
 

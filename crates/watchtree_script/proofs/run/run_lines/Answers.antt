@@ -1,9 +1,9 @@
-use Rattle.std.proofs.Common.{◌≡◌, ◌≤◌, ◌+◌, arith, refl, sym, ap, ◌∙◌, []}
+use Rattle.std.proofs.Common.{◌≤◌, arith, refl, ap, ◌∙◌, []}
 use Rattle.std.proofs.lemmas.Result.{err_from_is_err_and}
 use Rattle.record_codec.specs.Ports.{inner_of}
 use Rattle.tree_core.specs.Journal.{Journaled}
 use Rattle.tree_paths.specs.declared.limits.Limits.{Limits}
-use Rattle.watchtree_script.proofs.Runs.{Progress-start, Progress-next, Progress-count, Progress-end, Progress-fault, LineTells-kind}
+use Rattle.watchtree_script.proofs.Runs.{Progress-start, Progress-next, Progress-count, Progress-end, Progress-fault}
 use Rattle.watchtree_script.proofs.run.run_lines.Goals as goal
 
 pub loop-line-init : goal.loop-line-init
