@@ -1,0 +1,122 @@
+-- Which numbers the files have after a call.
+use Rattle.std.proofs.Common.{◌≡◌, ◌≢◌, ◌⊎◌, inl, inr, ℕ, ◌+◌, ◌<◌, ◌==◌, Bool, true, false, List, [], ◌∷◌, Option, Some, None, refl, sym, ap, subst, ◌∙◌, arith, if◌then◌else◌}
+use Rattle.std.specs.Ordering.{nat_cmp}
+use Rattle.std.specs.Option.{option_and_then}
+use Rattle.std.specs.Cmp.{nat_cmp_total}
+use Rattle.std.specs.FinMap as finmap
+use Rattle.std.specs.FinMap.{nat_cmp-IsAntisymmetric, get-empty}
+use Rattle.inode_table.specs.declared.seen.Kind.TheVariants.{Directory}
+use Rattle.inode_table.specs.Rows.{What}
+use Rattle.inode_table.specs.Tree.{Tree, what_at}
+use Rattle.inode_table.specs.World.{World, File, root_number, root_mode, opening_world, links, with_file, with_path, without_path, with_move, with_content, without_file, without_lost, linked, content_by, changed_at}
+use Rattle.inode_table.specs.Stands.{Stands, file_of}
+use Rattle.tree_ops.proofs.Keys.{get-insert_either, get-remove_was}
+use Rattle.tree_ops.specs.declared.call.FileCall.{FileCall}
+use Rattle.tree_ops.specs.declared.call.FileCall.TheVariants.{Create, Write, ReadFile, Truncate, Chmod, Mkdir, Link, Unlink, Rmdir, Rename, Stat as Status, List as Listed}
+use Rattle.tree_ops.specs.declared.call.Counts.{Counts}
+use Rattle.tree_ops.specs.ReadyCall.{HasNumbersBelow}
+use Rattle.tree_ops.specs.After.{after, after_write, after_unlink, after_rename, are_same, numbers_of}
+
+-- the number of each file is below this one
+abbrev Below : World → ℕ → Type 0
+Below w next = (n : ℕ) (f : File) → finmap.get w.files n ≡ Some f → n < next
+
+below-content : (w : World) (n : ℕ) (f : File) (next : ℕ) → Below w next → n < next → Below (with_content w n f) next
+unfolding with_content
+below-content w n f next h here m g e = elim (get-insert_either nat_cmp_total nat_cmp-IsAntisymmetric w.files n m f g e) [
+  | inl same ↦ subst (λ x. x < next) (sym same) here
+  | inr was ↦ h m g was
+]
+
+below-file : (w : World) (p : List (List ℕ)) (n : ℕ) (f : File) → Below w n → Below (with_file w p n f) (n + 1)
+unfolding with_file
+below-file w p n f h m g e = elim (get-insert_either nat_cmp_total nat_cmp-IsAntisymmetric w.files n m f g e) [
+  | inl same ↦ omega arith
+  | inr was ↦ let below : m < n = h m g was in omega arith
+]
+
+below-without : (w : World) (n next : ℕ) → Below w next → Below (without_file w n) next
+unfolding without_file
+below-without w n next h m g e = h m g (get-remove_was nat_cmp_total w.files n m g e)
+
+below-lost : (w : World) (o : Option ℕ) (next : ℕ) → Below w next → Below (without_lost w o) next
+unfolding without_lost
+below-lost w None next h = h
+below-lost w (Some n) next h = elim (links w n == 0) as (λ b. Below (if b then without_file w n else w) next) [ true ↦ below-without w n next h | false ↦ h ]
+
+below-changed : (w : World) (p : List (List ℕ)) (change : File → File) (next : ℕ) → Below w next → Below (changed_at w p change) next
+unfolding changed_at
+below-changed w p change next h = by (finmap.get w.paths p)
+  where
+    at_file : (n : ℕ) (o : Option File) → finmap.get w.files n ≡ o → Below (content_by w change (Some n) o) next
+    at_file n None e = h
+    at_file n (Some f) e = below-content w n (change f) next h (h n f e)
+
+    by : (o : Option ℕ) → Below (content_by w change o (option_and_then (finmap.get w.files) o)) next
+    by None = h
+    by (Some n) = at_file n (finmap.get w.files n) refl
+
+below-path : (w : World) (p : List (List ℕ)) (n next : ℕ) → Below w next → Below (with_path w p n) next
+unfolding with_path
+below-path w p n next h = h
+
+below-linked : (w : World) (p : List (List ℕ)) (o : Option ℕ) (next : ℕ) → Below w next → Below (linked w p o) next
+below-linked w p None next h = h
+below-linked w p (Some n) next h = below-path w p n next h
+
+below-dropped : (w : World) (p : List (List ℕ)) (next : ℕ) → Below w next → Below (without_path w p) next
+unfolding without_path
+below-dropped w p next h = h
+
+below-moved : (w : World) (old new : List (List ℕ)) (next : ℕ) → Below w next → Below (with_move w old new) next
+unfolding with_move
+below-moved w old new next h = h
+
+below-unlink : (w : World) (p : List (List ℕ)) (next : ℕ) → Below w next → Below (after_unlink w p) next
+below-unlink w p next h = below-lost (without_path w p) (finmap.get w.paths p) next (below-dropped w p next h)
+
+below-rename : (w : World) (old new : List (List ℕ)) (next : ℕ) → Below w next → Below (after_rename w old new) next
+unfolding after_rename
+below-rename w old new next h =
+    elim (are_same (finmap.get w.paths old) (finmap.get w.paths new)) as (λ b. Below (if b then w else without_lost (with_move w old new) (finmap.get w.paths new)) next) [
+      | true ↦ h
+      | false ↦ below-lost (with_move w old new) (finmap.get w.paths new) next (below-moved w old new next h)
+    ]
+
+below-write : (w : World) (p : List (List ℕ)) (offset : ℕ) (bytes : List ℕ) (next : ℕ) → Below w next → Below (after_write w p offset bytes) next
+below-write w p offset bytes next h = elim bytes as (λ bytes. Below (after_write w p offset bytes) next) [
+  | [] ↦ h
+  | b ∷ rest ↦ below-changed w p _ next h
+]
+
+none : (w : World) (next : ℕ) → Below w next → Below w (next + 0)
+none w next h n f e = omega (arith, h n f e)
+
+below-after : (w : World) (counts : Counts) (call : FileCall) → Below w counts.next_number → Below (after w counts call) (counts.next_number + numbers_of call)
+below-after w counts (Create p mode) h = below-file w p counts.next_number _ h
+below-after w counts (Mkdir p mode) h = below-file w p counts.next_number _ h
+below-after w counts (Write p offset bytes) h = none (after w counts (Write p offset bytes)) counts.next_number (below-write w p offset bytes counts.next_number h)
+below-after w counts (ReadFile p offset count) h = none (after w counts (ReadFile p offset count)) counts.next_number h
+below-after w counts (Truncate p len) h = none (after w counts (Truncate p len)) counts.next_number (below-changed w p _ counts.next_number h)
+below-after w counts (Chmod p mode) h = none (after w counts (Chmod p mode)) counts.next_number (below-changed w p _ counts.next_number h)
+below-after w counts (Link old new) h = none (after w counts (Link old new)) counts.next_number (below-linked w new (finmap.get w.paths old) counts.next_number h)
+below-after w counts (Unlink p) h = none (after w counts (Unlink p)) counts.next_number (below-unlink w p counts.next_number h)
+below-after w counts (Rmdir p) h = none (after w counts (Rmdir p)) counts.next_number (below-unlink w p counts.next_number h)
+below-after w counts (Rename old new) h = none (after w counts (Rename old new)) counts.next_number (below-rename w old new counts.next_number h)
+below-after w counts (Status p) h = none (after w counts (Status p)) counts.next_number h
+below-after w counts (Listed p) h = none (after w counts (Listed p)) counts.next_number h
+
+-- the same of the tables that stand for these worlds
+pub numbers-after : {old new : Tree} (w : World) (counts : Counts) (call : FileCall) → Stands old w → Stands new (after w counts call) → HasNumbersBelow old counts.next_number → HasNumbersBelow new (counts.next_number + numbers_of call)
+numbers-after w counts call before stands h k v is =
+    below-after w counts call (λ n f e. let at = before.no_more n f e in subst (λ x. x < counts.next_number) at.3 (h at.0 at.1 at.2)) v.number (file_of v) (stands.files k v is)
+
+-- the root alone has number 1
+pub numbers-opening : (t : Tree) → Stands t opening_world → HasNumbersBelow t 2
+unfolding opening_world
+numbers-opening t stands k v is =
+    let root : File = record { kind = Directory; mode = root_mode; bytes = [] } in
+    elim (get-insert_either nat_cmp_total nat_cmp-IsAntisymmetric finmap.empty root_number v.number root (file_of v) (stands.files k v is)) [
+      | inl same ↦ omega arith
+      | inr was ↦ absurd (let clash : None ≡ Some (file_of v) = sym (get-empty nat_cmp v.number) ∙ was in cc)
+    ]

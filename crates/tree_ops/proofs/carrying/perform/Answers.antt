@@ -1,0 +1,197 @@
+use Rattle.std.proofs.Common.{◌≡◌, ℕ, ◌+◌, ◌<◌, ◌^◌, Option, Some, None, IfSome, true, false, nat_lt, length, ◌≢◌, ◌&&◌, ◌≤◌, ◌==◌, Bool, List, [], ◌∷◌, refl, sym, ap, subst, ◌∙◌, arith, rules}
+use borrow.Author.Tests.{ltb-true, ltb-false, eq-eqb, eqb-true}
+use Rattle.inode_table.specs.declared.seen.Seen.{Seen}
+use Rattle.tree_paths.specs.Rows.{first_row}
+use Rattle.inode_table.specs.Bytes.{written}
+use Rattle.inode_table.specs.Tree.{Tree}
+use Rattle.inode_table.specs.World.{World, changed_at, look}
+use Rattle.inode_table.specs.Stands.{Stands, HasWorld, look_in}
+use Rattle.tree_ops.specs.declared.call.FileCall.{FileCall}
+use Rattle.tree_ops.specs.declared.answer.Answer.{Answer}
+use Rattle.tree_ops.specs.declared.answer.Answer.TheVariants.{Bytes, Names}
+use Rattle.tree_ops.specs.Checked.{Checked}
+use Rattle.tree_ops.specs.ReadyCall.{IsReady}
+use Rattle.tree_ops.specs.Refused.{refusal_of, rows_of, links_seen}
+use Rattle.tree_ops.specs.After.{after, after_write, answer_of}
+use Rattle.tree_ops.proofs.Rows.{make-known, write-known, read-known, truncate-known, chmod-known, link-known, unlink-known, rmdir-known, rename-known, find-known, list-known}
+use Rattle.tree_ops.proofs.carrying.perform.Goals as goal
+use Rattle.tree_ops.proofs.carrying.perform.Goals.{then-not-is_empty+in_ok-write-in-Write, else-not-is_empty}
+
+-- no row of the call's kind holds for what the table shows
+known : (t : Tree) (ready view : Checked) (shape : FileCall) (r : IsReady t ready) → ((w : World) → Stands t w → (p : List (List ℕ)) → look w p ≡ look_in t p) → HasWorld t → view ≡ ready → view.call ≡ shape → first_row (rows_of (look_in t) r.limits ready.counts shape) ≡ None
+unfolding refusal_of
+known t ready view shape r looks has view_is is =
+    ap (λ x. first_row (rows_of (look_in t) r.limits ready.counts x)) (sym is ∙ ap (λ (x : Checked). x.call) view_is)
+    ∙ ap (λ l. refusal_of l r.limits ready.counts ready.call) (λ i p. sym (looks has.0 has.1 p) i)
+    ∙ r.accepted has.0 has.1
+
+small : (o n most : ℕ) → (nat_lt 0 n && nat_lt most (o + n)) ≡ false → n ≢ 0 → most ≤ 16777216 → o + n < 2 ^ 64
+small o n most e off bound =
+    elim (nat_lt 0 n) as (λ b. nat_lt 0 n ≡ b → (b && nat_lt most (o + n)) ≡ false → o + n < 2 ^ 64) [
+      | true ↦ λ _ f. let within : o + n ≤ most = ltb-false most (o + n) f in omega arith
+      | false ↦ λ f _. absurd (let none : n ≤ 0 = ltb-false 0 n f in omega arith)
+    ] refl e
+
+few : (o : Option Seen) (most : ℕ) → nat_lt (links_seen o) most ≡ true → most ≤ 65000 → IfSome o (λ s. s.links + 1 < 2 ^ 64)
+few None most e bound = tt
+few (Some s) most e bound = let below : s.links < most = ltb-true s.links most e in omega arith
+
+-- the world after the call, and its answer, are those of the call of this shape
+after-at : (new : Tree) (w : World) (ready view : Checked) (shape : FileCall) → view ≡ ready → view.call ≡ shape → Stands new (after w view.counts shape) → Stands new (after w ready.counts ready.call)
+after-at new w ready view shape view_is is stands =
+    subst (λ (r : Checked). Stands new (after w r.counts r.call)) view_is (subst (λ x. Stands new (after w view.counts x)) (sym is) stands)
+
+answer-at : (a : Answer) (w : World) (ready view : Checked) (shape : FileCall) → view ≡ ready → view.call ≡ shape → a ≡ answer_of w view.counts shape → a ≡ answer_of w ready.counts ready.call
+answer-at a w ready view shape view_is is e =
+    e ∙ ap (answer_of w view.counts) (sym is) ∙ ap (λ (r : Checked). answer_of w r.counts r.call) view_is
+
+wrote : (t : Tree) (w : World) (p : List (List ℕ)) (offset : ℕ) (x y : List ℕ) → x ≡ y → (length x == 0) ≡ false → Stands t (changed_at w p (λ f. record f { bytes = written offset x f.bytes })) → Stands t (after_write w p offset y)
+wrote t w p offset [] y e some h = absurd (let none : (length {A = ℕ} [] == 0) ≡ true = refl in cc)
+wrote t w p offset (b ∷ x) y e some h = subst (λ z. Stands t (after_write w p offset z)) e h
+
+wrote-none : (t : Tree) (w : World) (p : List (List ℕ)) (offset : ℕ) (x y : List ℕ) → x ≡ y → (length x == 0) ≡ true → Stands t w → Stands t (after_write w p offset y)
+wrote-none t w p offset [] y e none h = subst (λ z. Stands t (after_write w p offset z)) e h
+wrote-none t w p offset (b ∷ x) y e none h = absurd (let empty : length (b ∷ x) ≡ 0 = eqb-true (length (b ∷ x)) 0 none in omega arith)
+
+pub make-requires-clause-directory : goal.make-requires-clause-directory
+make-requires-clause-directory c = (make-known (look_in c.args.table.now) c.requires.ready.limits c.args.ready.counts c.in-Create.path c.in-Create.mode (known c.args.table.now c.args.ready _ _ c.requires.ready c.law.ensures.looks c.law.ensures.world c.ready.view_is c.in-Create.is)).directory
+
+pub make-requires-clause-free : goal.make-requires-clause-free
+make-requires-clause-free c = (make-known (look_in c.args.table.now) c.requires.ready.limits c.args.ready.counts c.in-Create.path c.in-Create.mode (known c.args.table.now c.args.ready _ _ c.requires.ready c.law.ensures.looks c.law.ensures.world c.ready.view_is c.in-Create.is)).free
+
+pub make-requires-clause-named : goal.make-requires-clause-named
+make-requires-clause-named c = (make-known (look_in c.args.table.now) c.requires.ready.limits c.args.ready.counts c.in-Create.path c.in-Create.mode (known c.args.table.now c.args.ready _ _ c.requires.ready c.law.ensures.looks c.law.ensures.world c.ready.view_is c.in-Create.is)).named
+
+pub make-requires-in-Mkdir-clause-directory : goal.make-requires-in-Mkdir-clause-directory
+make-requires-in-Mkdir-clause-directory c = (make-known (look_in c.args.table.now) c.requires.ready.limits c.args.ready.counts c.in-Mkdir.path c.in-Mkdir.mode (known c.args.table.now c.args.ready _ _ c.requires.ready c.law.ensures.looks c.law.ensures.world c.ready.view_is c.in-Mkdir.is)).directory
+
+pub make-requires-in-Mkdir-clause-free : goal.make-requires-in-Mkdir-clause-free
+make-requires-in-Mkdir-clause-free c = (make-known (look_in c.args.table.now) c.requires.ready.limits c.args.ready.counts c.in-Mkdir.path c.in-Mkdir.mode (known c.args.table.now c.args.ready _ _ c.requires.ready c.law.ensures.looks c.law.ensures.world c.ready.view_is c.in-Mkdir.is)).free
+
+pub make-requires-in-Mkdir-clause-named : goal.make-requires-in-Mkdir-clause-named
+make-requires-in-Mkdir-clause-named c = (make-known (look_in c.args.table.now) c.requires.ready.limits c.args.ready.counts c.in-Mkdir.path c.in-Mkdir.mode (known c.args.table.now c.args.ready _ _ c.requires.ready c.law.ensures.looks c.law.ensures.world c.ready.view_is c.in-Mkdir.is)).named
+
+pub write-requires-clause-there : goal.write-requires-clause-there
+write-requires-clause-there c = (write-known (look_in c.args.table.now) c.requires.ready.limits c.in-Write.path c.in-Write.offset (length c.in-Write.bytes) (known c.args.table.now c.args.ready _ _ c.requires.ready c.law.ensures.looks c.law.ensures.world c.ready.view_is c.in-Write.is)).0.there
+
+pub write-requires-clause-regular : goal.write-requires-clause-regular
+write-requires-clause-regular c = (write-known (look_in c.args.table.now) c.requires.ready.limits c.in-Write.path c.in-Write.offset (length c.in-Write.bytes) (known c.args.table.now c.args.ready _ _ c.requires.ready c.law.ensures.looks c.law.ensures.world c.ready.view_is c.in-Write.is)).0.regular
+
+pub write-requires-clause-range : goal.write-requires-clause-range
+write-requires-clause-range c =
+    small c.in-Write.offset (length c.as_slice-new.result.now) c.requires.ready.limits.file_bytes
+    (ap (λ (b : List ℕ). nat_lt 0 (length b) && nat_lt c.requires.ready.limits.file_bytes (c.in-Write.offset + length b)) c.as_slice-new.ensures ∙ (write-known (look_in c.args.table.now) c.requires.ready.limits c.in-Write.path c.in-Write.offset (length c.in-Write.bytes) (known c.args.table.now c.args.ready _ _ c.requires.ready c.law.ensures.looks c.law.ensures.world c.ready.view_is c.in-Write.is)).1)
+    (λ e. let h = c.if-not-is_empty.ensures in let f = eq-eqb (length c.as_slice-new.result.now) 0 e in cc) c.requires.ready.limits.file_bytes_in.1
+
+pub read-requires : goal.read-requires
+read-requires c = record { there = (read-known (look_in c.args.table.now) c.in-ReadFile.path (known c.args.table.now c.args.ready _ _ c.requires.ready c.law.ensures.looks c.law.ensures.world c.ready.view_is c.in-ReadFile.is)).there }
+
+pub truncate-requires-clause-there : goal.truncate-requires-clause-there
+truncate-requires-clause-there c = (truncate-known (look_in c.args.table.now) c.requires.ready.limits c.in-Truncate.path c.in-Truncate.len (known c.args.table.now c.args.ready _ _ c.requires.ready c.law.ensures.looks c.law.ensures.world c.ready.view_is c.in-Truncate.is)).there
+
+pub truncate-requires-clause-regular : goal.truncate-requires-clause-regular
+truncate-requires-clause-regular c = (truncate-known (look_in c.args.table.now) c.requires.ready.limits c.in-Truncate.path c.in-Truncate.len (known c.args.table.now c.args.ready _ _ c.requires.ready c.law.ensures.looks c.law.ensures.world c.ready.view_is c.in-Truncate.is)).regular
+
+pub chmod-requires : goal.chmod-requires
+chmod-requires c = record { there = chmod-known (look_in c.args.table.now) c.in-Chmod.path c.in-Chmod.mode (known c.args.table.now c.args.ready _ _ c.requires.ready c.law.ensures.looks c.law.ensures.world c.ready.view_is c.in-Chmod.is) }
+
+pub link-requires-clause-source : goal.link-requires-clause-source
+link-requires-clause-source c = (link-known (look_in c.args.table.now) c.requires.ready.limits c.in-Link.old c.in-Link.new (known c.args.table.now c.args.ready _ _ c.requires.ready c.law.ensures.looks c.law.ensures.world c.ready.view_is c.in-Link.is)).file.there
+
+pub link-requires-clause-regular : goal.link-requires-clause-regular
+link-requires-clause-regular c = (link-known (look_in c.args.table.now) c.requires.ready.limits c.in-Link.old c.in-Link.new (known c.args.table.now c.args.ready _ _ c.requires.ready c.law.ensures.looks c.law.ensures.world c.ready.view_is c.in-Link.is)).file.regular
+
+pub link-requires-clause-links : goal.link-requires-clause-links
+link-requires-clause-links c = few (look_in c.args.table.now c.in-Link.old) c.requires.ready.limits.links (link-known (look_in c.args.table.now) c.requires.ready.limits c.in-Link.old c.in-Link.new (known c.args.table.now c.args.ready _ _ c.requires.ready c.law.ensures.looks c.law.ensures.world c.ready.view_is c.in-Link.is)).links c.requires.ready.limits.links_in.1
+
+pub link-requires-clause-directory : goal.link-requires-clause-directory
+link-requires-clause-directory c = (link-known (look_in c.args.table.now) c.requires.ready.limits c.in-Link.old c.in-Link.new (known c.args.table.now c.args.ready _ _ c.requires.ready c.law.ensures.looks c.law.ensures.world c.ready.view_is c.in-Link.is)).directory
+
+pub link-requires-clause-free : goal.link-requires-clause-free
+link-requires-clause-free c = (link-known (look_in c.args.table.now) c.requires.ready.limits c.in-Link.old c.in-Link.new (known c.args.table.now c.args.ready _ _ c.requires.ready c.law.ensures.looks c.law.ensures.world c.ready.view_is c.in-Link.is)).free
+
+pub link-requires-clause-named : goal.link-requires-clause-named
+link-requires-clause-named c = (link-known (look_in c.args.table.now) c.requires.ready.limits c.in-Link.old c.in-Link.new (known c.args.table.now c.args.ready _ _ c.requires.ready c.law.ensures.looks c.law.ensures.world c.ready.view_is c.in-Link.is)).named
+
+pub unlink-requires-clause-there : goal.unlink-requires-clause-there
+unlink-requires-clause-there c = (unlink-known (look_in c.args.table.now) c.in-Unlink.path (known c.args.table.now c.args.ready _ _ c.requires.ready c.law.ensures.looks c.law.ensures.world c.ready.view_is c.in-Unlink.is)).there
+
+pub unlink-requires-clause-regular : goal.unlink-requires-clause-regular
+unlink-requires-clause-regular c = (unlink-known (look_in c.args.table.now) c.in-Unlink.path (known c.args.table.now c.args.ready _ _ c.requires.ready c.law.ensures.looks c.law.ensures.world c.ready.view_is c.in-Unlink.is)).regular
+
+pub rmdir-requires-clause-there : goal.rmdir-requires-clause-there
+rmdir-requires-clause-there c = (rmdir-known (look_in c.args.table.now) c.in-Rmdir.path (known c.args.table.now c.args.ready _ _ c.requires.ready c.law.ensures.looks c.law.ensures.world c.ready.view_is c.in-Rmdir.is)).there
+
+pub rmdir-requires-clause-empty : goal.rmdir-requires-clause-empty
+rmdir-requires-clause-empty c = (rmdir-known (look_in c.args.table.now) c.in-Rmdir.path (known c.args.table.now c.args.ready _ _ c.requires.ready c.law.ensures.looks c.law.ensures.world c.ready.view_is c.in-Rmdir.is)).empty
+
+pub rmdir-requires-clause-named : goal.rmdir-requires-clause-named
+rmdir-requires-clause-named c = (rmdir-known (look_in c.args.table.now) c.in-Rmdir.path (known c.args.table.now c.args.ready _ _ c.requires.ready c.law.ensures.looks c.law.ensures.world c.ready.view_is c.in-Rmdir.is)).named
+
+pub rename-requires-clause-source : goal.rename-requires-clause-source
+rename-requires-clause-source c = (rename-known (look_in c.args.table.now) c.requires.ready.limits c.args.ready.counts c.in-Rename.old c.in-Rename.new (known c.args.table.now c.args.ready _ _ c.requires.ready c.law.ensures.looks c.law.ensures.world c.ready.view_is c.in-Rename.is)).there
+
+pub rename-requires-clause-directory : goal.rename-requires-clause-directory
+rename-requires-clause-directory c = (rename-known (look_in c.args.table.now) c.requires.ready.limits c.args.ready.counts c.in-Rename.old c.in-Rename.new (known c.args.table.now c.args.ready _ _ c.requires.ready c.law.ensures.looks c.law.ensures.world c.ready.view_is c.in-Rename.is)).directory
+
+pub rename-requires-clause-named : goal.rename-requires-clause-named
+rename-requires-clause-named c = (rename-known (look_in c.args.table.now) c.requires.ready.limits c.args.ready.counts c.in-Rename.old c.in-Rename.new (known c.args.table.now c.args.ready _ _ c.requires.ready c.law.ensures.looks c.law.ensures.world c.ready.view_is c.in-Rename.is)).named
+
+pub rename-requires-clause-other_named : goal.rename-requires-clause-other_named
+rename-requires-clause-other_named c = (rename-known (look_in c.args.table.now) c.requires.ready.limits c.args.ready.counts c.in-Rename.old c.in-Rename.new (known c.args.table.now c.args.ready _ _ c.requires.ready c.law.ensures.looks c.law.ensures.world c.ready.view_is c.in-Rename.is)).other_named
+
+pub rename-requires-clause-below : goal.rename-requires-clause-below
+rename-requires-clause-below c = (rename-known (look_in c.args.table.now) c.requires.ready.limits c.args.ready.counts c.in-Rename.old c.in-Rename.new (known c.args.table.now c.args.ready _ _ c.requires.ready c.law.ensures.looks c.law.ensures.world c.ready.view_is c.in-Rename.is)).below
+
+pub rename-requires-clause-empty : goal.rename-requires-clause-empty
+rename-requires-clause-empty c = (rename-known (look_in c.args.table.now) c.requires.ready.limits c.args.ready.counts c.in-Rename.old c.in-Rename.new (known c.args.table.now c.args.ready _ _ c.requires.ready c.law.ensures.looks c.law.ensures.world c.ready.view_is c.in-Rename.is)).empty
+
+pub stat-requires : goal.stat-requires
+stat-requires c = record { there = find-known (look_in c.args.table.now) c.in-Stat.path (known c.args.table.now c.args.ready _ _ c.requires.ready c.law.ensures.looks c.law.ensures.world c.ready.view_is c.in-Stat.is) }
+
+pub returns-in_ok-make-in-Create-clause-world : goal.returns-in_ok-make-in-Create-clause-world
+returns-in_ok-make-in-Create-clause-world c w stands = after-at _ w _ _ _ c.ready.view_is c.in-Create.is (c.in_ok-make-in-Create.ensures.world w stands)
+
+pub returns-in_ok-make-in-Mkdir-clause-world : goal.returns-in_ok-make-in-Mkdir-clause-world
+returns-in_ok-make-in-Mkdir-clause-world c w stands = after-at _ w _ _ _ c.ready.view_is c.in-Mkdir.is (c.in_ok-make-in-Mkdir.ensures.world w stands)
+
+pub returns-in_ok-truncate-in-Truncate-clause-world : goal.returns-in_ok-truncate-in-Truncate-clause-world
+returns-in_ok-truncate-in-Truncate-clause-world c w stands = after-at _ w _ _ _ c.ready.view_is c.in-Truncate.is (c.in_ok-truncate-in-Truncate.ensures.world w stands)
+
+pub returns-in-Chmod-clause-world : goal.returns-in-Chmod-clause-world
+returns-in-Chmod-clause-world c w stands = after-at _ w _ _ _ c.ready.view_is c.in-Chmod.is (c.chmod.ensures w stands)
+
+pub returns-in_ok-link-in-Link-clause-world : goal.returns-in_ok-link-in-Link-clause-world
+returns-in_ok-link-in-Link-clause-world c w stands = after-at _ w _ _ _ c.ready.view_is c.in-Link.is (c.in_ok-link-in-Link.ensures.world w stands)
+
+pub returns-in-Unlink-clause-world : goal.returns-in-Unlink-clause-world
+returns-in-Unlink-clause-world c w stands = after-at _ w _ _ _ c.ready.view_is c.in-Unlink.is (c.unlink.ensures w stands)
+
+pub returns-in-Rmdir-clause-world : goal.returns-in-Rmdir-clause-world
+returns-in-Rmdir-clause-world c w stands = after-at _ w _ _ _ c.ready.view_is c.in-Rmdir.is (c.rmdir.ensures w stands)
+
+pub returns-in_ok-rename-in-Rename-clause-world : goal.returns-in_ok-rename-in-Rename-clause-world
+returns-in_ok-rename-in-Rename-clause-world c w stands = after-at _ w _ _ _ c.ready.view_is c.in-Rename.is (c.in_ok-rename-in-Rename.ensures.world w stands)
+
+pub returns-after-not-is_empty-clause-world : goal.returns-after-not-is_empty-clause-world
+returns-after-not-is_empty-clause-world c w stands =
+    after-at _ w _ _ _ c.ready.view_is c.in-Write.is (elim c.if-not-is_empty.branch [
+      | then-not-is_empty+in_ok-write-in-Write v ↦
+          subst (λ t. Stands t (after_write w c.in-Write.path c.in-Write.offset c.in-Write.bytes)) (sym v.table-is)
+          (wrote _ w c.in-Write.path c.in-Write.offset c.as_slice-new.result.now c.in-Write.bytes c.as_slice-new.ensures (sym c.is_empty.ensures ∙ v.if-not-is_empty.true) (v.in_ok-write-in-Write.ensures.world w stands))
+      | else-not-is_empty v ↦
+          subst (λ t. Stands t (after_write w c.in-Write.path c.in-Write.offset c.in-Write.bytes)) (sym v.table-is)
+          (wrote-none _ w c.in-Write.path c.in-Write.offset c.as_slice-new.result.now c.in-Write.bytes c.as_slice-new.ensures (sym c.is_empty.ensures ∙ v.if-not-is_empty.false) stands)
+    ])
+
+pub returns-in_ok-bytes-in-ReadFile-clause-answer : goal.returns-in_ok-bytes-in-ReadFile-clause-answer
+returns-in_ok-bytes-in-ReadFile-clause-answer c w stands = answer-at _ w _ _ _ c.ready.view_is c.in-ReadFile.is (ap Bytes (c.in_ok-bytes-in-ReadFile.ensures w stands))
+
+pub list-requires-clause-there : goal.list-requires-clause-there
+list-requires-clause-there c = (list-known (look_in c.args.table.now) c.in-List.path (known c.args.table.now c.args.ready _ _ c.requires.ready c.law.ensures.looks c.law.ensures.world c.ready.view_is c.in-List.is)).there
+
+pub list-requires-clause-directory : goal.list-requires-clause-directory
+list-requires-clause-directory c = (list-known (look_in c.args.table.now) c.in-List.path (known c.args.table.now c.args.ready _ _ c.requires.ready c.law.ensures.looks c.law.ensures.world c.ready.view_is c.in-List.is)).directory
+
+pub returns-in_ok-list-in-List-clause-answer : goal.returns-in_ok-list-in-List-clause-answer
+returns-in_ok-list-in-List-clause-answer c w stands = answer-at _ w _ _ _ c.ready.view_is c.in-List.is (ap Names (c.in_ok-list-in-List.ensures w stands))

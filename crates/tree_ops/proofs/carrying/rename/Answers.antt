@@ -1,0 +1,58 @@
+use Rattle.std.proofs.Common.{◌≡◌, ◌≢◌, ◌==◌, ℕ, List, [], true, false, ◌&&◌, Option, Some, None, IsSome, IfSome, refl, sym, ap, subst, ◌∙◌}
+use borrow.Author.Tests.{eq-eqb}
+use Rattle.std.specs.FinMap as finmap
+use Rattle.inode_table.specs.declared.seen.Seen.{Seen}
+use Rattle.inode_table.specs.Paths.{is_below}
+use Rattle.inode_table.specs.Refusals.{Look, is_directory_seen, parent_of}
+use Rattle.inode_table.specs.World.{World, with_move, without_lost}
+use Rattle.inode_table.specs.Stands.{Stands, look_in, number_of}
+use Rattle.tree_ops.specs.Refused.{are_same_seen, has_names_seen}
+use Rattle.tree_ops.specs.After.{after_rename}
+use Rattle.tree_ops.proofs.Changed.{renamed-nothing, renamed-moved}
+use Rattle.tree_ops.proofs.carrying.rename.Goals as goal
+
+-- files that differ stand at paths that differ
+apart : (at : Look) (old new : List (List ℕ)) → IsSome (at old) → are_same_seen (at old) (at new) ≡ false → old ≢ new
+apart at old new there off same = by (at old) there (ap (λ p. are_same_seen (at old) (at p)) same ∙ off)
+  where
+    by : (o : Option Seen) → IsSome o → are_same_seen o o ≡ false → ⊥
+    by None there e = absurd (cc)
+    by (Some s) there e = let itself : (s.number == s.number) ≡ true = eq-eqb s.number s.number refl in let clash : true ≡ false = sym itself ∙ e in cc
+
+nameless : (o : Option Seen) → has_names_seen o ≡ false → IfSome o (λ s. s.has_names ≡ false)
+nameless None e = tt
+nameless (Some s) e = e
+
+pub replace_name-requires-clause-source : goal.replace_name-requires-clause-source
+replace_name-requires-clause-source c = subst (λ p. IsSome (look_in c.args.table.now p)) (sym c.names.ensures) c.requires.source
+
+pub replace_name-requires-clause-named : goal.replace_name-requires-clause-named
+replace_name-requires-clause-named c = subst (λ p. p ≢ []) (sym c.names.ensures) c.requires.named
+
+pub replace_name-requires-clause-other_named : goal.replace_name-requires-clause-other_named
+replace_name-requires-clause-other_named c = subst (λ p. p ≢ []) (sym c.names-2.ensures) c.requires.other_named
+
+pub replace_name-requires-clause-other : goal.replace_name-requires-clause-other
+replace_name-requires-clause-other c e = apart (look_in c.args.table.now) c.args.old.now c.args.new.now c.requires.source ((λ i. are_same_seen (sym c.seen.ensures i) (sym c.seen-2.ensures i)) ∙ sym c.are_same-is_same.ensures ∙ c.if-is_same.false) (sym c.names.ensures ∙ e ∙ c.names-2.ensures)
+
+pub replace_name-requires-clause-below : goal.replace_name-requires-clause-below
+replace_name-requires-clause-below c = (λ i. is_directory_seen (look_in c.args.table.now (c.names.ensures i)) && is_below (c.names.ensures i) (c.names-2.ensures i)) ∙ c.requires.below
+
+pub replace_name-requires-clause-directory : goal.replace_name-requires-clause-directory
+replace_name-requires-clause-directory c = ap (λ p. is_directory_seen (look_in c.args.table.now (parent_of p))) c.names-2.ensures ∙ c.requires.directory
+
+pub replace_name-requires-clause-empty : goal.replace_name-requires-clause-empty
+replace_name-requires-clause-empty c = subst (λ p. IfSome (look_in c.args.table.now p) (λ s. s.has_names ≡ false)) (sym c.names-2.ensures) (nameless (look_in c.args.table.now c.args.new.now) (c.requires.empty ((λ i. are_same_seen (sym c.seen.ensures i) (sym c.seen-2.ensures i)) ∙ sym c.are_same-is_same.ensures ∙ c.if-is_same.false)))
+
+pub returns-then-is_same-clause-world : goal.returns-then-is_same-clause-world
+returns-then-is_same-clause-world c w stands =
+    let same : are_same_seen (look_in c.args.table.now c.args.old.now) (look_in c.args.table.now c.args.new.now) ≡ true = (λ i. are_same_seen (sym c.seen.ensures i) (sym c.seen-2.ensures i)) ∙ sym c.are_same-is_same.ensures ∙ c.if-is_same.true in
+    subst (Stands c.args.table.now) (sym (renamed-nothing stands c.args.old.now c.args.new.now same)) stands
+
+pub returns-clause-world : goal.returns-clause-world
+returns-clause-world c w stands =
+    let other : are_same_seen (look_in c.args.table.now c.args.old.now) (look_in c.args.table.now c.args.new.now) ≡ false = (λ i. are_same_seen (sym c.seen.ensures i) (sym c.seen-2.ensures i)) ∙ sym c.are_same-is_same.ensures ∙ c.if-is_same.false in
+    let moved = with_move w c.names.result.now c.names-2.result.now in
+    let done : Stands c.drop_any_if_lost.new.table (without_lost moved (finmap.get w.paths c.names-2.result.now)) =
+    subst (λ n. Stands c.drop_any_if_lost.new.table (without_lost moved n)) (sym (c.in_ok-replaced.ensures.number w stands)) (c.drop_any_if_lost.ensures moved (c.in_ok-replaced.ensures.world w stands)) in
+    subst (Stands c.drop_any_if_lost.new.table) ((λ i. without_lost (with_move w (c.names.ensures i) (c.names-2.ensures i)) (finmap.get w.paths (c.names-2.ensures i))) ∙ sym (renamed-moved stands c.args.old.now c.args.new.now other)) done

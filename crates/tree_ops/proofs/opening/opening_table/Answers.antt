@@ -1,0 +1,6 @@
+use Rattle.std.proofs.lemmas.Result.{if_ok_weaker}
+use Rattle.tree_ops.proofs.Numbers.{numbers-opening}
+use Rattle.tree_ops.proofs.opening.opening_table.Goals as goal
+
+pub returns-clause-numbers : goal.returns-clause-numbers
+returns-clause-numbers c = if_ok_weaker c.new.result (λ t stands. numbers-opening t stands) c.new.ensures.world

@@ -1,0 +1,4 @@
+pub mod Refused
+pub mod Checked
+pub mod ReadyCall
+pub mod After

@@ -1,0 +1,151 @@
+-- Why a call on files is refused: the first row that holds. POSIX.1-2017 says when each error comes (`open`, `mkdir`, `write`,
+-- `read`, `truncate`, `chmod`, `link`, `unlink`, `rmdir`, `rename`, `stat`, `opendir`) and leaves open which comes first; here
+-- it is the order of the rows.
+use Rattle.std.specs.Prelude.{◌≡◌, ℕ, ◌+◌, Bool, true, false, not, ◌&&◌, ◌||◌, ◌==◌, List, [], ◌∷◌, ◌++◌, Option, Some, None, is_some, length, nat_lt, if◌then◌else◌}
+use Rattle.tree_paths.specs.declared.refusal.Refusal.{Refusal}
+use Rattle.tree_paths.specs.declared.refusal.Refusal.TheVariants.{Eperm, Ebusy, Eexist, Enotdir, Eisdir, Einval, Efbig, Emlink, Enotempty, CookiesSpent, NumbersSpent}
+use Rattle.tree_paths.specs.declared.limits.Limits.{Limits}
+use Rattle.inode_table.specs.declared.seen.Seen.{Seen}
+use Rattle.inode_table.specs.Paths.{is_below}
+use Rattle.inode_table.specs.World.{World, look}
+use Rattle.tree_paths.specs.Rows.{row, first_row}
+use Rattle.inode_table.specs.Refusals.{Look, is_directory_seen, find, parent}
+use Rattle.tree_ops.specs.declared.call.TheConstants.{MAX_MODE}
+use Rattle.tree_ops.specs.declared.call.FileCall.{FileCall}
+use Rattle.tree_ops.specs.declared.call.FileCall.TheVariants.{Create, Write, ReadFile, Truncate, Chmod, Mkdir, Link, Unlink, Rmdir, Rename, Stat, List as Listed}
+use Rattle.tree_ops.specs.declared.call.Counts.{Counts}
+
+-- ---- of what stands at a path, if anything does
+
+abbrev pub has_names_seen : Option Seen → Bool
+has_names_seen None = false
+has_names_seen (Some s) = s.has_names
+
+abbrev pub links_seen : Option Seen → ℕ
+links_seen None = 0
+links_seen (Some s) = s.links
+
+-- the same file stands at both paths
+abbrev pub are_same_seen : Option Seen → Option Seen → Bool
+are_same_seen None t = false
+are_same_seen (Some s) None = false
+are_same_seen (Some s) (Some t) = s.number == t.number
+
+-- ---- the rows of each call
+
+-- a mode that has other bits
+abbrev pub mode_row : ℕ → Option Refusal
+mode_row mode = row (nat_lt MAX_MODE mode) Einval
+
+-- all numbers are given
+abbrev pub numbers_row : Limits → Counts → Option Refusal
+numbers_row limits counts = row (nat_lt limits.numbers counts.next_number) NumbersSpent
+
+-- all cookies are given
+abbrev pub cookies_row : Limits → Counts → Option Refusal
+cookies_row limits counts = row ((counts.next_cookie == 0) || nat_lt limits.cookies counts.next_cookie) CookiesSpent
+
+unfoldable pub make_rows : Look → Limits → Counts → List (List ℕ) → ℕ → List (Option Refusal)
+make_rows at limits counts p mode =
+    mode_row mode
+    ∷ row (length p == 0) Eexist
+    ∷ parent at p
+    ∷ row (is_some (at p)) Eexist
+    ∷ numbers_row limits counts
+    ∷ []
+
+unfoldable pub write_rows : Look → Limits → List (List ℕ) → ℕ → ℕ → List (Option Refusal)
+write_rows at limits p offset count =
+    find at p
+    ∷ row (is_directory_seen (at p)) Eisdir
+    ∷ row (nat_lt 0 count && nat_lt limits.file_bytes (offset + count)) Efbig
+    ∷ []
+
+unfoldable pub read_rows : Look → List (List ℕ) → List (Option Refusal)
+read_rows at p = find at p ∷ row (is_directory_seen (at p)) Eisdir ∷ []
+
+unfoldable pub truncate_rows : Look → Limits → List (List ℕ) → ℕ → List (Option Refusal)
+truncate_rows at limits p len =
+    find at p ∷ row (is_directory_seen (at p)) Eisdir ∷ row (nat_lt limits.file_bytes len) Efbig ∷ []
+
+unfoldable pub chmod_rows : Look → List (List ℕ) → ℕ → List (Option Refusal)
+chmod_rows at p mode = mode_row mode ∷ find at p ∷ []
+
+unfoldable pub link_rows : Look → Limits → List (List ℕ) → List (List ℕ) → List (Option Refusal)
+link_rows at limits old new =
+    find at old
+    ∷ row (is_directory_seen (at old)) Eperm
+    ∷ row (length new == 0) Eexist
+    ∷ parent at new
+    ∷ row (is_some (at new)) Eexist
+    ∷ row (not (nat_lt (links_seen (at old)) limits.links)) Emlink
+    ∷ []
+
+unfoldable pub unlink_rows : Look → List (List ℕ) → List (Option Refusal)
+unlink_rows at p = find at p ∷ row (is_directory_seen (at p)) Eperm ∷ []
+
+unfoldable pub rmdir_rows : Look → List (List ℕ) → List (Option Refusal)
+rmdir_rows at p =
+    row (length p == 0) Ebusy
+    ∷ find at p
+    ∷ row (not (is_directory_seen (at p))) Enotdir
+    ∷ row (has_names_seen (at p)) Enotempty
+    ∷ []
+
+-- what stands at the new path may be replaced by what stands at the old one
+unfoldable pub move_rows : Limits → Counts → Option Seen → Option Seen → List (Option Refusal)
+move_rows limits counts old new =
+    row (is_some new && is_directory_seen old && not (is_directory_seen new)) Enotdir
+    ∷ row (is_directory_seen new && not (is_directory_seen old)) Eisdir
+    ∷ row (has_names_seen new) Enotempty
+    ∷ cookies_row limits counts
+    ∷ []
+
+-- a rename between two paths of one file is accepted before these last rows
+unfoldable pub rename_rows : Look → Limits → Counts → List (List ℕ) → List (List ℕ) → List (Option Refusal)
+rename_rows at limits counts old new =
+    row ((length old == 0) || (length new == 0)) Ebusy
+    ∷ find at old
+    ∷ row (is_directory_seen (at old) && is_below old new) Einval
+    ∷ parent at new
+    ∷ (if are_same_seen (at old) (at new) then [] else move_rows limits counts (at old) (at new))
+
+unfoldable pub find_rows : Look → List (List ℕ) → List (Option Refusal)
+find_rows at p = find at p ∷ []
+
+unfoldable pub list_rows : Look → List (List ℕ) → List (Option Refusal)
+list_rows at p = find at p ∷ row (not (is_directory_seen (at p))) Enotdir ∷ []
+
+-- the rows of a call, in order
+abbrev pub rows_of : Look → Limits → Counts → FileCall → List (Option Refusal)
+rows_of at limits counts (Create p mode) = make_rows at limits counts p mode
+rows_of at limits counts (Mkdir p mode) = make_rows at limits counts p mode
+rows_of at limits counts (Write p offset bytes) = write_rows at limits p offset (length bytes)
+rows_of at limits counts (ReadFile p offset count) = read_rows at p
+rows_of at limits counts (Truncate p len) = truncate_rows at limits p len
+rows_of at limits counts (Chmod p mode) = chmod_rows at p mode
+rows_of at limits counts (Link old new) = link_rows at limits old new
+rows_of at limits counts (Unlink p) = unlink_rows at p
+rows_of at limits counts (Rmdir p) = rmdir_rows at p
+rows_of at limits counts (Rename old new) = rename_rows at limits counts old new
+rows_of at limits counts (Stat p) = find_rows at p
+rows_of at limits counts (Listed p) = list_rows at p
+
+-- the first row that holds for what is seen
+unfoldable pub refusal_of : Look → Limits → Counts → FileCall → Option Refusal
+refusal_of at limits counts call = first_row (rows_of at limits counts call)
+
+-- a rename that moves something uses one cookie, and no other call uses any
+abbrev pub cookies_seen : Look → FileCall → ℕ
+cookies_seen at (Rename old new) = if are_same_seen (at old) (at new) then 0 else 1
+cookies_seen at _ = 0
+
+-- ---- in a world
+
+-- why a call is refused, if it is
+abbrev pub refused : World → Limits → Counts → FileCall → Option Refusal
+refused w limits counts call = refusal_of (look w) limits counts call
+
+-- how many cookies an accepted call uses
+abbrev pub cookies_of : World → FileCall → ℕ
+cookies_of w call = cookies_seen (look w) call

@@ -1,0 +1,150 @@
+//! Calls on files.
+
+ghost use Rattle.std.specs.Prelude.{◌≡◌, ◌↔◌, IfOk, IfErr, IsTrue};
+
+use record_codec::Bytes;
+use tree_paths::{Path, Refusal};
+
+/// The greatest mode: the nine permission bits, and the bits for set-user-ID, set-group-ID and the sticky bit
+/// (POSIX.1-2017 `<sys/stat.h>`).
+pub const MAX_MODE: u32 = 0o7777;
+
+/// A call on files. Each one opens, acts and closes by itself.
+#[derive(Debug, Drop, PartialEq, Eq)]
+pub enum FileCall {
+    /// Makes a regular file without contents. Answers [`Answer::Number`](crate::Answer::Number).
+    Create {
+        path: Path,
+        mode: u32,
+    },
+    /// Makes a directory (POSIX.1-2017 `mkdir`). Answers [`Answer::Number`](crate::Answer::Number).
+    Mkdir {
+        path: Path,
+        mode: u32,
+    },
+    /// Writes the bytes from `offset` bytes on (POSIX.1-2017 `pwrite`), all of them or none, and fills a gap before them with
+    /// zero bytes. A write of no bytes changes nothing, whatever its offset. Answers [`Answer::Count`](crate::Answer::Count).
+    Write {
+        path: Path,
+        offset: u64,
+        bytes: Bytes,
+    },
+    /// Reads at most `count` bytes from `offset` bytes on (POSIX.1-2017 `pread`), none past the end. Answers [`Answer::Bytes`](crate::Answer::Bytes).
+    ReadFile {
+        path: Path,
+        offset: u64,
+        count: u32,
+    },
+    /// Cuts a file to `len` bytes, or fills it up with zero bytes (POSIX.1-2017 `truncate`).
+    Truncate {
+        path: Path,
+        len: u64,
+    },
+    /// Gives a file or a directory another mode (POSIX.1-2017 `chmod`).
+    Chmod {
+        path: Path,
+        mode: u32,
+    },
+    /// Gives a regular file one more path (POSIX.1-2017 `link`).
+    Link {
+        old: Path,
+        new: Path,
+    },
+    /// Takes a path from a regular file, which is gone with its last one (POSIX.1-2017 `unlink`).
+    Unlink {
+        path: Path,
+    },
+    /// Takes away an empty directory (POSIX.1-2017 `rmdir`).
+    Rmdir {
+        path: Path,
+    },
+    /// Moves a file, or a directory with all that is below it, in the place of what stands at the new path
+    /// (POSIX.1-2017 `rename`). Where both paths are of the same file, nothing happens.
+    Rename {
+        old: Path,
+        new: Path,
+    },
+    /// Tells what stands at a path (POSIX.1-2017 `stat`). Answers [`Answer::Stat`](crate::Answer::Stat).
+    Stat {
+        path: Path,
+    },
+    /// Tells the names in a directory, in the order of their bytes (POSIX.1-2017 `readdir`). Answers [`Answer::Names`](crate::Answer::Names).
+    List {
+        path: Path,
+    },
+}
+
+impl FileCall {
+    ghost use Rattle.tree_paths.specs.declared.refusal.Refusal.TheVariants.{Enomem};
+
+    /// The same call once more. `Err` is want of memory.
+    pub fn copy(&self) -> Result<FileCall, Refusal>
+        ensures ok { IfOk result (λ call. call ≡ self.now) }
+        ensures err { IfErr result (λ refusal. refusal ≡ Enomem) }
+    {
+        Ok(match self {
+            FileCall::Create { path, mode } => FileCall::Create {
+                path: path.copy()?,
+                mode: *mode,
+            },
+            FileCall::Mkdir { path, mode } => FileCall::Mkdir {
+                path: path.copy()?,
+                mode: *mode,
+            },
+            FileCall::Write {
+                path,
+                offset,
+                bytes,
+            } => FileCall::Write {
+                path: path.copy()?,
+                offset: *offset,
+                bytes: bytes.copy()?,
+            },
+            FileCall::ReadFile {
+                path,
+                offset,
+                count,
+            } => FileCall::ReadFile {
+                path: path.copy()?,
+                offset: *offset,
+                count: *count,
+            },
+            FileCall::Truncate { path, len } => FileCall::Truncate {
+                path: path.copy()?,
+                len: *len,
+            },
+            FileCall::Chmod { path, mode } => FileCall::Chmod {
+                path: path.copy()?,
+                mode: *mode,
+            },
+            FileCall::Link { old, new } => FileCall::Link {
+                old: old.copy()?,
+                new: new.copy()?,
+            },
+            FileCall::Unlink { path } => FileCall::Unlink { path: path.copy()? },
+            FileCall::Rmdir { path } => FileCall::Rmdir { path: path.copy()? },
+            FileCall::Rename { old, new } => FileCall::Rename {
+                old: old.copy()?,
+                new: new.copy()?,
+            },
+            FileCall::Stat { path } => FileCall::Stat { path: path.copy()? },
+            FileCall::List { path } => FileCall::List { path: path.copy()? },
+        })
+    }
+
+    /// Whether the other call is the same one.
+    pub fn is_same(&self, other: &FileCall) -> bool
+        ensures { IsTrue result ↔ (self.now ≡ other.now) }
+    {
+        self == other
+    }
+}
+
+/// What the next new file and the next rename get.
+#[derive(Clone, Copy, Debug, PartialEq, Eq)]
+pub struct Counts {
+    /// The number of the next file or directory that is made.
+    pub next_number: u32,
+    /// The cookie of the next rename that moves something. It is 0 where all 2^32 - 1 of them are spent.
+    pub next_cookie: u32,
+}

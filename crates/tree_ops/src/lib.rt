@@ -1,0 +1,19 @@
+//! The calls on files: which are refused, what the others do to the table, and what they answer.
+//!
+//! [`check`] finds the first row that refuses a call and takes no memory. What it lets through is a [`Ready`], which [`carry_out`]
+//! does to the table. Contracts see the table as the world of files that it stands for.
+#![tactic(auto)]
+
+mod answer;
+mod call;
+mod carrying;
+mod checking;
+mod opening;
+#[cfg(test)]
+mod tests;
+
+pub use answer::Answer;
+pub use call::{Counts, FileCall, MAX_MODE};
+pub use carrying::carry_out;
+pub use checking::{Ready, check};
+pub use opening::opening_table;
