@@ -6,6 +6,7 @@ use Rattle.inode_table.specs.Rows.{Row, What, row, shown, bytes_in}
 use Rattle.inode_table.specs.Tree.{Tree, what_at}
 use Rattle.inode_table.specs.Refusals.{is_directory_seen, is_directory_kind}
 use Rattle.inode_table.specs.Stands.{kind_of, seen_at, seen_row}
+use Rattle.std.specs.Map.Iter.{deref}
 use Rattle.std.proofs.lemmas.Map.Iter.{iter_end}
 use Rattle.tree_ops.proofs.NamesIn.{names-are}
 use Rattle.tree_ops.proofs.carrying.list.Goals as goal
@@ -27,5 +28,6 @@ child_names-name-items-requires-clause-directory c = directory-node c.args.table
 
 pub returns : goal.returns
 returns c w stands =
-    let all : c.loop-name.names.items ≡ c.child_names-name-items.result = search (rules, iter_end) in
+    let yielded = iter_end deref _ c.loop-name.yielded _ _ _ _ c.into_iter-name-iterator.ensures.into_iter_gives c.loop-name.yielded_by c.in-None.is c.next.ensures.steps in
+    let all : c.loop-name.names.items ≡ c.child_names-name-items.result = c.loop-name.invariant ∙ yielded.0 in
     c.from_vec.ensures ∙ all ∙ sym (names-are w c.args.path.now c.child_names-name-items.result (c.child_names-name-items.ensures.world w stands c.args.path.now c.key_at.ensures.found))
