@@ -33,7 +33,7 @@ impl Calls {
     fn new(alloc: Global, limits: Limits) -> Result<Calls, Refusal> {
         Ok(Calls {
             alloc,
-            table: Table::new(alloc)?,
+            table: opening_table(alloc)?,
             counts: Counts {
                 next_number: 2,
                 next_cookie: 1,
