@@ -15,6 +15,9 @@ use Rattle.tree_ops.specs.declared.call.FileCall.{FileCall}
 use Rattle.tree_ops.specs.declared.call.FileCall.TheVariants.{Create, Write, ReadFile, Truncate, Chmod, Mkdir, Link, Unlink, Rmdir, Rename, Stat, List as Listed}
 use Rattle.tree_ops.specs.declared.call.Counts.{Counts}
 
+abbrev pub is_root : List (List ℕ) → Bool
+is_root p = length p == 0
+
 -- ---- of what stands at a path, if anything does
 
 abbrev pub has_names_seen : Option Seen → Bool
@@ -33,22 +36,22 @@ are_same_seen (Some s) (Some t) = s.number == t.number
 
 -- ---- the rows of each call
 
--- a mode that has other bits
+-- the mode has bits beyond those that modes have
 abbrev pub mode_row : ℕ → Option Refusal
 mode_row mode = row (nat_lt MAX_MODE mode) Einval
 
--- all numbers are given
+-- all numbers have been given
 abbrev pub numbers_row : Limits → Counts → Option Refusal
 numbers_row limits counts = row (nat_lt limits.numbers counts.next_number) NumbersSpent
 
--- all cookies are given
+-- all cookies have been given: 0 stands for the number after the greatest one
 abbrev pub cookies_row : Limits → Counts → Option Refusal
 cookies_row limits counts = row ((counts.next_cookie == 0) || nat_lt limits.cookies counts.next_cookie) CookiesSpent
 
 unfoldable pub make_rows : Look → Limits → Counts → List (List ℕ) → ℕ → List (Option Refusal)
 make_rows at limits counts p mode =
     mode_row mode
-    ∷ row (length p == 0) Eexist
+    ∷ row (is_root p) Eexist
     ∷ parent at p
     ∷ row (is_some (at p)) Eexist
     ∷ numbers_row limits counts
@@ -75,7 +78,7 @@ unfoldable pub link_rows : Look → Limits → List (List ℕ) → List (List �
 link_rows at limits old new =
     find at old
     ∷ row (is_directory_seen (at old)) Eperm
-    ∷ row (length new == 0) Eexist
+    ∷ row (is_root new) Eexist
     ∷ parent at new
     ∷ row (is_some (at new)) Eexist
     ∷ row (not (nat_lt (links_seen (at old)) limits.links)) Emlink
@@ -86,7 +89,7 @@ unlink_rows at p = find at p ∷ row (is_directory_seen (at p)) Eperm ∷ []
 
 unfoldable pub rmdir_rows : Look → List (List ℕ) → List (Option Refusal)
 rmdir_rows at p =
-    row (length p == 0) Ebusy
+    row (is_root p) Ebusy
     ∷ find at p
     ∷ row (not (is_directory_seen (at p))) Enotdir
     ∷ row (has_names_seen (at p)) Enotempty
@@ -104,7 +107,7 @@ move_rows limits counts old new =
 -- a rename between two paths of one file is accepted before these last rows
 unfoldable pub rename_rows : Look → Limits → Counts → List (List ℕ) → List (List ℕ) → List (Option Refusal)
 rename_rows at limits counts old new =
-    row ((length old == 0) || (length new == 0)) Ebusy
+    row (is_root old || is_root new) Ebusy
     ∷ find at old
     ∷ row (is_directory_seen (at old) && is_below old new) Einval
     ∷ parent at new
