@@ -15,7 +15,7 @@ use Rattle.tree_ops.specs.declared.call.FileCall.{FileCall}
 use Rattle.tree_ops.specs.declared.call.FileCall.TheVariants.{Create, Write, ReadFile, Truncate, Chmod, Mkdir, Link, Unlink, Rmdir, Rename, Stat as Status, List as Listed}
 use Rattle.tree_ops.specs.declared.call.Counts.{Counts}
 use Rattle.tree_ops.specs.ReadyCall.{HasNumbersBelow}
-use Rattle.tree_ops.specs.After.{after, after_write, after_unlink, after_rename, are_same, numbers_of}
+use Rattle.tree_ops.specs.After.{after, after_unlink, after_rename, are_same, numbers_of}
 
 -- the number of each file is below this one
 abbrev Below : World → ℕ → Type 0
@@ -83,19 +83,13 @@ below-rename w old new next h =
       | false ↦ below-lost (with_move w old new) (finmap.get w.paths new) next (below-moved w old new next h)
     ]
 
-below-write : (w : World) (p : List (List ℕ)) (offset : ℕ) (bytes : List ℕ) (next : ℕ) → Below w next → Below (after_write w p offset bytes) next
-below-write w p offset bytes next h = elim bytes as (λ bytes. Below (after_write w p offset bytes) next) [
-  | [] ↦ h
-  | b ∷ rest ↦ below-changed w p _ next h
-]
-
 none : (w : World) (next : ℕ) → Below w next → Below w (next + 0)
 none w next h n f e = omega (arith, h n f e)
 
 below-after : (w : World) (counts : Counts) (call : FileCall) → Below w counts.next_number → Below (after w counts call) (counts.next_number + numbers_of call)
 below-after w counts (Create p mode) h = below-file w p counts.next_number _ h
 below-after w counts (Mkdir p mode) h = below-file w p counts.next_number _ h
-below-after w counts (Write p offset bytes) h = none (after w counts (Write p offset bytes)) counts.next_number (below-write w p offset bytes counts.next_number h)
+below-after w counts (Write p offset bytes) h = none (after w counts (Write p offset bytes)) counts.next_number (below-changed w p _ counts.next_number h)
 below-after w counts (ReadFile p offset count) h = none (after w counts (ReadFile p offset count)) counts.next_number h
 below-after w counts (Truncate p len) h = none (after w counts (Truncate p len)) counts.next_number (below-changed w p _ counts.next_number h)
 below-after w counts (Chmod p mode) h = none (after w counts (Chmod p mode)) counts.next_number (below-changed w p _ counts.next_number h)

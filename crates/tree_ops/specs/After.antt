@@ -17,11 +17,6 @@ use Rattle.tree_ops.specs.declared.answer.Answer.TheVariants.{Done, Number, Coun
 
 -- ---- the world after a call
 
--- the bytes are written over from an offset on. A write of no bytes changes nothing
-abbrev pub after_write : World → List (List ℕ) → ℕ → List ℕ → World
-after_write w p offset [] = w
-after_write w p offset (b ∷ new) = changed_at w p (λ f. record f { bytes = written offset (b ∷ new) f.bytes })
-
 -- a path less, and the file too where it was the last one
 abbrev pub after_unlink : World → List (List ℕ) → World
 after_unlink w p = without_lost (without_path w p) (finmap.get w.paths p)
@@ -41,7 +36,7 @@ after_rename w old new =
 abbrev pub after : World → Counts → FileCall → World
 after w counts (Create p mode) = with_file w p counts.next_number (record { kind = Regular; mode = mode; bytes = [] })
 after w counts (Mkdir p mode) = with_file w p counts.next_number (record { kind = Directory; mode = mode; bytes = [] })
-after w counts (Write p offset bytes) = after_write w p offset bytes
+after w counts (Write p offset bytes) = changed_at w p (λ f. record f { bytes = written offset bytes f.bytes })
 after w counts (ReadFile p offset count) = w
 after w counts (Truncate p len) = changed_at w p (λ f. record f { bytes = resized len f.bytes })
 after w counts (Chmod p mode) = changed_at w p (λ f. record f { mode = mode })

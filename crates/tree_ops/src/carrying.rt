@@ -1,12 +1,12 @@
 //! What accepted calls do.
 
-ghost use Rattle.std.specs.Prelude.{◌≡◌, ◌≢◌, ℕ, List, [], Some, None, true, false, IfOk, IfErr, OnOk, OnErr, IsSome, IfSome, ◌&&◌, ◌+◌, ◌<◌, ◌^◌, length, take, drop};
+ghost use Rattle.std.specs.Prelude.{◌≡◌, ◌≢◌, ℕ, List, [], Some, None, true, false, IfOk, IfErr, OnOk, OnErr, IsSome, IfSome, ◌&&◌, ◌+◌, ◌<◌, ◌≤◌, ◌^◌, length, take, drop};
 ghost use Rattle.std.specs.Option.{IsSomeAnd};
 ghost use Rattle.std.specs.FinMap as finmap;
 ghost use Rattle.inode_table.specs.Bytes.{resized, written};
 ghost use Rattle.inode_table.specs.Tree.{at, what_at};
 ghost use Rattle.inode_table.specs.World.{World, with_file, changed_at, linked, without_lost};
-ghost use Rattle.inode_table.specs.Stands.{Stands, IsUnused, look_in, number_of};
+ghost use Rattle.inode_table.specs.Stands.{Stands, IsUnused, look_in, number_of, reserved_at};
 ghost use Rattle.inode_table.specs.Refusals.{is_directory_seen, parent_of};
 ghost use Rattle.inode_table.specs.Paths.{is_below};
 ghost use Rattle.tree_ops.specs.Refused.{has_names_seen, links_seen, are_same_seen};
@@ -35,18 +35,34 @@ fn make(table: &mut Table, path: &Path, number: u32, mode: u32, kind: Kind) -> R
     table.add_node(path.names(), number, mode, kind)
 }
 
+// Makes room for bytes in a file, from an offset on. No bytes need none.
+fn reserve(table: &mut Table, path: &Path, offset: usize, bytes: &[u8]) -> Result<(), Refusal>
+    requires there { IsSome (look_in table.old path.now) }
+    requires regular { is_directory_seen (look_in table.old path.now) ≡ false }
+    requires range { 0 < length bytes.now → offset + length bytes.now < 2 ^ 64 }
+    ensures looks { (p : List (List ℕ)) → look_in table.new p ≡ look_in table.old p }
+    ensures world { (w : World) → Stands table.old w → Stands table.new w }
+    ensures reserved { OnOk result (0 < length bytes.now → offset + length bytes.now ≤ reserved_at table.new path.now) }
+    ensures err { OnErr result (table.new.rows ≡ table.old.rows) }
+    ensures memory { IfErr result (λ refusal. refusal ≡ Refusal.Enomem) }
+{
+    if bytes.is_empty() {
+        return Ok(());
+    }
+    table.reserve_content(path.names(), offset + bytes.len())
+}
+
 // Writes over the bytes of a file from an offset on.
 fn write(table: &mut Table, path: &Path, offset: usize, bytes: &[u8]) -> Result<(), Refusal>
     requires there { IsSome (look_in table.old path.now) }
     requires regular { is_directory_seen (look_in table.old path.now) ≡ false }
-    requires range { offset + length bytes.now < 2 ^ 64 }
+    requires range { 0 < length bytes.now → offset + length bytes.now < 2 ^ 64 }
     ensures world { OnOk result ((w : World) → Stands table.old w → Stands table.new (changed_at w path.now (λ f. record f { bytes = written offset bytes.now f.bytes }))) }
     ensures err { OnErr result (table.new.rows ≡ table.old.rows) }
     ensures memory { IfErr result (λ refusal. refusal ≡ Refusal.Enomem) }
 {
-    let names = path.names();
-    table.reserve_content(names, offset + bytes.len())?;
-    table.write(names, offset, bytes);
+    reserve(table, path, offset, bytes)?;
+    table.write(path.names(), offset, bytes);
     Ok(())
 }
 
@@ -252,9 +268,7 @@ fn perform(alloc: Global, table: &mut Table, ready: Ready) -> Result<Answer, Ref
             bytes,
         } => {
             let new = bytes.as_slice();
-            if !new.is_empty() {
-                write(table, path, *offset as usize, new)?;
-            }
+            write(table, path, *offset as usize, new)?;
             Ok(Answer::Count(new.len() as u64))
         }
         FileCall::ReadFile {

@@ -12,10 +12,9 @@ use Rattle.tree_ops.specs.declared.answer.Answer.TheVariants.{Bytes, Names}
 use Rattle.tree_ops.specs.Checked.{Checked}
 use Rattle.tree_ops.specs.ReadyCall.{IsReady}
 use Rattle.tree_ops.specs.Refused.{refusal_of, rows_of, links_seen}
-use Rattle.tree_ops.specs.After.{after, after_write, answer_of}
+use Rattle.tree_ops.specs.After.{after, answer_of}
 use Rattle.tree_ops.proofs.Rows.{make-known, write-known, read-known, truncate-known, chmod-known, link-known, unlink-known, rmdir-known, rename-known, find-known, list-known}
 use Rattle.tree_ops.proofs.carrying.perform.Goals as goal
-use Rattle.tree_ops.proofs.carrying.perform.Goals.{then-not-is_empty+in_ok-write-in-Write, else-not-is_empty}
 
 -- no row of the call's kind holds for what the table shows
 known : (t : Tree) (ready view : Checked) (shape : FileCall) (r : IsReady t ready) → ((w : World) → Stands t w → (p : List (List ℕ)) → look w p ≡ look_in t p) → HasWorld t → view ≡ ready → view.call ≡ shape → first_row (rows_of (look_in t) r.limits ready.counts shape) ≡ None
@@ -25,8 +24,8 @@ known t ready view shape r looks has view_is is =
     ∙ ap (λ l. refusal_of l r.limits ready.counts ready.call) (λ i p. sym (looks has.0 has.1 p) i)
     ∙ r.accepted has.0 has.1
 
-small : (o n most : ℕ) → (nat_lt 0 n && nat_lt most (o + n)) ≡ false → n ≢ 0 → most ≤ 16777216 → o + n < 2 ^ 64
-small o n most e off bound =
+small : (o n most : ℕ) → (nat_lt 0 n && nat_lt most (o + n)) ≡ false → 0 < n → most ≤ 16777216 → o + n < 2 ^ 64
+small o n most e some bound =
     elim (nat_lt 0 n) as (λ b. nat_lt 0 n ≡ b → (b && nat_lt most (o + n)) ≡ false → o + n < 2 ^ 64) [
       | true ↦ λ _ f. let within : o + n ≤ most = ltb-false most (o + n) f in omega arith
       | false ↦ λ f _. absurd (let none : n ≤ 0 = ltb-false 0 n f in omega arith)
@@ -44,14 +43,6 @@ after-at new w ready view shape view_is is stands =
 answer-at : (a : Answer) (w : World) (ready view : Checked) (shape : FileCall) → view ≡ ready → view.call ≡ shape → a ≡ answer_of w view.counts shape → a ≡ answer_of w ready.counts ready.call
 answer-at a w ready view shape view_is is e =
     e ∙ ap (answer_of w view.counts) (sym is) ∙ ap (λ (r : Checked). answer_of w r.counts r.call) view_is
-
-wrote : (t : Tree) (w : World) (p : List (List ℕ)) (offset : ℕ) (x y : List ℕ) → x ≡ y → (length x == 0) ≡ false → Stands t (changed_at w p (λ f. record f { bytes = written offset x f.bytes })) → Stands t (after_write w p offset y)
-wrote t w p offset [] y e some h = absurd (let none : (length {A = ℕ} [] == 0) ≡ true = refl in cc)
-wrote t w p offset (b ∷ x) y e some h = subst (λ z. Stands t (after_write w p offset z)) e h
-
-wrote-none : (t : Tree) (w : World) (p : List (List ℕ)) (offset : ℕ) (x y : List ℕ) → x ≡ y → (length x == 0) ≡ true → Stands t w → Stands t (after_write w p offset y)
-wrote-none t w p offset [] y e none h = subst (λ z. Stands t (after_write w p offset z)) e h
-wrote-none t w p offset (b ∷ x) y e none h = absurd (let empty : length (b ∷ x) ≡ 0 = eqb-true (length (b ∷ x)) 0 none in omega arith)
 
 pub make-requires-clause-directory : goal.make-requires-clause-directory
 make-requires-clause-directory c = (make-known (look_in c.args.table.now) c.requires.ready.limits c.args.ready.counts c.in-Create.path c.in-Create.mode (known c.args.table.now c.args.ready _ _ c.requires.ready c.law.ensures.looks c.law.ensures.world c.ready.view_is c.in-Create.is)).directory
@@ -78,10 +69,10 @@ pub write-requires-clause-regular : goal.write-requires-clause-regular
 write-requires-clause-regular c = (write-known (look_in c.args.table.now) c.requires.ready.limits c.in-Write.path c.in-Write.offset (length c.in-Write.bytes) (known c.args.table.now c.args.ready _ _ c.requires.ready c.law.ensures.looks c.law.ensures.world c.ready.view_is c.in-Write.is)).0.regular
 
 pub write-requires-clause-range : goal.write-requires-clause-range
-write-requires-clause-range c =
+write-requires-clause-range c some =
     small c.in-Write.offset (length c.as_slice-new.result.now) c.requires.ready.limits.file_bytes
     (ap (λ (b : List ℕ). nat_lt 0 (length b) && nat_lt c.requires.ready.limits.file_bytes (c.in-Write.offset + length b)) c.as_slice-new.ensures ∙ (write-known (look_in c.args.table.now) c.requires.ready.limits c.in-Write.path c.in-Write.offset (length c.in-Write.bytes) (known c.args.table.now c.args.ready _ _ c.requires.ready c.law.ensures.looks c.law.ensures.world c.ready.view_is c.in-Write.is)).1)
-    (λ e. let h = c.if-not-is_empty.ensures in let f = eq-eqb (length c.as_slice-new.result.now) 0 e in cc) c.requires.ready.limits.file_bytes_in.1
+    some c.requires.ready.limits.file_bytes_in.1
 
 pub read-requires : goal.read-requires
 read-requires c = record { there = (read-known (look_in c.args.table.now) c.in-ReadFile.path (known c.args.table.now c.args.ready _ _ c.requires.ready c.law.ensures.looks c.law.ensures.world c.ready.view_is c.in-ReadFile.is)).there }
@@ -173,16 +164,10 @@ returns-in-Rmdir-clause-world c w stands = after-at _ w _ _ _ c.ready.view_is c.
 pub returns-in_ok-rename-in-Rename-clause-world : goal.returns-in_ok-rename-in-Rename-clause-world
 returns-in_ok-rename-in-Rename-clause-world c w stands = after-at _ w _ _ _ c.ready.view_is c.in-Rename.is (c.in_ok-rename-in-Rename.ensures.world w stands)
 
-pub returns-after-not-is_empty-clause-world : goal.returns-after-not-is_empty-clause-world
-returns-after-not-is_empty-clause-world c w stands =
-    after-at _ w _ _ _ c.ready.view_is c.in-Write.is (elim c.if-not-is_empty.branch [
-      | then-not-is_empty+in_ok-write-in-Write v ↦
-          subst (λ t. Stands t (after_write w c.in-Write.path c.in-Write.offset c.in-Write.bytes)) (sym v.table-is)
-          (wrote _ w c.in-Write.path c.in-Write.offset c.as_slice-new.result.now c.in-Write.bytes c.as_slice-new.ensures (sym c.is_empty.ensures ∙ v.if-not-is_empty.true) (v.in_ok-write-in-Write.ensures.world w stands))
-      | else-not-is_empty v ↦
-          subst (λ t. Stands t (after_write w c.in-Write.path c.in-Write.offset c.in-Write.bytes)) (sym v.table-is)
-          (wrote-none _ w c.in-Write.path c.in-Write.offset c.as_slice-new.result.now c.in-Write.bytes c.as_slice-new.ensures (sym c.is_empty.ensures ∙ v.if-not-is_empty.false) stands)
-    ])
+pub returns-in_ok-write-in-Write-clause-world : goal.returns-in_ok-write-in-Write-clause-world
+returns-in_ok-write-in-Write-clause-world c w stands =
+    after-at _ w _ _ _ c.ready.view_is c.in-Write.is
+    (subst (λ x. Stands c.write.new.table (changed_at w c.in-Write.path (λ f. record f { bytes = written c.in-Write.offset x f.bytes }))) c.as_slice-new.ensures (c.in_ok-write-in-Write.ensures.world w stands))
 
 pub returns-in_ok-bytes-in-ReadFile-clause-answer : goal.returns-in_ok-bytes-in-ReadFile-clause-answer
 returns-in_ok-bytes-in-ReadFile-clause-answer c w stands = answer-at _ w _ _ _ c.ready.view_is c.in-ReadFile.is (ap Bytes (c.in_ok-bytes-in-ReadFile.ensures w stands))

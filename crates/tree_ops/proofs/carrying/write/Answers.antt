@@ -1,25 +1,19 @@
-use Rattle.std.proofs.Common.{◌≡◌, IsSome, false, sym, ap, subst, ◌∙◌}
+use Rattle.std.proofs.Common.{◌≡◌, IsSome, false, ◌+◌, ◌<◌, ◌≤◌, length, sym, ap, subst, ◌∙◌}
 use Rattle.inode_table.specs.Bytes.{resized, written}
 use Rattle.inode_table.specs.Refusals.{is_directory_seen}
 use Rattle.inode_table.specs.World.{World, changed_at}
-use Rattle.inode_table.specs.Stands.{Stands, look_in}
+use Rattle.inode_table.specs.Stands.{Stands, look_in, reserved_at}
 use Rattle.tree_ops.proofs.carrying.write.Goals as goal
 
-pub reserve_content-requires-clause-there : goal.reserve_content-requires-clause-there
-reserve_content-requires-clause-there c = subst (λ p. IsSome (look_in c.args.table.now p)) (sym c.names-names.ensures) c.requires.there
-
-pub reserve_content-requires-clause-regular : goal.reserve_content-requires-clause-regular
-reserve_content-requires-clause-regular c = subst (λ p. is_directory_seen (look_in c.args.table.now p) ≡ false) (sym c.names-names.ensures) c.requires.regular
-
 pub write-requires-clause-there : goal.write-requires-clause-there
-write-requires-clause-there c = subst (λ p. IsSome (look_in c.reserve_content.new.self p)) (sym c.names-names.ensures) (subst IsSome (sym (c.reserve_content.ensures.looks c.args.path.now)) c.requires.there)
+write-requires-clause-there c = subst (λ p. IsSome (look_in c.reserve.new.table p)) (sym c.names.ensures) (subst IsSome (sym (c.reserve.ensures.looks c.args.path.now)) c.requires.there)
 
 pub write-requires-clause-regular : goal.write-requires-clause-regular
-write-requires-clause-regular c = subst (λ p. is_directory_seen (look_in c.reserve_content.new.self p) ≡ false) (sym c.names-names.ensures) (ap is_directory_seen (c.reserve_content.ensures.looks c.args.path.now) ∙ c.requires.regular)
+write-requires-clause-regular c = subst (λ p. is_directory_seen (look_in c.reserve.new.table p) ≡ false) (sym c.names.ensures) (ap is_directory_seen (c.reserve.ensures.looks c.args.path.now) ∙ c.requires.regular)
 
 pub write-requires-clause-reserved : goal.write-requires-clause-reserved
-write-requires-clause-reserved c some = c.in_ok-reserve_content.ensures.reserved
+write-requires-clause-reserved c = subst (λ p. 0 < length c.args.bytes.now → c.args.offset + length c.args.bytes.now ≤ reserved_at c.reserve.new.table p) (sym c.names.ensures) c.in_ok-reserve.ensures.reserved
 
 pub returns-clause-world : goal.returns-clause-world
 returns-clause-world c w stands =
-    subst (λ p. Stands c.write.new.self (changed_at w p (λ f. record f { bytes = written c.args.offset c.args.bytes.now f.bytes }))) c.names-names.ensures (c.write.ensures.world w (c.reserve_content.ensures.world w stands))
+    subst (λ p. Stands c.write.new.self (changed_at w p (λ f. record f { bytes = written c.args.offset c.args.bytes.now f.bytes }))) c.names.ensures (c.write.ensures.world w (c.reserve.ensures.world w stands))

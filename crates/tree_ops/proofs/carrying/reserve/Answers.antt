@@ -1,0 +1,12 @@
+use Rattle.std.proofs.Common.{◌≡◌, IsSome, false, ◌+◌, ◌<◌, ◌≤◌, OnOk, length, sym, ap, subst}
+use Rattle.std.proofs.lemmas.Result.{on_ok_weaker, on_err_weaker}
+use Rattle.inode_table.specs.Tree.{Tree}
+use Rattle.inode_table.specs.Refusals.{is_directory_seen}
+use Rattle.inode_table.specs.Stands.{look_in, reserved_at}
+use Rattle.tree_ops.proofs.carrying.reserve.Goals as goal
+
+pub reserve_content-requires-clause-there : goal.reserve_content-requires-clause-there
+reserve_content-requires-clause-there c = subst (λ p. IsSome (look_in c.args.table.now p)) (sym c.names.ensures) c.requires.there
+
+pub reserve_content-requires-clause-regular : goal.reserve_content-requires-clause-regular
+reserve_content-requires-clause-regular c = subst (λ p. is_directory_seen (look_in c.args.table.now p) ≡ false) (sym c.names.ensures) c.requires.regular
