@@ -1,5 +1,5 @@
 -- Changes of one file, and paths of one file.
-use Rattle.std.proofs.Common.{◌≡◌, ℕ, List, [], Bool, true, false, Option, Some, None, IfSome, refl, sym, ap, subst, ◌∙◌, if◌then◌else◌}
+use Rattle.std.proofs.Common.{◌≡◌, ℕ, List, [], true, false, Option, Some, None, IfSome, refl, ap, ◌∙◌, if◌then◌else◌}
 use Rattle.std.specs.Option.{option_and_then, option_map, IsSomeAnd, unwrap_or}
 use Rattle.std.specs.FinMap as finmap
 use Rattle.inode_table.specs.Rows.{Row, What, row, shown}

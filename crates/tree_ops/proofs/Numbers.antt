@@ -1,13 +1,12 @@
 -- Which numbers the files have after a call.
-use Rattle.std.proofs.Common.{◌≡◌, ◌≢◌, ◌⊎◌, inl, inr, ℕ, ◌+◌, ◌<◌, ◌==◌, Bool, true, false, List, [], ◌∷◌, Option, Some, None, refl, sym, ap, subst, ◌∙◌, arith, if◌then◌else◌}
+use Rattle.std.proofs.Common.{◌≡◌, inl, inr, ℕ, ◌+◌, ◌<◌, ◌==◌, true, false, List, [], Option, Some, None, refl, sym, subst, ◌∙◌, arith, if◌then◌else◌}
 use Rattle.std.specs.Ordering.{nat_cmp}
 use Rattle.std.specs.Option.{option_and_then}
 use Rattle.std.specs.Cmp.{nat_cmp_total}
 use Rattle.std.specs.FinMap as finmap
 use Rattle.std.specs.FinMap.{nat_cmp-IsAntisymmetric, get-empty}
 use Rattle.inode_table.specs.declared.seen.Kind.TheVariants.{Directory}
-use Rattle.inode_table.specs.Rows.{What}
-use Rattle.inode_table.specs.Tree.{Tree, what_at}
+use Rattle.inode_table.specs.Tree.{Tree}
 use Rattle.inode_table.specs.World.{World, File, root_number, root_mode, opening_world, links, with_file, with_path, without_path, with_move, with_content, without_file, without_lost, linked, content_by, changed_at}
 use Rattle.inode_table.specs.Stands.{Stands, file_of}
 use Rattle.tree_ops.proofs.Keys.{get-insert_either, get-remove_was}

@@ -1,5 +1,5 @@
 use Rattle.std.proofs.Common.{IsSome, sym, subst}
-use Rattle.inode_table.specs.World.{World, changed_at}
+use Rattle.inode_table.specs.World.{changed_at}
 use Rattle.inode_table.specs.Stands.{Stands, look_in}
 use Rattle.tree_ops.proofs.carrying.chmod.Goals as goal
 

@@ -1,5 +1,5 @@
-use Rattle.std.proofs.Common.{◌≡◌, ℕ, ◌+◌, ◌<◌, ◌^◌, Option, Some, None, IfSome, true, false, nat_lt, length, ◌≢◌, ◌&&◌, ◌≤◌, ◌==◌, Bool, List, [], ◌∷◌, refl, sym, ap, subst, ◌∙◌, arith, rules}
-use borrow.Author.Tests.{ltb-true, ltb-false, eq-eqb, eqb-true}
+use Rattle.std.proofs.Common.{◌≡◌, ℕ, ◌+◌, ◌<◌, ◌^◌, Option, Some, None, IfSome, true, false, nat_lt, length, ◌&&◌, ◌≤◌, List, refl, sym, ap, subst, ◌∙◌, arith}
+use borrow.Author.Tests.{ltb-true, ltb-false}
 use Rattle.inode_table.specs.declared.seen.Seen.{Seen}
 use Rattle.tree_paths.specs.Rows.{first_row}
 use Rattle.inode_table.specs.Bytes.{written}

@@ -1,4 +1,4 @@
-use Rattle.std.proofs.Common.{◌≡◌, take, drop, sym, ap, ◌∙◌}
+use Rattle.std.proofs.Common.{take, drop, sym, ap, ◌∙◌}
 use Rattle.tree_ops.proofs.Changed.{bytes-of}
 use Rattle.tree_ops.proofs.carrying.read.Goals as goal
 

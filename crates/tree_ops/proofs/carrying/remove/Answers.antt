@@ -1,7 +1,6 @@
-use Rattle.std.proofs.Common.{◌≡◌, ◌≢◌, [], false, sym, ap, subst, ◌∙◌}
+use Rattle.std.proofs.Common.{◌≡◌, ◌≢◌, [], false, sym, subst}
 use Rattle.std.specs.Option.{IsSomeAnd}
-use Rattle.std.specs.FinMap as finmap
-use Rattle.inode_table.specs.World.{World, without_path, without_lost}
+use Rattle.inode_table.specs.World.{without_path, without_lost}
 use Rattle.inode_table.specs.Stands.{Stands, look_in}
 use Rattle.tree_ops.specs.After.{after_unlink}
 use Rattle.tree_ops.proofs.carrying.remove.Goals as goal

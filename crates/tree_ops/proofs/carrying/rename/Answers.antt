@@ -4,10 +4,9 @@ use Rattle.std.specs.FinMap as finmap
 use Rattle.inode_table.specs.declared.seen.Seen.{Seen}
 use Rattle.inode_table.specs.Paths.{is_below}
 use Rattle.inode_table.specs.Refusals.{Look, is_directory_seen, parent_of}
-use Rattle.inode_table.specs.World.{World, with_move, without_lost}
-use Rattle.inode_table.specs.Stands.{Stands, look_in, number_of}
+use Rattle.inode_table.specs.World.{with_move, without_lost}
+use Rattle.inode_table.specs.Stands.{Stands, look_in}
 use Rattle.tree_ops.specs.Refused.{are_same_seen, has_names_seen}
-use Rattle.tree_ops.specs.After.{after_rename}
 use Rattle.tree_ops.proofs.Changed.{renamed-nothing, renamed-moved}
 use Rattle.tree_ops.proofs.carrying.rename.Goals as goal
 

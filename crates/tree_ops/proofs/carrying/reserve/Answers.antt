@@ -1,8 +1,6 @@
-use Rattle.std.proofs.Common.{◌≡◌, IsSome, false, ◌+◌, ◌<◌, ◌≤◌, OnOk, length, sym, ap, subst}
-use Rattle.std.proofs.lemmas.Result.{on_ok_weaker, on_err_weaker}
-use Rattle.inode_table.specs.Tree.{Tree}
+use Rattle.std.proofs.Common.{◌≡◌, IsSome, false, sym, subst}
 use Rattle.inode_table.specs.Refusals.{is_directory_seen}
-use Rattle.inode_table.specs.Stands.{look_in, reserved_at}
+use Rattle.inode_table.specs.Stands.{look_in}
 use Rattle.tree_ops.proofs.carrying.reserve.Goals as goal
 
 pub reserve_content-requires-clause-there : goal.reserve_content-requires-clause-there

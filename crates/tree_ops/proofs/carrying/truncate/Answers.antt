@@ -1,7 +1,7 @@
 use Rattle.std.proofs.Common.{◌≡◌, IsSome, false, sym, ap, subst, ◌∙◌}
-use Rattle.inode_table.specs.Bytes.{resized, written}
+use Rattle.inode_table.specs.Bytes.{resized}
 use Rattle.inode_table.specs.Refusals.{is_directory_seen}
-use Rattle.inode_table.specs.World.{World, changed_at}
+use Rattle.inode_table.specs.World.{changed_at}
 use Rattle.inode_table.specs.Stands.{Stands, look_in}
 use Rattle.tree_ops.proofs.carrying.truncate.Goals as goal
 

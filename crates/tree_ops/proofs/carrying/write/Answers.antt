@@ -1,7 +1,7 @@
 use Rattle.std.proofs.Common.{◌≡◌, IsSome, false, ◌+◌, ◌<◌, ◌≤◌, length, sym, ap, subst, ◌∙◌}
-use Rattle.inode_table.specs.Bytes.{resized, written}
+use Rattle.inode_table.specs.Bytes.{written}
 use Rattle.inode_table.specs.Refusals.{is_directory_seen}
-use Rattle.inode_table.specs.World.{World, changed_at}
+use Rattle.inode_table.specs.World.{changed_at}
 use Rattle.inode_table.specs.Stands.{Stands, look_in, reserved_at}
 use Rattle.tree_ops.proofs.carrying.write.Goals as goal
 

@@ -1,4 +1,4 @@
-use Rattle.std.proofs.Common.{◌≡◌, Some, None, sym, ap, ◌∙◌}
+use Rattle.std.proofs.Common.{sym, ap, ◌∙◌}
 use Rattle.tree_ops.specs.Refused.{refusal_of, cookies_seen}
 use Rattle.tree_ops.proofs.checking.check.Goals as goal
 

@@ -1,4 +1,4 @@
-use Rattle.std.proofs.Common.{◌≡◌, ◌∷◌, [], ◌++◌, ◌↔◌, List, ℕ, Bool, true, false, IsTrue, Option, Some, None, refl, sym, ap, ◌∙◌}
+use Rattle.std.proofs.Common.{◌≡◌, ◌∷◌, [], List, ℕ, Bool, true, false, Option, Some, None, refl, sym, ap, ◌∙◌}
 use Rattle.tree_paths.specs.Paths.{IsBelow}
 use Rattle.inode_table.specs.Paths.{is_below, is_some_name, rest_after}
 use Rattle.tree_ops.proofs.Fronts.{rest_after-append, rest_after-some}

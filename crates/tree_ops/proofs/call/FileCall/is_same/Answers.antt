@@ -1,4 +1,4 @@
-use Rattle.std.proofs.Common.{rules, ◌≡◌, ◌↔◌, IsTrue, List, ℕ}
+use Rattle.std.proofs.Common.{rules, ◌≡◌, ◌↔◌, IsTrue}
 use Rattle.record_codec.proofs.Equal.{names_eq_decides}
 use Rattle.tree_ops.specs.declared.call.FileCall.{FileCall}
 use Rattle.tree_ops.specs.declared.call.FileCall.TheVariants.{Create, Mkdir, Write, ReadFile, Truncate, Chmod, Link, Unlink, Rmdir, Rename, Stat, List as Listed}
