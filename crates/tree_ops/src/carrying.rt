@@ -9,7 +9,7 @@ ghost use Rattle.inode_table.specs.World.{World, with_file, changed_at, linked, 
 ghost use Rattle.inode_table.specs.Stands.{Stands, IsUnused, look_in, number_of, reserved_at};
 ghost use Rattle.inode_table.specs.Refusals.{is_directory_seen, parent_of};
 ghost use Rattle.inode_table.specs.Paths.{is_below};
-ghost use Rattle.tree_ops.specs.Refused.{has_names_seen, links_seen, are_same_seen};
+ghost use Rattle.tree_ops.specs.Refused.{has_names_seen, are_same_seen};
 ghost use Rattle.tree_ops.specs.ReadyCall.{IsReady, HasNumbersBelow};
 ghost use Rattle.tree_ops.specs.After.{after, after_unlink, after_rename, bytes_at, answer_of, stat_of, names_in, numbers_of};
 

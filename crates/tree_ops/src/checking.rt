@@ -1,5 +1,5 @@
 //! Which calls are refused.
-ghost use Rattle.std.specs.Prelude.{◌≡◌, ◌<◌, ℕ, List, length, Some, None, IfOk, IfErr, OnOk};
+ghost use Rattle.std.specs.Prelude.{◌≡◌, ◌<◌, length, Some, None, IfOk, IfErr, OnOk};
 ghost use Rattle.inode_table.specs.Paths.{is_below};
 ghost use Rattle.inode_table.specs.World.{World};
 ghost use Rattle.inode_table.specs.Stands.{Stands, look_in};

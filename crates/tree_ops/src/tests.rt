@@ -1,5 +1,3 @@
-ghost use Rattle.std.specs.Prelude.{◌≡◌, ℕ};
-
 use super::*;
 use inode_table::{Kind, Table};
 use record_codec::Bytes;
