@@ -1,8 +1,8 @@
 -- What a table shows depends on its rows, and not on how much room it has.
-use Rattle.std.proofs.Common.{◌≡◌, ◌≢◌, ℕ, ◌<◌, List, Some, sym, ap, subst}
+use Rattle.std.proofs.Common.{◌≡◌, ◌≢◌, ℕ, ◌<◌, ◌≤◌, List, Some, None, sym, ap, subst}
 use Rattle.std.specs.FinMap as finmap
 use Rattle.inode_table.specs.Rows.{Rows, What, what}
-use Rattle.inode_table.specs.Tree.{Tree, IsTable}
+use Rattle.inode_table.specs.Tree.{Tree, IsTable, IsNamedBut}
 use Rattle.inode_table.specs.World.{World, File}
 use Rattle.inode_table.specs.Stands.{Stands, IsUnused, file_of, look_in, number_at}
 use Rattle.tree_ops.specs.ReadyCall.{HasNumbersBelow}
@@ -15,6 +15,9 @@ unused-rows old new e n h = subst (λ (rs : Rows). (k : ℕ) (v : What) → what
 
 pub numbers-rows : (old new : Tree) → new.rows ≡ old.rows → (next : ℕ) → HasNumbersBelow old next → HasNumbersBelow new next
 numbers-rows old new e next h = subst (λ (rs : Rows). (k : ℕ) (v : What) → what rs k ≡ Some v → v.number < next) (sym e) h
+
+pub named-rows : (old new : Tree) → new.rows ≡ old.rows → IsNamedBut old None → IsNamedBut new None
+named-rows old new e h = subst (λ (rs : Rows). (k : ℕ) (v : What) → what rs k ≡ Some v → None ≢ Some k → 1 ≤ v.links) (sym e) h
 
 pub stands-rows : (old new : Tree) → new.rows ≡ old.rows → (w : World) → Stands old w → Stands new w
 stands-rows old new e w h = record {

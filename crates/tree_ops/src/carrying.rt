@@ -4,7 +4,7 @@ ghost use Rattle.std.specs.Prelude.{◌≡◌, ◌≢◌, ℕ, List, [], Some, N
 ghost use Rattle.std.specs.Option.{IsSomeAnd};
 ghost use Rattle.std.specs.FinMap as finmap;
 ghost use Rattle.inode_table.specs.Bytes.{resized, written};
-ghost use Rattle.inode_table.specs.Tree.{at, what_at};
+ghost use Rattle.inode_table.specs.Tree.{at, what_at, IsNamedBut};
 ghost use Rattle.inode_table.specs.World.{World, with_file, changed_at, linked, without_lost};
 ghost use Rattle.inode_table.specs.Stands.{Stands, IsUnused, look_in, number_of, reserved_at};
 ghost use Rattle.inode_table.specs.Refusals.{is_directory_seen, parent_of};
@@ -28,6 +28,7 @@ fn make(table: &mut Table, path: &Path, number: u32, mode: u32, kind: Kind) -> R
     requires named { path.now ≢ [] }
     requires unused { IsUnused table.old number }
     ensures world { OnOk result ((w : World) → Stands table.old w → Stands table.new (with_file w path.now number (record { kind = kind; mode = mode; bytes = [] }))) }
+    ensures named { OnOk result (IsNamedBut table.old None → IsNamedBut table.new None) }
     ensures err { OnErr result (table.new.rows ≡ table.old.rows) }
     ensures memory { IfErr result (λ refusal. refusal ≡ Refusal.Enomem) }
 {
@@ -42,6 +43,7 @@ fn reserve(table: &mut Table, path: &Path, offset: usize, bytes: &[u8]) -> Resul
     requires range { 0 < length bytes.now → offset + length bytes.now < 2 ^ 64 }
     ensures looks { (p : List (List ℕ)) → look_in table.new p ≡ look_in table.old p }
     ensures world { (w : World) → Stands table.old w → Stands table.new w }
+    ensures named { IsNamedBut table.old None → IsNamedBut table.new None }
     ensures reserved { OnOk result (0 < length bytes.now → offset + length bytes.now ≤ reserved_at table.new path.now) }
     ensures err { OnErr result (table.new.rows ≡ table.old.rows) }
     ensures memory { IfErr result (λ refusal. refusal ≡ Refusal.Enomem) }
@@ -58,6 +60,7 @@ fn write(table: &mut Table, path: &Path, offset: usize, bytes: &[u8]) -> Result<
     requires regular { is_directory_seen (look_in table.old path.now) ≡ false }
     requires range { 0 < length bytes.now → offset + length bytes.now < 2 ^ 64 }
     ensures world { OnOk result ((w : World) → Stands table.old w → Stands table.new (changed_at w path.now (λ f. record f { bytes = written offset bytes.now f.bytes }))) }
+    ensures named { OnOk result (IsNamedBut table.old None → IsNamedBut table.new None) }
     ensures err { OnErr result (table.new.rows ≡ table.old.rows) }
     ensures memory { IfErr result (λ refusal. refusal ≡ Refusal.Enomem) }
 {
@@ -71,6 +74,7 @@ fn truncate(table: &mut Table, path: &Path, len: usize) -> Result<(), Refusal>
     requires there { IsSome (look_in table.old path.now) }
     requires regular { is_directory_seen (look_in table.old path.now) ≡ false }
     ensures world { OnOk result ((w : World) → Stands table.old w → Stands table.new (changed_at w path.now (λ f. record f { bytes = resized len f.bytes }))) }
+    ensures named { OnOk result (IsNamedBut table.old None → IsNamedBut table.new None) }
     ensures err { OnErr result (table.new.rows ≡ table.old.rows) }
     ensures memory { IfErr result (λ refusal. refusal ≡ Refusal.Enomem) }
 {
@@ -83,7 +87,8 @@ fn truncate(table: &mut Table, path: &Path, len: usize) -> Result<(), Refusal>
 // Gives another mode to what stands at a path.
 fn chmod(table: &mut Table, path: &Path, mode: u32)
     requires there { IsSome (look_in table.old path.now) }
-    ensures { (w : World) → Stands table.old w → Stands table.new (changed_at w path.now (λ f. record f { mode = mode })) }
+    ensures world { (w : World) → Stands table.old w → Stands table.new (changed_at w path.now (λ f. record f { mode = mode })) }
+    ensures named { IsNamedBut table.old None → IsNamedBut table.new None }
 {
     table.set_mode(path.names(), mode);
 }
@@ -97,6 +102,7 @@ fn link(table: &mut Table, old: &Path, new: &Path) -> Result<(), Refusal>
     requires free { look_in table.old new.now ≡ None }
     requires named { new.now ≢ [] }
     ensures world { OnOk result ((w : World) → Stands table.old w → Stands table.new (linked w new.now (finmap.get w.paths old.now))) }
+    ensures named { OnOk result (IsNamedBut table.old None → IsNamedBut table.new None) }
     ensures err { OnErr result (table.new.rows ≡ table.old.rows) }
     ensures memory { IfErr result (λ refusal. refusal ≡ Refusal.Enomem) }
 {
@@ -107,7 +113,8 @@ fn link(table: &mut Table, old: &Path, new: &Path) -> Result<(), Refusal>
 fn remove(table: &mut Table, path: &Path)
     requires there { IsSomeAnd (look_in table.old path.now) (λ seen. seen.has_names ≡ false) }
     requires named { path.now ≢ [] }
-    ensures { (w : World) → Stands table.old w → Stands table.new (after_unlink w path.now) }
+    ensures world { (w : World) → Stands table.old w → Stands table.new (after_unlink w path.now) }
+    ensures named { IsNamedBut table.old None → IsNamedBut table.new None }
 {
     let key = table.drop_name(path.names());
     table.drop_if_lost(key);
@@ -117,7 +124,8 @@ fn remove(table: &mut Table, path: &Path)
 fn unlink(table: &mut Table, path: &Path)
     requires there { IsSome (look_in table.old path.now) }
     requires regular { is_directory_seen (look_in table.old path.now) ≡ false }
-    ensures { (w : World) → Stands table.old w → Stands table.new (after_unlink w path.now) }
+    ensures world { (w : World) → Stands table.old w → Stands table.new (after_unlink w path.now) }
+    ensures named { IsNamedBut table.old None → IsNamedBut table.new None }
 {
     table.law();
     remove(table, path);
@@ -128,7 +136,8 @@ fn rmdir(table: &mut Table, path: &Path)
     requires there { IsSome (look_in table.old path.now) }
     requires empty { has_names_seen (look_in table.old path.now) ≡ false }
     requires named { path.now ≢ [] }
-    ensures { (w : World) → Stands table.old w → Stands table.new (after_unlink w path.now) }
+    ensures world { (w : World) → Stands table.old w → Stands table.new (after_unlink w path.now) }
+    ensures named { IsNamedBut table.old None → IsNamedBut table.new None }
 {
     remove(table, path);
 }
@@ -136,7 +145,8 @@ fn rmdir(table: &mut Table, path: &Path)
 // Takes away a file, if any, that has lost its last name.
 fn drop_any_if_lost(table: &mut Table, key: Option<Key>)
     requires { IfSome key (λ lost. IsSome (what_at table.old lost)) }
-    ensures { (w : World) → Stands table.old w → Stands table.new (without_lost w (number_of table.old key)) }
+    ensures world { (w : World) → Stands table.old w → Stands table.new (without_lost w (number_of table.old key)) }
+    ensures named { IsNamedBut table.old key → IsNamedBut table.new None }
 {
     match key {
         Some(key) => table.drop_if_lost(key),
@@ -153,6 +163,7 @@ fn rename(table: &mut Table, old: &Path, new: &Path) -> Result<(), Refusal>
     requires below { (is_directory_seen (look_in table.old old.now) && is_below old.now new.now) ≡ false }
     requires empty { are_same_seen (look_in table.old old.now) (look_in table.old new.now) ≡ false → has_names_seen (look_in table.old new.now) ≡ false }
     ensures world { OnOk result ((w : World) → Stands table.old w → Stands table.new (after_rename w old.now new.now)) }
+    ensures named { OnOk result (IsNamedBut table.old None → IsNamedBut table.new None) }
     ensures err { OnErr result (table.new.rows ≡ table.old.rows) }
     ensures memory { IfErr result (λ refusal. refusal ≡ Refusal.Enomem) }
 {
@@ -247,6 +258,7 @@ fn list(alloc: Global, table: &Table, path: &Path) -> Result<Names, AllocError>
 fn perform(alloc: Global, table: &mut Table, ready: Ready) -> Result<Answer, Refusal>
     requires ready { IsReady table.old ready }
     ensures world { OnOk result ((w : World) → Stands table.old w → Stands table.new (after w ready.entry.counts ready.entry.call)) }
+    ensures named { OnOk result (IsNamedBut table.old None → IsNamedBut table.new None) }
     ensures answer { IfOk result (λ answer. (w : World) → Stands table.old w → answer ≡ answer_of w ready.entry.counts ready.entry.call) }
     ensures err { OnErr result (table.new.rows ≡ table.old.rows) }
     ensures memory { IfErr result (λ refusal. refusal ≡ Refusal.Enomem) }
@@ -322,6 +334,7 @@ pub fn carry_out(alloc: Global, table: &mut Table, ready: Ready) -> Result<Answe
     ensures err { OnErr result (table.new.rows ≡ table.old.rows) }
     ensures err_world { OnErr result ((w : World) → Stands table.old w → Stands table.new w) }
     ensures err_numbers { OnErr result (HasNumbersBelow table.new ready.entry.counts.next_number) }
+    ensures named { IsNamedBut table.old None → IsNamedBut table.new None }
     ensures memory { IfErr result (λ refusal. refusal ≡ Refusal.Enomem) }
 {
     table.law();

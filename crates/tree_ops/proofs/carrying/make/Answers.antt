@@ -4,7 +4,7 @@ use Rattle.inode_table.specs.Refusals.{is_directory_seen, parent_of}
 use Rattle.inode_table.specs.World.{World, with_file}
 use Rattle.inode_table.specs.Stands.{Stands, look_in}
 use Rattle.std.proofs.lemmas.Result.{on_ok_weaker, on_err_weaker}
-use Rattle.tree_ops.proofs.SameRows.{look-rows, unused-rows, stands-rows}
+use Rattle.tree_ops.proofs.SameRows.{look-rows, unused-rows, named-rows, stands-rows}
 use Rattle.tree_ops.proofs.carrying.make.Goals as goal
 
 pub add_node-requires-clause-named : goal.add_node-requires-clause-named
@@ -26,3 +26,6 @@ returns-clause-world c =
 
 pub returns-clause-err : goal.returns-clause-err
 returns-clause-err c = on_err_weaker c.add_node.result (λ e. ap (λ (t : Tree). t.rows) e ∙ c.reserve_node.ensures.rows) c.add_node.ensures.err
+
+pub returns-clause-named : goal.returns-clause-named
+returns-clause-named c = on_ok_weaker c.add_node.result (λ h n. h (named-rows c.args.table.now c.reserve_node.new.self c.reserve_node.ensures.rows n)) c.add_node.ensures.named

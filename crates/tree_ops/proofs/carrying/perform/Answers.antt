@@ -150,16 +150,16 @@ pub returns-in_ok-truncate-in-Truncate-clause-world : goal.returns-in_ok-truncat
 returns-in_ok-truncate-in-Truncate-clause-world c w stands = after-at _ w _ _ _ c.ready.view_is c.in-Truncate.is (c.in_ok-truncate-in-Truncate.ensures.world w stands)
 
 pub returns-in-Chmod-clause-world : goal.returns-in-Chmod-clause-world
-returns-in-Chmod-clause-world c w stands = after-at _ w _ _ _ c.ready.view_is c.in-Chmod.is (c.chmod.ensures w stands)
+returns-in-Chmod-clause-world c w stands = after-at _ w _ _ _ c.ready.view_is c.in-Chmod.is (c.chmod.ensures.world w stands)
 
 pub returns-in_ok-link-in-Link-clause-world : goal.returns-in_ok-link-in-Link-clause-world
 returns-in_ok-link-in-Link-clause-world c w stands = after-at _ w _ _ _ c.ready.view_is c.in-Link.is (c.in_ok-link-in-Link.ensures.world w stands)
 
 pub returns-in-Unlink-clause-world : goal.returns-in-Unlink-clause-world
-returns-in-Unlink-clause-world c w stands = after-at _ w _ _ _ c.ready.view_is c.in-Unlink.is (c.unlink.ensures w stands)
+returns-in-Unlink-clause-world c w stands = after-at _ w _ _ _ c.ready.view_is c.in-Unlink.is (c.unlink.ensures.world w stands)
 
 pub returns-in-Rmdir-clause-world : goal.returns-in-Rmdir-clause-world
-returns-in-Rmdir-clause-world c w stands = after-at _ w _ _ _ c.ready.view_is c.in-Rmdir.is (c.rmdir.ensures w stands)
+returns-in-Rmdir-clause-world c w stands = after-at _ w _ _ _ c.ready.view_is c.in-Rmdir.is (c.rmdir.ensures.world w stands)
 
 pub returns-in_ok-rename-in-Rename-clause-world : goal.returns-in_ok-rename-in-Rename-clause-world
 returns-in_ok-rename-in-Rename-clause-world c w stands = after-at _ w _ _ _ c.ready.view_is c.in-Rename.is (c.in_ok-rename-in-Rename.ensures.world w stands)

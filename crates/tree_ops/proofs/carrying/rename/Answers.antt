@@ -53,5 +53,8 @@ returns-clause-world c w stands =
     let other : are_same_seen (look_in c.args.table.now c.args.old.now) (look_in c.args.table.now c.args.new.now) ≡ false = (λ i. are_same_seen (sym c.seen.ensures i) (sym c.seen-2.ensures i)) ∙ sym c.are_same-is_same.ensures ∙ c.if-is_same.false in
     let moved = with_move w c.names.result.now c.names-2.result.now in
     let done : Stands c.drop_any_if_lost.new.table (without_lost moved (finmap.get w.paths c.names-2.result.now)) =
-    subst (λ n. Stands c.drop_any_if_lost.new.table (without_lost moved n)) (sym (c.in_ok-replaced.ensures.number w stands)) (c.drop_any_if_lost.ensures moved (c.in_ok-replaced.ensures.world w stands)) in
+    subst (λ n. Stands c.drop_any_if_lost.new.table (without_lost moved n)) (sym (c.in_ok-replaced.ensures.number w stands)) (c.drop_any_if_lost.ensures.world moved (c.in_ok-replaced.ensures.world w stands)) in
     subst (Stands c.drop_any_if_lost.new.table) ((λ i. without_lost (with_move w (c.names.ensures i) (c.names-2.ensures i)) (finmap.get w.paths (c.names-2.ensures i))) ∙ sym (renamed-moved stands c.args.old.now c.args.new.now other)) done
+
+pub returns-clause-named : goal.returns-clause-named
+returns-clause-named c n = c.drop_any_if_lost.ensures.named (c.in_ok-replaced.ensures.named n)

@@ -1,4 +1,4 @@
-use Rattle.std.proofs.Common.{◌≡◌, IsSome, false, sym, subst}
+use Rattle.std.proofs.Common.{◌≡◌, IsSome, false, sym, subst, ◌∙◌}
 use Rattle.inode_table.specs.Refusals.{is_directory_seen}
 use Rattle.inode_table.specs.Stands.{look_in}
 use Rattle.tree_ops.proofs.carrying.reserve.Goals as goal
@@ -8,3 +8,6 @@ reserve_content-requires-clause-there c = subst (λ p. IsSome (look_in c.args.ta
 
 pub reserve_content-requires-clause-regular : goal.reserve_content-requires-clause-regular
 reserve_content-requires-clause-regular c = subst (λ p. is_directory_seen (look_in c.args.table.now p) ≡ false) (sym c.names.ensures) c.requires.regular
+
+pub returns-clause-named : goal.returns-clause-named
+returns-clause-named c n k v is = n k v (sym (c.reserve_content.ensures.nodes k) ∙ is)

@@ -1,4 +1,4 @@
-use Rattle.std.proofs.Common.{◌≡◌, IsSome, false, sym, ap, subst, ◌∙◌}
+use Rattle.std.proofs.Common.{None, ◌≡◌, IsSome, false, sym, ap, subst, ◌∙◌}
 use Rattle.inode_table.specs.Bytes.{resized}
 use Rattle.inode_table.specs.Refusals.{is_directory_seen}
 use Rattle.inode_table.specs.World.{changed_at}
@@ -23,3 +23,6 @@ set_len-requires-clause-reserved c = c.in_ok-reserve_content.ensures.reserved
 pub returns-clause-world : goal.returns-clause-world
 returns-clause-world c w stands =
     subst (λ p. Stands c.set_len.new.self (changed_at w p (λ f. record f { bytes = resized c.args.len f.bytes }))) c.names-names.ensures (c.set_len.ensures.world w (c.reserve_content.ensures.world w stands))
+
+pub returns-clause-named : goal.returns-clause-named
+returns-clause-named c n = c.set_len.ensures.named None (λ k v is. n k v (sym (c.reserve_content.ensures.nodes k) ∙ is))

@@ -1,4 +1,4 @@
-use Rattle.std.proofs.Common.{◌≡◌, IsSome, false, ◌+◌, ◌<◌, ◌≤◌, length, sym, ap, subst, ◌∙◌}
+use Rattle.std.proofs.Common.{None, ◌≡◌, IsSome, false, ◌+◌, ◌<◌, ◌≤◌, length, sym, ap, subst, ◌∙◌}
 use Rattle.inode_table.specs.Bytes.{written}
 use Rattle.inode_table.specs.Refusals.{is_directory_seen}
 use Rattle.inode_table.specs.World.{changed_at}
@@ -17,3 +17,6 @@ write-requires-clause-reserved c = subst (λ p. 0 < length c.args.bytes.now → 
 pub returns-clause-world : goal.returns-clause-world
 returns-clause-world c w stands =
     subst (λ p. Stands c.write.new.self (changed_at w p (λ f. record f { bytes = written c.args.offset c.args.bytes.now f.bytes }))) c.names.ensures (c.write.ensures.world w (c.reserve.ensures.world w stands))
+
+pub returns-clause-named : goal.returns-clause-named
+returns-clause-named c n = c.write.ensures.named None (c.reserve.ensures.named n)
