@@ -331,6 +331,18 @@ fn renames_of_one_file(rt: HostRuntime) -> Result<(), Fail> {
 }
 
 #[test]
+fn renames_onto_a_link(rt: HostRuntime) -> Result<(), Fail> {
+    let mut calls = Calls::new(rt.alloc(), Limits::full())?;
+    tells(&rt, calls.create("/f", 0o644), number(2));
+    done(&rt, calls.link("/f", "/g"));
+    tells(&rt, calls.create("/h", 0o600), number(3));
+    done(&rt, calls.rename("/h", "/g"));
+    tells(&rt, calls.stat("/f"), file(2, 0o644, 1, 0));
+    tells(&rt, calls.stat("/g"), file(3, 0o600, 1, 0));
+    Ok(())
+}
+
+#[test]
 fn refused_renames(rt: HostRuntime) -> Result<(), Fail> {
     let mut calls = Calls::new(rt.alloc(), Limits::full())?;
     tells(&rt, calls.mkdir("/a", 0o755), number(2));
