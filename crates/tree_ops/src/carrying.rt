@@ -322,7 +322,8 @@ fn perform(alloc: Global, table: &mut Table, ready: Ready) -> Result<Answer, Ref
 
 /// Does what the call says, and answers as the call's variant of [`FileCall`] says.
 ///
-/// `ready` was made by [`check`](crate::check) on this table, which has not changed since.
+/// `ready` was made by [`check`](crate::check) on this table, which has not changed since. If each file of the table had a
+/// path, each still has one.
 ///
 /// # Errors
 /// `ENOMEM` alone, and then the table is as before.
