@@ -1,10 +1,12 @@
 //! Each call where its conditions were tested at run time: a call whose conditions do not hold is not made.
 
-ghost use Rattle.std.specs.Prelude.{◌≡◌, ◌≢◌, ℕ, [], Some, None, true, false, IsTrue, IfSome};
+ghost use Rattle.std.specs.Prelude.{◌≡◌, ◌≢◌, ◌<◌, ◌+◌, ℕ, [], Some, None, true, false, IsTrue, IfSome, OnOk};
 ghost use Rattle.slab.specs.Slab.{get};
 ghost use Rattle.inode_table.specs.Paths.{is_below};
 ghost use Rattle.inode_table.specs.Refusals.{is_directory_seen, parent_of};
-ghost use Rattle.inode_table.specs.Stands.{IsUnused, look_in};
+ghost use Rattle.inode_table.specs.Rows.{What};
+ghost use Rattle.inode_table.specs.Stands.{look_in};
+ghost use Rattle.inode_table.specs.Tree.{what_at};
 ghost use Rattle.inode_table.specs.declared.node.Node.{Node};
 
 use super::Table;
@@ -20,21 +22,23 @@ const FILES: u32 = 10_000;
 
 const FIRST_FILE: u32 = 4;
 
-fn lacks(nodes: &Slab<Node>, number: u32) -> bool
-    ensures { IsTrue result → (k : ℕ) (n : Node) → get nodes.now k ≡ Some n → n.number ≢ number }
+// Whether the number of each node is below this one.
+fn are_below(nodes: &Slab<Node>, number: u32) -> bool
+    ensures { IsTrue result → (k : ℕ) (n : Node) → get nodes.now k ≡ Some n → n.number < number }
 {
     for (_, node) in nodes.iter() {
-        if node.number == number {
+        if number <= node.number {
             return false;
         }
     }
     true
 }
 
-fn is_unused(table: &Table, number: u32) -> bool
-    ensures { IsTrue result → IsUnused table.now number }
+// Whether the number of each file is below this one.
+fn has_below(table: &Table, number: u32) -> bool
+    ensures { IsTrue result → (k : ℕ) (v : What) → what_at table.now k ≡ Some v → v.number < number }
 {
-    lacks(&table.nodes, number)
+    are_below(&table.nodes, number)
 }
 
 fn is_directory(table: &Table, path: &[Name]) -> bool
@@ -110,8 +114,8 @@ enum Step {
     Holds(&'static str, &'static str),
     /// The names, each with a space behind it.
     Lists(&'static str, &'static str),
-    /// No file has the number.
-    IsUnused(u32),
+    /// How many nodes there are.
+    Counts(usize),
 }
 
 /// A table on which calls are made one after another. A call answers whether it was made.
@@ -133,12 +137,24 @@ impl Calls {
         Path::parse(self.alloc, text.as_bytes())
     }
 
+    // Makes a file or a directory of a number above all others.
     fn add(&mut self, path: &str, number: u32, mode: u32, kind: Kind) -> Result<bool, Refusal> {
+        if !has_below(&self.table, number) {
+            return Ok(false);
+        }
+        self.add_last(path, number, mode, kind)
+    }
+
+    fn add_last(&mut self, path: &str, number: u32, mode: u32, kind: Kind) -> Result<bool, Refusal>
+        requires { (k : ℕ) (v : What) → what_at self.old.table k ≡ Some v → v.number < number }
+        ensures { OnOk result ((k : ℕ) (v : What) → what_at self.new.table k ≡ Some v → v.number < number + 1) }
+    {
         let path = self.path(path)?;
-        if !is_unused(&self.table, number) || !is_free(&self.table, path.names()) {
+        if !is_free(&self.table, path.names()) {
             return Ok(false);
         }
         self.table.reserve_node()?;
+        self.table.law();
         self.table.add_node(path.names(), number, mode, kind)?;
         Ok(true)
     }
@@ -235,11 +251,17 @@ impl Calls {
         Ok(true)
     }
 
-    fn is_file(&self, path: &str, kind: Kind, mode: u32, links: u64) -> Result<bool, Refusal> {
+    fn has(&self, path: &str, kind: Kind, mode: u32, links: u64) -> Result<bool, Refusal> {
         let path = self.path(path)?;
-        let key = self.table.resolve(path.names())?;
         let table = &self.table;
-        Ok(table.kind(key) == kind && table.mode(key) == mode && table.links(key) == links)
+        let key = table.resolve(path.names())?;
+        let seen = table.seen(key);
+        Ok(
+            table.kind(key) == kind
+                && table.mode(key) == mode
+                && table.links(key) == links
+                && (seen.number, seen.kind, seen.links) == (table.number(key), kind, links),
+        )
     }
 
     fn number(&self, path: &str) -> Result<u32, Refusal> {
@@ -261,6 +283,9 @@ impl Calls {
         if self.table.kind(key) != Kind::Directory {
             return Ok(false);
         }
+        if self.table.seen(key).has_names == names.is_empty() {
+            return Ok(false);
+        }
         let mut text = Vec::new(self.alloc);
         for name in self.table.child_names(key) {
             text.extend_from_slice(name.bytes())?;
@@ -279,8 +304,15 @@ impl Calls {
         Ok(self.table.child_names(key).count())
     }
 
+    fn is_refused(&self, path: &str, refusal: Refusal) -> Result<bool, Refusal> {
+        match self.number(path) {
+            Err(Refusal::Enomem) => Err(Refusal::Enomem),
+            answer => Ok(answer == Err(refusal)),
+        }
+    }
+
     // Whether the call is made, or what is read is so.
-    fn holds_after(&mut self, step: Step) -> Result<bool, Refusal> {
+    fn step(&mut self, step: Step) -> Result<bool, Refusal> {
         match step {
             Step::Mkdir(path, number) => self.add(path, number, 0o750, Kind::Directory),
             Step::Create(path, number) => self.add(path, number, 0o644, Kind::Regular),
@@ -293,20 +325,25 @@ impl Calls {
             Step::Write(path, offset, bytes) => self.write(path, offset, bytes.as_bytes()),
             Step::SetLen(path, len) => self.set_len(path, len),
             Step::Is(path, number) => Ok(self.number(path)? == number),
-            Step::IsRefused(path, refusal) => Ok(self.number(path) == Err(refusal)),
-            Step::Has(path, kind, mode, links) => self.is_file(path, kind, mode, links),
+            Step::IsRefused(path, refusal) => self.is_refused(path, refusal),
+            Step::Has(path, kind, mode, links) => self.has(path, kind, mode, links),
             Step::Holds(path, bytes) => self.holds(path, bytes.as_bytes()),
             Step::Lists(path, names) => self.lists(path, names),
-            Step::IsUnused(number) => Ok(is_unused(&self.table, number)),
+            Step::Counts(nodes) => Ok(self.table.nodes.len() == nodes),
         }
     }
 }
 
-// The place of the first step that fails, if any, of those that begin with a new table.
+// The place of the first step that fails, if any, of those that begin with a new table. A step that lacks memory has
+// changed nothing, and is made once more.
 fn failed(alloc: Global, steps: &[Step]) -> Result<Option<usize>, Refusal> {
     let mut calls = Calls::new(alloc)?;
     for (place, step) in steps.iter().enumerate() {
-        if !calls.holds_after(*step)? {
+        let holds = match calls.step(*step) {
+            Err(Refusal::Enomem) => calls.step(*step)?,
+            answer => answer?,
+        };
+        if !holds {
             return Ok(Some(place));
         }
     }
@@ -379,7 +416,7 @@ fn links_share_a_file(rt: HostRuntime) -> Result<(), Fail> {
         Step::Has("/d/g", Kind::Regular, 0o644, 1),
         Step::Holds("/d/g", "shared"),
         Step::Unlink("/d/g"),
-        Step::IsUnused(3),
+        Step::Counts(2),
         Step::Unlink("/d"),
         Step::Lists("/", ""),
     ];
@@ -401,7 +438,7 @@ fn a_directory_moves_with_what_is_below(rt: HostRuntime) -> Result<(), Fail> {
         Step::Is("/x/y/e/f", 4),
         Step::IsRefused("/d", Refusal::Enoent),
         Step::IsRefused("/d/e/f", Refusal::Enoent),
-        Step::IsUnused(6),
+        Step::Counts(5),
     ];
     assert_eq!(rt; failed(rt.alloc(), &steps)?, None);
     Ok(())
@@ -415,7 +452,7 @@ fn a_rename_replaces_a_file(rt: HostRuntime) -> Result<(), Fail> {
         Step::Create("/h", 4),
         Step::Link("/h", "/i"),
         Step::Rename("/f", "/g"),
-        Step::IsUnused(3),
+        Step::Counts(3),
         Step::Rename("/g", "/h"),
         Step::Is("/h", 2),
         Step::Is("/i", 4),
@@ -475,15 +512,18 @@ fn a_name_has_255_bytes(rt: HostRuntime) -> Result<(), Fail> {
 }
 
 // Makes a directory of the files 0 to 9999.
-fn filled(alloc: Global) -> Result<Calls, Refusal> {
+fn filled(alloc: Global) -> Result<Option<Calls>, Refusal> {
     let mut calls = Calls::new(alloc)?;
     calls.add("/d", 2, 0o755, Kind::Directory)?;
     calls.add("/e", 3, 0o755, Kind::Directory)?;
+    if !has_below(&calls.table, FIRST_FILE) {
+        return Ok(None);
+    }
     for i in 0..FILES {
         let path = format!(in alloc; "/d/{i}")?;
-        calls.add(path.as_str(), FIRST_FILE + i, 0o644, Kind::Regular)?;
+        calls.add_last(path.as_str(), FIRST_FILE + i, 0o644, Kind::Regular)?;
     }
-    Ok(calls)
+    Ok(Some(calls))
 }
 
 // Renames the directory, looks at a file of it under both paths, and renames it back.
@@ -500,8 +540,8 @@ fn moves(calls: &mut Calls) -> Result<bool, Refusal> {
 
 #[test]
 fn a_large_directory_moves_back_and_forth(rt: HostRuntime) -> Result<(), Fail> {
-    let mut calls = filled(rt.alloc())?;
-    for _ in 0..10 {
+    let mut calls = filled(rt.alloc())?.ok_or("numbers")?;
+    for _ in 0..100 {
         assert!(rt; moves(&mut calls)?);
     }
     Ok(())

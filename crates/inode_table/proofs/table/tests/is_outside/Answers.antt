@@ -11,5 +11,5 @@ pub returns-clause-below : goal.returns-clause-below
 returns-clause-below c _ =
     is_below-false c.args.other.now c.args.path.now
     (λ l s is.
-      let e : true ≡ false = sym (c.is_below.ensures.1 (l, s, is)) ∙ c.if-is_below.false in
-      cc)
+    let e : true ≡ false = sym (c.is_below.ensures.1 (l, s, is)) ∙ c.if-is_below.false in
+    cc)
