@@ -1,6 +1,5 @@
-use Rattle.std.proofs.Common.{◌≡◌, ◌<◌, ◌≤◌, ap, inl, inr, arith, ◌∙◌}
+use Rattle.std.proofs.Common.{◌≡◌, ap, inl, inr, arith, ◌∙◌}
 use Rattle.slab.proofs.SlabLemmas.{Contains-cons_cases, Contains-entries}
-use Rattle.inode_table.specs.declared.node.Node.{Node}
 use Rattle.inode_table.proofs.table.tests.are_below.Goals as goal
 
 pub loop-node-init : goal.loop-node-init
