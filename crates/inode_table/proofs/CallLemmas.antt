@@ -1,5 +1,5 @@
 -- From whole paths to keys.
-use Rattle.std.proofs.Common.{◌≡◌, ◌≢◌, ℕ, Bool, true, false, List, [], ◌∷◌, ◌++◌, Option, Some, None, Result, Ok, Err, IsSome, IfSome, IfOk, IfErr, is_none, is_some, ◌&&◌, refl, sym, ap, ◌∙◌, subst}
+use Rattle.std.proofs.Common.{◌≡◌, ◌≢◌, ℕ, true, false, List, [], ◌∷◌, ◌++◌, Option, Some, None, Result, Ok, Err, IsSome, IfSome, IfOk, IfErr, is_none, is_some, ◌&&◌, refl, sym, ap, ◌∙◌, subst}
 use Rattle.std.specs.Option.{option_and_then, option_map, unwrap_or}
 use Rattle.std.specs.Result.{result_ok}
 use Rattle.inode_table.specs.Walk.{Avoids}
@@ -10,8 +10,6 @@ use Rattle.inode_table.specs.World as world
 use Rattle.inode_table.specs.Refusals.{is_directory_seen}
 use Rattle.inode_table.specs.Stands.{kind_of, file_of, seen_row, look_in}
 use Rattle.inode_table.specs.declared.seen.Seen.{Seen}
-use Rattle.inode_table.specs.declared.seen.Kind.TheVariants.{Regular}
-use Rattle.inode_table.proofs.TreeLemmas.{some_none, same_some}
 use Rattle.inode_table.proofs.PathLemmas.{is_below-rest}
 use Rattle.inode_table.proofs.ChangeLemmas.{live-what, loses-live, regular-what}
 use Rattle.inode_table.proofs.FindLemmas.{seen_directory, there-seen}

@@ -1,14 +1,14 @@
 -- What is true of the world of a table.
-use Rattle.std.proofs.Common.{◌≡◌, ℕ, zero, suc, ◌≤◌, arith, Bool, true, false, List, [], ◌∷◌, ◌++◌, Option, Some, None, IsSome, is_some, is_none, refl, sym, ap, ◌∙◌, subst}
+use Rattle.std.proofs.Common.{◌≡◌, ℕ, zero, suc, ◌≤◌, arith, true, false, List, [], ◌∷◌, ◌++◌, Option, Some, None, IsSome, is_some, is_none, refl, sym, ap, ◌∙◌, subst}
 use Rattle.std.specs.Option.{option_and_then, option_map, option_map_or, IsSomeAnd}
 use Rattle.std.specs.FinMap as finmap
 use Rattle.inode_table.specs.Count.{IsCount}
 use Rattle.inode_table.specs.Walk.{walk}
-use Rattle.inode_table.specs.Rows.{Label, Row, What, row, child, shown, bytes_in, is_directory, is_directory_row}
+use Rattle.inode_table.specs.Rows.{Label, Row, row, child, shown, bytes_in, is_directory, is_directory_row}
 use Rattle.inode_table.specs.Tree.{Tree, IsNamedBut, at, what_at}
 use Rattle.inode_table.specs.World as world
 use Rattle.inode_table.specs.World.{World, IsWorld, IsWhole, IsDirectoryAt, file_at}
-use Rattle.inode_table.specs.Stands.{kind_of, file_of, number_of, Stands, IsUnused}
+use Rattle.inode_table.specs.Stands.{kind_of, file_of, Stands, IsUnused}
 use Rattle.inode_table.specs.declared.seen.Kind.TheVariants.{Directory}
 use Rattle.inode_table.proofs.TreeLemmas.{some_none, same_some}
 use Rattle.inode_table.proofs.WalkLemmas.{walk-append}

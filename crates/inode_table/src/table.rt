@@ -155,3 +155,6 @@ fn refusal_at(nodes: &Slab<Node>, key: usize) -> Refusal
         _ => Refusal::Enotdir,
     }
 }
+
+#[cfg(test)]
+mod tests;

@@ -1,5 +1,4 @@
 use Rattle.std.proofs.Common.{◌≤◌, subst, sym, ℕ}
-use Rattle.inode_table.specs.Rows.{What}
 use Rattle.inode_table.proofs.RowsLemmas.{OnOk-map, OnErr-map, child-with_value_same, what-with_value_same, reserved-with_value, rows_of-with_value_same}
 use Rattle.inode_table.proofs.node.reserve_bytes.Goals as goal
 

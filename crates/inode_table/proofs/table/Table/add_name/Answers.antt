@@ -1,6 +1,6 @@
-use Rattle.std.proofs.Common.{◌≡◌, ◌++◌, ◌∷◌, [], ◌≤◌, ◌+◌, arith, None, ◌∙◌, Some, sym, ap, subst}
+use Rattle.std.proofs.Common.{◌++◌, ◌∷◌, [], ◌≤◌, ◌+◌, arith, None, ◌∙◌, sym, ap, subst}
 use Rattle.inode_table.specs.Rows.{What}
-use Rattle.inode_table.specs.Tree.{at, what_at}
+use Rattle.inode_table.specs.Tree.{what_at}
 use Rattle.inode_table.specs.World.{linked, with_path}
 use Rattle.inode_table.specs.Stands.{Stands, look_in}
 use Rattle.inode_table.proofs.FindLemmas.{live-there}

@@ -1,6 +1,6 @@
-use Rattle.std.proofs.Common.{◌≡◌, ◌+◌, ℕ, Some, None, refl, sym, ap, subst, ◌∙◌}
+use Rattle.std.proofs.Common.{◌≡◌, Some, sym, ap, subst, ◌∙◌}
 use Rattle.std.specs.Option.{option_map}
-use Rattle.inode_table.specs.Rows.{rows_of, row_of, child, what, shown, is_live, SetsChild}
+use Rattle.inode_table.specs.Rows.{rows_of, row_of, child, what, shown, SetsChild}
 use Rattle.inode_table.specs.Tree.{IsTable}
 use Rattle.inode_table.proofs.RowsLemmas.{row-rows_of}
 use Rattle.inode_table.proofs.ChangeLemmas.{LinksRow, IsTable-link, link-AddsPath, one_more_link, SetsEdge-child, SetsEdge-same, live-what}

@@ -1,8 +1,7 @@
-use Rattle.std.proofs.Common.{rules, ◌≡◌, ◌≢◌, ◌++◌, ◌∷◌, ℕ, List, [], Some, None, refl, sym, ap, subst, ◌∙◌}
+use Rattle.std.proofs.Common.{◌≡◌, Some, None, refl, sym, ap, subst, ◌∙◌}
 use Rattle.std.specs.Option.{option_map}
-use Rattle.slab.specs.Slab.{Updates}
-use Rattle.inode_table.specs.Rows.{Label, Row, Rows, What, rows_of, row_of, row, what, shown, child, SetsChild}
-use Rattle.inode_table.specs.Tree.{IsTable, at, what_at}
+use Rattle.inode_table.specs.Rows.{rows_of, row_of, row, shown, SetsChild}
+use Rattle.inode_table.specs.Tree.{IsTable, what_at}
 use Rattle.inode_table.proofs.RowsLemmas.{SetsRow-at, row-rows_of}
 use Rattle.inode_table.proofs.ChangeLemmas.{AddsRow, IsTable-add, add-AddsPath, add-what_here, add-what_others}
 use Rattle.inode_table.proofs.StandsLemmas.{Stands-with_file}

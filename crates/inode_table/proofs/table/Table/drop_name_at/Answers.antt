@@ -1,8 +1,7 @@
-use Rattle.std.proofs.Common.{◌≡◌, ◌≢◌, ◌++◌, ◌∷◌, [], ℕ, List, Option, Some, None, IfSome, ◌≤◌, refl, sym, ap, subst, ◌∙◌}
-use Rattle.inode_table.specs.Rows.{rows_of, Rows, child, what, is_live, SetsChild}
-use Rattle.inode_table.specs.Tree.{IsTable, at, what_at, LosesLink}
-use Rattle.inode_table.proofs.ChangeLemmas.{DropsRow, IsTable-drop, drop-DropsPath, SetsEdge-child, SetsEdge-same, LosesLink-after, positive_target, walk_end}
-use Rattle.inode_table.proofs.TreeLemmas.{same_some}
+use Rattle.std.proofs.Common.{◌≡◌, Some, None, sym, ap, subst, ◌∙◌}
+use Rattle.inode_table.specs.Rows.{rows_of, child, SetsChild}
+use Rattle.inode_table.specs.Tree.{IsTable}
+use Rattle.inode_table.proofs.ChangeLemmas.{DropsRow, IsTable-drop, drop-DropsPath, SetsEdge-child, SetsEdge-same, LosesLink-after, positive_target}
 use Rattle.inode_table.proofs.StandsLemmas.{SameFiles-loses, Stands-without_path}
 use Rattle.inode_table.proofs.table.Table.drop_name_at.Goals as goal
 use Rattle.inode_table.proofs.table.Table.drop_name_at.Goals.{After-lose_any_link}

@@ -1,6 +1,6 @@
-use Rattle.std.proofs.Common.{◌≡◌, ◌≢◌, ◌++◌, ◌∷◌, [], ℕ, List, Option, Some, None, IfSome, ◌≤◌, refl, sym, ap, subst, ◌∙◌}
-use Rattle.inode_table.specs.Rows.{rows_of, Rows, child, what, is_live, SetsChild}
-use Rattle.inode_table.specs.Tree.{IsTable, at, what_at, LosesLink}
+use Rattle.std.proofs.Common.{◌≡◌, Some, sym, ap, subst, ◌∙◌}
+use Rattle.inode_table.specs.Rows.{rows_of, child, SetsChild}
+use Rattle.inode_table.specs.Tree.{IsTable}
 use Rattle.inode_table.proofs.ChangeLemmas.{MovesRow, MovesRow-from, IsTable-move, move-empty, move-MovesPath, positive_target}
 use Rattle.inode_table.proofs.StandsLemmas.{SameFiles-loses, Stands-with_move}
 use Rattle.inode_table.proofs.table.Table.replace_name_at.Goals as goal

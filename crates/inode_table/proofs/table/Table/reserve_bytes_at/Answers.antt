@@ -1,9 +1,7 @@
-use Rattle.std.proofs.Common.{◌≡◌, ◌∙◌, ℕ, List, sym, ap, subst}
+use Rattle.std.proofs.Common.{◌≡◌, ◌∙◌, ℕ, sym, ap, subst}
 use Rattle.inode_table.specs.Walk.{walk}
 use Rattle.inode_table.specs.Rows.{Label, rows_of, child, what}
 use Rattle.inode_table.specs.Tree.{IsTable}
-use Rattle.inode_table.specs.World.{World}
-use Rattle.inode_table.specs.Stands.{Stands}
 use Rattle.inode_table.proofs.ChangeLemmas.{IsTable-same}
 use Rattle.inode_table.proofs.StandsLemmas.{Stands-same, look-same}
 use Rattle.inode_table.proofs.WorldLemmas.{HasWorld-table}

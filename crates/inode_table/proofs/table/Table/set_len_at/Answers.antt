@@ -1,4 +1,4 @@
-use Rattle.std.proofs.Common.{◌≡◌, ◌≢◌, ℕ, Some, subst, refl, ap, ◌∙◌}
+use Rattle.std.proofs.Common.{◌≡◌, ℕ, subst, refl, ap, ◌∙◌}
 use Rattle.inode_table.specs.Rows.{rows_of, Label, child}
 use Rattle.inode_table.specs.Tree.{with_len, ChangesWhat}
 use Rattle.std.specs.Option.{option_map}

@@ -1,10 +1,10 @@
-use Rattle.std.proofs.Common.{◌≡◌, ◌≢◌, ℕ, Some, subst, refl, sym, ap, ◌∙◌}
-use Rattle.inode_table.specs.Rows.{rows_of, is_directory, Label, child}
-use Rattle.inode_table.specs.Tree.{with_mode, with_bytes, ChangesWhat}
+use Rattle.std.proofs.Common.{◌≡◌, ℕ, subst, refl, ap, ◌∙◌}
+use Rattle.inode_table.specs.Rows.{rows_of, Label, child}
+use Rattle.inode_table.specs.Tree.{with_mode, ChangesWhat}
 use Rattle.std.specs.Option.{option_map}
 use Rattle.inode_table.specs.Walk.{walk}
 use Rattle.inode_table.proofs.StandsLemmas.{Stands-with_content}
-use Rattle.inode_table.proofs.ChangeLemmas.{IsTable-change, regular-what}
+use Rattle.inode_table.proofs.ChangeLemmas.{IsTable-change}
 use Rattle.inode_table.proofs.table.Table.set_mode_at.Goals as goal
 
 pub invariant_of-self : goal.invariant_of-self

@@ -1,5 +1,5 @@
-use Rattle.std.proofs.Common.{◌≡◌, ℕ, Some, sym, ap, subst, ◌∙◌}
-use Rattle.inode_table.specs.Rows.{rows_of, Rows, child, SetsChild}
+use Rattle.std.proofs.Common.{◌≡◌, Some, sym, ap, subst, ◌∙◌}
+use Rattle.inode_table.specs.Rows.{rows_of, child, SetsChild}
 use Rattle.inode_table.specs.Tree.{IsTable}
 use Rattle.inode_table.proofs.ChangeLemmas.{SwapsRow, SwapsRow-from, IsTable-swap, swap-SwapsPaths}
 use Rattle.std.specs.Option.{option_map}

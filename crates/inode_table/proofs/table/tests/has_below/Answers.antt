@@ -1,0 +1,20 @@
+use Rattle.std.proofs.Common.{◌≡◌, ◌<◌, ℕ, Option, Some, None, refl, sym, ap, ◌∙◌, subst}
+use Rattle.std.specs.Option.{option_map}
+use Rattle.slab.specs.Slab.{Slab, get}
+use Rattle.inode_table.specs.Rows.{What, row_of, rows_of, shown, what}
+use Rattle.inode_table.specs.Tree.{what_at}
+use Rattle.inode_table.specs.declared.node.Node.{Node}
+use Rattle.inode_table.proofs.RowsLemmas.{row-rows_of}
+use Rattle.inode_table.proofs.TreeLemmas.{same_some}
+use Rattle.inode_table.proofs.table.tests.has_below.Goals as goal
+
+below : (nodes : Slab Node) (number : ℕ) → ((k : ℕ) (n : Node) → get nodes k ≡ Some n → n.number < number) → (k : ℕ) (v : What) → what (rows_of nodes) k ≡ Some v → v.number < number
+below nodes number all k v found =
+    by (get nodes k) (sym (ap (option_map shown) (row-rows_of nodes k)) ∙ found) (all k)
+  where
+    by : (o : Option Node) → option_map shown (option_map row_of o) ≡ Some v → ((n : Node) → o ≡ Some n → n.number < number) → v.number < number
+    by None e h = absurd (cc)
+    by (Some n) e h = subst (λ (u : What). u.number < number) (same_some _ _ e) (h n refl)
+
+pub returns : goal.returns
+returns c all k v found = below c.table.inside.nodes c.args.number (c.are_below.ensures all) k v (ap (λ t. what_at t k) c.table.view_is ∙ found)

@@ -1,0 +1,548 @@
+//! Each call where its conditions were tested at run time: a call whose conditions do not hold is not made.
+
+ghost use Rattle.std.specs.Prelude.{◌≡◌, ◌≢◌, ◌<◌, ◌+◌, ℕ, [], Some, None, true, false, IsTrue, IfSome, OnOk};
+ghost use Rattle.slab.specs.Slab.{get};
+ghost use Rattle.inode_table.specs.Paths.{is_below};
+ghost use Rattle.inode_table.specs.Refusals.{is_directory_seen, parent_of};
+ghost use Rattle.inode_table.specs.Rows.{What};
+ghost use Rattle.inode_table.specs.Stands.{look_in};
+ghost use Rattle.inode_table.specs.Tree.{what_at};
+ghost use Rattle.inode_table.specs.declared.node.Node.{Node};
+
+use super::Table;
+use crate::node::Node;
+use crate::seen::Kind;
+use record_codec::Name;
+use slab::Slab;
+use std::alloc::Global;
+use std::test::Fail;
+use tree_paths::{Path, Refusal};
+
+const FILES: u32 = 10_000;
+
+const FIRST_FILE: u32 = 4;
+
+// Whether the number of each node is below this one.
+fn are_below(nodes: &Slab<Node>, number: u32) -> bool
+    ensures { IsTrue result → (k : ℕ) (n : Node) → get nodes.now k ≡ Some n → n.number < number }
+{
+    for (_, node) in nodes.iter() {
+        if number <= node.number {
+            return false;
+        }
+    }
+    true
+}
+
+// Whether the number of each file is below this one.
+fn has_below(table: &Table, number: u32) -> bool
+    ensures { IsTrue result → (k : ℕ) (v : What) → what_at table.now k ≡ Some v → v.number < number }
+{
+    are_below(&table.nodes, number)
+}
+
+fn is_directory(table: &Table, path: &[Name]) -> bool
+    ensures { result ≡ is_directory_seen (look_in table.now path.now) }
+{
+    match table.look(path) {
+        Ok(seen) => seen.kind == Kind::Directory,
+        Err(_) => false,
+    }
+}
+
+// Whether there are names below the path.
+fn has_names(table: &Table, path: &[Name]) -> bool
+    ensures { result ≡ false → IfSome (look_in table.now path.now) (λ seen. seen.has_names ≡ false) }
+{
+    match table.look(path) {
+        Ok(seen) => seen.has_names,
+        Err(_) => false,
+    }
+}
+
+// Whether a name can stand at the path: it is not the root's, and its directory is there.
+fn has_parent(table: &Table, path: &[Name]) -> bool
+    ensures named { IsTrue result → path.now ≢ [] }
+    ensures directory { IsTrue result → is_directory_seen (look_in table.now (parent_of path.now)) ≡ true }
+{
+    match path.split_last() {
+        Some((_, parent)) => is_directory(table, parent),
+        None => false,
+    }
+}
+
+// Whether a new name can stand at the path.
+fn is_free(table: &Table, path: &[Name]) -> bool
+    ensures named { IsTrue result → path.now ≢ [] }
+    ensures directory { IsTrue result → is_directory_seen (look_in table.now (parent_of path.now)) ≡ true }
+    ensures free { IsTrue result → look_in table.now path.now ≡ None }
+{
+    has_parent(table, path) && table.look(path).is_err()
+}
+
+// Whether the path is neither the other one nor below it.
+fn is_outside(path: &Path, other: &Path) -> bool
+    ensures other { IsTrue result → other.now ≢ path.now }
+    ensures below { IsTrue result → is_below other.now path.now ≡ false }
+{
+    if *other == *path || path.is_below(other) {
+        return false;
+    }
+    true
+}
+
+/// A call, or what is read of a table after the calls before.
+#[derive(Clone, Copy)]
+enum Step {
+    /// A directory of this number, mode 0750.
+    Mkdir(&'static str, u32),
+    /// A file of this number, mode 0644.
+    Create(&'static str, u32),
+    Link(&'static str, &'static str),
+    Unlink(&'static str),
+    Rename(&'static str, &'static str),
+    Swap(&'static str, &'static str),
+    SetMode(&'static str, u32),
+    SetContent(&'static str, &'static str),
+    Write(&'static str, usize, &'static str),
+    SetLen(&'static str, usize),
+    /// The number at the path.
+    Is(&'static str, u32),
+    IsRefused(&'static str, Refusal),
+    /// The kind, the mode and the count of links.
+    Has(&'static str, Kind, u32, u64),
+    Holds(&'static str, &'static str),
+    /// The names, each with a space behind it.
+    Lists(&'static str, &'static str),
+    /// How many nodes there are.
+    Counts(usize),
+}
+
+/// A table on which calls are made one after another. A call answers whether it was made.
+#[derive(Drop)]
+struct Calls {
+    alloc: Global,
+    table: Table,
+}
+
+impl Calls {
+    fn new(alloc: Global) -> Result<Calls, Refusal> {
+        Ok(Calls {
+            alloc,
+            table: Table::new(alloc)?,
+        })
+    }
+
+    fn path(&self, text: &str) -> Result<Path, Refusal> {
+        Path::parse(self.alloc, text.as_bytes())
+    }
+
+    // Makes a file or a directory of a number above all others.
+    fn add(&mut self, path: &str, number: u32, mode: u32, kind: Kind) -> Result<bool, Refusal> {
+        if !has_below(&self.table, number) {
+            return Ok(false);
+        }
+        self.add_last(path, number, mode, kind)
+    }
+
+    fn add_last(&mut self, path: &str, number: u32, mode: u32, kind: Kind) -> Result<bool, Refusal>
+        requires { (k : ℕ) (v : What) → what_at self.old.table k ≡ Some v → v.number < number }
+        ensures { OnOk result ((k : ℕ) (v : What) → what_at self.new.table k ≡ Some v → v.number < number + 1) }
+    {
+        let path = self.path(path)?;
+        if !is_free(&self.table, path.names()) {
+            return Ok(false);
+        }
+        self.table.reserve_node()?;
+        self.table.law();
+        self.table.add_node(path.names(), number, mode, kind)?;
+        Ok(true)
+    }
+
+    fn link(&mut self, old: &str, new: &str) -> Result<bool, Refusal> {
+        let (old, new) = (self.path(old)?, self.path(new)?);
+        let seen = self.table.look(old.names())?;
+        if seen.kind == Kind::Directory || seen.links == u64::MAX {
+            return Ok(false);
+        }
+        if !is_free(&self.table, new.names()) {
+            return Ok(false);
+        }
+        self.table.add_name(old.names(), new.names())?;
+        Ok(true)
+    }
+
+    fn unlink(&mut self, path: &str) -> Result<bool, Refusal> {
+        let path = self.path(path)?;
+        let seen = self.table.look(path.names())?;
+        if seen.has_names || path.names().is_empty() {
+            return Ok(false);
+        }
+        let key = self.table.drop_name(path.names());
+        if self.table.links(key) == 0 {
+            self.table.drop_node(key);
+        }
+        Ok(true)
+    }
+
+    fn rename(&mut self, old: &str, new: &str) -> Result<bool, Refusal> {
+        let (old, new) = (self.path(old)?, self.path(new)?);
+        self.table.look(old.names())?;
+        if old.names().is_empty() || !is_outside(&new, &old) {
+            return Ok(false);
+        }
+        if !has_parent(&self.table, new.names()) || has_names(&self.table, new.names()) {
+            return Ok(false);
+        }
+        if let Some(replaced) = self.table.replace_name(old.names(), new.names())? {
+            self.table.drop_if_lost(replaced);
+        }
+        Ok(true)
+    }
+
+    fn swap(&mut self, one: &str, other: &str) -> Result<bool, Refusal> {
+        let (one, other) = (self.path(one)?, self.path(other)?);
+        self.table.look(one.names())?;
+        self.table.look(other.names())?;
+        if !is_outside(&one, &other) || !is_outside(&other, &one) {
+            return Ok(false);
+        }
+        self.table.swap_names(one.names(), other.names());
+        Ok(true)
+    }
+
+    fn set_mode(&mut self, path: &str, mode: u32) -> Result<bool, Refusal> {
+        let path = self.path(path)?;
+        self.table.look(path.names())?;
+        self.table.set_mode(path.names(), mode);
+        Ok(true)
+    }
+
+    fn set_content(&mut self, path: &str, bytes: &[u8]) -> Result<bool, Refusal> {
+        let path = self.path(path)?;
+        let bytes = Vec::from_slice(self.alloc, bytes)?;
+        if self.table.look(path.names())?.kind == Kind::Directory {
+            return Ok(false);
+        }
+        self.table.set_content(path.names(), bytes);
+        Ok(true)
+    }
+
+    fn write(&mut self, path: &str, offset: usize, bytes: &[u8]) -> Result<bool, Refusal> {
+        let path = self.path(path)?;
+        let Some(end) = offset.checked_add(bytes.len()) else {
+            return Ok(false);
+        };
+        if self.table.look(path.names())?.kind == Kind::Directory {
+            return Ok(false);
+        }
+        self.table.reserve_content(path.names(), end)?;
+        self.table.write(path.names(), offset, bytes);
+        Ok(true)
+    }
+
+    fn set_len(&mut self, path: &str, len: usize) -> Result<bool, Refusal> {
+        let path = self.path(path)?;
+        if self.table.look(path.names())?.kind == Kind::Directory {
+            return Ok(false);
+        }
+        self.table.reserve_content(path.names(), len)?;
+        self.table.set_len(path.names(), len);
+        Ok(true)
+    }
+
+    fn has(&self, path: &str, kind: Kind, mode: u32, links: u64) -> Result<bool, Refusal> {
+        let path = self.path(path)?;
+        let table = &self.table;
+        let key = table.resolve(path.names())?;
+        let seen = table.seen(key);
+        Ok(
+            table.kind(key) == kind
+                && table.mode(key) == mode
+                && table.links(key) == links
+                && (seen.number, seen.kind, seen.links) == (table.number(key), kind, links),
+        )
+    }
+
+    fn number(&self, path: &str) -> Result<u32, Refusal> {
+        let path = self.path(path)?;
+        let key = self.table.resolve(path.names())?;
+        Ok(self.table.number(key))
+    }
+
+    fn holds(&self, path: &str, bytes: &[u8]) -> Result<bool, Refusal> {
+        let path = self.path(path)?;
+        let key = self.table.resolve(path.names())?;
+        Ok(self.table.content(key) == bytes)
+    }
+
+    // Whether these are the names in the directory, each with a space behind it.
+    fn lists(&self, path: &str, names: &str) -> Result<bool, Refusal> {
+        let path = self.path(path)?;
+        let key = self.table.resolve(path.names())?;
+        if self.table.kind(key) != Kind::Directory {
+            return Ok(false);
+        }
+        if self.table.seen(key).has_names == names.is_empty() {
+            return Ok(false);
+        }
+        let mut text = Vec::new(self.alloc);
+        for name in self.table.child_names(key) {
+            text.extend_from_slice(name.bytes())?;
+            text.push(b' ')?;
+        }
+        Ok(text.as_slice() == names.as_bytes())
+    }
+
+    // How many names are in the directory.
+    fn count(&self, path: &str) -> Result<usize, Refusal> {
+        let path = self.path(path)?;
+        let key = self.table.resolve(path.names())?;
+        if self.table.kind(key) != Kind::Directory {
+            return Ok(0);
+        }
+        Ok(self.table.child_names(key).count())
+    }
+
+    fn is_refused(&self, path: &str, refusal: Refusal) -> Result<bool, Refusal> {
+        match self.number(path) {
+            Err(Refusal::Enomem) => Err(Refusal::Enomem),
+            answer => Ok(answer == Err(refusal)),
+        }
+    }
+
+    // Whether the call is made, or what is read is so.
+    fn step(&mut self, step: Step) -> Result<bool, Refusal> {
+        match step {
+            Step::Mkdir(path, number) => self.add(path, number, 0o750, Kind::Directory),
+            Step::Create(path, number) => self.add(path, number, 0o644, Kind::Regular),
+            Step::Link(old, new) => self.link(old, new),
+            Step::Unlink(path) => self.unlink(path),
+            Step::Rename(old, new) => self.rename(old, new),
+            Step::Swap(one, other) => self.swap(one, other),
+            Step::SetMode(path, mode) => self.set_mode(path, mode),
+            Step::SetContent(path, bytes) => self.set_content(path, bytes.as_bytes()),
+            Step::Write(path, offset, bytes) => self.write(path, offset, bytes.as_bytes()),
+            Step::SetLen(path, len) => self.set_len(path, len),
+            Step::Is(path, number) => Ok(self.number(path)? == number),
+            Step::IsRefused(path, refusal) => self.is_refused(path, refusal),
+            Step::Has(path, kind, mode, links) => self.has(path, kind, mode, links),
+            Step::Holds(path, bytes) => self.holds(path, bytes.as_bytes()),
+            Step::Lists(path, names) => self.lists(path, names),
+            Step::Counts(nodes) => Ok(self.table.nodes.len() == nodes),
+        }
+    }
+}
+
+// The place of the first step that fails, if any, of those that begin with a new table. A step that lacks memory has
+// changed nothing, and is made once more.
+fn failed(alloc: Global, steps: &[Step]) -> Result<Option<usize>, Refusal> {
+    let mut calls = Calls::new(alloc)?;
+    for (place, step) in steps.iter().enumerate() {
+        let holds = match calls.step(*step) {
+            Err(Refusal::Enomem) => calls.step(*step)?,
+            answer => answer?,
+        };
+        if !holds {
+            return Ok(Some(place));
+        }
+    }
+    Ok(None)
+}
+
+#[test]
+fn a_new_table_is_the_root(rt: HostRuntime) -> Result<(), Fail> {
+    let steps = [
+        Step::Is("/", 1),
+        Step::Has("/", Kind::Directory, 0o755, 1),
+        Step::Lists("/", ""),
+    ];
+    assert_eq!(rt; failed(rt.alloc(), &steps)?, None);
+    Ok(())
+}
+
+#[test]
+fn files_stand_under_paths(rt: HostRuntime) -> Result<(), Fail> {
+    let steps = [
+        Step::Mkdir("/d", 2),
+        Step::Create("/d/f", 7),
+        Step::Is("/d", 2),
+        Step::Has("/d", Kind::Directory, 0o750, 1),
+        Step::Is("/d/f", 7),
+        Step::Has("/d/f", Kind::Regular, 0o644, 1),
+        Step::Holds("/d/f", ""),
+        Step::SetMode("/d/f", 0o600),
+        Step::SetContent("/d/f", "bytes"),
+        Step::Has("/d/f", Kind::Regular, 0o600, 1),
+        Step::Holds("/d/f", "bytes"),
+        Step::IsRefused("/e", Refusal::Enoent),
+        Step::IsRefused("/e/f", Refusal::Enoent),
+        Step::IsRefused("/d/g", Refusal::Enoent),
+        Step::IsRefused("/d/f/g", Refusal::Enotdir),
+        Step::IsRefused("/d/f/g/h", Refusal::Enotdir),
+    ];
+    assert_eq!(rt; failed(rt.alloc(), &steps)?, None);
+    Ok(())
+}
+
+#[test]
+fn names_are_in_the_order_of_their_bytes(rt: HostRuntime) -> Result<(), Fail> {
+    let steps = [
+        Step::Mkdir("/d", 2),
+        Step::Create("/b", 3),
+        Step::Create("/d/b", 4),
+        Step::Create("/d/ab", 5),
+        Step::Mkdir("/d/B", 6),
+        Step::Create("/d/a", 7),
+        Step::Lists("/d", "B a ab b "),
+        Step::Lists("/", "b d "),
+    ];
+    assert_eq!(rt; failed(rt.alloc(), &steps)?, None);
+    Ok(())
+}
+
+#[test]
+fn links_share_a_file(rt: HostRuntime) -> Result<(), Fail> {
+    let steps = [
+        Step::Mkdir("/d", 2),
+        Step::Create("/f", 3),
+        Step::Link("/f", "/d/g"),
+        Step::Write("/d/g", 0, "shared"),
+        Step::Holds("/f", "shared"),
+        Step::Has("/f", Kind::Regular, 0o644, 2),
+        Step::Unlink("/f"),
+        Step::IsRefused("/f", Refusal::Enoent),
+        Step::Is("/d/g", 3),
+        Step::Has("/d/g", Kind::Regular, 0o644, 1),
+        Step::Holds("/d/g", "shared"),
+        Step::Unlink("/d/g"),
+        Step::Counts(2),
+        Step::Unlink("/d"),
+        Step::Lists("/", ""),
+    ];
+    assert_eq!(rt; failed(rt.alloc(), &steps)?, None);
+    Ok(())
+}
+
+#[test]
+fn a_directory_moves_with_what_is_below(rt: HostRuntime) -> Result<(), Fail> {
+    let steps = [
+        Step::Mkdir("/d", 2),
+        Step::Mkdir("/d/e", 3),
+        Step::Create("/d/e/f", 4),
+        Step::Mkdir("/x", 5),
+        Step::Mkdir("/x/y", 6),
+        Step::Rename("/d", "/x/y"),
+        Step::Is("/x/y", 2),
+        Step::Is("/x/y/e", 3),
+        Step::Is("/x/y/e/f", 4),
+        Step::IsRefused("/d", Refusal::Enoent),
+        Step::IsRefused("/d/e/f", Refusal::Enoent),
+        Step::Counts(5),
+    ];
+    assert_eq!(rt; failed(rt.alloc(), &steps)?, None);
+    Ok(())
+}
+
+#[test]
+fn a_rename_replaces_a_file(rt: HostRuntime) -> Result<(), Fail> {
+    let steps = [
+        Step::Create("/f", 2),
+        Step::Create("/g", 3),
+        Step::Create("/h", 4),
+        Step::Link("/h", "/i"),
+        Step::Rename("/f", "/g"),
+        Step::Counts(3),
+        Step::Rename("/g", "/h"),
+        Step::Is("/h", 2),
+        Step::Is("/i", 4),
+        Step::Has("/i", Kind::Regular, 0o644, 1),
+        Step::Lists("/", "h i "),
+    ];
+    assert_eq!(rt; failed(rt.alloc(), &steps)?, None);
+    Ok(())
+}
+
+#[test]
+fn two_names_are_exchanged(rt: HostRuntime) -> Result<(), Fail> {
+    let steps = [
+        Step::Mkdir("/d", 2),
+        Step::Create("/d/f", 3),
+        Step::Mkdir("/e", 4),
+        Step::Create("/e/g", 5),
+        Step::Swap("/d", "/e/g"),
+        Step::Is("/d", 5),
+        Step::Is("/e/g", 2),
+        Step::Is("/e/g/f", 3),
+        Step::IsRefused("/d/f", Refusal::Enotdir),
+    ];
+    assert_eq!(rt; failed(rt.alloc(), &steps)?, None);
+    Ok(())
+}
+
+#[test]
+fn a_file_is_written_in_place(rt: HostRuntime) -> Result<(), Fail> {
+    let steps = [
+        Step::Create("/f", 2),
+        Step::Write("/f", 3, "abc"),
+        Step::Holds("/f", "\0\0\0abc"),
+        Step::Write("/f", 1, "xyz"),
+        Step::Holds("/f", "\0xyzbc"),
+        Step::SetLen("/f", 2),
+        Step::Holds("/f", "\0x"),
+        Step::SetLen("/f", 4),
+        Step::Write("/f", 9, ""),
+        Step::Holds("/f", "\0x\0\0"),
+    ];
+    assert_eq!(rt; failed(rt.alloc(), &steps)?, None);
+    Ok(())
+}
+
+#[test]
+fn a_name_has_255_bytes(rt: HostRuntime) -> Result<(), Fail> {
+    let mut calls = Calls::new(rt.alloc())?;
+    let mut path = String::new(rt.alloc());
+    path.push('/')?;
+    for _ in 0..255 {
+        path.push('n')?;
+    }
+    assert!(rt; calls.add(path.as_str(), 2, 0o644, Kind::Regular)?);
+    assert_eq!(rt; calls.number(path.as_str())?, 2);
+    Ok(())
+}
+
+// Makes a directory of the files 0 to 9999.
+fn filled(alloc: Global) -> Result<Option<Calls>, Refusal> {
+    let mut calls = Calls::new(alloc)?;
+    calls.add("/d", 2, 0o755, Kind::Directory)?;
+    calls.add("/e", 3, 0o755, Kind::Directory)?;
+    if !has_below(&calls.table, FIRST_FILE) {
+        return Ok(None);
+    }
+    for i in 0..FILES {
+        let path = format!(in alloc; "/d/{i}")?;
+        calls.add_last(path.as_str(), FIRST_FILE + i, 0o644, Kind::Regular)?;
+    }
+    Ok(Some(calls))
+}
+
+// Renames the directory, looks at a file of it under both paths, and renames it back.
+fn moves(calls: &mut Calls) -> Result<bool, Refusal> {
+    Ok(
+        calls.rename("/d", "/e/d")?
+            && calls.number("/e/d/9999")? == 10_003
+            && calls.number("/d/9999") == Err(Refusal::Enoent)
+            && calls.count("/e/d")? == 10_000
+            && calls.rename("/e/d", "/d")?
+            && calls.number("/d/0")? == 4,
+    )
+}
+
+#[test]
+fn a_large_directory_moves_back_and_forth(rt: HostRuntime) -> Result<(), Fail> {
+    let mut calls = filled(rt.alloc())?.ok_or("numbers")?;
+    for _ in 0..100 {
+        assert!(rt; moves(&mut calls)?);
+    }
+    Ok(())
+}
