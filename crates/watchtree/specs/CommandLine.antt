@@ -3,20 +3,22 @@ use Rattle.std.specs.Prelude.{◌≤◌, ℕ, ◌&&◌, nat_lt, nat_le, List, le
 use Rattle.std.specs.Char.{is_ascii_digit}
 use Rattle.std.specs.List.{list_all}
 use Rattle.std.specs.Str.Parse.{digits_value}
+use Rattle.tree_paths.specs.Greatest.{most_queue}
 
--- the least and the greatest limit of a queue
-abbrev pub queue_min : ℕ
-queue_min = 1
-
-abbrev pub queue_max : ℕ
-queue_max = 65535
+-- the least limit of a queue. The greatest is that of every queue
+abbrev pub least_queue : ℕ
+least_queue = 1
 
 abbrev pub IsQueueLimit : ℕ → Type 0
-IsQueueLimit limit = (queue_min ≤ limit) × (limit ≤ queue_max)
+IsQueueLimit limit = (least_queue ≤ limit) × (limit ≤ most_queue)
 
--- N: 1 to 5 decimal digits that stand for a limit
+-- how many digits a limit may have
+abbrev pub most_digits : ℕ
+most_digits = 5
+
+-- N: decimal digits, as many as may be, that stand for a limit
 unfoldable pub queue_of : List ℕ → Option ℕ
 queue_of text =
-    if nat_lt 0 (length text) && nat_le (length text) 5 && list_all is_ascii_digit text
-    && nat_le queue_min (digits_value 10 text) && nat_le (digits_value 10 text) queue_max
+    if nat_lt 0 (length text) && nat_le (length text) most_digits && list_all is_ascii_digit text
+    && nat_le least_queue (digits_value 10 text) && nat_le (digits_value 10 text) most_queue
     then Some (digits_value 10 text) else None

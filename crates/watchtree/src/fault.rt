@@ -1,5 +1,8 @@
 //! Why the program ends before its work is done.
 
+ghost use Rattle.std.specs.Prelude.{◌≡◌, ◌≢◌};
+ghost use Rattle.watchtree.specs.Statuses.{status_of};
+
 use std::alloc::AllocError;
 use std::io::ErrorKind;
 use thiserror::Error;
@@ -21,7 +24,9 @@ pub enum Fault {
 
 impl Fault {
     /// The exit status: 2 where the input is wrong, 3 for a failed read or write and for want of memory.
-    pub fn status(self) -> u8 {
+    pub fn status(self) -> u8
+        ensures { result ≡ status_of self }
+    {
         match self {
             Fault::CommandLine | Fault::Run(RunFault::Script { .. } | RunFault::TooLong) => 2,
             Fault::Memory | Fault::Run(RunFault::Read | RunFault::Write | RunFault::Memory) => 3,
@@ -29,7 +34,10 @@ impl Fault {
     }
 
     /// The fault of words that could not be had: they are no UTF-8, if memory is not spent.
-    pub fn of_words(kind: ErrorKind) -> Fault {
+    pub fn of_words(kind: ErrorKind) -> Fault
+        ensures memory { kind ≡ ErrorKind.OutOfMemory → result ≡ Fault.Memory }
+        ensures words { kind ≢ ErrorKind.OutOfMemory → result ≡ Fault.CommandLine }
+    {
         match kind {
             ErrorKind::OutOfMemory => Fault::Memory,
             _ => Fault::CommandLine,

@@ -1,0 +1,26 @@
+-- The exit status of the program where it ends before its work is done.
+use Rattle.std.specs.Prelude.{ℕ}
+use Rattle.watchtree.specs.declared.fault.Fault.{Fault}
+use Rattle.watchtree.specs.declared.fault.Fault.TheVariants.{CommandLine, Memory, Run}
+use Rattle.watchtree_script.specs.declared.fault.RunFault.{RunFault}
+use Rattle.watchtree_script.specs.declared.fault.RunFault.TheVariants as run
+
+-- what was given to the program is wrong
+abbrev pub bad_input : ℕ
+bad_input = 2
+
+-- a read or a write failed, or memory is spent
+abbrev pub failed : ℕ
+failed = 3
+
+abbrev pub status_of_run : RunFault → ℕ
+status_of_run (run.Script line fault) = bad_input
+status_of_run run.TooLong = bad_input
+status_of_run run.Read = failed
+status_of_run run.Write = failed
+status_of_run run.Memory = failed
+
+abbrev pub status_of : Fault → ℕ
+status_of CommandLine = bad_input
+status_of Memory = failed
+status_of (Run fault) = status_of_run fault
