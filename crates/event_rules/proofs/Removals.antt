@@ -14,7 +14,7 @@ use Rattle.event_rules.specs.Laws.{watch_without}
 
 -- ---- the watches without that of a file
 
-same_or_not : (n m : ℕ) → ((n ≡ m) × (eq_by_cmp nat_cmp n m ≡ true)) ⊎ ((n ≢ m) × (eq_by_cmp nat_cmp n m ≡ false))
+pub same_or_not : (n m : ℕ) → ((n ≡ m) × (eq_by_cmp nat_cmp n m ≡ true)) ⊎ ((n ≢ m) × (eq_by_cmp nat_cmp n m ≡ false))
 same_or_not n m =
     elim (nat_cmp n m) as (λ o. nat_cmp n m ≡ o → ((n ≡ m) × (is_eq o ≡ true)) ⊎ ((n ≢ m) × (is_eq o ≡ false))) [
       | Less ↦ λ e. inr (λ is. let same : nat_cmp n m ≡ Equal = ap (nat_cmp n) (sym is) ∙ tied_itself nat_cmp_total n in cc, refl)
@@ -64,6 +64,22 @@ dropped-was w number n watch h =
 
 pub wd-of : (w : Watching) (number : ℕ) (watch : Watch) → watch_of w number ≡ Some watch → wd_of w number ≡ Some watch.0
 wd-of w number watch there = ap (option_map (λ (x : Watch). x.0)) there
+
+-- ---- the watches that a notice leaves
+
+-- all of them, or all but that of its file
+module _ (P : Watching → Type 0) (w : Watching) (n : Notice) (all : P w) (others : P (dropped w (told_number n))) where
+  either-by : (o : Option Watch) → P (left_by w n o)
+  either-by None = all
+  either-by (Some watch) = by (ends_watch n watch)
+    where
+      by : (b : Bool) → P (if b then dropped w (told_number n) else w)
+      by true = others
+      by false = all
+
+  pub left-either : P (left w n)
+  unfolding left
+  left-either = either-by (watch_of w (told_number n))
 
 -- ---- a watch of a descriptor, by the laws on descriptors
 
@@ -129,17 +145,8 @@ module _ (known : Known) where
 
   -- ---- the watches that notices leave
 
-  sound_by : (w : Watching) (n : Notice) (o : Option Watch) → IsSound w → IsSound (left_by w n o)
-  sound_by w n None sound = sound
-  sound_by w n (Some watch) sound = by (ends_watch n watch)
-    where
-      by : (b : Bool) → IsSound (if b then dropped w (told_number n) else w)
-      by true = known.after_dropped w (told_number n) sound
-      by false = sound
-
   pub left-IsSound : (w : Watching) (n : Notice) → IsSound w → IsSound (left w n)
-  unfolding left
-  left-IsSound w n sound = sound_by w n (watch_of w (told_number n)) sound
+  left-IsSound w n sound = left-either IsSound w n sound (known.after_dropped w (told_number n) sound)
 
   left-by : (w : Watching) (n : Notice) (o : Option Watch) → IsSound w → watch_of w (told_number n) ≡ o → fold removed w (ended_by n o) ≡ left_by w n o
   left-by w n None sound is = refl

@@ -4,9 +4,9 @@ use Rattle.record_codec.specs.declared.bits.TheConstants.{IN_ALL_EVENTS, IN_IGNO
 use Rattle.record_codec.specs.declared.event.Event.{Event}
 use Rattle.watch_table.specs.Masks.{has_any}
 use Rattle.watch_table.specs.Watching.{Watch, Watching, watch_of, dropped}
+use Rattle.event_rules.specs.declared.notice.TheConstants.{NO_COOKIE}
 use Rattle.event_rules.specs.declared.notice.Notice.{Notice}
 use Rattle.event_rules.specs.declared.notice.Notice.TheVariants.{Told, Gone}
-use Rattle.event_rules.specs.Table.{no_cookie}
 
 -- ---- one notice
 
@@ -33,7 +33,7 @@ ends_watch (Gone number) watch = true
 
 -- the event that says that the watch of a descriptor has ended
 abbrev pub ignored : ℤ → Event
-ignored wd = record { wd = wd; mask = IN_IGNORED; cookie = no_cookie; name = None }
+ignored wd = record { wd = wd; mask = IN_IGNORED; cookie = NO_COOKIE; name = None }
 
 -- the event of a notice, where the watch asks for it
 abbrev pub event_told : Notice → Watch → List Event

@@ -16,10 +16,11 @@ use Rattle.tree_ops.specs.declared.call.FileCall.{FileCall}
 use Rattle.tree_ops.specs.declared.call.FileCall.TheVariants.{Create, Write, ReadFile, Truncate, Chmod, Mkdir, Link, Unlink, Rmdir, Rename, Stat, List as Listed}
 use Rattle.tree_ops.specs.After.{answer_of}
 use Rattle.tree_ops.specs.Refused.{are_same_seen}
+use Rattle.event_rules.specs.declared.notice.TheConstants.{NO_COOKIE}
 use Rattle.event_rules.specs.declared.notice.Notice.{Notice}
 use Rattle.event_rules.specs.declared.notice.Notice.TheVariants.{Told, Gone}
 
--- ---- the bits and the cookie
+-- ---- the bits
 
 -- an event about a directory has IN_ISDIR too
 abbrev pub about : Kind → ℕ → ℕ
@@ -30,10 +31,6 @@ about Directory event = bit_or event IN_ISDIR
 abbrev pub kind_seen : Option Seen → Kind
 kind_seen None = Regular
 kind_seen (Some s) = s.kind
-
--- the cookie of all that is no move
-abbrev pub no_cookie : ℕ
-no_cookie = 0
 
 -- ---- who is told
 
@@ -50,15 +47,15 @@ to_dir at p kind event cookie = told_in (at (parent_of p)) (last_or None p) (abo
 -- the object itself is told
 abbrev pub to_self : Option Seen → ℕ → List Notice
 to_self None bits = []
-to_self (Some s) bits = Told s.number bits no_cookie None ∷ []
+to_self (Some s) bits = Told s.number bits NO_COOKIE None ∷ []
 
 -- both are told, and to both it says whether the object is a directory
 unfoldable pub to_both : Look → List Label → ℕ → List Notice
-to_both at p event = to_dir at p (kind_seen (at p)) event no_cookie ++ to_self (at p) (about (kind_seen (at p)) event)
+to_both at p event = to_dir at p (kind_seen (at p)) event NO_COOKIE ++ to_self (at p) (about (kind_seen (at p)) event)
 
 -- a regular file is told that its links changed
 abbrev pub attrib_told : Kind → ℕ → List Notice
-attrib_told Regular number = Told number IN_ATTRIB no_cookie None ∷ []
+attrib_told Regular number = Told number IN_ATTRIB NO_COOKIE None ∷ []
 attrib_told Directory number = []
 
 -- what loses a path is told so. Where that is the last one, which each directory's is, it is deleted and gone
@@ -66,15 +63,15 @@ unfoldable pub path_lost : Option Seen → List Notice
 path_lost None = []
 path_lost (Some s) =
     attrib_told s.kind s.number
-    ++ (if s.links == 1 then Told s.number IN_DELETE_SELF no_cookie None ∷ Gone s.number ∷ [] else [])
+    ++ (if s.links == 1 then Told s.number IN_DELETE_SELF NO_COOKIE None ∷ Gone s.number ∷ [] else [])
 
 -- ---- the table of events
 
 unfoldable pub create_told : Look → List Label → List Notice
-create_told at p = to_dir at p Regular IN_CREATE no_cookie ++ to_dir at p Regular IN_OPEN no_cookie ++ to_dir at p Regular IN_CLOSE_WRITE no_cookie
+create_told at p = to_dir at p Regular IN_CREATE NO_COOKIE ++ to_dir at p Regular IN_OPEN NO_COOKIE ++ to_dir at p Regular IN_CLOSE_WRITE NO_COOKIE
 
 unfoldable pub mkdir_told : Look → List Label → List Notice
-mkdir_told at p = to_dir at p Directory IN_CREATE no_cookie
+mkdir_told at p = to_dir at p Directory IN_CREATE NO_COOKIE
 
 -- where a byte was given
 unfoldable pub write_told : Look → List Label → Bool → List Notice
@@ -93,13 +90,13 @@ unfoldable pub chmod_told : Look → List Label → List Notice
 chmod_told at p = to_both at p IN_ATTRIB
 
 unfoldable pub link_told : Look → List Label → List Label → List Notice
-link_told at old new = to_self (at old) IN_ATTRIB ++ to_dir at new Regular IN_CREATE no_cookie
+link_told at old new = to_self (at old) IN_ATTRIB ++ to_dir at new Regular IN_CREATE NO_COOKIE
 
 unfoldable pub unlink_told : Look → List Label → List Notice
-unlink_told at p = path_lost (at p) ++ to_dir at p Regular IN_DELETE no_cookie
+unlink_told at p = path_lost (at p) ++ to_dir at p Regular IN_DELETE NO_COOKIE
 
 unfoldable pub rmdir_told : Look → List Label → List Notice
-rmdir_told at p = path_lost (at p) ++ to_dir at p Directory IN_DELETE no_cookie
+rmdir_told at p = path_lost (at p) ++ to_dir at p Directory IN_DELETE NO_COOKIE
 
 -- the name that was replaced is told of no deletion, though the object that had it is
 unfoldable pub move_told : Look → List Label → List Label → ℕ → List Notice

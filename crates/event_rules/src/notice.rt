@@ -6,8 +6,11 @@ use record_codec::Name;
 use std::alloc::{AllocError, Global};
 use std::marker::Model;
 
+/// The cookie of all events but the two of a rename.
+pub const NO_COOKIE: u32 = 0;
+
 /// What the watches of a file are told.
-#[derive(Drop)]
+#[derive(Debug, Drop, PartialEq, Eq)]
 pub enum Notice {
     /// An event, of the file or of an object in the directory.
     Told {
@@ -15,7 +18,7 @@ pub enum Notice {
         number: u32,
         /// The event's bit, and `IN_ISDIR` where the event is about a directory.
         bits: u32,
-        /// What ties the two events of a rename together, and 0 in all others.
+        /// What ties the two events of a rename together, and [`NO_COOKIE`] in all others.
         cookie: u32,
         /// The object's name in the directory.
         name: Option<Name>,

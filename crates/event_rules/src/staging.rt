@@ -7,7 +7,7 @@ ghost use Rattle.watch_table.specs.Watching.{removed, watch_of};
 ghost use Rattle.event_rules.specs.Raised.{asks_for, ended, ends_watch, event_told, events_of, ignored, raised, watches_after, wds_ended};
 
 use crate::laws::{removals_leave_the_rest, removed_watches_are_left_out};
-use crate::notice::Notice;
+use crate::notice::{NO_COOKIE, Notice};
 use record_codec::{Event, Events, bits};
 use std::alloc::{AllocError, Global};
 use tree_paths::Refusal;
@@ -29,7 +29,7 @@ pub fn ignored(wd: i32) -> Event
     Event {
         wd,
         mask: bits::IN_IGNORED,
-        cookie: 0,
+        cookie: NO_COOKIE,
         name: None,
     }
 }

@@ -8,15 +8,12 @@ ghost use Rattle.tree_ops.specs.Refused.{are_same_seen};
 ghost use Rattle.tree_ops.specs.declared.call.FileCall.TheVariants.{ReadFile};
 ghost use Rattle.event_rules.specs.Table.{about, answers_byte, chmod_told, create_told, kind_seen, link_told, mkdir_told, move_told, no_counts, notices_of, path_lost, read_told, rename_told, rmdir_told, to_both, to_dir, to_self, truncate_told, unlink_told, write_told};
 
-use crate::notice::{Notice, Notices};
+use crate::notice::{NO_COOKIE, Notice, Notices};
 use inode_table::{Kind, Seen, Table};
 use record_codec::bits;
 use std::alloc::{AllocError, Global};
 use tree_ops::{FileCall, Ready};
 use tree_paths::{Path, Refusal};
-
-// The cookie of all that is no move.
-const NO_COOKIE: u32 = 0;
 
 // What stands at a path.
 fn seen(table: &Table, path: &Path) -> Option<Seen>
