@@ -140,8 +140,8 @@ module _ (P : Notice → Type 0) (cookie : ℕ) (holds : HoldsOfLines P cookie) 
       let to = to_dir at new (kind_seen (at old)) IN_MOVED_TO cookie in
       both (from ++ to ++ path_lost (at new)) (to_self (at old) IN_MOVE_SELF)
       (both (from ++ to) (path_lost (at new))
-        (both from to (dir at old (kind_seen (at old)) IN_MOVED_FROM cookie holds.moved_from) (dir at new (kind_seen (at old)) IN_MOVED_TO cookie holds.moved_to))
-        (lost (at new)))
+      (both from to (dir at old (kind_seen (at old)) IN_MOVED_FROM cookie holds.moved_from) (dir at new (kind_seen (at old)) IN_MOVED_TO cookie holds.moved_to))
+      (lost (at new)))
       (self (at old) Regular IN_MOVE_SELF holds.move_self)
 
   rename-by : (b : Bool) (at : Look) (old new : List (List ℕ)) → All P (if b then [] else move_told at old new cookie)

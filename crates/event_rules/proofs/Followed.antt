@@ -127,7 +127,7 @@ module _ (ending : Ending) where
   quiet-by w n None rest sound is q over = q
   quiet-by w (Told number bits cookie name) (Some watch) rest sound is q over =
       quiet-told watch bits cookie name rest (asks_for watch bits) (is_oneshot watch) refl q (λ both. over watch.0 (subst (λ b. HasEnded (if b then dropped w number else w) watch.0) (sym both)
-        (ending.ends w watch.0 number sound (wd-of w number watch is))))
+      (ending.ends w watch.0 number sound (wd-of w number watch is))))
   quiet-by w (Gone number) (Some watch) rest sound is q over = (λ said. over watch.0 (ending.ends w watch.0 number sound (wd-of w number watch is)), q)
 
   quiet-one : (w : Watching) (n : Notice) (rest : List Event) → IsSound w → Quiet rest → ((wd : ℤ) → HasEnded (left w n) wd → TellsNothing wd rest) → Quiet (raised w n ++ rest)
