@@ -17,7 +17,7 @@ use Rattle.tree_ops.specs.Refused.{are_same_seen, cookies_of}
 use Rattle.event_rules.specs.declared.notice.TheConstants.{NO_COOKIE}
 use Rattle.event_rules.specs.declared.notice.Notice.{Notice}
 use Rattle.event_rules.specs.declared.notice.Notice.TheVariants.{Told, Gone}
-use Rattle.event_rules.specs.Table.{about, answers_byte, attrib_told, chmod_told, create_told, has_byte, kind_seen, link_told, mkdir_told, move_told, no_counts, notices_of, path_lost, read_told, rename_told, rmdir_told, to_both, to_dir, to_self, told_in, truncate_told, unlink_told, write_told}
+use Rattle.event_rules.specs.Table.{about, answers_byte, chmod_told, create_told, deleted_told, has_byte, kind_seen, link_told, lost_told, mkdir_told, move_told, no_counts, notices_of, path_lost, read_told, rename_told, rmdir_told, to_both, to_dir, to_self, told_in, truncate_told, unlink_told, write_told}
 use Rattle.event_rules.specs.Raised.{event_bit}
 use Rattle.event_rules.specs.Laws.{HasCookie, HasOneEvent, cookie_for}
 
@@ -67,20 +67,23 @@ module _ (P : Notice → Type 0) (cookie : ℕ) (holds : HoldsOfLines P cookie) 
       both (to_dir at p (kind_seen (at p)) event NO_COOKIE) (to_self (at p) (about (kind_seen (at p)) event))
       (dir at p (kind_seen (at p)) event NO_COOKIE h) (self (at p) (kind_seen (at p)) event h)
 
-  attrib-by : (kind : Kind) (number : ℕ) → All P (attrib_told kind number)
-  attrib-by Regular number = one (Told number IN_ATTRIB NO_COOKIE None) (holds.attrib Regular number None)
-  attrib-by Directory number = All-nil P
+  deleted : (number : ℕ) → All P (deleted_told number)
+  deleted number =
+      All-cons P (Told number IN_DELETE_SELF NO_COOKIE None) (Gone number ∷ []) (holds.delete_self Regular number None) (one (Gone number) (holds.gone number))
 
-  deleted-by : (b : Bool) (number : ℕ) → All P (if b then Told number IN_DELETE_SELF NO_COOKIE None ∷ Gone number ∷ [] else [])
-  deleted-by true number = All-cons P (Told number IN_DELETE_SELF NO_COOKIE None) (Gone number ∷ []) (holds.delete_self Regular number None) (one (Gone number) (holds.gone number))
+  deleted-by : (b : Bool) (number : ℕ) → All P (if b then deleted_told number else [])
+  deleted-by true number = deleted number
   deleted-by false number = All-nil P
+
+  lost-by : (kind : Kind) (number links : ℕ) → All P (lost_told kind number links)
+  lost-by Regular number links =
+      All-cons P (Told number IN_ATTRIB NO_COOKIE None) (if links == 1 then deleted_told number else []) (holds.attrib Regular number None) (deleted-by (links == 1) number)
+  lost-by Directory number links = deleted number
 
   lost : (s : Option Seen) → All P (path_lost s)
   unfolding path_lost
   lost None = All-nil P
-  lost (Some s) =
-      both (attrib_told s.kind s.number) (if s.links == 1 then Told s.number IN_DELETE_SELF NO_COOKIE None ∷ Gone s.number ∷ [] else [])
-      (attrib-by s.kind s.number) (deleted-by (s.links == 1) s.number)
+  lost (Some s) = lost-by s.kind s.number s.links
 
   used : (at : Look) (p : List (List ℕ)) (b : Bool) (event : ℕ) → Holds P NO_COOKIE event → All P (if b then to_both at p event else [])
   used at p true event h = both_told at p event h

@@ -53,17 +53,19 @@ to_self (Some s) bits = Told s.number bits NO_COOKIE None ∷ []
 unfoldable pub to_both : Look → List Label → ℕ → List Notice
 to_both at p event = to_dir at p (kind_seen (at p)) event NO_COOKIE ++ to_self (at p) (about (kind_seen (at p)) event)
 
--- a regular file is told that its links changed
-abbrev pub attrib_told : Kind → ℕ → List Notice
-attrib_told Regular number = Told number IN_ATTRIB NO_COOKIE None ∷ []
-attrib_told Directory number = []
+-- it is told that it is deleted, and is gone
+abbrev pub deleted_told : ℕ → List Notice
+deleted_told number = Told number IN_DELETE_SELF NO_COOKIE None ∷ Gone number ∷ []
 
--- what loses a path is told so. Where that is the last one, which each directory's is, it is deleted and gone
+-- a regular file that loses a path is told that its links changed, and is deleted with its last one. A directory has one path
+abbrev pub lost_told : Kind → ℕ → ℕ → List Notice
+lost_told Regular number links = Told number IN_ATTRIB NO_COOKIE None ∷ (if links == 1 then deleted_told number else [])
+lost_told Directory number links = deleted_told number
+
+-- the object itself is told that it loses a path
 unfoldable pub path_lost : Option Seen → List Notice
 path_lost None = []
-path_lost (Some s) =
-    attrib_told s.kind s.number
-    ++ (if s.links == 1 then Told s.number IN_DELETE_SELF NO_COOKIE None ∷ Gone s.number ∷ [] else [])
+path_lost (Some s) = lost_told s.kind s.number s.links
 
 -- ---- the table of events
 

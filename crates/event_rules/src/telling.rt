@@ -104,14 +104,14 @@ impl Notices {
         };
         if matches!(seen.kind, Kind::Regular) {
             self.tell_self(Some(seen), bits::IN_ATTRIB)?;
+            if seen.links != 1 {
+                return Ok(());
+            }
         }
-        if seen.links == 1 {
-            self.tell_self(Some(seen), bits::IN_DELETE_SELF)?;
-            self.push(Notice::Gone {
-                number: seen.number,
-            })?;
-        }
-        Ok(())
+        self.tell_self(Some(seen), bits::IN_DELETE_SELF)?;
+        self.push(Notice::Gone {
+            number: seen.number,
+        })
     }
 }
 
