@@ -1,12 +1,12 @@
 -- The watches that notices leave, and those that they do not touch.
-use Rattle.std.proofs.Common.{◌≡◌, ◌≢◌, ◌⊎◌, ℕ, ◌<◌, Bool, true, false, if◌then◌else◌, List, [], ◌∷◌, ◌++◌, Option, Some, None, refl, sym, ap, ◌∙◌, inl, inr, lit<}
+use Rattle.std.proofs.Common.{◌≡◌, ◌⊎◌, ℕ, Bool, true, false, if◌then◌else◌, List, [], ◌∷◌, ◌++◌, Option, Some, None, refl, sym, ap, ◌∙◌, inl, inr, lit<}
 use Rattle.std.specs.Prelude.{ℤ, All, Contains, option_map}
 use Rattle.std.proofs.lemmas.List.Elements.{All-nil, All-append, All-cons, All-head, All-tail, All-weaker, Contains-append_left, Contains-append_right}
 use Rattle.record_codec.specs.declared.event.Event.{Event}
-use Rattle.watch_table.specs.Watching.{IsSound, Watch, Watching, dropped, watch_of, wd_of}
+use Rattle.watch_table.specs.Watching.{IsSound, Watch, Watching, dropped, watch_of}
 use Rattle.event_rules.specs.declared.notice.Notice.{Notice}
 use Rattle.event_rules.specs.declared.notice.Notice.TheVariants.{Told, Gone}
-use Rattle.event_rules.specs.Raised.{asks_for, ended, ended_by, ends_watch, event_told, events_of, ignored, is_oneshot, left, left_by, raised, raised_by, told_number, watches_after, wds_ended, where_ended}
+use Rattle.event_rules.specs.Raised.{asks_for, ended, ended_by, ends_watch, event_told, events_of, ignored, left, left_by, raised, raised_by, told_number, watches_after, wds_ended, where_ended}
 use Rattle.event_rules.specs.Laws.{HasWatch, IsPartOf}
 use Rattle.event_rules.proofs.Removals.{dropped-other, dropped-was, left-either, same_or_not, same_some, some_none, wd-of}
 

@@ -19,7 +19,7 @@ pub struct Staged {
     /// The events, in order.
     pub events: Events,
     /// The descriptors of the watches that end, in order. [`Watches::remove`] of each in turn leaves the others.
-    pub ended: Vec<i32>,
+    pub drops: Vec<i32>,
 }
 
 /// The event that says that the watch of a descriptor has ended. It takes no memory.
@@ -40,8 +40,8 @@ pub fn ignored(wd: i32) -> Event
 /// `ENOMEM` alone.
 pub fn stage(alloc: Global, watches: &Watches, notices: &[Notice]) -> Result<Staged, Refusal>
     ensures events { IfOk result (λ staged. staged.events ≡ events_of watches.now notices.now) }
-    ensures ended { IfOk result (λ staged. staged.ended.items ≡ wds_ended watches.now notices.now) }
-    ensures left { IfOk result (λ staged. fold removed watches.now staged.ended.items ≡ watches_after watches.now notices.now) }
+    ensures drops { IfOk result (λ staged. staged.drops.items ≡ wds_ended watches.now notices.now) }
+    ensures left { IfOk result (λ staged. fold removed watches.now staged.drops.items ≡ watches_after watches.now notices.now) }
     ensures memory { IfErr result (λ refusal. refusal ≡ Refusal.Enomem) }
 {
     removals_leave_the_rest();
@@ -53,7 +53,7 @@ pub fn stage(alloc: Global, watches: &Watches, notices: &[Notice]) -> Result<Sta
     }
     Ok(Staged {
         events: Events::from_vec(events),
-        ended: wds,
+        drops: wds,
     })
 }
 

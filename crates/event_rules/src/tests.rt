@@ -405,7 +405,7 @@ fn raises(
     alloc: Global,
     told: Result<Notices, Refusal>,
     records: &[Record],
-    ended: &[i32],
+    drops: &[i32],
 ) -> Result<(), Refusal> {
     let notices = told?;
     let staged = match stage(alloc, watches, notices.as_slice()) {
@@ -414,8 +414,8 @@ fn raises(
     };
     let staged = staged?;
     assert!(rt; show(staged.events.as_slice(), records));
-    assert!(rt; staged.ended.as_slice() == ended);
-    for wd in &staged.ended {
+    assert!(rt; staged.drops.as_slice() == drops);
+    for wd in &staged.drops {
         watches.remove(*wd)?;
     }
     Ok(())
