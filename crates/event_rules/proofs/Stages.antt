@@ -1,0 +1,33 @@
+-- One notice more.
+use Rattle.std.proofs.Common.{◌≡◌, ℕ, ◌+◌, ◌<◌, List, [], ◌∷◌, ◌++◌, length, take, get_or, sym, ap, ◌∙◌, append_assoc}
+use Rattle.std.specs.Prelude.{ℤ, fold}
+use Rattle.std.proofs.lemmas.List.{append-nil, take_more}
+use Rattle.record_codec.specs.declared.event.Event.{Event}
+use Rattle.watch_table.specs.Watching.{Watching, removed}
+use Rattle.event_rules.specs.declared.notice.Notice.{Notice}
+use Rattle.event_rules.specs.Raised.{raised, ended, left, events_of, wds_ended, watches_after}
+
+events_of-push : (w : Watching) (ns : List Notice) (n : Notice) → events_of w (ns ++ n ∷ []) ≡ events_of w ns ++ raised (watches_after w ns) n
+events_of-push w [] n = append-nil (raised w n)
+events_of-push w (m ∷ ms) n = ap (λ es. raised w m ++ es) (events_of-push (left w m) ms n) ∙ sym (append_assoc (raised w m) (events_of (left w m) ms) (raised (watches_after (left w m) ms) n))
+
+wds_ended-push : (w : Watching) (ns : List Notice) (n : Notice) → wds_ended w (ns ++ n ∷ []) ≡ wds_ended w ns ++ ended (watches_after w ns) n
+wds_ended-push w [] n = append-nil (ended w n)
+wds_ended-push w (m ∷ ms) n = ap (λ es. ended w m ++ es) (wds_ended-push (left w m) ms n) ∙ sym (append_assoc (ended w m) (wds_ended (left w m) ms) (ended (watches_after (left w m) ms) n))
+
+-- the step of a loop over notices, which knows the watches that are left by the descriptors of those that ended
+module _ (w : Watching) (left_by_removals : (ns : List Notice) → fold removed w (wds_ended w ns) ≡ watches_after w ns)
+    (ns : List Notice) (i : ℕ) (d n : Notice) (wds : List ℤ) (within : i < length ns) (at : get_or ns i d ≡ n) (was : wds ≡ wds_ended w (take i ns)) where
+  there : fold removed w wds ≡ watches_after w (take i ns)
+  there = ap (fold removed w) was ∙ left_by_removals (take i ns)
+
+  more : take (i + 1) ns ≡ take i ns ++ n ∷ []
+  more = take_more ns i d within ∙ ap (λ m. take i ns ++ m ∷ []) at
+
+  pub events_more : (events new : List Event) → events ≡ events_of w (take i ns) → new ≡ events ++ raised (fold removed w wds) n → new ≡ events_of w (take (i + 1) ns)
+  events_more events new so_far is =
+      is ∙ (λ j. so_far j ++ raised (there j) n) ∙ sym (ap (events_of w) more ∙ events_of-push w (take i ns) n)
+
+  pub wds_more : (new : List ℤ) → new ≡ wds ++ ended (fold removed w wds) n → new ≡ wds_ended w (take (i + 1) ns)
+  wds_more new is =
+      is ∙ (λ j. was j ++ ended (there j) n) ∙ sym (ap (wds_ended w) more ∙ wds_ended-push w (take i ns) n)

@@ -1,0 +1,140 @@
+-- What an accepted call tells the watches: inotify(7), "inotify events". That page leaves open in which order one call tells of
+-- several events, and where IN_ISDIR stands; here it is as the lines of the table say.
+use Rattle.std.specs.Prelude.{ℕ, Bool, true, false, List, [], ◌∷◌, ◌++◌, Option, Some, None, bit_or, ◌==◌, if◌then◌else◌}
+use Rattle.std.specs.List.{last_or}
+use Rattle.record_codec.specs.declared.bits.TheConstants.{IN_ACCESS, IN_MODIFY, IN_ATTRIB, IN_CLOSE_WRITE, IN_CLOSE_NOWRITE, IN_OPEN, IN_MOVED_FROM, IN_MOVED_TO, IN_CREATE, IN_DELETE, IN_DELETE_SELF, IN_MOVE_SELF, IN_ISDIR}
+use Rattle.inode_table.specs.declared.seen.Kind.{Kind}
+use Rattle.inode_table.specs.declared.seen.Kind.TheVariants.{Regular, Directory}
+use Rattle.inode_table.specs.declared.seen.Seen.{Seen}
+use Rattle.inode_table.specs.Rows.{Label}
+use Rattle.inode_table.specs.Refusals.{Look, parent_of}
+use Rattle.inode_table.specs.World.{World, look}
+use Rattle.tree_ops.specs.declared.answer.Answer.{Answer}
+use Rattle.tree_ops.specs.declared.answer.Answer.TheVariants.{Bytes}
+use Rattle.tree_ops.specs.declared.call.Counts.{Counts}
+use Rattle.tree_ops.specs.declared.call.FileCall.{FileCall}
+use Rattle.tree_ops.specs.declared.call.FileCall.TheVariants.{Create, Write, ReadFile, Truncate, Chmod, Mkdir, Link, Unlink, Rmdir, Rename, Stat, List as Listed}
+use Rattle.tree_ops.specs.After.{answer_of}
+use Rattle.tree_ops.specs.Refused.{are_same_seen}
+use Rattle.event_rules.specs.declared.notice.TheConstants.{NO_COOKIE}
+use Rattle.event_rules.specs.declared.notice.Notice.{Notice}
+use Rattle.event_rules.specs.declared.notice.Notice.TheVariants.{Told, Gone}
+
+-- ---- the bits
+
+-- an event about a directory has IN_ISDIR too
+abbrev pub about : Kind → ℕ → ℕ
+about Regular event = event
+about Directory event = bit_or event IN_ISDIR
+
+-- what stands at a path, where nothing does too
+abbrev pub kind_seen : Option Seen → Kind
+kind_seen None = Regular
+kind_seen (Some s) = s.kind
+
+-- ---- who is told
+
+-- a directory is told of the object with this name in it
+abbrev pub told_in : Option Seen → Option Label → ℕ → ℕ → List Notice
+told_in (Some directory) (Some name) bits cookie = Told directory.number bits cookie (Some name) ∷ []
+told_in (Some directory) None bits cookie = []
+told_in None name bits cookie = []
+
+-- the directory that holds a path's last name is told of an object of this kind there. The root is in no directory
+unfoldable pub to_dir : Look → List Label → Kind → ℕ → ℕ → List Notice
+to_dir at p kind event cookie = told_in (at (parent_of p)) (last_or None p) (about kind event) cookie
+
+-- the object itself is told
+abbrev pub to_self : Option Seen → ℕ → List Notice
+to_self None bits = []
+to_self (Some s) bits = Told s.number bits NO_COOKIE None ∷ []
+
+-- both are told, and to both it says whether the object is a directory
+unfoldable pub to_both : Look → List Label → ℕ → List Notice
+to_both at p event = to_dir at p (kind_seen (at p)) event NO_COOKIE ++ to_self (at p) (about (kind_seen (at p)) event)
+
+-- it is told that it is deleted, and is gone
+abbrev pub deleted_told : ℕ → List Notice
+deleted_told number = Told number IN_DELETE_SELF NO_COOKIE None ∷ Gone number ∷ []
+
+-- a regular file that loses a path is told that its links changed, and is deleted with its last one. A directory has one path
+abbrev pub lost_told : Kind → ℕ → ℕ → List Notice
+lost_told Regular number links = Told number IN_ATTRIB NO_COOKIE None ∷ (if links == 1 then deleted_told number else [])
+lost_told Directory number links = deleted_told number
+
+-- the object itself is told that it loses a path
+unfoldable pub path_lost : Option Seen → List Notice
+path_lost None = []
+path_lost (Some s) = lost_told s.kind s.number s.links
+
+-- ---- the table of events
+
+unfoldable pub create_told : Look → List Label → List Notice
+create_told at p = to_dir at p Regular IN_CREATE NO_COOKIE ++ to_dir at p Regular IN_OPEN NO_COOKIE ++ to_dir at p Regular IN_CLOSE_WRITE NO_COOKIE
+
+unfoldable pub mkdir_told : Look → List Label → List Notice
+mkdir_told at p = to_dir at p Directory IN_CREATE NO_COOKIE
+
+-- where a byte was given
+unfoldable pub write_told : Look → List Label → Bool → List Notice
+write_told at p given = to_both at p IN_OPEN ++ (if given then to_both at p IN_MODIFY else []) ++ to_both at p IN_CLOSE_WRITE
+
+-- where a byte was answered
+unfoldable pub read_told : Look → List Label → Bool → List Notice
+read_told at p answered = to_both at p IN_OPEN ++ (if answered then to_both at p IN_ACCESS else []) ++ to_both at p IN_CLOSE_NOWRITE
+
+-- also where the length stays
+unfoldable pub truncate_told : Look → List Label → List Notice
+truncate_told at p = to_both at p IN_MODIFY
+
+-- also where the mode stays
+unfoldable pub chmod_told : Look → List Label → List Notice
+chmod_told at p = to_both at p IN_ATTRIB
+
+unfoldable pub link_told : Look → List Label → List Label → List Notice
+link_told at old new = to_self (at old) IN_ATTRIB ++ to_dir at new Regular IN_CREATE NO_COOKIE
+
+unfoldable pub unlink_told : Look → List Label → List Notice
+unlink_told at p = path_lost (at p) ++ to_dir at p Regular IN_DELETE NO_COOKIE
+
+unfoldable pub rmdir_told : Look → List Label → List Notice
+rmdir_told at p = path_lost (at p) ++ to_dir at p Directory IN_DELETE NO_COOKIE
+
+-- the name that was replaced is told of no deletion, though the object that had it is
+unfoldable pub move_told : Look → List Label → List Label → ℕ → List Notice
+move_told at old new cookie =
+    to_dir at old (kind_seen (at old)) IN_MOVED_FROM cookie
+    ++ to_dir at new (kind_seen (at old)) IN_MOVED_TO cookie
+    ++ path_lost (at new)
+    ++ to_self (at old) IN_MOVE_SELF
+
+-- where both paths are of one file nothing is moved
+unfoldable pub rename_told : Look → List Label → List Label → ℕ → List Notice
+rename_told at old new cookie = if are_same_seen (at old) (at new) then [] else move_told at old new cookie
+
+abbrev pub has_byte : List ℕ → Bool
+has_byte [] = false
+has_byte (b ∷ bytes) = true
+
+abbrev pub answers_byte : Answer → Bool
+answers_byte (Bytes bytes) = has_byte bytes
+answers_byte _ = false
+
+-- what a read answers does not depend on the counts
+abbrev pub no_counts : Counts
+no_counts = record { next_number = 0; next_cookie = 0 }
+
+-- what an accepted call tells, in the world before it. A rename that moves something has the cookie
+abbrev pub notices_of : World → FileCall → ℕ → List Notice
+notices_of w (Create p mode) cookie = create_told (look w) p
+notices_of w (Mkdir p mode) cookie = mkdir_told (look w) p
+notices_of w (Write p offset bytes) cookie = write_told (look w) p (has_byte bytes)
+notices_of w (ReadFile p offset count) cookie = read_told (look w) p (answers_byte (answer_of w no_counts (ReadFile p offset count)))
+notices_of w (Truncate p len) cookie = truncate_told (look w) p
+notices_of w (Chmod p mode) cookie = chmod_told (look w) p
+notices_of w (Link old new) cookie = link_told (look w) old new
+notices_of w (Unlink p) cookie = unlink_told (look w) p
+notices_of w (Rmdir p) cookie = rmdir_told (look w) p
+notices_of w (Rename old new) cookie = rename_told (look w) old new cookie
+notices_of w (Stat p) cookie = []
+notices_of w (Listed p) cookie = []

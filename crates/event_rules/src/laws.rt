@@ -1,0 +1,79 @@
+//! Laws of the definitions. Each is a function that does nothing, and its contract is the law.
+
+ghost use Rattle.std.specs.Prelude.{◌≡◌, ◌⊎◌, ◌++◌, ◌∷◌, [], ℕ, ℤ, List, All, Contains, Some, None, filter, fold, map, IsTrue};
+ghost use Rattle.inode_table.specs.World.{World};
+ghost use Rattle.record_codec.specs.declared.event.Event.{Event};
+ghost use Rattle.tree_ops.specs.declared.call.FileCall.{FileCall};
+ghost use Rattle.tree_ops.specs.Refused.{cookies_of};
+ghost use Rattle.watch_table.specs.Watching.{HasEnded, IsSound, Watch, Watching, removed, watch_of};
+ghost use Rattle.event_rules.specs.declared.notice.TheConstants.{NO_COOKIE};
+ghost use Rattle.event_rules.specs.declared.notice.Notice.{Notice};
+ghost use Rattle.event_rules.specs.Table.{notices_of};
+ghost use Rattle.event_rules.specs.Raised.{events_of, ignored, told_number, watches_after, wds_ended};
+ghost use Rattle.event_rules.specs.Laws.{HasCookie, HasOneEvent, HasWatch, IsPartOf, TellsNothing, says_ended, watch_without};
+
+use watch_table::{descriptors_end_for_good, descriptors_tell_files, watches_stay_sound};
+
+/// A law: each notice of a call tells of one event, so that it raises one at most, and `IN_IGNORED`.
+pub fn notices_tell_one_event()
+    ensures { (w : World) (call : FileCall) (cookie : ℕ) → All HasOneEvent (notices_of w call cookie) }
+{}
+
+/// A law: the two events of a rename that moves something have its cookie, and all others have none. A call that uses no cookie
+/// has none in any event.
+pub fn cookies_tie_moves()
+    ensures moves { (w : World) (call : FileCall) (cookie : ℕ) → All (HasCookie cookie) (notices_of w call cookie) }
+    ensures unused { (w : World) (call : FileCall) (cookie : ℕ) → cookies_of w call ≡ 0 → All (HasCookie NO_COOKIE) (notices_of w call cookie) }
+{}
+
+/// A law: an instance that watches none of the files is told nothing, and its watches stay.
+pub fn unwatched_files_raise_nothing()
+    ensures events { (w : Watching) (ns : List Notice) → All (λ n. watch_of w (told_number n) ≡ None) ns → events_of w ns ≡ [] }
+    ensures ended { (w : Watching) (ns : List Notice) → All (λ n. watch_of w (told_number n) ≡ None) ns → wds_ended w ns ≡ [] }
+    ensures watches { (w : Watching) (ns : List Notice) → All (λ n. watch_of w (told_number n) ≡ None) ns → watches_after w ns ≡ w }
+{}
+
+/// A law: each event has the descriptor of a watch that was there.
+pub fn events_are_of_watches()
+    ensures { (w : Watching) (ns : List Notice) → All (λ e. HasWatch w e.wd) (events_of w ns) }
+{}
+
+/// A law: after `IN_IGNORED` of a watch nothing of it follows, and it is not left.
+pub fn nothing_follows_ignored()
+    ensures said { (w : Watching) (ns : List Notice) → filter says_ended (events_of w ns) ≡ map ignored (wds_ended w ns) }
+    ensures here { (w : Watching) (ns : List Notice) (before after : List Event) (e : Event) → IsSound w
+        → events_of w ns ≡ before ++ e ∷ after → IsTrue (says_ended e) → TellsNothing e.wd after }
+    ensures left { (w : Watching) (ns : List Notice) → IsSound w → All (HasEnded (watches_after w ns)) (wds_ended w ns) }
+    ensures later { (w : Watching) (ns : List Notice) (wd : ℤ) → IsSound w → HasEnded w wd → TellsNothing wd (events_of w ns) }
+    ensures ever { (w : Watching) (ns : List Notice) (wd : ℤ) → HasEnded w wd → HasEnded (watches_after w ns) wd }
+{
+    descriptors_end_for_good();
+    descriptors_tell_files();
+    watches_stay_sound();
+}
+
+/// A law: the other watches stay as they are.
+pub fn other_watches_stay()
+    ensures part { (w : Watching) (ns : List Notice) → IsPartOf (watches_after w ns) w }
+    ensures rest { (w : Watching) (ns : List Notice) (number : ℕ) (watch : Watch) → watch_of w number ≡ Some watch
+        → (watch_of (watches_after w ns) number ≡ Some watch) ⊎ Contains (wds_ended w ns) watch.0 }
+    ensures sound { (w : Watching) (ns : List Notice) → IsSound w → IsSound (watches_after w ns) }
+{
+    watches_stay_sound();
+}
+
+/// A law: the watches that descriptors are removed from are those that were there, without the ones of these descriptors.
+pub fn removed_watches_are_left_out()
+    ensures { (w : Watching) (wds : List ℤ) (number : ℕ) → IsSound w → watch_of (fold removed w wds) number ≡ watch_without wds (watch_of w number) }
+{
+    descriptors_tell_files();
+    watches_stay_sound();
+}
+
+/// A law: the watches after notices are left where the descriptors of those that ended are removed one after another.
+pub fn removals_leave_the_rest()
+    ensures { (w : Watching) (ns : List Notice) → IsSound w → fold removed w (wds_ended w ns) ≡ watches_after w ns }
+{
+    descriptors_tell_files();
+    watches_stay_sound();
+}

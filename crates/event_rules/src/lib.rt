@@ -1,0 +1,19 @@
+//! Who is told what of a call on files, and the events that this raises for the watches of an instance of inotify(7).
+#![tactic(auto)]
+
+mod laws;
+mod notice;
+mod staging;
+mod telling;
+
+pub use laws::{
+    cookies_tie_moves, events_are_of_watches, nothing_follows_ignored, notices_tell_one_event,
+    other_watches_stay, removals_leave_the_rest, removed_watches_are_left_out,
+    unwatched_files_raise_nothing,
+};
+pub use notice::{NO_COOKIE, Notice, Notices};
+pub use staging::{Staged, ignored, stage};
+pub use telling::notices;
+
+#[cfg(test)]
+mod tests;

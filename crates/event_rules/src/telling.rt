@@ -1,0 +1,296 @@
+//! What calls on files tell.
+
+ghost use Rattle.std.specs.Prelude.{◌≡◌, ◌++◌, ℕ, IfOk, IfErr, OnOk};
+ghost use Rattle.inode_table.specs.World.{World};
+ghost use Rattle.inode_table.specs.Stands.{Stands, look_in};
+ghost use Rattle.tree_ops.specs.After.{answer_of};
+ghost use Rattle.tree_ops.specs.Refused.{are_same_seen};
+ghost use Rattle.tree_ops.specs.declared.call.FileCall.TheVariants.{ReadFile};
+ghost use Rattle.event_rules.specs.Table.{about, answers_byte, chmod_told, create_told, kind_seen, link_told, mkdir_told, move_told, no_counts, notices_of, path_lost, read_told, rename_told, rmdir_told, to_both, to_dir, to_self, truncate_told, unlink_told, write_told};
+
+use crate::notice::{NO_COOKIE, Notice, Notices};
+use inode_table::{Kind, Seen, Table};
+use record_codec::bits;
+use std::alloc::{AllocError, Global};
+use tree_ops::{FileCall, Ready};
+use tree_paths::{Path, Refusal};
+
+// What stands at a path.
+fn seen(table: &Table, path: &Path) -> Option<Seen>
+    ensures { result ≡ look_in table.now path.now }
+{
+    table.look(path.names()).ok()
+}
+
+fn kind_seen(seen: Option<Seen>) -> Kind
+    ensures { result ≡ kind_seen seen }
+{
+    match seen {
+        Some(seen) => seen.kind,
+        None => Kind::Regular,
+    }
+}
+
+// The bits of an event that is about an object of this kind.
+fn about(kind: Kind, event: u32) -> u32
+    ensures { result ≡ about kind event }
+{
+    match kind {
+        Kind::Regular => event,
+        Kind::Directory => event | bits::IN_ISDIR,
+    }
+}
+
+impl Notices {
+    // Tells the directory of a path's last name of an object of this kind there.
+    #[tactic(auto, unfolding(crate::specs::Table::to_dir))]
+    fn tell_dir(
+        &mut self,
+        table: &Table,
+        path: &Path,
+        kind: Kind,
+        event: u32,
+        cookie: u32,
+    ) -> Result<(), AllocError>
+        ensures { OnOk result (self.new ≡ self.old ++ to_dir (look_in table.now) path.now kind event cookie) }
+    {
+        let Some((parent, name)) = path.parent_and_name() else {
+            return Ok(());
+        };
+        let Ok(directory) = table.look(parent) else {
+            return Ok(());
+        };
+        self.push(Notice::Told {
+            number: directory.number,
+            bits: about(kind, event),
+            cookie,
+            name: Some(name.copy()?),
+        })
+    }
+
+    // Tells an object itself.
+    fn tell_self(&mut self, seen: Option<Seen>, bits: u32) -> Result<(), AllocError>
+        ensures { OnOk result (self.new ≡ self.old ++ to_self seen bits) }
+    {
+        match seen {
+            Some(seen) => self.push(Notice::Told {
+                number: seen.number,
+                bits,
+                cookie: NO_COOKIE,
+                name: None,
+            }),
+            None => Ok(()),
+        }
+    }
+
+    // Tells both.
+    #[tactic(auto, unfolding(crate::specs::Table::to_both))]
+    fn tell_both(&mut self, table: &Table, path: &Path, event: u32) -> Result<(), AllocError>
+        ensures { OnOk result (self.new ≡ self.old ++ to_both (look_in table.now) path.now event) }
+    {
+        let seen = seen(table, path);
+        let kind = kind_seen(seen);
+        self.tell_dir(table, path, kind, event, NO_COOKIE)?;
+        self.tell_self(seen, about(kind, event))
+    }
+
+    // Tells an object that it loses a path.
+    #[tactic(auto, unfolding(crate::specs::Table::path_lost))]
+    fn tell_path_lost(&mut self, seen: Option<Seen>) -> Result<(), AllocError>
+        ensures { OnOk result (self.new ≡ self.old ++ path_lost seen) }
+    {
+        let Some(seen) = seen else {
+            return Ok(());
+        };
+        if matches!(seen.kind, Kind::Regular) {
+            self.tell_self(Some(seen), bits::IN_ATTRIB)?;
+            if seen.links != 1 {
+                return Ok(());
+            }
+        }
+        self.tell_self(Some(seen), bits::IN_DELETE_SELF)?;
+        self.push(Notice::Gone {
+            number: seen.number,
+        })
+    }
+}
+
+#[tactic(auto, unfolding(crate::specs::Table::create_told))]
+fn create(alloc: Global, table: &Table, path: &Path) -> Result<Notices, AllocError>
+    ensures { IfOk result (λ told. told ≡ create_told (look_in table.now) path.now) }
+{
+    let mut told = Notices::new(alloc);
+    told.tell_dir(table, path, Kind::Regular, bits::IN_CREATE, NO_COOKIE)?;
+    told.tell_dir(table, path, Kind::Regular, bits::IN_OPEN, NO_COOKIE)?;
+    told.tell_dir(table, path, Kind::Regular, bits::IN_CLOSE_WRITE, NO_COOKIE)?;
+    Ok(told)
+}
+
+#[tactic(auto, unfolding(crate::specs::Table::mkdir_told))]
+fn mkdir(alloc: Global, table: &Table, path: &Path) -> Result<Notices, AllocError>
+    ensures { IfOk result (λ told. told ≡ mkdir_told (look_in table.now) path.now) }
+{
+    let mut told = Notices::new(alloc);
+    told.tell_dir(table, path, Kind::Directory, bits::IN_CREATE, NO_COOKIE)?;
+    Ok(told)
+}
+
+#[tactic(auto, unfolding(crate::specs::Table::write_told))]
+fn write(alloc: Global, table: &Table, path: &Path, is_given: bool) -> Result<Notices, AllocError>
+    ensures { IfOk result (λ told. told ≡ write_told (look_in table.now) path.now is_given) }
+{
+    let mut told = Notices::new(alloc);
+    told.tell_both(table, path, bits::IN_OPEN)?;
+    if is_given {
+        told.tell_both(table, path, bits::IN_MODIFY)?;
+    }
+    told.tell_both(table, path, bits::IN_CLOSE_WRITE)?;
+    Ok(told)
+}
+
+// Whether a read answers a byte.
+fn is_answered(table: &Table, path: &Path, offset: u64, count: u32) -> bool
+    ensures { (w : World) → Stands table.now w → result ≡ answers_byte (answer_of w no_counts (ReadFile path.now offset count)) }
+{
+    match table.resolve(path.names()) {
+        Ok(key) => count > 0 && offset < table.content(key).len() as u64,
+        Err(_) => false,
+    }
+}
+
+#[tactic(auto, unfolding(crate::specs::Table::read_told))]
+fn read(alloc: Global, table: &Table, path: &Path, is_answered: bool) -> Result<Notices, AllocError>
+    ensures { IfOk result (λ told. told ≡ read_told (look_in table.now) path.now is_answered) }
+{
+    let mut told = Notices::new(alloc);
+    told.tell_both(table, path, bits::IN_OPEN)?;
+    if is_answered {
+        told.tell_both(table, path, bits::IN_ACCESS)?;
+    }
+    told.tell_both(table, path, bits::IN_CLOSE_NOWRITE)?;
+    Ok(told)
+}
+
+#[tactic(auto, unfolding(crate::specs::Table::truncate_told))]
+fn truncate(alloc: Global, table: &Table, path: &Path) -> Result<Notices, AllocError>
+    ensures { IfOk result (λ told. told ≡ truncate_told (look_in table.now) path.now) }
+{
+    let mut told = Notices::new(alloc);
+    told.tell_both(table, path, bits::IN_MODIFY)?;
+    Ok(told)
+}
+
+#[tactic(auto, unfolding(crate::specs::Table::chmod_told))]
+fn chmod(alloc: Global, table: &Table, path: &Path) -> Result<Notices, AllocError>
+    ensures { IfOk result (λ told. told ≡ chmod_told (look_in table.now) path.now) }
+{
+    let mut told = Notices::new(alloc);
+    told.tell_both(table, path, bits::IN_ATTRIB)?;
+    Ok(told)
+}
+
+#[tactic(auto, unfolding(crate::specs::Table::link_told))]
+fn link(alloc: Global, table: &Table, old: &Path, new: &Path) -> Result<Notices, AllocError>
+    ensures { IfOk result (λ told. told ≡ link_told (look_in table.now) old.now new.now) }
+{
+    let mut told = Notices::new(alloc);
+    told.tell_self(seen(table, old), bits::IN_ATTRIB)?;
+    told.tell_dir(table, new, Kind::Regular, bits::IN_CREATE, NO_COOKIE)?;
+    Ok(told)
+}
+
+#[tactic(auto, unfolding(crate::specs::Table::unlink_told))]
+fn unlink(alloc: Global, table: &Table, path: &Path) -> Result<Notices, AllocError>
+    ensures { IfOk result (λ told. told ≡ unlink_told (look_in table.now) path.now) }
+{
+    let mut told = Notices::new(alloc);
+    told.tell_path_lost(seen(table, path))?;
+    told.tell_dir(table, path, Kind::Regular, bits::IN_DELETE, NO_COOKIE)?;
+    Ok(told)
+}
+
+#[tactic(auto, unfolding(crate::specs::Table::rmdir_told))]
+fn rmdir(alloc: Global, table: &Table, path: &Path) -> Result<Notices, AllocError>
+    ensures { IfOk result (λ told. told ≡ rmdir_told (look_in table.now) path.now) }
+{
+    let mut told = Notices::new(alloc);
+    told.tell_path_lost(seen(table, path))?;
+    told.tell_dir(table, path, Kind::Directory, bits::IN_DELETE, NO_COOKIE)?;
+    Ok(told)
+}
+
+// Whether the same file stands at both paths.
+fn are_same(old: Option<Seen>, new: Option<Seen>) -> bool
+    ensures { result ≡ are_same_seen old new }
+{
+    match (old, new) {
+        (Some(old), Some(new)) => old.number == new.number,
+        _ => false,
+    }
+}
+
+#[tactic(auto, unfolding(crate::specs::Table::rename_told, crate::specs::Table::move_told))]
+fn rename(
+    alloc: Global,
+    table: &Table,
+    old: &Path,
+    new: &Path,
+    cookie: u32,
+) -> Result<Notices, AllocError>
+    ensures { IfOk result (λ told. told ≡ rename_told (look_in table.now) old.now new.now cookie) }
+{
+    let mut told = Notices::new(alloc);
+    let moved = seen(table, old);
+    let replaced = seen(table, new);
+    if are_same(moved, replaced) {
+        return Ok(told);
+    }
+    let kind = kind_seen(moved);
+    told.tell_dir(table, old, kind, bits::IN_MOVED_FROM, cookie)?;
+    told.tell_dir(table, new, kind, bits::IN_MOVED_TO, cookie)?;
+    told.tell_path_lost(replaced)?;
+    told.tell_self(moved, bits::IN_MOVE_SELF)?;
+    Ok(told)
+}
+
+// What a call tells.
+fn told(alloc: Global, table: &Table, call: &FileCall, cookie: u32) -> Result<Notices, AllocError>
+    ensures { (w : World) → Stands table.now w → IfOk result (λ told. told ≡ notices_of w call.now cookie) }
+{
+    table.law();
+    match call {
+        FileCall::Create { path, .. } => create(alloc, table, path),
+        FileCall::Mkdir { path, .. } => mkdir(alloc, table, path),
+        FileCall::Write { path, bytes, .. } => {
+            write(alloc, table, path, !bytes.as_slice().is_empty())
+        }
+        FileCall::ReadFile {
+            path,
+            offset,
+            count,
+        } => read(
+            alloc,
+            table,
+            path,
+            is_answered(table, path, *offset, *count),
+        ),
+        FileCall::Truncate { path, .. } => truncate(alloc, table, path),
+        FileCall::Chmod { path, .. } => chmod(alloc, table, path),
+        FileCall::Link { old, new } => link(alloc, table, old, new),
+        FileCall::Unlink { path } => unlink(alloc, table, path),
+        FileCall::Rmdir { path } => rmdir(alloc, table, path),
+        FileCall::Rename { old, new } => rename(alloc, table, old, new, cookie),
+        FileCall::Stat { .. } | FileCall::List { .. } => Ok(Notices::new(alloc)),
+    }
+}
+
+/// What an accepted call tells, in the table before it. `cookie` is that of a rename that moves something.
+///
+/// # Errors
+/// `ENOMEM` alone.
+pub fn notices(alloc: Global, table: &Table, ready: &Ready, cookie: u32) -> Result<Notices, Refusal>
+    ensures told { (w : World) → Stands table.now w → IfOk result (λ notices. notices ≡ notices_of w ready.now.call cookie) }
+    ensures memory { IfErr result (λ refusal. refusal ≡ Refusal.Enomem) }
+{
+    Ok(told(alloc, table, ready.call(), cookie)?)
+}
