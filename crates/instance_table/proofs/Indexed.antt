@@ -1,0 +1,250 @@
+-- The map of instances and the index of watchers, changed together.
+use Rattle.std.proofs.Common.{◌≡◌, ℕ, Bool, true, false, not, cond, ◌||◌, ◌&&◌, eqb, Option, Some, None, is_some, refl, sym, ap, ◌∙◌, subst}
+use Rattle.std.specs.Prelude.{pos, ℤ, Result, Ok, Err, OnOk, OnErr}
+use Rattle.tree_paths.specs.declared.refusal.Refusal.{Refusal}
+use Rattle.std.specs.BTreeMap as tree
+use Rattle.std.specs.BTreeMap.{BTreeMap}
+use Rattle.std.specs.FinMap as map
+use Rattle.std.specs.FinMap.{get-insert, get-remove, same_map, nat_cmp-IsAntisymmetric}
+use Rattle.std.specs.Ordering.{nat_cmp, eq_by_cmp}
+use Rattle.std.specs.Cmp.{nat_cmp_total, unsigned_tied}
+use Rattle.watch_table.specs.Watching.{Watch, Watching, watch_of, added, dropped}
+use Rattle.watch_table.proofs.Maps.{get-from_map, from_map-insert, from_map-remove}
+use Rattle.instance_table.specs.declared.index.Index.{Index}
+use Rattle.instance_table.specs.declared.instance.Instance.{Instance}
+use Rattle.instance_table.specs.declared.instances.Instances.TheInside.{Inside}
+use Rattle.instance_table.specs.Index.{is_noted}
+use Rattle.instance_table.specs.Instances.{Instances, instance_of, changed, watches_file}
+use Rattle.instance_table.specs.Views.{instances_of, IsIndexed}
+
+-- ---- one instance changes
+
+pub changed-there : (m : Instances) (id : ℕ) (change : Instance → Instance) (i : Instance) → instance_of m id ≡ Some i → changed m id change ≡ map.insert m id (change i)
+unfolding changed
+changed-there m id change i h = ap (Rattle.instance_table.specs.Instances.changed_by m id change) h
+
+pub changed-none : (m : Instances) (id : ℕ) (change : Instance → Instance) → instance_of m id ≡ None → changed m id change ≡ m
+unfolding changed
+changed-none m id change h = ap (Rattle.instance_table.specs.Instances.changed_by m id change) h
+
+pub get-put : (m : Instances) (id : ℕ) (i : Instance) (q : ℕ) → instance_of (map.insert m id i) q ≡ cond (eqb q id) (Some i) (instance_of m q)
+get-put m id i q = get-insert nat_cmp_total m id i q ∙ ap (λ t. cond t (Some i) (instance_of m q)) (unsigned_tied q id)
+
+pub get-cut : (m : Instances) (id q : ℕ) → instance_of (map.remove m id) q ≡ cond (eqb q id) None (instance_of m q)
+get-cut m id q = get-remove nat_cmp_total m id q ∙ ap (λ t. cond t None (instance_of m q)) (unsigned_tied q id)
+
+pub is-same : (q id : ℕ) → eqb q id ≡ true → q ≡ id
+is-same q id t = Rattle.std.proofs.lemmas.Bool.eqb-true q id t
+
+-- an instance that is put where it is
+pub put-same : (m : Instances) (id : ℕ) (i : Instance) → instance_of m id ≡ Some i → map.insert m id i ≡ m
+put-same m id i h = same_map nat_cmp_total nat_cmp-IsAntisymmetric _ _ (λ q.
+    get-put m id i q ∙ elim (eqb q id) as (λ t. eqb q id ≡ t → cond t (Some i) (instance_of m q) ≡ instance_of m q) [
+      | true ↦ λ t. sym h ∙ ap (instance_of m) (sym (is-same q id t))
+      | false ↦ λ t. refl
+    ] refl)
+
+-- who watches a file where an instance has other watches
+pub watched-put : (m : Instances) (id : ℕ) (i : Instance) (n q : ℕ) → watches_file n (instance_of (map.insert m id i) q) ≡ cond (eqb q id) (is_some (watch_of i.watches n)) (watches_file n (instance_of m q))
+watched-put m id i n q =
+    ap (watches_file n) (get-put m id i q)
+    ∙ elim (eqb q id) as (λ t. watches_file n (cond t (Some i) (instance_of m q)) ≡ cond t (is_some (watch_of i.watches n)) (watches_file n (instance_of m q))) [ true ↦ refl | false ↦ refl ]
+
+pub watched-cut : (m : Instances) (id n q : ℕ) → watches_file n (instance_of (map.remove m id) q) ≡ cond (eqb q id) false (watches_file n (instance_of m q))
+watched-cut m id n q =
+    ap (watches_file n) (get-cut m id q)
+    ∙ elim (eqb q id) as (λ t. watches_file n (cond t None (instance_of m q)) ≡ cond t false (watches_file n (instance_of m q))) [ true ↦ refl | false ↦ refl ]
+
+is_some-cut : (b : Bool) {A : Type 0} (o : Option A) → is_some (cond b None o) ≡ (not b && is_some o)
+is_some-cut true o = refl
+is_some-cut false o = refl
+
+pub watched-dropped : (w : Watching) (number n : ℕ) → is_some (watch_of (dropped w number) n) ≡ (not (eqb n number) && is_some (watch_of w n))
+unfolding dropped
+watched-dropped w number n = ap is_some (get-remove nat_cmp_total w.watches number n) ∙ is_some-cut (eq_by_cmp nat_cmp n number) (watch_of w n) ∙ ap (λ t. not t && is_some (watch_of w n)) (unsigned_tied n number)
+
+is_some-put : {A : Type 0} (b : Bool) (x : A) (o : Option A) → is_some (cond b (Some x) o) ≡ (b || is_some o)
+is_some-put true x o = refl
+is_some-put false x o = refl
+
+watched-inserted : (m : map.FinMap nat_cmp Watch) (number n : ℕ) (x : Watch) → is_some (map.get (map.insert m number x) n) ≡ (eqb n number || is_some (map.get m n))
+watched-inserted m number n x = ap is_some (get-insert nat_cmp_total m number x n) ∙ is_some-put (eq_by_cmp nat_cmp n number) x (map.get m n) ∙ ap (λ t. t || is_some (map.get m n)) (unsigned_tied n number)
+
+pub watched-added : (w : Watching) (number mask n : ℕ) → is_some (watch_of (added w number mask) n) ≡ (eqb n number || is_some (watch_of w n))
+unfolding added
+watched-added w number mask n = by (watch_of w number)
+  where
+    by : (o : Option Watch) → is_some (watch_of (Rattle.watch_table.specs.Watching.added_to w number mask o) n) ≡ (eqb n number || is_some (watch_of w n))
+    by None = watched-inserted w.watches number n (pos w.next_wd, Rattle.watch_table.specs.Masks.stored mask)
+    by (Some watch) = watched-inserted w.watches number n (watch.0, Rattle.watch_table.specs.Watching.next_bits mask watch.1)
+
+-- ---- the fields
+
+module _ (a : Inside) (whole : IsIndexed a) where
+  there : (id : ℕ) (i : Instance) → tree.get nat_cmp a.opened id ≡ Some i → instance_of (instances_of a) id ≡ Some i
+  there id i h = get-from_map a.opened id ∙ h
+
+  -- an instance where the same files are watched
+  module _ (m : BTreeMap ℕ Instance) (id : ℕ) (i j : Instance) (put : tree.Updates nat_cmp a.opened m id (Some j)) (was : tree.get nat_cmp a.opened id ≡ Some i) where
+    abbrev with_instance : Inside
+    with_instance = record a { opened = m }
+
+    pub instances_of-put : instances_of with_instance ≡ map.insert (instances_of a) id j
+    instances_of-put = from_map-insert a.opened m id j put
+
+    -- the instances after the change that made it
+    pub instances_of-changed : (change : Instance → Instance) → change i ≡ j → instances_of with_instance ≡ changed (instances_of a) id change
+    instances_of-changed change is = instances_of-put ∙ ap (map.insert (instances_of a) id) (sym is) ∙ sym (changed-there (instances_of a) id change i (there id i was))
+
+    pub IsIndexed-kept : i.watches ≡ j.watches → IsIndexed with_instance
+    IsIndexed-kept same = record {
+      noted = λ n q.
+          whole.noted n q
+          ∙ sym (ap (λ x. watches_file n (instance_of x q)) instances_of-put ∙ watched-put (instances_of a) id j n q
+          ∙ elim (eqb q id) as (λ t. eqb q id ≡ t → cond t (is_some (watch_of j.watches n)) (watches_file n (instance_of (instances_of a) q)) ≡ watches_file n (instance_of (instances_of a) q)) [
+            | true ↦ λ t. ap (λ w. is_some (watch_of w n)) (sym same) ∙ ap (watches_file n) (sym (there id i was)) ∙ ap (λ x. watches_file n (instance_of (instances_of a) x)) (sym (is-same q id t))
+            | false ↦ λ t. refl
+          ] refl);
+    }
+
+    -- an instance whose watches change as the index does
+    pub IsIndexed-changed : (index : Index) → ((n q : ℕ) → is_noted index n q ≡ cond (eqb q id) (is_some (watch_of j.watches n)) (is_noted a.index n q)) → IsIndexed (record a { opened = m; index = index })
+    IsIndexed-changed index same = record {
+      noted = λ n q.
+          same n q ∙ ap (cond (eqb q id) (is_some (watch_of j.watches n))) (whole.noted n q)
+          ∙ sym (ap (λ x. watches_file n (instance_of x q)) instances_of-put ∙ watched-put (instances_of a) id j n q);
+    }
+
+  -- a map with the same entries
+  pub IsIndexed-same : (m : BTreeMap ℕ Instance) → m ≡ a.opened → IsIndexed (record a { opened = m })
+  IsIndexed-same m e = subst (λ x. IsIndexed (record a { opened = x })) (sym e) whole
+
+  -- a new instance, which watches nothing
+  pub IsIndexed-new : (m : BTreeMap ℕ Instance) (id : ℕ) (i : Instance) → tree.Updates nat_cmp a.opened m id (Some i) → instance_of (instances_of a) id ≡ None
+      → ((n : ℕ) → watch_of i.watches n ≡ None) → IsIndexed (record a { opened = m })
+  IsIndexed-new m id i put free none = record {
+    noted = λ n q.
+        whole.noted n q
+        ∙ sym (ap (λ x. watches_file n (instance_of x q)) (from_map-insert a.opened m id i put) ∙ watched-put (instances_of a) id i n q
+        ∙ elim (eqb q id) as (λ t. eqb q id ≡ t → cond t (is_some (watch_of i.watches n)) (watches_file n (instance_of (instances_of a) q)) ≡ watches_file n (instance_of (instances_of a) q)) [
+          | true ↦ λ t. ap is_some (none n) ∙ ap (watches_file n) (sym free) ∙ ap (λ x. watches_file n (instance_of (instances_of a) x)) (sym (is-same q id t))
+          | false ↦ λ t. refl
+        ] refl);
+  }
+
+  -- an instance less, which the index forgets
+  pub IsIndexed-closed : (m : BTreeMap ℕ Instance) (index : Index) (id : ℕ) (i : Instance) → tree.Updates nat_cmp a.opened m id None → tree.get nat_cmp a.opened id ≡ Some i
+      → ((n q : ℕ) → is_noted index n q ≡ (not (is_some (watch_of i.watches n) && eqb q id) && is_noted a.index n q)) → IsIndexed (record a { opened = m; index = index })
+  IsIndexed-closed m index id i cut was forgotten = record {
+    noted = λ n q.
+        forgotten n q
+        ∙ ap (λ b. not (is_some (watch_of i.watches n) && eqb q id) && b) (whole.noted n q)
+        ∙ elim (eqb q id) as (λ t. eqb q id ≡ t → (not (is_some (watch_of i.watches n) && t) && watches_file n (instance_of (instances_of a) q)) ≡ cond t false (watches_file n (instance_of (instances_of a) q))) [
+          | true ↦ λ t.
+              let here : watches_file n (instance_of (instances_of a) q) ≡ is_some (watch_of i.watches n) = ap (λ x. watches_file n (instance_of (instances_of a) x)) (is-same q id t) ∙ ap (watches_file n) (there id i was) in
+              ap (λ b. not (is_some (watch_of i.watches n) && true) && b) here ∙ off (is_some (watch_of i.watches n))
+          | false ↦ λ t. on (is_some (watch_of i.watches n)) (watches_file n (instance_of (instances_of a) q))
+        ] refl
+        ∙ sym (ap (λ x. watches_file n (instance_of x q)) (from_map-remove a.opened m id cut) ∙ watched-cut (instances_of a) id n q);
+  }
+    where
+      off : (b : Bool) → (not (b && true) && b) ≡ false
+      off true = refl
+      off false = refl
+
+      on : (b c : Bool) → (not (b && false) && c) ≡ c
+      on true c = refl
+      on false c = refl
+
+module _ (a : Inside) (whole : IsIndexed a) where
+  pub instances_of-same : (m : BTreeMap ℕ Instance) → m ≡ a.opened → instances_of (record a { opened = m }) ≡ instances_of a
+  instances_of-same m e = ap (λ x. instances_of (record a { opened = x })) e
+
+  -- what the index notes where the watch of one file is dropped
+  pub noted-dropped : (id : ℕ) (i : Instance) → tree.get nat_cmp a.opened id ≡ Some i → (number : ℕ) (w : Watching) → w ≡ dropped i.watches number → (index : Index)
+      → ((n q : ℕ) → is_noted index n q ≡ (not (eqb n number && eqb q id) && is_noted a.index n q))
+      → (n q : ℕ) → is_noted index n q ≡ cond (eqb q id) (is_some (watch_of w n)) (is_noted a.index n q)
+  noted-dropped id i was number w e index cut n q =
+      cut n q
+      ∙ elim (eqb q id) as (λ t. eqb q id ≡ t → (not (eqb n number && t) && is_noted a.index n q) ≡ cond t (is_some (watch_of w n)) (is_noted a.index n q)) [
+        | true ↦ λ t.
+            let here : is_noted a.index n q ≡ is_some (watch_of i.watches n) =
+            whole.noted n q ∙ ap (λ x. watches_file n (instance_of (instances_of a) x)) (is-same q id t) ∙ ap (watches_file n) (get-from_map a.opened id ∙ was) in
+            ap (λ b. not (eqb n number && true) && b) here ∙ both (eqb n number) (is_some (watch_of i.watches n)) ∙ sym (watched-dropped i.watches number n) ∙ ap (λ x. is_some (watch_of x n)) (sym e)
+        | false ↦ λ t. alone (eqb n number) (is_noted a.index n q)
+      ] refl
+    where
+      both : (b c : Bool) → (not (b && true) && c) ≡ (not b && c)
+      both true c = refl
+      both false c = refl
+
+      alone : (b c : Bool) → (not (b && false) && c) ≡ c
+      alone true c = refl
+      alone false c = refl
+
+  -- what the index notes where nothing has changed
+  pub noted-same : (id : ℕ) (i : Instance) → tree.get nat_cmp a.opened id ≡ Some i → (w : Watching) → w ≡ i.watches → (index : Index)
+      → ((n q : ℕ) → is_noted index n q ≡ is_noted a.index n q) → (n q : ℕ) → is_noted index n q ≡ cond (eqb q id) (is_some (watch_of w n)) (is_noted a.index n q)
+  noted-same id i was w e index same n q =
+      same n q
+      ∙ elim (eqb q id) as (λ t. eqb q id ≡ t → is_noted a.index n q ≡ cond t (is_some (watch_of w n)) (is_noted a.index n q)) [
+        | true ↦ λ t. whole.noted n q ∙ ap (λ x. watches_file n (instance_of (instances_of a) x)) (is-same q id t) ∙ ap (watches_file n) (get-from_map a.opened id ∙ was) ∙ ap (λ x. is_some (watch_of x n)) (sym e)
+        | false ↦ λ t. refl
+      ] refl
+
+  -- what the index notes where a file is watched
+  pub noted-added : (id : ℕ) (i : Instance) → tree.get nat_cmp a.opened id ≡ Some i → (number mask : ℕ) (w : Watching) → w ≡ added i.watches number mask → (index : Index)
+      → ((n q : ℕ) → is_noted index n q ≡ ((eqb n number && eqb q id) || is_noted a.index n q))
+      → (n q : ℕ) → is_noted index n q ≡ cond (eqb q id) (is_some (watch_of w n)) (is_noted a.index n q)
+  noted-added id i was number mask w e index put n q =
+      put n q
+      ∙ elim (eqb q id) as (λ t. eqb q id ≡ t → ((eqb n number && t) || is_noted a.index n q) ≡ cond t (is_some (watch_of w n)) (is_noted a.index n q)) [
+        | true ↦ λ t.
+            let here : is_noted a.index n q ≡ is_some (watch_of i.watches n) =
+            whole.noted n q ∙ ap (λ x. watches_file n (instance_of (instances_of a) x)) (is-same q id t) ∙ ap (watches_file n) (get-from_map a.opened id ∙ was) in
+            ap (λ b. (eqb n number && true) || b) here ∙ both (eqb n number) (is_some (watch_of i.watches n)) ∙ sym (watched-added i.watches number mask n) ∙ ap (λ x. is_some (watch_of x n)) (sym e)
+        | false ↦ λ t. alone (eqb n number) (is_noted a.index n q)
+      ] refl
+    where
+      both : (b c : Bool) → ((b && true) || c) ≡ (b || c)
+      both true c = refl
+      both false c = refl
+
+      alone : (b c : Bool) → ((b && false) || c) ≡ c
+      alone true c = refl
+      alone false c = refl
+
+  pub noted-after : (id : ℕ) (i : Instance) → tree.get nat_cmp a.opened id ≡ Some i → (number mask : ℕ) (w : Watching) (index : Index) (r : Result ℤ Refusal)
+      → OnOk r (w ≡ added i.watches number mask) → OnOk r ((n q : ℕ) → is_noted index n q ≡ ((eqb n number && eqb q id) || is_noted a.index n q))
+      → OnErr r (w ≡ i.watches) → OnErr r ((n q : ℕ) → is_noted index n q ≡ is_noted a.index n q)
+      → (n q : ℕ) → is_noted index n q ≡ cond (eqb q id) (is_some (watch_of w n)) (is_noted a.index n q)
+  noted-after id i was number mask w index (Ok wd) e put f same = noted-added id i was number mask w e index put
+  noted-after id i was number mask w index (Err r) e put f same = noted-same id i was w f index same
+
+-- two changes of one instance, one after the other
+pub changed-twice : (m : Instances) (id : ℕ) (first second both : Instance → Instance) → ((i : Instance) → second (first i) ≡ both i) → changed (changed m id first) id second ≡ changed m id both
+changed-twice m id first second both is =
+    elim (instance_of m id) as (λ o. instance_of m id ≡ o → changed (changed m id first) id second ≡ changed m id both) [
+      | None ↦ λ e. ap (λ x. changed x id second) (changed-none m id first e) ∙ changed-none m id second e ∙ sym (changed-none m id both e)
+      | Some i ↦ λ e.
+          let once : changed m id first ≡ map.insert m id (first i) = changed-there m id first i e in
+          let here : instance_of (map.insert m id (first i)) id ≡ Some (first i) = get-put m id (first i) id ∙ ap (λ t. cond t (Some (first i)) (instance_of m id)) (Rattle.std.proofs.lemmas.Bool.eq-eqb id id refl) in
+          ap (λ x. changed x id second) once ∙ changed-there (map.insert m id (first i)) id second (first i) here ∙ put-twice m id (first i) (second (first i))
+          ∙ ap (map.insert m id) (is i) ∙ sym (changed-there m id both i e)
+    ] refl
+  where
+    put-twice : (m : Instances) (id : ℕ) (i j : Instance) → map.insert (map.insert m id i) id j ≡ map.insert m id j
+    put-twice m id i j =
+        same_map nat_cmp_total nat_cmp-IsAntisymmetric _ _ (λ q.
+        get-put (map.insert m id i) id j q ∙ ap (cond (eqb q id) (Some j)) (get-put m id i q) ∙ twice (eqb q id) (Some j) (Some i) (instance_of m q) ∙ sym (get-put m id j q))
+      where
+        twice : (t : Bool) (x y z : Option Instance) → cond t x (cond t y z) ≡ cond t x z
+        twice true x y z = refl
+        twice false x y z = refl
+
+pub changed-not : (m : Instances) (id : ℕ) → changed m id (λ i. i) ≡ m
+changed-not m id =
+    elim (instance_of m id) as (λ o. instance_of m id ≡ o → changed m id (λ i. i) ≡ m) [
+      | None ↦ λ e. changed-none m id (λ i. i) e
+      | Some i ↦ λ e. changed-there m id (λ i. i) i e ∙ put-same m id i e
+    ] refl

@@ -1,0 +1,6 @@
+mod Heard
+mod Indexed
+mod Noted
+mod Rising
+mod Staged
+mod Watchers

@@ -1,0 +1,16 @@
+-- What an index of watchers notes.
+use Rattle.std.specs.Prelude.{ℕ, Bool, is_some}
+use Rattle.std.specs.Option.{unwrap_or}
+use Rattle.std.specs.BTreeMap as tree
+use Rattle.std.specs.FinMap as map
+use Rattle.std.specs.Ordering.{nat_cmp}
+use Rattle.instance_table.specs.declared.index.Index.{Index}
+use Rattle.instance_table.specs.Ids.{IdSet}
+
+-- the instances that are noted for a file
+abbrev pub ids_under : Index → ℕ → IdSet
+ids_under index number = unwrap_or (tree.get nat_cmp index.watchers number) map.empty
+
+-- whether an instance is noted for a file
+abbrev pub is_noted : Index → ℕ → ℕ → Bool
+is_noted index number id = is_some (map.get (ids_under index number) id)

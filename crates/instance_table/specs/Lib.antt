@@ -1,0 +1,6 @@
+pub mod Ids
+pub mod Index
+pub mod Instances
+pub mod Codes
+pub mod Views
+pub mod Staging

@@ -1,0 +1,73 @@
+//! Numbers of instances, rising.
+ghost use Rattle.std.specs.Prelude.{◌≡◌, IsTrue, OnOk, OnErr};
+ghost use Rattle.std.specs.FinMap as map;
+
+use std::alloc::{AllocError, Global};
+use std::marker::Model;
+
+/// The numbers of the instances that watch a file, each once, rising.
+#[derive(Drop)]
+pub struct Ids {
+    ids: Vec<u32>,
+}
+
+impl Model for Ids {
+    ghost use Rattle.std.specs.Ordering.{nat_cmp};
+    ghost use Rattle.std.specs.FinSet as set;
+    ghost use Rattle.std.specs.Coded.{coded_ℕ};
+    ghost use Rattle.std.specs.List.Sorted.{IsStrictlySortedBy};
+    ghost use Rattle.instance_table.specs.Ids.{IdSet, set_of};
+
+    ghost Value = { IdSet };
+
+    ghost coded = { set.code coded_ℕ };
+
+    ghost view = { λ a. set_of a.ids.items };
+
+    ghost invariant = { λ a. IsStrictlySortedBy nat_cmp a.ids.items };
+}
+
+impl Ids {
+    /// No numbers. It takes no memory.
+    pub fn new(alloc: Global) -> Ids
+        ensures { result ≡ map.empty }
+    {
+        Ids {
+            ids: Vec::new(alloc),
+        }
+    }
+
+    /// Puts in a number. `Err` is want of memory.
+    pub fn add(&mut self, id: u32) -> Result<(), AllocError>
+        ensures ok { OnOk result (self.new ≡ map.insert self.old id tt) }
+        ensures err { OnErr result (self.new ≡ self.old) }
+    {
+        if let Err(place) = self.ids.binary_search(&id) {
+            self.ids.insert(place, id)?;
+        }
+        Ok(())
+    }
+
+    /// Takes out a number, if it is there. It takes no memory.
+    pub fn remove(&mut self, id: u32)
+        ensures { self.new ≡ map.remove self.old id }
+    {
+        if let Ok(place) = self.ids.binary_search(&id) {
+            self.ids.remove(place);
+        }
+    }
+
+    /// The numbers, rising.
+    pub fn as_slice(&self) -> &[u32]
+        ensures { result.now ≡ map.keys self.now }
+    {
+        self.ids.as_slice()
+    }
+
+    /// Whether there is none.
+    pub fn is_empty(&self) -> bool
+        ensures { IsTrue result → self.now ≡ map.empty }
+    {
+        self.ids.is_empty()
+    }
+}

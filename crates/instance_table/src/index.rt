@@ -1,0 +1,64 @@
+//! Who watches each file.
+ghost use Rattle.std.specs.Prelude.{◌≡◌, ℕ, ◌==◌, ◌&&◌, ◌||◌, false, not, OnOk, OnErr};
+ghost use Rattle.std.specs.FinMap as map;
+ghost use Rattle.instance_table.specs.Index.{ids_under, is_noted};
+
+use crate::ids::Ids;
+use std::alloc::{AllocError, Global};
+use std::collections::BTreeMap;
+
+/// The numbers of the instances that watch each file, by the number of the file.
+#[derive(Drop)]
+pub struct Index {
+    alloc: Global,
+    watchers: BTreeMap<u32, Ids>,
+}
+
+impl Index {
+    /// No file is watched. It takes no memory.
+    pub fn new(alloc: Global) -> Index
+        ensures { (number id : ℕ) → is_noted result number id ≡ false }
+    {
+        Index {
+            alloc,
+            watchers: BTreeMap::new(alloc),
+        }
+    }
+
+    /// Notes that an instance watches a file. `Err` is want of memory.
+    pub fn add(&mut self, number: u32, id: u32) -> Result<(), AllocError>
+        ensures ok { OnOk result ((n q : ℕ) → is_noted self.new n q ≡ ((n == number && q == id) || is_noted self.old n q)) }
+        ensures err { OnErr result ((n q : ℕ) → is_noted self.new n q ≡ is_noted self.old n q) }
+    {
+        if let Some(ids) = self.watchers.get_mut(&number) {
+            return ids.add(id);
+        }
+        let mut ids = Ids::new(self.alloc);
+        ids.add(id)?;
+        self.watchers.insert(number, ids)?;
+        Ok(())
+    }
+
+    /// Notes that an instance does not watch a file any more. It takes no memory.
+    pub fn remove(&mut self, number: u32, id: u32)
+        ensures { (n q : ℕ) → is_noted self.new n q ≡ (not (n == number && q == id) && is_noted self.old n q) }
+    {
+        let Some(ids) = self.watchers.get_mut(&number) else {
+            return;
+        };
+        ids.remove(id);
+        if ids.is_empty() {
+            self.watchers.remove(&number);
+        }
+    }
+
+    /// The numbers of the instances that watch a file, rising. It takes no memory.
+    pub fn of(&self, number: u32) -> &[u32]
+        ensures { result.now ≡ map.keys (ids_under self.now number) }
+    {
+        match self.watchers.get(&number) {
+            Some(ids) => ids.as_slice(),
+            None => &[],
+        }
+    }
+}

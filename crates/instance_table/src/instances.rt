@@ -1,0 +1,257 @@
+//! The open instances.
+ghost use Rattle.std.specs.Prelude.{◌≡◌, ◌≤◌, ◌⊎◌, ◌&&◌, ◌||◌, ◌==◌, ℕ, not, is_some, drop, fold, Some, None, Ok, Err, IfOk, IfErr, OnOk, OnErr, IsSome, IfSome, length};
+ghost use Rattle.std.specs.Option.{option_copied};
+ghost use Rattle.std.specs.FinMap as finmap;
+ghost use Rattle.tree_paths.specs.declared.refusal.Refusal.{Refusal};
+ghost use Rattle.tree_paths.specs.declared.refusal.Refusal.TheVariants.{Enomem};
+ghost use Rattle.event_queue.specs.Backlogs.{IsLimit, after_offer};
+ghost use Rattle.watch_table.specs.Masks.{mask_fault};
+ghost use Rattle.watch_table.specs.Watching.{add_refusal, added, removed, watch_of, wd_added};
+ghost use Rattle.instance_table.specs.Index.{is_noted};
+ghost use Rattle.instance_table.specs.Instances.{after_read, changed, instance_of, new_instance, unwatching, watchers_of, watching};
+
+use crate::index::Index;
+use crate::instance::Instance;
+use crate::staging::offer_each;
+use event_queue::Queue;
+use event_rules::ignored;
+use record_codec::{Event, Events};
+use std::alloc::Global;
+use std::collections::BTreeMap;
+use std::marker::Model;
+use tree_paths::{Limits, Refusal};
+use watch_table::{Mask, Watches};
+
+/// The open instances of inotify(7) by their numbers, with an index of who watches each file.
+#[derive(Drop)]
+pub struct Instances {
+    pub(crate) alloc: Global,
+    opened: BTreeMap<u32, Instance>,
+    index: Index,
+}
+
+impl Model for Instances {
+    ghost use Rattle.instance_table.specs.Instances.{Instances as InstanceMap};
+    ghost use Rattle.instance_table.specs.Codes.{instances_code};
+
+    ghost Value = { InstanceMap };
+
+    ghost coded = { instances_code };
+
+    ghost use Rattle.instance_table.specs.Views.{instances_of, IsIndexed};
+
+    ghost view = { instances_of };
+
+    ghost invariant = { IsIndexed };
+}
+
+impl Instances {
+    /// No instances. It takes no memory.
+    pub fn new(alloc: Global) -> Instances
+        ensures { result ≡ finmap.empty }
+    {
+        Instances {
+            alloc,
+            opened: BTreeMap::new(alloc),
+            index: Index::new(alloc),
+        }
+    }
+
+    /// How many instances are open.
+    pub fn len(&self) -> usize
+        ensures { result ≡ finmap.len self.now }
+    {
+        self.opened.len()
+    }
+
+    /// The open instance of a number.
+    pub fn get(&self, id: u32) -> Option<&Instance>
+        ensures { option_copied result ≡ instance_of self.now id }
+    {
+        self.opened.get(&id)
+    }
+
+    /// The numbers of the instances that watch a file, rising. It takes no memory.
+    pub fn watchers(&self, number: u32) -> &[u32]
+        ensures { result.now ≡ watchers_of self.now number }
+    {
+        self.index.of(number)
+    }
+
+    /// Opens an instance with a queue of `limit` records. `Err` is want of memory.
+    pub fn open(
+        &mut self,
+        id: u32,
+        limit: u32,
+        is_piped: bool,
+        limits: &Limits,
+    ) -> Result<(), Refusal>
+        requires free { instance_of self.old id ≡ None }
+        requires limit { IsLimit limit }
+        ensures ok { OnOk result (self.new ≡ finmap.insert self.old id (new_instance limits.now limit is_piped)) }
+        ensures err { OnErr result (self.new ≡ self.old) }
+        ensures memory { IfErr result (λ refusal. refusal ≡ Enomem) }
+    {
+        let instance = Instance {
+            is_piped,
+            watches: Watches::new(self.alloc, limits),
+            queue: Queue::with_limit(self.alloc, limit)?,
+        };
+        match self.opened.insert(id, instance) {
+            Ok(_) => Ok(()),
+            Err(_) => Err(Refusal::Enomem),
+        }
+    }
+
+    /// Closes an instance: its watches are gone, and what waited is given up. It takes no memory.
+    pub fn close(&mut self, id: u32)
+        ensures { self.new ≡ finmap.remove self.old id }
+    {
+        let Some(instance) = self.opened.remove(&id) else {
+            return;
+        };
+        forget(&mut self.index, &instance.watches, id);
+    }
+
+    /// Watches a file for an instance, and answers the descriptor of the watch.
+    ///
+    /// It is refused as [`Watches::add`] says; then all is as it was.
+    pub fn watch(
+        &mut self,
+        id: u32,
+        number: u32,
+        mask: Mask,
+        is_directory: bool,
+    ) -> Result<i32, Refusal>
+        requires there { IsSome (instance_of self.old id) }
+        requires mask { mask_fault mask.0 ≡ None }
+        ensures wd { IfOk result (λ wd. IfSome (instance_of self.old id) (λ i. wd ≡ wd_added i.watches number)) }
+        ensures ok { OnOk result (self.new ≡ changed self.old id (watching number mask.0)) }
+        ensures accepted { OnOk result (IfSome (instance_of self.old id) (λ i. add_refusal i.watches number mask.0 is_directory ≡ None)) }
+        ensures refusals { IfErr result (λ r. IfSome (instance_of self.old id) (λ i. (add_refusal i.watches number mask.0 is_directory ≡ Some r) ⊎ (r ≡ Enomem))) }
+        ensures err { OnErr result (self.new ≡ self.old) }
+    {
+        let Some(instance) = self.opened.get_mut(&id) else {
+            unreachable!()
+        };
+        add_noted(
+            &mut self.index,
+            &mut instance.watches,
+            id,
+            number,
+            mask,
+            is_directory,
+        )
+    }
+
+    /// Ends the watch of a descriptor, and tells the instance so. It takes no memory.
+    pub fn unwatch(&mut self, id: u32, wd: i32)
+        ensures { self.new ≡ changed self.old id (unwatching wd) }
+    {
+        self.end_watch(id, wd);
+        self.offer(id, ignored(wd));
+    }
+
+    /// Takes the oldest records out of an instance's queue. It takes no memory.
+    pub fn drop_oldest(&mut self, id: u32, count: usize)
+        ensures { self.new ≡ changed self.old id (after_read count) }
+    {
+        let Some(instance) = self.opened.get_mut(&id) else {
+            return;
+        };
+        drop_oldest(&mut instance.queue, count);
+    }
+
+    // Raises an event.
+    pub(crate) fn offer(&mut self, id: u32, event: Event)
+        ensures { self.new ≡ changed self.old id (λ i. record i { queue = after_offer i.queue event }) }
+    {
+        let Some(instance) = self.opened.get_mut(&id) else {
+            return;
+        };
+        instance.queue.offer(event);
+    }
+
+    // Raises events, one after the other.
+    pub(crate) fn offer_all(&mut self, id: u32, events: Events)
+        ensures { self.new ≡ changed self.old id (λ i. record i { queue = fold after_offer i.queue events }) }
+    {
+        let Some(instance) = self.opened.get_mut(&id) else {
+            return;
+        };
+        offer_each(&mut instance.queue, events);
+    }
+
+    // Ends the watches of descriptors, one after the other.
+    pub(crate) fn end_watches(&mut self, id: u32, wds: Vec<i32>)
+        ensures { self.new ≡ changed self.old id (λ i. record i { watches = fold removed i.watches wds.items }) }
+    {
+        for wd in wds {
+            self.end_watch(id, wd);
+        }
+    }
+
+    // Ends the watch of a descriptor, if there is one.
+    pub(crate) fn end_watch(&mut self, id: u32, wd: i32)
+        ensures { self.new ≡ changed self.old id (λ i. record i { watches = removed i.watches wd }) }
+    {
+        let Some(instance) = self.opened.get_mut(&id) else {
+            return;
+        };
+        let Some(number) = instance.watches.number_of(wd) else {
+            return;
+        };
+        instance.watches.drop_file(number);
+        self.index.remove(number, id);
+    }
+}
+
+// Watches a file for an instance, and notes it in the index. What fails leaves both as they were.
+fn add_noted(
+    index: &mut Index,
+    watches: &mut Watches,
+    id: u32,
+    number: u32,
+    mask: Mask,
+    is_directory: bool,
+) -> Result<i32, Refusal>
+    requires mask { mask_fault mask.0 ≡ None }
+    requires noted { is_noted index.old number id ≡ is_some (watch_of watches.old number) }
+    ensures wd { IfOk result (λ wd. wd ≡ wd_added watches.old number) }
+    ensures watches { OnOk result (watches.new ≡ added watches.old number mask.0) }
+    ensures noted { OnOk result ((n q : ℕ) → is_noted index.new n q ≡ ((n == number && q == id) || is_noted index.old n q)) }
+    ensures accepted { OnOk result (add_refusal watches.old number mask.0 is_directory ≡ None) }
+    ensures refusals { IfErr result (λ r. (add_refusal watches.old number mask.0 is_directory ≡ Some r) ⊎ (r ≡ Enomem)) }
+    ensures err { OnErr result (watches.new ≡ watches.old) }
+    ensures err_noted { OnErr result ((n q : ℕ) → is_noted index.new n q ≡ is_noted index.old n q) }
+{
+    let is_new = watches.of(number).is_none();
+    index.add(number, id)?;
+    match watches.add(number, mask, is_directory) {
+        Ok(wd) => Ok(wd),
+        Err(refusal) => {
+            if is_new {
+                index.remove(number, id);
+            }
+            Err(refusal)
+        }
+    }
+}
+
+// Takes the watches of an instance out of the index.
+fn forget(index: &mut Index, watches: &Watches, id: u32)
+    ensures { (n q : ℕ) → is_noted index.new n q ≡ (not (is_some (watch_of watches.now n) && q == id) && is_noted index.old n q) }
+{
+    for number in watches.numbers() {
+        index.remove(*number, id);
+    }
+}
+
+// Takes the oldest records out of a queue.
+fn drop_oldest(queue: &mut Queue, count: usize)
+    ensures { queue.new ≡ record queue.old { waiting = drop count queue.old.waiting } }
+{
+    for _ in 0..count {
+        queue.take();
+    }
+}

@@ -1,0 +1,15 @@
+//! The open instances of inotify(7): what each watches, what waits in its queue, and who watches a file.
+#![tactic(auto)]
+
+mod ids;
+mod index;
+mod instance;
+mod instances;
+mod staging;
+
+pub use instance::Instance;
+pub use instances::Instances;
+pub use staging::Staging;
+
+#[cfg(test)]
+mod tests;
