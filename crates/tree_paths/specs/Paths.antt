@@ -2,16 +2,14 @@
 use Rattle.std.specs.Prelude.{◌≡◌, ℕ, ◌-◌, Bool, not, ◌&&◌, ◌||◌, ◌==◌, nat_lt, nat_le, List, [], ◌∷◌, ◌++◌, length, slice_index, codes, Result, Ok, Err, if◌then◌else◌}
 use Rattle.std.specs.List.{list_any, flat_map}
 use Rattle.std.specs.Str.{bytes_eq}
+use Rattle.record_codec.specs.declared.name.TheConstants.{NAME_MAX}
 use Rattle.tree_paths.specs.declared.refusal.Refusal.{Refusal}
 use Rattle.tree_paths.specs.declared.refusal.Refusal.TheVariants.{Enoent, Einval, Enametoolong}
 use Rattle.tree_paths.specs.Pieces.{runs}
 
--- the bytes of a pathname with the null byte that ends it for C, and the bytes of a filename (PATH_MAX and NAME_MAX of <limits.h>)
+-- the bytes of a pathname with the null byte that ends it for C (PATH_MAX of <limits.h>)
 abbrev pub path_max : ℕ
 path_max = 4096
-
-abbrev pub name_max : ℕ
-name_max = 255
 
 -- the null byte and the slash, which no filename has
 abbrev pub is_null : ℕ → Bool
@@ -29,7 +27,7 @@ abbrev pub is_dots : List ℕ → Bool
 is_dots name = bytes_eq name (codes ".") || bytes_eq name (codes "..")
 
 abbrev pub is_long : List ℕ → Bool
-is_long name = nat_lt name_max (length name)
+is_long name = nat_lt NAME_MAX (length name)
 
 -- the names of an absolute pathname's text, or why it is refused: the first row that holds
 unfoldable pub parsed : List ℕ → Result (List (List ℕ)) Refusal

@@ -5,13 +5,11 @@ ghost use Rattle.std.specs.List.{list_any};
 ghost use Rattle.tree_paths.specs.Paths.{parsed, names_of, is_null, is_dots, is_long};
 
 use crate::Refusal;
-use record_codec::Name;
+use record_codec::{NAME_MAX, Name};
 use std::alloc::{AllocError, Global};
 
 /// The bytes of a path's text with a zero byte behind it, as POSIX counts them.
 const PATH_MAX: usize = 4096;
-
-const NAME_MAX: usize = 255;
 
 const SEPARATOR: u8 = b'/';
 
