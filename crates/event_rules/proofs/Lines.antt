@@ -1,11 +1,14 @@
 -- The lines of the table of events.
-use Rattle.std.proofs.Common.{◌≡◌, ℕ, ◌++◌, List, [], ◌∷◌, Option, Some, None, refl, sym, ap, ◌∙◌}
+use Rattle.std.proofs.Common.{◌≡◌, ℕ, ◌++◌, Bool, true, false, if◌then◌else◌, List, [], ◌∷◌, Option, Some, None, refl, sym, ap, ◌∙◌}
 use Rattle.std.specs.List.{last_or}
 use Rattle.inode_table.specs.declared.seen.Kind.{Kind}
 use Rattle.inode_table.specs.declared.seen.Seen.{Seen}
 use Rattle.inode_table.specs.Refusals.{Look, parent_of}
+use Rattle.record_codec.specs.declared.bits.TheConstants.{IN_MOVED_FROM, IN_MOVED_TO, IN_MOVE_SELF}
+use Rattle.tree_ops.specs.Refused.{are_same_seen}
+use Rattle.event_rules.specs.declared.notice.Notice.{Notice}
 use Rattle.event_rules.specs.declared.notice.Notice.TheVariants.{Told}
-use Rattle.event_rules.specs.Table.{about, told_in, to_dir}
+use Rattle.event_rules.specs.Table.{about, kind_seen, move_told, path_lost, rename_told, told_in, to_dir, to_self}
 
 last_or-append : {A : Type 0} (o : Option A) (xs : List A) (x : A) → last_or o (xs ++ x ∷ []) ≡ Some x
 last_or-append o [] x = refl
@@ -19,3 +22,18 @@ unfolding to_dir
 to_dir-there at p parent name directory kind event cookie parts is there =
     ap (λ o. told_in o (last_or None p) (about kind event) cookie) (ap at (sym is) ∙ there)
     ∙ ap (λ o. told_in (Some directory) o (about kind event) cookie) (ap (last_or None) parts ∙ last_or-append None parent name)
+
+-- the lists after each line of a rename that moves something
+module _ (at : Look) (old new : List (List ℕ)) (cookie : ℕ) (moved replaced : Option Seen) (kind : Kind) (is_same : Bool) where
+  pub rename_told-lines : (none from to lost all : List Notice) → moved ≡ at old → replaced ≡ at new → kind ≡ kind_seen moved
+      → is_same ≡ are_same_seen moved replaced → is_same ≡ false
+      → none ≡ [] → from ≡ none ++ to_dir at old kind IN_MOVED_FROM cookie → to ≡ from ++ to_dir at new kind IN_MOVED_TO cookie
+      → lost ≡ to ++ path_lost replaced → all ≡ lost ++ to_self moved IN_MOVE_SELF → all ≡ rename_told at old new cookie
+  unfolding rename_told move_told
+  rename_told-lines none from to lost all is_moved is_replaced is_kind test differ opens begins arrives loses ends =
+      let apart : are_same_seen (at old) (at new) ≡ false = (λ i. are_same_seen (sym is_moved i) (sym is_replaced i)) ∙ sym test ∙ differ in
+      let kind_is : kind ≡ kind_seen (at old) = is_kind ∙ ap kind_seen is_moved in
+      let begun : from ≡ to_dir at old (kind_seen (at old)) IN_MOVED_FROM cookie = begins ∙ (λ i. opens i ++ to_dir at old (kind_is i) IN_MOVED_FROM cookie) in
+      let lines = ends ∙ ap (λ l. l ++ to_self moved IN_MOVE_SELF) (loses ∙ ap (λ l. l ++ path_lost replaced) (arrives ∙ ap (λ l. l ++ to_dir at new kind IN_MOVED_TO cookie) begun))
+          ∙ (λ i. to_dir at old (kind_seen (at old)) IN_MOVED_FROM cookie ++ to_dir at new (kind_is i) IN_MOVED_TO cookie ++ path_lost (is_replaced i) ++ to_self (is_moved i) IN_MOVE_SELF) in
+      lines ∙ ap (λ b. if b then [] else move_told at old new cookie) (sym apart)

@@ -1,9 +1,13 @@
--- One more entry of a lawful journal.
-use Rattle.std.proofs.Common.{◌≡◌, List, [], ◌∷◌, ◌++◌, refl}
+-- Lawful journals, of no entry and of one more, and what waits in what they stand for.
+use Rattle.std.proofs.Common.{◌≡◌, ℕ, List, [], ◌∷◌, ◌++◌, length, Option, option_map, refl, ap, ◌∙◌}
 use Rattle.tree_paths.specs.declared.limits.Limits.{Limits}
+use Rattle.instance_table.specs.declared.instance.Instance.{Instance}
+use Rattle.instance_table.specs.Instances.{Instances, instance_of}
 use Rattle.tree_core.specs.declared.reply.Entry.{Entry}
+use Rattle.tree_core.specs.declared.machine.Machine.{Machine}
 use Rattle.tree_core.specs.Tree.{Tree, opening, reply_of, after}
-use Rattle.tree_core.specs.Journal.{tree_after, IsLawfulFrom, IsLawful, stands_for}
+use Rattle.tree_core.specs.Journal.{tree_after, IsLawfulFrom, IsLawful, stands_for, waiting_in}
+use Rattle.tree_core.specs.Machines.{IsMachineOf}
 
 tree_after-append : (t : Tree) (es : List Entry) (e : Entry) → tree_after t (es ++ e ∷ []) ≡ after (tree_after t es) e.call
 tree_after-append t [] e = refl
@@ -28,3 +32,12 @@ IsLawful-nil limits = tt
 pub stands_for-nil : (limits : Limits) → stands_for limits [] ≡ opening limits
 unfolding stands_for
 stands_for-nil limits = refl
+
+pub limits-opening : (limits : Limits) → (opening limits).limits ≡ limits
+unfolding opening
+limits-opening limits = refl
+
+-- what waits, by the open instance of a machine that stands for the tree
+pub waiting_in-machine : (t : Tree) (m : Machine) (id : ℕ) (o : Option Instance) → IsMachineOf t m → o ≡ instance_of m.instances id → option_map (λ (i : Instance). length i.queue.waiting) o ≡ waiting_in t id
+unfolding waiting_in
+waiting_in-machine t m id o is there = ap (option_map (λ (i : Instance). length i.queue.waiting)) (there ∙ ap (λ (x : Instances). instance_of x id) is.instances)

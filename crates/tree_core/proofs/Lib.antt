@@ -1,16 +1,6 @@
-pub mod PathOrder
-pub mod WorldRows
-pub mod Told
-pub mod Watched
-pub mod Compacted
-pub mod Accepted
-pub mod Places
-pub mod After
+pub mod Serving
+pub mod Counted
+pub mod Filed
 pub mod Lawful
-pub mod RecordsRead
-pub mod Numbers
-pub mod QueueLaws
-pub mod Cuts
-pub mod Words
-pub mod Bounds
-pub mod Refused
+pub mod Keeping
+mod Instances

@@ -1,8 +1,8 @@
 -- Journals, and what they stand for.
 use Rattle.std.specs.Prelude.{◌≡◌, ℕ, List, [], ◌∷◌, ◌++◌, ⊤, Option, option_map, length}
 use Rattle.tree_paths.specs.declared.limits.Limits.{Limits}
+use Rattle.instance_table.specs.Instances.{instance_of}
 use Rattle.tree_core.specs.declared.reply.Entry.{Entry}
-use Rattle.tree_core.specs.Instances.{instance_of}
 use Rattle.tree_core.specs.Tree.{Tree, opening, reply_of, after}
 
 -- the tree after the calls of a journal
@@ -37,4 +37,4 @@ with_entry s e = record s { entries = s.entries ++ e ∷ [] }
 
 -- how many records wait in the instance of a number
 unfoldable pub waiting_in : Tree → ℕ → Option ℕ
-waiting_in t id = option_map (λ i. length i.waiting) (instance_of t.instances id)
+waiting_in t id = option_map (λ i. length i.queue.waiting) (instance_of t.instances id)

@@ -1,119 +1,172 @@
 -- What a tree answers to each call, and what it is after it.
-use Rattle.std.specs.Prelude.{ℕ, ◌+◌, not, ◌||◌, List, [], ◌∷◌, ◌++◌, Option, Some, None, unwrap_or, length, map, take, nat_lt, ◌==◌}
-use Rattle.std.specs.FinMap.{get}
+use Rattle.std.specs.Prelude.{ℕ, ℤ, ◌+◌, Bool, true, false, not, ◌||◌, List, [], ◌∷◌, Option, Some, None, is_none, length, take, nat_lt, nat_le, ◌==◌, if◌then◌else◌}
+use Rattle.std.specs.FinMap as finmap
 use Rattle.record_codec.specs.Records.{spelling}
+use Rattle.tree_paths.specs.Greatest.{most_cookies}
+use Rattle.tree_paths.specs.Rows.{row, first_row}
 use Rattle.tree_paths.specs.declared.limits.Limits.{Limits}
 use Rattle.tree_paths.specs.declared.refusal.Refusal.{Refusal}
-use Rattle.tree_paths.specs.declared.refusal.Refusal.TheVariants.{Ebadf, Eagain, Einval, Emfile}
-use Rattle.tree_core.specs.declared.files.TheConstants.{ROOT_NUMBER}
-use Rattle.tree_core.specs.declared.call.Kind.{Kind}
-use Rattle.tree_core.specs.declared.call.Kind.TheVariants.{Regular, Directory}
-use Rattle.tree_core.specs.declared.call.FileCall.TheVariants.{Create, Mkdir}
+use Rattle.tree_paths.specs.declared.refusal.Refusal.TheVariants.{Ebadf, Eagain, Einval, Emfile, Piped, NotPiped}
+use Rattle.inode_table.specs.declared.seen.Seen.{Seen}
+use Rattle.inode_table.specs.World.{World, opening_world, root_number, look}
+use Rattle.inode_table.specs.Refusals.{Look, find, is_directory_kind}
+use Rattle.tree_ops.specs.declared.call.Counts.{Counts}
+use Rattle.tree_ops.specs.declared.call.FileCall.{FileCall}
+use Rattle.tree_ops.specs.Refused as ops
+use Rattle.tree_ops.specs.After as ops_after
+use Rattle.watch_table.specs.Masks.{known, mask_fault}
+use Rattle.watch_table.specs.Watching.{add_refusal, number_of, wd_added}
+use Rattle.event_queue.specs.Reads.{fitting}
+use Rattle.event_rules.specs.Table.{notices_of}
+use Rattle.instance_table.specs.declared.instance.Instance.{Instance}
+use Rattle.instance_table.specs.Instances.{Instances, instance_of, new_instance, told, watching, unwatching, after_read, changed, all_changed}
 use Rattle.tree_core.specs.declared.call.Call.{Call}
 use Rattle.tree_core.specs.declared.call.Call.TheVariants as call
-use Rattle.tree_core.specs.declared.reply.Answer.TheVariants.{Number}
 use Rattle.tree_core.specs.declared.reply.Reply.{Reply}
 use Rattle.tree_core.specs.declared.reply.Reply.TheVariants as reply
-use Rattle.tree_core.specs.World.{World, opening_world, number_at, with_file}
-use Rattle.tree_paths.specs.Rows.{row, first_row}
-use Rattle.tree_core.specs.FileCalls.{file_rows, missing_row}
-use Rattle.tree_core.specs.Watches.{mask_rows, watch_of, new_watch_rows, descriptor_of}
-use Rattle.tree_core.specs.Notices.{to_parent, make_masks}
-use Rattle.tree_core.specs.Queues.{fitting}
-use Rattle.tree_core.specs.Instances.{Instance, new_instance, told, watching_file, after_read, instance_of, changed, without_taken}
 
--- the files, the open instances in the order of their numbers, and the numbers that the next file and instance get
+-- the files; the numbers that the next file, the next rename and the next instance get; and the open instances
 pub record Tree : Type 0 where
   pub limits : Limits
   pub world : World
   pub next_number : ℕ
+  pub next_cookie : ℕ
   pub next_id : ℕ
-  pub instances : List Instance
+  pub instances : Instances
 
 -- the root alone, and no instance
 unfoldable pub opening : Limits → Tree
-opening limits = record { limits = limits; world = opening_world; next_number = ROOT_NUMBER + 1; next_id = 1; instances = [] }
+opening limits = record { limits = limits; world = opening_world; next_number = root_number + 1; next_cookie = 1; next_id = 1; instances = finmap.empty }
+
+-- the cookie that the next rename gets. All that a record has room for may be spent, which 0 says
+abbrev pub cookie_now : ℕ → ℕ
+cookie_now next = if nat_le next most_cookies then next else 0
+
+-- what the next call on files gets
+abbrev pub counts_of : Tree → Counts
+counts_of t = record { next_number = t.next_number; next_cookie = cookie_now t.next_cookie }
+
+-- ---- why a call is refused
 
 -- why no instance of this limit is made (inotify_init(2), "ERRORS": EMFILE)
-unfoldable pub init_rows : Tree → ℕ → List (Option Refusal)
-init_rows t limit =
-    row ((limit == 0) || nat_lt t.limits.queue limit) Einval
-    ∷ row (not (nat_lt (length t.instances) t.limits.instances)) Emfile
-    ∷ row (nat_lt t.limits.ids t.next_id) Emfile
+unfoldable pub init_rows : Limits → Instances → ℕ → ℕ → List (Option Refusal)
+init_rows limits instances next_id limit =
+    row ((limit == 0) || nat_lt limits.queue limit) Einval
+    ∷ row (nat_le limits.instances (finmap.len instances)) Emfile
+    ∷ row (nat_lt limits.ids next_id) Emfile
     ∷ []
 
-abbrev pub watch_rows_of : Tree → List (List ℕ) → ℕ → Option Instance → List (Option Refusal)
-watch_rows_of t p mask None = Some Ebadf ∷ []
-watch_rows_of t p mask (Some i) =
-    mask_rows mask ++ missing_row t.world p ∷ new_watch_rows t.limits i.watched (watch_of i.watched (number_at t.world p))
+-- why what stands at a path is not watched: inotify_add_watch(2), "ERRORS"
+abbrev pub seen_fault : Instance → ℕ → Option Seen → Option Refusal
+seen_fault i mask None = None
+seen_fault i mask (Some seen) = add_refusal i.watches seen.number mask (is_directory_kind seen.kind)
 
--- why a file is not watched (inotify_add_watch(2), "ERRORS")
-unfoldable pub add_watch_rows : Tree → ℕ → List (List ℕ) → ℕ → List (Option Refusal)
-add_watch_rows t id p mask = watch_rows_of t p mask (instance_of t.instances id)
+unfoldable pub add_watch_rows : Look → List (List ℕ) → ℕ → Option Instance → List (Option Refusal)
+add_watch_rows at p mask None = Some Ebadf ∷ []
+add_watch_rows at p mask (Some i) = mask_fault mask ∷ find at p ∷ seen_fault i mask (at p) ∷ []
 
-abbrev pub read_rows_of : ℕ → Option Instance → List (Option Refusal)
-read_rows_of bytes None = Some Ebadf ∷ []
-read_rows_of bytes (Some i) = row (length i.waiting == 0) Eagain ∷ row (fitting bytes i.waiting == 0) Einval ∷ []
+-- why no watch is ended (inotify_rm_watch(2), "ERRORS")
+unfoldable pub rm_watch_rows : ℤ → Option Instance → List (Option Refusal)
+rm_watch_rows wd None = Some Ebadf ∷ []
+rm_watch_rows wd (Some i) = row (is_none (number_of i.watches wd)) Einval ∷ []
 
--- why nothing is read (inotify(7), "Reading events from an inotify file descriptor")
-unfoldable pub read_rows : Tree → ℕ → ℕ → List (Option Refusal)
-read_rows t id bytes = read_rows_of bytes (instance_of t.instances id)
+-- whether the records of an instance go another way than they are asked for
+abbrev pub way_row : Bool → Bool → Option Refusal
+way_row true true = None
+way_row true false = Some NotPiped
+way_row false true = Some Piped
+way_row false false = None
 
--- why a call is refused: its rows in order
-abbrev pub rows_of : Tree → Call → List (Option Refusal)
-rows_of t (call.File f) = file_rows t.limits t.world t.next_number f
-rows_of t (call.Init limit) = init_rows t limit
-rows_of t (call.AddWatch id p mask) = add_watch_rows t id p mask
-rows_of t (call.Read id bytes) = read_rows t id bytes
+-- why nothing is read, or pumped (inotify(7), "Reading events from an inotify file descriptor")
+unfoldable pub read_rows : Bool → ℕ → Option Instance → List (Option Refusal)
+read_rows pumps bytes None = Some Ebadf ∷ []
+read_rows pumps bytes (Some i) =
+    way_row pumps i.is_piped ∷ row (length i.queue.waiting == 0) Eagain ∷ row (fitting bytes i.queue.waiting == 0) Einval ∷ []
 
--- the refusal of a call, if it is refused
+-- why no instance is closed
+unfoldable pub close_rows : Option Instance → List (Option Refusal)
+close_rows o = row (is_none o) Ebadf ∷ []
+
+-- the refusal of a call, if it is refused: the first row that holds
 abbrev pub refusal_of : Tree → Call → Option Refusal
-refusal_of t c = first_row (rows_of t c)
+refusal_of t (call.File f) = ops.refused t.world t.limits (counts_of t) f
+refusal_of t (call.Init limit is_piped) = first_row (init_rows t.limits t.instances t.next_id limit)
+refusal_of t (call.AddWatch id p mask) = first_row (add_watch_rows (look t.world) p (known mask) (instance_of t.instances id))
+refusal_of t (call.RmWatch id wd) = first_row (rm_watch_rows wd (instance_of t.instances id))
+refusal_of t (call.Read id bytes) = first_row (read_rows false bytes (instance_of t.instances id))
+refusal_of t (call.Pump id bytes) = first_row (read_rows true bytes (instance_of t.instances id))
+refusal_of t (call.Close id) = first_row (close_rows (instance_of t.instances id))
 
--- the tree with a new file, which all instances are told of
-unfoldable pub after_make : Tree → Kind → List (List ℕ) → ℕ → Tree
-after_make t kind p mode =
+-- ---- what an accepted call does
+
+-- the files as the call leaves them; each instance is told of it
+unfoldable pub after_file : Tree → FileCall → Tree
+after_file t f =
     record t {
-      world = with_file t.world p t.next_number (record { kind = kind; mode = mode; bytes = [] });
-      next_number = t.next_number + 1;
-      instances = map (λ i. told i (to_parent t.world p (make_masks kind))) t.instances;
+      world = ops_after.after t.world (counts_of t) f;
+      next_number = t.next_number + ops_after.numbers_of f;
+      next_cookie = t.next_cookie + ops.cookies_of t.world f;
+      instances = all_changed t.instances (told (notices_of t.world f (cookie_now t.next_cookie)));
     }
 
--- the tree with a new instance
-unfoldable pub after_init : Tree → ℕ → Tree
-after_init t limit = record t { next_id = t.next_id + 1; instances = t.instances ++ new_instance t.next_id limit ∷ [] }
+-- a new instance
+unfoldable pub after_init : Tree → ℕ → Bool → Tree
+after_init t limit is_piped = record t { next_id = t.next_id + 1; instances = finmap.insert t.instances t.next_id (new_instance t.limits limit is_piped) }
 
--- the tree where an instance watches a file
+abbrev pub number_seen : Option Seen → ℕ
+number_seen None = 0
+number_seen (Some s) = s.number
+
+-- an instance watches what stands at a path
 unfoldable pub after_add_watch : Tree → ℕ → List (List ℕ) → ℕ → Tree
-after_add_watch t id p mask =
-    record t { instances = changed t.instances id (λ i. watching_file i (unwrap_or (number_at t.world p) 0) mask) }
+after_add_watch t id p mask = record t { instances = changed t.instances id (watching (number_seen (look t.world p)) (known mask)) }
 
--- the tree where an instance gave the records that fit
+-- a watch of an instance ends
+unfoldable pub after_rm_watch : Tree → ℕ → ℤ → Tree
+after_rm_watch t id wd = record t { instances = changed t.instances id (unwatching wd) }
+
+-- as many records are read as fit
+abbrev pub after_reading : ℕ → Instance → Instance
+after_reading bytes i = after_read (fitting bytes i.queue.waiting) i
+
 unfoldable pub after_accepted_read : Tree → ℕ → ℕ → Tree
-after_accepted_read t id bytes = record t { instances = changed t.instances id (λ i. after_read (fitting bytes i.waiting) i) }
+after_accepted_read t id bytes = record t { instances = changed t.instances id (after_reading bytes) }
+
+-- an instance less, with its watches and what waited
+unfoldable pub after_close : Tree → ℕ → Tree
+after_close t id = record t { instances = finmap.remove t.instances id }
 
 -- the tree after an accepted call
 abbrev pub accepted : Tree → Call → Tree
-accepted t (call.File (Create p mode)) = after_make t Regular p mode
-accepted t (call.File (Mkdir p mode)) = after_make t Directory p mode
-accepted t (call.Init limit) = after_init t limit
+accepted t (call.File f) = after_file t f
+accepted t (call.Init limit is_piped) = after_init t limit is_piped
 accepted t (call.AddWatch id p mask) = after_add_watch t id p mask
+accepted t (call.RmWatch id wd) = after_rm_watch t id wd
 accepted t (call.Read id bytes) = after_accepted_read t id bytes
+accepted t (call.Pump id bytes) = after_accepted_read t id bytes
+accepted t (call.Close id) = after_close t id
 
-abbrev pub watch_answer : Option Instance → ℕ → Reply
-watch_answer None number = reply.Refused Ebadf
-watch_answer (Some i) number = reply.Wd (descriptor_of i.watched (get i.watched.watches number))
+-- ---- what it answers
 
-abbrev pub read_answer : Option Instance → ℕ → Reply
-read_answer None bytes = reply.Refused Ebadf
-read_answer (Some i) bytes = reply.Records (spelling (take (fitting bytes i.waiting) i.waiting))
+abbrev pub watch_answer : ℕ → Option Instance → Reply
+watch_answer number None = reply.Refused Ebadf
+watch_answer number (Some i) = reply.Wd (wd_added i.watches number)
 
--- what an accepted call answers: the new file's number, the new instance's, the watch descriptor, the bytes of records
+abbrev pub read_answer : ℕ → Option Instance → Reply
+read_answer bytes None = reply.Refused Ebadf
+read_answer bytes (Some i) = reply.Records (spelling (take (fitting bytes i.queue.waiting) i.queue.waiting))
+
+-- what an accepted call answers
 abbrev pub answer_of : Tree → Call → Reply
-answer_of t (call.File f) = reply.File (Number t.next_number)
-answer_of t (call.Init limit) = reply.Instance t.next_id
-answer_of t (call.AddWatch id p mask) = watch_answer (instance_of t.instances id) (unwrap_or (number_at t.world p) 0)
-answer_of t (call.Read id bytes) = read_answer (instance_of t.instances id) bytes
+answer_of t (call.File f) = reply.File (ops_after.answer_of t.world (counts_of t) f)
+answer_of t (call.Init limit is_piped) = reply.Instance t.next_id
+answer_of t (call.AddWatch id p mask) = watch_answer (number_seen (look t.world p)) (instance_of t.instances id)
+answer_of t (call.RmWatch id wd) = reply.Done
+answer_of t (call.Read id bytes) = read_answer bytes (instance_of t.instances id)
+answer_of t (call.Pump id bytes) = read_answer bytes (instance_of t.instances id)
+answer_of t (call.Close id) = reply.Done
+
+-- ---- every call
 
 abbrev pub reply_by : Option Refusal → Reply → Reply
 reply_by (Some r) answer = reply.Refused r
@@ -130,7 +183,3 @@ reply_of t c = reply_by (refusal_of t c) (answer_of t c)
 -- the tree after a call, which is as before where the call is refused
 abbrev pub after : Tree → Call → Tree
 after t c = tree_by (refusal_of t c) t (accepted t c)
-
--- the tree without what was read: all that later replies depend on
-unfoldable pub compacted : Tree → Tree
-compacted t = record t { instances = map without_taken t.instances }

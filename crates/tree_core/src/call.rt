@@ -1,43 +1,10 @@
 //! The calls of a tree.
 
 ghost use Rattle.std.specs.Prelude.{◌≡◌, IfOk, IfErr};
+ghost use Rattle.tree_core.specs.Calls.{is_plain};
 
+use tree_ops::FileCall;
 use tree_paths::{Path, Refusal};
-
-/// The greatest mode: set-user-ID, set-group-ID, the sticky bit, and the nine permission bits (POSIX.1-2017,
-/// `<sys/stat.h>`).
-pub const GREATEST_MODE: u32 = 0o7777;
-
-/// The type of a file (POSIX.1-2017, `<sys/stat.h>`).
-#[derive(Clone, Copy, Debug, PartialEq, Eq)]
-pub enum Kind {
-    /// A regular file, which has bytes.
-    Regular,
-    /// A directory, which has names.
-    Directory,
-}
-
-/// A call on the files of the tree.
-#[derive(Debug, Drop, PartialEq, Eq)]
-pub enum FileCall {
-    /// Makes an empty regular file, as POSIX `open` with `O_CREAT` and `O_EXCL`, and closes it.
-    ///
-    /// The first that holds: `EINVAL`, a mode above [`GREATEST_MODE`]; `EEXIST`, the root; `ENOENT` or `ENOTDIR`, no
-    /// such directory; `EEXIST`, the path is taken; `NumbersSpent`, no file number is left.
-    Create {
-        /// Where the file is to stand.
-        path: Path,
-        /// Its mode bits, from 0 to [`GREATEST_MODE`].
-        mode: u32,
-    },
-    /// Makes an empty directory, as POSIX `mkdir`. Its refusals are those of [`FileCall::Create`].
-    Mkdir {
-        /// Where the directory is to stand.
-        path: Path,
-        /// Its mode bits, from 0 to [`GREATEST_MODE`].
-        mode: u32,
-    },
-}
 
 /// A call of a tree.
 #[derive(Debug, Drop, PartialEq, Eq)]
@@ -51,66 +18,84 @@ pub enum Call {
     Init {
         /// How many records may wait, marks of lost events not counted.
         limit: u32,
+        /// Whether its records go through a pipe: they are pumped, and not read.
+        piped: bool,
     },
     /// Watches a file, as `inotify_add_watch`. A file that is watched already keeps its watch descriptor, and the mask
-    /// takes the place of the old one.
+    /// takes the place of the old one, or is joined with it under `IN_MASK_ADD`.
     ///
-    /// The first that holds: `EBADF`, no such instance; `EINVAL`, the mask has no bit, or one outside `IN_ALL_EVENTS`;
-    /// `ENOENT` or `ENOTDIR`, no such file; `ENOSPC`, too many watches, or no watch descriptor is left.
+    /// The first that holds: `EBADF`, no such instance; `EINVAL`, the mask has `IN_MASK_CREATE`, or no bit of an event;
+    /// `ENOENT` or `ENOTDIR`, no such file; `ENOTDIR`, `IN_ONLYDIR` and no directory; `ENOSPC`, too many watches, or no
+    /// watch descriptor is left.
     AddWatch {
         /// The instance that is to watch.
         instance: u32,
         /// The file.
         path: Path,
-        /// The bits of the events that are to be told.
+        /// The bits of the events that are to be told, and flags of the call. Other bits have no effect.
         mask: u32,
+    },
+    /// Ends a watch, as `inotify_rm_watch`: the instance is told `IN_IGNORED`.
+    ///
+    /// The first that holds: `EBADF`, no such instance; `EINVAL`, no watch has the descriptor.
+    RmWatch {
+        /// The instance that watches.
+        instance: u32,
+        /// The descriptor of the watch.
+        wd: i32,
     },
     /// Reads the oldest records that fit, as `read` of an inotify file descriptor. It does not wait.
     ///
-    /// The first that holds: `EBADF`, no such instance; `EAGAIN`, nothing waits; `EINVAL`, the first record does not
-    /// fit.
+    /// The first that holds: `EBADF`, no such instance; `Piped`, its records go through a pipe; `EAGAIN`, nothing waits;
+    /// `EINVAL`, the first record does not fit.
     Read {
         /// The instance that is read.
         instance: u32,
         /// How many bytes there is room for.
         bytes: u32,
     },
-}
-
-impl FileCall {
-    /// The same call once more.
+    /// Reads the oldest records that fit, for the pipe of an instance.
     ///
-    /// # Errors
-    /// `ENOMEM`, where there is no memory for it.
-    pub fn copy(&self) -> Result<FileCall, Refusal>
-        ensures ok { IfOk result (λ call. call ≡ self.now) }
-        ensures err { IfErr result (λ refusal. refusal ≡ Refusal.Enomem) }
-    {
-        Ok(match self {
-            FileCall::Create { path, mode } => FileCall::Create {
-                path: path.copy()?,
-                mode: *mode,
-            },
-            FileCall::Mkdir { path, mode } => FileCall::Mkdir {
-                path: path.copy()?,
-                mode: *mode,
-            },
-        })
-    }
+    /// As [`Call::Read`], with `NotPiped` where the instance has no pipe.
+    Pump {
+        /// The instance that is read.
+        instance: u32,
+        /// How many bytes there is room for.
+        bytes: u32,
+    },
+    /// Closes an instance, as `close` of an inotify file descriptor: its watches are gone, and what waited is given up.
+    ///
+    /// `EBADF`, no such instance.
+    Close {
+        /// The instance that is closed.
+        instance: u32,
+    },
 }
 
 impl Call {
+    ghost use Rattle.tree_paths.specs.declared.refusal.Refusal.TheVariants.{Enomem};
+
+    /// Whether the call is none that pipes are for: neither a [`Call::Pump`] nor a [`Call::Init`] with a pipe.
+    pub fn is_plain(&self) -> bool
+        ensures { result ≡ is_plain self.now }
+    {
+        !matches!(self, Call::Pump { .. } | Call::Init { piped: true, .. })
+    }
+
     /// The same call once more.
     ///
     /// # Errors
     /// `ENOMEM`, where there is no memory for it.
     pub fn copy(&self) -> Result<Call, Refusal>
         ensures ok { IfOk result (λ call. call ≡ self.now) }
-        ensures err { IfErr result (λ refusal. refusal ≡ Refusal.Enomem) }
+        ensures err { IfErr result (λ refusal. refusal ≡ Enomem) }
     {
         Ok(match self {
             Call::File(call) => Call::File(call.copy()?),
-            Call::Init { limit } => Call::Init { limit: *limit },
+            Call::Init { limit, piped } => Call::Init {
+                limit: *limit,
+                piped: *piped,
+            },
             Call::AddWatch {
                 instance,
                 path,
@@ -120,9 +105,20 @@ impl Call {
                 path: path.copy()?,
                 mask: *mask,
             },
+            Call::RmWatch { instance, wd } => Call::RmWatch {
+                instance: *instance,
+                wd: *wd,
+            },
             Call::Read { instance, bytes } => Call::Read {
                 instance: *instance,
                 bytes: *bytes,
+            },
+            Call::Pump { instance, bytes } => Call::Pump {
+                instance: *instance,
+                bytes: *bytes,
+            },
+            Call::Close { instance } => Call::Close {
+                instance: *instance,
             },
         })
     }

@@ -1,103 +1,149 @@
-//! The tree with its instances: what it answers to each call.
-ghost use Rattle.std.specs.Prelude.{◌≡◌, None, IfOk, IfErr, OnOk, map, unwrap_or};
+//! The files and the instances: what they answer to each call.
+ghost use Rattle.std.specs.Prelude.{◌≡◌, ◌≤◌, true, IfOk, IfErr, OnOk, OnErr, IsSome, length, take};
 ghost use Rattle.std.specs.Option.{option_copied};
-ghost use Rattle.tree_core.specs.World.{parent_of, number_at};
+ghost use Rattle.record_codec.specs.Records.{spelling};
 ghost use Rattle.tree_paths.specs.Rows.{first_row};
-ghost use Rattle.tree_core.specs.FileCalls.{make_rows};
-ghost use Rattle.tree_core.specs.Watches.{watch_of, new_watch_rows};
-ghost use Rattle.tree_core.specs.Notices.{make_masks, to_parent};
-ghost use Rattle.tree_core.specs.Instances.{told, instance_of};
-ghost use Rattle.tree_core.specs.Tree.{opening, init_rows, add_watch_rows, read_rows, refusal_of, after_make, after_init, after_add_watch, after_accepted_read, answer_of, reply_of, after, compacted};
+ghost use Rattle.tree_paths.specs.declared.refusal.Refusal.TheVariants.{Enomem};
+ghost use Rattle.tree_core.specs.Calls.{takes_memory};
+ghost use Rattle.inode_table.specs.Refusals.{is_directory_kind};
+ghost use Rattle.instance_table.specs.Instances.{instance_of, changed};
+ghost use Rattle.tree_core.specs.Machines.{HasTree, IsMachineOf, Serves};
+ghost use Rattle.tree_core.specs.Tree.{Tree, opening, counts_of, init_rows, rm_watch_rows, read_rows, close_rows, read_answer, after_reading};
 
-use crate::call::{Call, FileCall, GREATEST_MODE, Kind};
-use crate::files::{Files, ROOT_NUMBER};
-use crate::instance::OpenInstance;
-use crate::instances::{index_of, instance_copies, instance_in, told_each};
-use crate::notices::{Notice, make_notices};
-use crate::reply::{Answer, Reply};
-use crate::watches::Watches;
-use record_codec::Name;
-use record_codec::bits::IN_ALL_EVENTS;
-use std::alloc::Global;
-use std::marker::Model;
+use crate::call::Call;
+use crate::reply::Reply;
+use event_queue::Queue;
+use event_rules::notices;
+use inode_table::{Kind, Table};
+use instance_table::{Instance, Instances};
+use record_codec::{Bytes, append};
+use std::alloc::{AllocError, Global};
+use tree_ops::{Counts, FileCall, carry_out, check};
 use tree_paths::{Limits, Path, Refusal};
+use watch_table::Mask;
 
-/// The tree of files and its open instances.
+/// The number of the first file that is made: the root has the number 1.
+const FIRST_NUMBER: u32 = 2;
+
+/// The files, the open instances, and the numbers that come next.
 #[derive(Drop)]
 pub struct Machine {
-    alloc: Global,
-    limits: Limits,
-    files: Files,
-    next_number: u32,
-    next_id: u32,
-    instances: Vec<OpenInstance>,
+    pub(crate) alloc: Global,
+    pub(crate) limits: Limits,
+    pub(crate) table: Table,
+    pub(crate) next_number: u32,
+    pub(crate) next_cookie: u64,
+    pub(crate) next_id: u32,
+    pub(crate) instances: Instances,
 }
 
-impl Model for Machine {
-    ghost use Rattle.tree_core.specs.Tree.{Tree};
-    ghost use Rattle.tree_core.specs.Codes.{tree_code};
+/// What a call answers, twice: for the journal, and for who made the call.
+#[derive(Drop)]
+pub struct Replies {
+    pub journaled: Reply,
+    pub given: Reply,
+}
 
-    ghost Value = { Tree };
+impl Replies {
+    // A reply, and a copy of it.
+    fn of(reply: Reply) -> Result<Replies, Refusal>
+        ensures journaled { IfOk result (λ r. r.journaled ≡ reply) }
+        ensures given { IfOk result (λ r. r.given ≡ reply) }
+        ensures err { IfErr result (λ refusal. refusal ≡ Enomem) }
+        ensures memory { OnErr result (takes_memory reply ≡ true) }
+    {
+        let given = reply.copy()?;
+        Ok(Replies {
+            journaled: reply,
+            given,
+        })
+    }
 
-    ghost coded = { tree_code };
-
-    ghost use Rattle.tree_core.specs.MachineView.{tree_of};
-
-    ghost view = { tree_of };
+    // A refusal. It takes no memory.
+    fn refused(refusal: Refusal) -> Replies
+        ensures journaled { result.journaled ≡ Reply.Refused refusal }
+        ensures given { result.given ≡ Reply.Refused refusal }
+    {
+        Replies {
+            journaled: Reply::Refused(refusal),
+            given: Reply::Refused(refusal),
+        }
+    }
 }
 
 impl Machine {
     /// The root alone, and no instance.
-    #[tactic(auto, unfolding(crate::specs::Tree::opening))]
     pub fn new(alloc: Global, limits: Limits) -> Result<Machine, Refusal>
-        ensures ok { IfOk result (λ m. m ≡ opening limits) }
-        ensures err { IfErr result (λ refusal. refusal ≡ Refusal.Enomem) }
+        ensures ok { IfOk result (IsMachineOf (opening limits)) }
+        ensures err { IfErr result (λ refusal. refusal ≡ Enomem) }
     {
         Ok(Machine {
             alloc,
             limits,
-            files: Files::new(alloc)?,
-            next_number: ROOT_NUMBER + 1,
+            table: Table::new(alloc)?,
+            next_number: FIRST_NUMBER,
+            next_cookie: 1,
             next_id: 1,
-            instances: Vec::new(alloc),
+            instances: Instances::new(alloc),
         })
     }
 
-    /// The open instance of a number.
-    pub fn instance_at(&self, id: u32) -> Option<&OpenInstance>
-        ensures { option_copied result ≡ instance_of self.now.instances id }
+    /// Carries out a call, which may be refused. What takes memory comes first: an error leaves all as it was.
+    pub fn answer(&mut self, call: &Call) -> Result<Replies, Refusal>
+        requires { HasTree self.old }
+        ensures { Serves self.old call.now result self.new }
     {
-        instance_in(self.instances.as_slice(), id)
+        match call {
+            Call::File(call) => self.file(call),
+            Call::Init { limit, piped } => self.init(*limit, *piped),
+            Call::AddWatch {
+                instance,
+                path,
+                mask,
+            } => self.add_watch(*instance, path, *mask),
+            Call::RmWatch { instance, wd } => self.rm_watch(*instance, *wd),
+            Call::Read { instance, bytes } => self.read(*instance, *bytes),
+            Call::Pump { instance, bytes } => self.pump(*instance, *bytes),
+            Call::Close { instance } => self.close(*instance),
+        }
     }
 
-    // Why a file cannot be made.
-    #[tactic(auto, unfolding(crate::specs::FileCalls::make_rows))]
-    fn make_refusal(&self, path: &Path, mode: u32) -> Option<Refusal>
-        ensures { result ≡ first_row (make_rows self.now.limits self.now.world self.now.next_number path.now mode) }
+    // What the next call on files gets.
+    fn counts(&self) -> Counts
+        ensures { (t : Tree) → IsMachineOf t self.now → result ≡ counts_of t }
     {
-        let names = path.names();
-        if mode > GREATEST_MODE {
-            return Some(Refusal::Einval);
+        Counts {
+            next_number: self.next_number,
+            next_cookie: u32::try_from(self.next_cookie).unwrap_or(0),
         }
-        if names.is_empty() {
-            return Some(Refusal::Eexist);
-        }
-        if let Some(refusal) = self.files.parent_fault(names) {
-            return Some(refusal);
-        }
-        if self.files.is_there(names) {
-            return Some(Refusal::Eexist);
-        }
-        if self.next_number > self.limits.numbers {
-            return Some(Refusal::NumbersSpent);
-        }
-        None
     }
 
-    // Why an instance cannot be made.
+    // Carries out a call on files.
+    fn file(&mut self, call: &FileCall) -> Result<Replies, Refusal>
+        requires { HasTree self.old }
+        ensures { Serves self.old (Call.File call.now) result self.new }
+    {
+        let counts = self.counts();
+        let ready = match check(&self.table, call, &counts, &self.limits) {
+            Ok(ready) => ready,
+            Err(refusal) => return Ok(Replies::refused(refusal)),
+        };
+        let notices = notices(self.alloc, &self.table, &ready, counts.next_cookie)?;
+        let staging = self.instances.stage(notices.as_slice())?;
+        let numbers = ready.numbers();
+        let cookies = ready.cookies();
+        let answer = carry_out(self.alloc, &mut self.table, ready)?;
+        let replies = Replies::of(Reply::File(answer))?;
+        self.instances.tell(notices.as_slice(), staging);
+        self.next_number += numbers;
+        self.next_cookie += u64::from(cookies);
+        Ok(replies)
+    }
+
+    // Why no instance is made.
     #[tactic(auto, unfolding(crate::specs::Tree::init_rows))]
-    fn init_refusal(&self, limit: u32) -> Option<Refusal>
-        ensures { result ≡ first_row (init_rows self.now limit) }
+    fn init_fault(&self, limit: u32) -> Option<Refusal>
+        ensures { result ≡ first_row (init_rows self.now.limits self.now.instances self.now.next_id limit) }
     {
         if limit == 0 || limit > self.limits.queue {
             return Some(Refusal::Einval);
@@ -111,206 +157,181 @@ impl Machine {
         None
     }
 
-    // Why a file cannot be watched.
-    #[tactic(auto, unfolding(crate::specs::Tree::add_watch_rows))]
-    fn add_watch_refusal(&self, id: u32, path: &Path, mask: u32) -> Option<Refusal>
-        ensures { result ≡ first_row (add_watch_rows self.now id path.now mask) }
-    {
-        let Some(opened) = self.instance_at(id) else {
-            return Some(Refusal::Ebadf);
-        };
-        if mask & IN_ALL_EVENTS != mask {
-            return Some(Refusal::Einval);
-        }
-        if mask == 0 {
-            return Some(Refusal::Einval);
-        }
-        if let Some(refusal) = self.files.missing(path.names()) {
-            return Some(refusal);
-        }
-        new_watch_refusal(
-            &self.limits,
-            opened.watched(),
-            self.files.number_at(path.names()),
-        )
-    }
-
-    // Why an instance cannot be read.
-    #[tactic(auto, unfolding(crate::specs::Tree::read_rows))]
-    fn read_refusal(&self, id: u32, bytes: u32) -> Option<Refusal>
-        ensures { result ≡ first_row (read_rows self.now id bytes) }
-    {
-        let Some(opened) = self.instance_at(id) else {
-            return Some(Refusal::Ebadf);
-        };
-        if opened.waiting() == 0 {
-            return Some(Refusal::Eagain);
-        }
-        if opened.fitting(bytes) == 0 {
-            return Some(Refusal::Einval);
-        }
-        None
-    }
-
-    /// Why a call is refused, if it is.
-    pub fn refusal(&self, call: &Call) -> Option<Refusal>
-        ensures { result ≡ refusal_of self.now call.now }
-    {
-        match call {
-            Call::File(FileCall::Create { path, mode }) => self.make_refusal(path, *mode),
-            Call::File(FileCall::Mkdir { path, mode }) => self.make_refusal(path, *mode),
-            Call::Init { limit } => self.init_refusal(*limit),
-            Call::AddWatch {
-                instance,
-                path,
-                mask,
-            } => self.add_watch_refusal(*instance, path, *mask),
-            Call::Read { instance, bytes } => self.read_refusal(*instance, *bytes),
-        }
-    }
-
-    // Makes a file.
-    fn make(&mut self, kind: Kind, path: &Path, mode: u32) -> Result<Reply, Refusal>
-        requires { first_row (make_rows self.old.limits self.old.world self.old.next_number path.now mode) ≡ None }
-        ensures reply { IfOk result (λ r. r ≡ Reply.File (Answer.Number self.old.next_number)) }
-        ensures tree { OnOk result (self.new ≡ after_make self.old kind path.now mode) }
-        ensures err { IfErr result (λ refusal. refusal ≡ Refusal.Enomem) }
-    {
-        let instances = self.told_of(kind, path)?;
-        let number = self.next_number;
-        self.files.add(path.copy()?, number, kind, mode)?;
-        self.next_number += 1;
-        self.instances = instances;
-        Ok(Reply::File(Answer::Number(number)))
-    }
-
-    // The number of the directory that has a path's last name.
-    fn parent_number(&self, path: &[Name]) -> u32
-        ensures { result ≡ unwrap_or (number_at self.now.world (parent_of path.now)) 0 }
-    {
-        let count = path.len().saturating_sub(1);
-        self.files.number_at(&path[..count]).unwrap_or(0)
-    }
-
-    // What is told of a new file.
-    fn notices_of(&self, kind: Kind, path: &Path) -> Result<Vec<Notice>, Refusal>
-        ensures ok { IfOk result (λ v. v.items ≡ to_parent self.now.world path.now (make_masks kind)) }
-        ensures err { IfErr result (λ refusal. refusal ≡ Refusal.Enomem) }
-    {
-        let names = path.names();
-        make_notices(self.alloc, self.parent_number(names), kind, names)
-    }
-
-    // The instances after they were told of a new file.
-    fn told_of(&self, kind: Kind, path: &Path) -> Result<Vec<OpenInstance>, Refusal>
-        ensures ok { IfOk result (λ v. v.items ≡ map (λ i. told i (to_parent self.now.world path.now (make_masks kind))) self.now.instances) }
-        ensures err { IfErr result (λ refusal. refusal ≡ Refusal.Enomem) }
-    {
-        let notices = self.notices_of(kind, path)?;
-        told_each(self.alloc, self.instances.as_slice(), notices.as_slice())
-    }
-
     // Makes an instance.
-    fn init(&mut self, limit: u32) -> Result<Reply, Refusal>
-        requires { first_row (init_rows self.old limit) ≡ None }
-        ensures reply { IfOk result (λ r. r ≡ Reply.Instance self.old.next_id) }
-        ensures tree { OnOk result (self.new ≡ after_init self.old limit) }
-        ensures err { IfErr result (λ refusal. refusal ≡ Refusal.Enomem) }
+    fn init(&mut self, limit: u32, piped: bool) -> Result<Replies, Refusal>
+        requires { HasTree self.old }
+        ensures { Serves self.old (Call.Init limit piped) result self.new }
     {
+        if let Some(refusal) = self.init_fault(limit) {
+            return Ok(Replies::refused(refusal));
+        }
         let id = self.next_id;
-        self.instances
-            .push(OpenInstance::new(self.alloc, id, limit))?;
+        let replies = Replies::of(Reply::Instance(id))?;
+        self.instances.open(id, limit, piped, &self.limits)?;
         self.next_id += 1;
-        Ok(Reply::Instance(id))
+        Ok(replies)
     }
 
     // Watches a file.
-    fn add_watch(&mut self, id: u32, path: &Path, mask: u32) -> Result<Reply, Refusal>
-        requires { first_row (add_watch_rows self.old id path.now mask) ≡ None }
-        ensures reply { IfOk result (λ r. r ≡ answer_of self.old (Call.AddWatch id path.now mask)) }
-        ensures tree { OnOk result (self.new ≡ after_add_watch self.old id path.now mask) }
-        ensures err { IfErr result (λ refusal. refusal ≡ Refusal.Enomem) }
+    fn add_watch(&mut self, id: u32, path: &Path, mask: u32) -> Result<Replies, Refusal>
+        requires { HasTree self.old }
+        ensures { Serves self.old (Call.AddWatch id path.now mask) result self.new }
     {
-        let number = self.files.number_at(path.names()).unwrap_or(0);
-        let Some(place) = index_of(self.instances.as_slice(), id) else {
-            unreachable!()
+        self.table.law();
+        if self.instances.get(id).is_none() {
+            return Ok(Replies::refused(Refusal::Ebadf));
+        }
+        let mask = Mask::of(mask);
+        if let Some(refusal) = mask.fault() {
+            return Ok(Replies::refused(refusal));
+        }
+        let seen = match self.table.look(path.names()) {
+            Ok(seen) => seen,
+            Err(refusal) => return Ok(Replies::refused(refusal)),
         };
-        let opened = &mut self.instances[place];
-        let wd = opened.descriptor(number);
-        opened.watch(number, mask)?;
-        Ok(Reply::Wd(wd))
+        match self
+            .instances
+            .watch(id, seen.number, mask, is_directory(seen.kind))
+        {
+            Ok(wd) => Replies::of(Reply::Wd(wd)),
+            Err(Refusal::Enomem) => Err(Refusal::Enomem),
+            Err(refusal) => Ok(Replies::refused(refusal)),
+        }
+    }
+
+    // Ends a watch.
+    fn rm_watch(&mut self, id: u32, wd: i32) -> Result<Replies, Refusal>
+        requires { HasTree self.old }
+        ensures { Serves self.old (Call.RmWatch id wd) result self.new }
+    {
+        if let Some(refusal) = rm_watch_fault(self.instances.get(id), wd) {
+            return Ok(Replies::refused(refusal));
+        }
+        let replies = Replies::of(Reply::Done)?;
+        self.instances.unwatch(id, wd);
+        Ok(replies)
     }
 
     // Reads records.
-    fn read(&mut self, id: u32, bytes: u32) -> Result<Reply, Refusal>
-        requires { first_row (read_rows self.old id bytes) ≡ None }
-        ensures reply { IfOk result (λ r. r ≡ answer_of self.old (Call.Read id bytes)) }
-        ensures tree { OnOk result (compacted self.new ≡ compacted (after_accepted_read self.old id bytes)) }
-        ensures err { IfErr result (λ refusal. refusal ≡ Refusal.Enomem) }
+    fn read(&mut self, id: u32, bytes: u32) -> Result<Replies, Refusal>
+        requires { HasTree self.old }
+        ensures { Serves self.old (Call.Read id bytes) result self.new }
     {
-        let Some(place) = index_of(self.instances.as_slice(), id) else {
+        if let Some(refusal) = read_fault(self.instances.get(id), bytes, false) {
+            return Ok(Replies::refused(refusal));
+        }
+        self.take_records(id, bytes)
+    }
+
+    // Reads records for a pipe.
+    fn pump(&mut self, id: u32, bytes: u32) -> Result<Replies, Refusal>
+        requires { HasTree self.old }
+        ensures { Serves self.old (Call.Pump id bytes) result self.new }
+    {
+        if let Some(refusal) = read_fault(self.instances.get(id), bytes, true) {
+            return Ok(Replies::refused(refusal));
+        }
+        self.take_records(id, bytes)
+    }
+
+    // Takes the records that fit out of an instance's queue.
+    fn take_records(&mut self, id: u32, bytes: u32) -> Result<Replies, Refusal>
+        requires { IsSome (instance_of self.old.instances id) }
+        ensures journaled { IfOk result (λ r. r.journaled ≡ read_answer bytes (instance_of self.old.instances id)) }
+        ensures given { IfOk result (λ r. r.given ≡ read_answer bytes (instance_of self.old.instances id)) }
+        ensures ok { OnOk result (self.new ≡ record self.old { instances = changed self.old.instances id (after_reading bytes) }) }
+        ensures err { OnErr result (self.new ≡ self.old) }
+        ensures memory { IfErr result (λ refusal. refusal ≡ Enomem) }
+    {
+        let Some(instance) = self.instances.get(id) else {
             unreachable!()
         };
-        let alloc = self.alloc;
-        let opened = &mut self.instances[place];
-        let count = opened.fitting(bytes);
-        let records = opened.spelled(alloc, count)?;
-        opened.read(count)?;
-        Ok(Reply::Records(records))
+        let count = instance.queue.fit(bytes as usize);
+        let records = spelled(self.alloc, &instance.queue, count)?;
+        let replies = Replies::of(Reply::Records(records))?;
+        self.instances.drop_oldest(id, count);
+        Ok(replies)
     }
 
-    /// Carries out a call, which may be refused. After an error the machine is in no stated state.
-    pub fn answer(&mut self, call: &Call) -> Result<Reply, Refusal>
-        ensures reply { IfOk result (λ r. r ≡ reply_of self.old call.now) }
-        ensures tree { OnOk result (compacted self.new ≡ compacted (after self.old call.now)) }
-        ensures err { IfErr result (λ refusal. refusal ≡ Refusal.Enomem) }
+    // Closes an instance.
+    fn close(&mut self, id: u32) -> Result<Replies, Refusal>
+        requires { HasTree self.old }
+        ensures { Serves self.old (Call.Close id) result self.new }
     {
-        if let Some(refusal) = self.refusal(call) {
-            return Ok(Reply::Refused(refusal));
+        if let Some(refusal) = close_fault(self.instances.get(id)) {
+            return Ok(Replies::refused(refusal));
         }
-        match call {
-            Call::File(FileCall::Create { path, mode }) => self.make(Kind::Regular, path, *mode),
-            Call::File(FileCall::Mkdir { path, mode }) => self.make(Kind::Directory, path, *mode),
-            Call::Init { limit } => self.init(*limit),
-            Call::AddWatch {
-                instance,
-                path,
-                mask,
-            } => self.add_watch(*instance, path, *mask),
-            Call::Read { instance, bytes } => self.read(*instance, *bytes),
-        }
-    }
-
-    /// The same machine once more.
-    pub fn copy(&self) -> Result<Machine, Refusal>
-        ensures ok { IfOk result (λ m. m ≡ self.now) }
-        ensures err { IfErr result (λ refusal. refusal ≡ Refusal.Enomem) }
-    {
-        Ok(Machine {
-            alloc: self.alloc,
-            limits: self.limits,
-            files: self.files.copy(self.alloc)?,
-            next_number: self.next_number,
-            next_id: self.next_id,
-            instances: instance_copies(self.alloc, self.instances.as_slice())?,
-        })
+        let replies = Replies::of(Reply::Done)?;
+        self.instances.close(id);
+        Ok(replies)
     }
 }
 
-// Why a file cannot be watched, where it is not yet.
-fn new_watch_refusal(limits: &Limits, watches: &Watches, number: Option<u32>) -> Option<Refusal>
-    ensures { result ≡ first_row (new_watch_rows limits.now watches.now (watch_of watches.now number)) }
+fn is_directory(kind: Kind) -> bool
+    ensures { result ≡ is_directory_kind kind }
 {
-    if let Some(number) = number {
-        if watches.of(number).is_some() {
-            return None;
-        }
-    }
-    if watches.len() >= limits.watches as usize {
-        return Some(Refusal::Enospc);
-    }
-    if watches.next_wd() > limits.wds {
-        return Some(Refusal::Enospc);
+    matches!(kind, Kind::Directory)
+}
+
+// Why no watch is ended.
+#[tactic(auto, unfolding(crate::specs::Tree::rm_watch_rows))]
+fn rm_watch_fault(instance: Option<&Instance>, wd: i32) -> Option<Refusal>
+    ensures { result ≡ first_row (rm_watch_rows wd (option_copied instance.entry)) }
+{
+    let Some(instance) = instance else {
+        return Some(Refusal::Ebadf);
+    };
+    if instance.watches.number_of(wd).is_none() {
+        return Some(Refusal::Einval);
     }
     None
+}
+
+// Why nothing is read, or pumped.
+#[tactic(auto, unfolding(crate::specs::Tree::read_rows))]
+fn read_fault(instance: Option<&Instance>, bytes: u32, pumps: bool) -> Option<Refusal>
+    ensures { result ≡ first_row (read_rows pumps bytes (option_copied instance.entry)) }
+{
+    let Some(instance) = instance else {
+        return Some(Refusal::Ebadf);
+    };
+    if pumps && !instance.is_piped {
+        return Some(Refusal::NotPiped);
+    }
+    if !pumps && instance.is_piped {
+        return Some(Refusal::Piped);
+    }
+    if instance.queue.is_empty() {
+        return Some(Refusal::Eagain);
+    }
+    if instance.queue.fit(bytes as usize) == 0 {
+        return Some(Refusal::Einval);
+    }
+    None
+}
+
+// Why no instance is closed.
+#[tactic(auto, unfolding(crate::specs::Tree::close_rows))]
+fn close_fault(instance: Option<&Instance>) -> Option<Refusal>
+    ensures { result ≡ first_row (close_rows (option_copied instance.entry)) }
+{
+    match instance {
+        Some(_) => None,
+        None => Some(Refusal::Ebadf),
+    }
+}
+
+// The bytes of the oldest records.
+fn spelled(alloc: Global, queue: &Queue, count: usize) -> Result<Bytes, AllocError>
+    requires { count ≤ length queue.now.waiting }
+    ensures { IfOk result (λ bytes. bytes ≡ spelling (take count queue.now.waiting)) }
+{
+    let mut bytes = Vec::new(alloc);
+    for index in 0..count {
+        let Some(event) = queue.peek(index) else {
+            unreachable!()
+        };
+        append(event, &mut bytes)?;
+    }
+    Ok(Bytes::from_vec(bytes))
 }

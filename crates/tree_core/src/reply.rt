@@ -1,17 +1,12 @@
 //! What calls answer, and the entries of a journal.
 
-ghost use Rattle.std.specs.Prelude.{◌≡◌, IfOk, IfErr};
+ghost use Rattle.std.specs.Prelude.{◌≡◌, true, IfOk, IfErr, OnErr};
+ghost use Rattle.tree_core.specs.Calls.{has_list, takes_memory};
 
 use crate::call::Call;
 use record_codec::Bytes;
+use tree_ops::Answer;
 use tree_paths::Refusal;
-
-/// What an accepted call on files answers.
-#[derive(Clone, Copy, Debug, PartialEq, Eq)]
-pub enum Answer {
-    /// The number of the new file, from 2 on. No number is given twice.
-    Number(u32),
-}
 
 /// What a call answers.
 #[derive(Debug, Drop, PartialEq, Eq)]
@@ -24,6 +19,8 @@ pub enum Reply {
     Wd(i32),
     /// The bytes of the records that were read.
     Records(Bytes),
+    /// It was done: the answer of all calls that have no other one.
+    Done,
     /// The call was refused, and changed nothing.
     Refused(Refusal),
 }
@@ -49,20 +46,51 @@ pub struct Receipt {
 }
 
 impl Reply {
-    /// The same reply once more.
+    ghost use Rattle.tree_paths.specs.declared.refusal.Refusal.TheVariants.{Enomem};
+
+    /// The same reply once more. It takes memory only where the reply holds bytes or names.
     ///
     /// # Errors
     /// `ENOMEM`, where there is no memory for it.
     pub fn copy(&self) -> Result<Reply, Refusal>
         ensures ok { IfOk result (λ reply. reply ≡ self.now) }
-        ensures err { IfErr result (λ refusal. refusal ≡ Refusal.Enomem) }
+        ensures err { IfErr result (λ refusal. refusal ≡ Enomem) }
+        ensures memory { OnErr result (takes_memory self.now ≡ true) }
     {
         Ok(match self {
-            Reply::File(answer) => Reply::File(*answer),
+            Reply::File(answer) => Reply::File(copy_answer(answer)?),
             Reply::Instance(id) => Reply::Instance(*id),
             Reply::Wd(wd) => Reply::Wd(*wd),
             Reply::Records(bytes) => Reply::Records(bytes.copy()?),
+            Reply::Done => Reply::Done,
             Reply::Refused(refusal) => Reply::Refused(*refusal),
         })
+    }
+}
+
+// The same answer once more.
+fn copy_answer(answer: &Answer) -> Result<Answer, Refusal>
+    ensures ok { IfOk result (λ copy. copy ≡ answer.now) }
+    ensures err { IfErr result (λ refusal. refusal ≡ Refusal.Enomem) }
+    ensures memory { OnErr result (has_list answer.now ≡ true) }
+{
+    match answer {
+        Answer::Done => Ok(Answer::Done),
+        Answer::Number(number) => Ok(Answer::Number(*number)),
+        Answer::Count(count) => Ok(Answer::Count(*count)),
+        Answer::Stat {
+            number,
+            kind,
+            mode,
+            links,
+            size,
+        } => Ok(Answer::Stat {
+            number: *number,
+            kind: *kind,
+            mode: *mode,
+            links: *links,
+            size: *size,
+        }),
+        Answer::Bytes(_) | Answer::Names(_) => answer.copy(),
     }
 }

@@ -1,5 +1,6 @@
 //! A tree with the journal of its calls.
 ghost use Rattle.std.specs.Prelude.{◌≡◌, ◌↔◌, ◌-◌, ◌≤◌, [], ◌∷◌, ◌++◌, ◌⊎◌, IfOk, IfErr, OnOk, OnErr, length};
+ghost use Rattle.instance_table.specs.Instances.{watchers_of};
 ghost use Rattle.tree_core.specs.Tree.{reply_of};
 ghost use Rattle.tree_core.specs.Journal.{IsLawful, now, with_entry, waiting_in};
 
@@ -16,7 +17,6 @@ use tree_paths::{Limits, Refusal};
 /// for. The journal is lawful at each moment: each reply in it is the one that the tree gives after the calls before.
 #[derive(Drop)]
 pub struct State {
-    limits: Limits,
     machine: Machine,
     journal: Vec<Entry>,
 }
@@ -46,7 +46,6 @@ impl State {
         ensures err { IfErr result (λ refusal. refusal ≡ Refusal.Enomem) }
     {
         Ok(State {
-            limits,
             machine: Machine::new(alloc, limits)?,
             journal: Vec::new(alloc),
         })
@@ -67,22 +66,19 @@ impl State {
         ensures full { (result ≡ Err Refusal.JournalFull) ↔ (self.old.limits.journal ≤ length self.old.entries) }
         ensures errors { IfErr result (λ e. (e ≡ Refusal.JournalFull) ⊎ (e ≡ Refusal.Enomem)) }
     {
-        if self.journal.len() >= self.limits.journal as usize {
+        if self.journal.len() >= self.machine.limits.journal as usize {
             return Err(Refusal::JournalFull);
         }
-        let mut machine = self.machine.copy()?;
-        let reply = machine.answer(&call)?;
-        let told = reply.copy()?;
-        let entry = Entry {
+        self.journal.reserve(1)?;
+        let replies = self.machine.answer(&call)?;
+        self.journal.push_reserved(Entry {
             caller,
             call,
-            reply,
-        };
-        push_entry(&mut self.journal, entry)?;
-        self.machine = machine;
+            reply: replies.journaled,
+        });
         Ok(Receipt {
             place: self.journal.len() as u64,
-            reply: told,
+            reply: replies.given,
         })
     }
 
@@ -98,25 +94,21 @@ impl State {
     pub fn waiting(&self, instance: u32) -> Option<usize>
         ensures { result ≡ waiting_in (now self.now) instance }
     {
-        let machine = &self.machine;
-        match machine.instance_at(instance) {
-            Some(opened) => Some(opened.waiting()),
-            None => None,
-        }
+        let opened = self.machine.instances.get(instance)?;
+        Some(opened.queue.len())
+    }
+
+    /// The numbers of the open instances that watch a file, rising. It takes no memory.
+    pub fn watchers(&self, number: u32) -> &[u32]
+        ensures { result.now ≡ watchers_of (now self.now).instances number }
+    {
+        self.machine.instances.watchers(number)
     }
 
     /// How many more calls the journal takes: its limit less its entries.
     pub fn free_entries(&self) -> u64
         ensures { result ≡ self.now.limits.journal - length self.now.entries }
     {
-        (self.limits.journal as u64).saturating_sub(self.journal.len() as u64)
+        (self.machine.limits.journal as u64).saturating_sub(self.journal.len() as u64)
     }
-}
-
-fn push_entry(journal: &mut Vec<Entry>, entry: Entry) -> Result<(), AllocError>
-    ensures ok { OnOk result (journal.new.items ≡ journal.old.items ++ entry ∷ []) }
-    ensures err { OnErr result (journal.new.items ≡ journal.old.items) }
-{
-    journal.push(entry)?;
-    Ok(())
 }

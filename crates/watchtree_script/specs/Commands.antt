@@ -1,11 +1,11 @@
 -- The table of commands: what each line of a script asks for.
-use Rattle.std.specs.Prelude.{◌≡◌, ℕ, not, ◌==◌, List, [], ◌∷◌, length, codes, Option, Some, None, Result, Ok, Err, if◌then◌else◌}
+use Rattle.std.specs.Prelude.{◌≡◌, ℕ, false, not, ◌==◌, List, [], ◌∷◌, length, codes, Option, Some, None, Result, Ok, Err, if◌then◌else◌}
 use Rattle.std.specs.List.{list_all, slice_index_or}
 use Rattle.std.specs.Str.{bytes_eq}
 use Rattle.tree_paths.specs.declared.refusal.Refusal.{Refusal}
 use Rattle.tree_paths.specs.Paths.{parsed}
-use Rattle.tree_core.specs.declared.call.FileCall.{FileCall}
-use Rattle.tree_core.specs.declared.call.FileCall.TheVariants as file
+use Rattle.tree_ops.specs.declared.call.FileCall.{FileCall}
+use Rattle.tree_ops.specs.declared.call.FileCall.TheVariants as file
 use Rattle.tree_core.specs.declared.call.Call.TheVariants as call
 use Rattle.watchtree_script.specs.declared.fault.ScriptFault.TheVariants.{BadByte, UnknownCommand, WrongNumber}
 use Rattle.watchtree_script.specs.declared.line.Command.{Command}
@@ -68,7 +68,7 @@ make_line kind path mode = do
 unfoldable pub init_line : List ℕ → Result Line LineError
 init_line limit = do
   n ← u32_word limit
-  Ok (Run (call.Init n) Plain)
+  Ok (Run (call.Init n false) Plain)
 
 -- watch ID PATH MASK watches a file for the events of a mask
 unfoldable pub watch_line : List ℕ → List ℕ → List ℕ → Result Line LineError
@@ -90,7 +90,7 @@ hex_line id bytes = do
 abbrev pub row_of : ℕ → Command → List (List ℕ) → Result Line LineError
 row_of queue command.Mkdir words = two words (make_line file.Mkdir)
 row_of queue command.Create words = two words (make_line file.Create)
-row_of queue command.Init words = none_or_one words (Ok (Run (call.Init queue) Plain)) init_line
+row_of queue command.Init words = none_or_one words (Ok (Run (call.Init queue false) Plain)) init_line
 row_of queue command.Watch words = three words watch_line
 row_of queue command.Hex words = two words hex_line
 

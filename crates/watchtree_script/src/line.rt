@@ -9,7 +9,8 @@ use crate::fault::ScriptFault;
 use crate::pieces::Runs;
 use crate::words::{mask_word, mode_word, path_word, u32_word};
 use std::alloc::Global;
-use tree_core::{Call, FileCall};
+use tree_core::Call;
+use tree_ops::FileCall;
 use tree_paths::{Path, Refusal};
 
 /// A command of a script.
@@ -171,10 +172,16 @@ impl<'a> Parser<'a> {
         ensures { Gives result (row_of self.old.queue Command.Init self.old.words) }
     {
         if self.words.has(0) {
-            return Ok(plain(Call::Init { limit: self.queue }));
+            return Ok(plain(Call::Init {
+                limit: self.queue,
+                piped: false,
+            }));
         }
         let limit = u32_word(self.one()?)?;
-        Ok(plain(Call::Init { limit }))
+        Ok(plain(Call::Init {
+            limit,
+            piped: false,
+        }))
     }
 
     /// `watch ID PATH MASK`

@@ -1,12 +1,16 @@
 //! Replies as text.
 
 ghost use Rattle.std.specs.Prelude.{◌≡◌, ◌++◌, OnOk, decimal, length};
-ghost use Rattle.watchtree_script.specs.Replies.{ok_line, refusal_text, answer_text, records_text, reply_text};
+ghost use Rattle.std.specs.List.{flat_map};
+ghost use Rattle.watchtree_script.specs.Replies.{ok_line, done_line, hexadecimal, name_line, mode_text, octal_digit, refusal_text, answer_text, records_text, reply_text};
 
 use crate::line::Shown;
+use inode_table::Kind;
 use itoa::{Buffer, Integer};
+use record_codec::{Name, append_name};
 use std::alloc::AllocError;
-use tree_core::{Answer, Reply};
+use tree_core::Reply;
+use tree_ops::Answer;
 use tree_paths::Refusal;
 
 /// Adds a reply, as its command shows it.
@@ -18,6 +22,7 @@ pub(crate) fn push_reply(text: &mut Vec<u8>, shown: Shown, reply: &Reply) -> Res
         Reply::Instance(id) => push_ok(text, *id),
         Reply::Wd(wd) => push_ok(text, *wd),
         Reply::Records(bytes) => push_read(text, shown, bytes.as_slice()),
+        Reply::Done => push_done(text),
         Reply::Refused(refusal) => push_refusal(text, *refusal),
     }
 }
@@ -38,8 +43,101 @@ fn push_answer(text: &mut Vec<u8>, answer: &Answer) -> Result<(), AllocError>
     ensures { OnOk result (text.new.items ≡ text.old.items ++ answer_text answer.now) }
 {
     match answer {
+        Answer::Done => push_done(text),
         Answer::Number(number) => push_ok(text, *number),
+        Answer::Count(count) => push_ok(text, *count),
+        Answer::Bytes(bytes) => push_bytes(text, bytes.as_slice()),
+        Answer::Names(names) => push_names(text, names.as_slice()),
+        Answer::Stat {
+            number,
+            kind,
+            mode,
+            links,
+            size,
+        } => push_stat(text, *number, *kind, *mode, *links, *size),
     }
+}
+
+fn push_done(text: &mut Vec<u8>) -> Result<(), AllocError>
+    ensures { OnOk result (text.new.items ≡ text.old.items ++ done_line) }
+{
+    text.extend_from_slice(b"ok\n")
+}
+
+// The bytes of a file, as hexadecimal digits.
+fn push_bytes(text: &mut Vec<u8>, bytes: &[u8]) -> Result<(), AllocError>
+    ensures { OnOk result (text.new.items ≡ text.old.items ++ ok_line (hexadecimal bytes.now)) }
+{
+    if bytes.is_empty() {
+        return text.extend_from_slice(b"ok -\n");
+    }
+    let digits = hex::encode(*text.allocator(), bytes)?;
+    text.extend_from_slice(b"ok ")?;
+    text.extend_from_slice(digits.as_bytes())?;
+    text.extend_from_slice(b"\n")
+}
+
+// The names in a directory, in a line each.
+fn push_names(text: &mut Vec<u8>, names: &[Name]) -> Result<(), AllocError>
+    ensures { OnOk result (text.new.items ≡ text.old.items ++ ok_line (decimal (length names.now)) ++ flat_map name_line names.now) }
+{
+    push_ok(text, names.len())?;
+    for name in names {
+        push_name(text, name)?;
+    }
+    Ok(())
+}
+
+fn push_name(text: &mut Vec<u8>, name: &Name) -> Result<(), AllocError>
+    ensures { OnOk result (text.new.items ≡ text.old.items ++ name_line name.now) }
+{
+    text.extend_from_slice(b"  ")?;
+    append_name(name, text)?;
+    text.extend_from_slice(b"\n")
+}
+
+// What stands at a path.
+fn push_stat(
+    text: &mut Vec<u8>,
+    number: u32,
+    kind: Kind,
+    mode: u32,
+    links: u64,
+    size: u64,
+) -> Result<(), AllocError>
+    ensures { OnOk result (text.new.items ≡ text.old.items ++ answer_text (Answer.Stat number kind mode links size)) }
+{
+    let mut buffer = Buffer::new();
+    text.extend_from_slice(b"ok ")?;
+    text.extend_from_slice(buffer.format(number).as_bytes())?;
+    text.extend_from_slice(match kind {
+        Kind::Regular => b" f ",
+        Kind::Directory => b" d ",
+    })?;
+    text.extend_from_slice(&mode_digits(mode))?;
+    text.extend_from_slice(b" ")?;
+    text.extend_from_slice(buffer.format(links).as_bytes())?;
+    text.extend_from_slice(b" ")?;
+    text.extend_from_slice(buffer.format(size).as_bytes())?;
+    text.extend_from_slice(b"\n")
+}
+
+// A mode as four octal digits.
+fn mode_digits(mode: u32) -> [u8; 4]
+    ensures { result ≡ mode_text mode }
+{
+    [
+        octal_digit(mode / 512),
+        octal_digit(mode / 64),
+        octal_digit(mode / 8),
+        octal_digit(mode),
+    ]
+}
+
+fn octal_digit(number: u32) -> u8
+    ensures { result ≡ octal_digit number }
+{
+    b'0' + (number % 8) as u8
 }
 
 fn push_ok<I: Integer>(text: &mut Vec<u8>, value: I) -> Result<(), AllocError>

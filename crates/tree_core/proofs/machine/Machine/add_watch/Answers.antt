@@ -1,53 +1,74 @@
-use Rattle.std.proofs.Common.{List, sym, ap, ◌∙◌, arith, w32}
-use Rattle.std.specs.Prelude.{slice_set, unwrap_or}
-use Rattle.std.specs.FinMap.{get}
+use Rattle.std.proofs.Common.{rules, arith, w32, SFits, to_z, of_z, ap, subst, sym, ◌∙◌, refl, not, None, Some, Ok}
 use Rattle.std.proofs.lemmas.Int.{to_z-of_z}
-use Rattle.tree_core.specs.declared.reply.Reply.TheVariants.{Wd}
-use Rattle.tree_core.specs.World.{number_at}
-use Rattle.tree_core.specs.Instances.{Instance, watching_file}
-use Rattle.tree_core.specs.MachineView.{tree_of}
-use Rattle.tree_core.specs.Tree.{after_add_watch}
-use Rattle.tree_core.proofs.Accepted.{watch_is_open, wds_left}
-use Rattle.tree_core.proofs.Places.{found_at, changed_place}
+use Rattle.std.specs.Prelude.{◌≡◌, ◌⊎◌}
+use Rattle.tree_paths.specs.declared.refusal.Refusal.TheVariants.{Ebadf, Enomem}
+use Rattle.inode_table.specs.Refusals.{find}
+use Rattle.inode_table.specs.Stands.{look_in}
+use Rattle.watch_table.specs.Watching.{add_refusal, wd_added}
+use Rattle.instance_table.specs.Instances.{Instances, instance_of}
+use Rattle.tree_core.specs.declared.call.Call.TheVariants as call
+use Rattle.tree_core.specs.declared.machine.Machine.{Machine}
+use Rattle.tree_core.specs.declared.reply.Reply.TheVariants as reply
+use Rattle.tree_core.specs.Machines.{Serves}
+use Rattle.tree_core.proofs.Instances.{refused-serves, answered-serves, copied-none, copied-some, at-instance, first-of-two, add-bad-there, add-mask-there, add-path-there, add-seen-there, answer-there, IsMachineOf-watching}
 use Rattle.tree_core.proofs.machine.Machine.add_watch.Goals as goal
 
-pub unreachable-requires : goal.unreachable-requires
-unreachable-requires c =
-    watch_is_open (tree_of c.self.inside) c.args.id c.args.path.now c.args.mask (rw c.self.view_is c.requires) (rw c.as_slice.ensures.value at c.in_default.ensures)
+pub returns-then-is_none : goal.returns-then-is_none
+returns-then-is_none c =
+    let m = c.args.self.now in
+    let none = copied-none c.get.result (instance_of m.instances c.args.id) c.get.ensures (c.is_none.ensures ∙ ap not c.if-is_none.true) in
+    refused-serves m (call.AddWatch c.args.id c.args.path.now c.args.mask) Ebadf c.refused.result c.refused.ensures.journaled c.refused.ensures.given
+    (λ t s. add-bad-there t m s c.args.id c.args.path.now c.args.mask none)
 
-pub descriptor-wd-requires : goal.descriptor-wd-requires
-descriptor-wd-requires c none =
-    let at = rw c.as_slice.ensures.value at c.in-Some.ensures in
-    let number = c.unwrap_or-number.ensures ∙ ap (λ o. unwrap_or o 0) (c.number_at.ensures ∙ ap (number_at c.self.inside.files) c.names.ensures) in
-    let w : Instance = c.index_mut-opened.result.now in
-    let left = wds_left (tree_of c.self.inside) c.args.id c.args.path.now c.args.mask w (rw c.self.view_is c.requires)
-    (found_at c.self.inside.instances.items c.args.id c.in-Some.place w at c.index_mut-opened.ensures.value) (ap (get w.watched.watches) (sym number) ∙ none) in
-    omega (arith, left, c.self.inside.limits.wds_in)
+pub returns-in-Some : goal.returns-in-Some
+returns-in-Some c =
+    let m = c.args.self.now in
+    let found = copied-some c.get.result (instance_of m.instances c.args.id) c.get.ensures (c.is_none.ensures ∙ ap not c.if-is_none.false) in
+    refused-serves m (call.AddWatch c.args.id c.args.path.now c.args.mask) c.in-Some.refusal c.refused-in-Some.result c.refused-in-Some.ensures.journaled c.refused-in-Some.ensures.given
+    (λ t s. add-mask-there t m s c.args.id found.0 c.args.path.now c.args.mask c.of-mask.result.0 found.1 c.of-mask.ensures (c.law.ensures.looks t.world s.world) c.in-Some.refusal c.in-Some.ensures)
 
-pub watch-requires : goal.watch-requires
-watch-requires c none =
-    let at = rw c.as_slice.ensures.value at c.in-Some.ensures in
-    let number = c.unwrap_or-number.ensures ∙ ap (λ o. unwrap_or o 0) (c.number_at.ensures ∙ ap (number_at c.self.inside.files) c.names.ensures) in
-    let w : Instance = c.index_mut-opened.result.now in
-    let left = wds_left (tree_of c.self.inside) c.args.id c.args.path.now c.args.mask w (rw c.self.view_is c.requires)
-    (found_at c.self.inside.instances.items c.args.id c.in-Some.place w at c.index_mut-opened.ensures.value) (ap (get w.watched.watches) (sym number) ∙ none) in
-    omega (arith, left, c.self.inside.limits.wds_in)
+pub returns-in-Err : goal.returns-in-Err
+returns-in-Err c =
+    let m = c.args.self.now in
+    let found = copied-some c.get.result (instance_of m.instances c.args.id) c.get.ensures (c.is_none.ensures ∙ ap not c.if-is_none.false) in
+    let missing = subst (λ p. find (look_in m.table) p ≡ Some c.in-Err.refusal) c.names.ensures c.in-Err.ensures.missing in
+    refused-serves m (call.AddWatch c.args.id c.args.path.now c.args.mask) c.in-Err.refusal c.refused-in-Err.result c.refused-in-Err.ensures.journaled c.refused-in-Err.ensures.given
+    (λ t s. add-path-there t m s c.args.id found.0 c.args.path.now c.args.mask c.of-mask.result.0 found.1 c.of-mask.ensures (c.law.ensures.looks t.world s.world) c.in-Err.refusal c.in_default.ensures missing)
 
-pub returns-clause-reply : goal.returns-clause-reply
-returns-clause-reply c =
-    let at = rw c.as_slice.ensures.value at c.in-Some.ensures in
-    let number = c.unwrap_or-number.ensures ∙ ap (λ o. unwrap_or o 0) (c.number_at.ensures ∙ ap (number_at c.self.inside.files) c.names.ensures) in
-    let w : Instance = c.index_mut-opened.result.now in
-    let here = found_at c.self.inside.instances.items c.args.id c.in-Some.place w at c.index_mut-opened.ensures.value in
-    rw (← c.self.view_is, here, ← number) (ap (λ d. Wd d) (to_z-of_z w32 c.descriptor-wd.result c.descriptor-wd.ensures.fits ∙ c.descriptor-wd.ensures.value))
+pub returns-in-Ok-watch : goal.returns-in-Ok-watch
+returns-in-Ok-watch c =
+    let m = c.args.self.now in
+    let found = copied-some c.get.result (instance_of m.instances c.args.id) c.get.ensures (c.is_none.ensures ∙ ap not c.if-is_none.false) in
+    let i = found.0 in
+    let n = c.of-mask.result.0 in
+    let seen = c.in-Ok.seen in
+    let there = subst (λ p. find (look_in m.table) p ≡ None) c.names.ensures c.in-Ok.ensures.none in
+    let at = subst (λ p. look_in m.table p ≡ Some seen) c.names.ensures c.in-Ok.ensures.seen in
+    let free = at-instance (λ i. add_refusal i.watches seen.number n c.is_directory.result ≡ None) (instance_of m.instances c.args.id) i found.1 c.in-Ok-watch.ensures.accepted in
+    let wd = at-instance (λ i. c.in-Ok-watch.wd ≡ wd_added i.watches seen.number) (instance_of m.instances c.args.id) i found.1 c.in-Ok-watch.ensures.wd in
+    let fits : SFits w32 c.in-Ok-watch.wd = search rules in
+    let same = to_z-of_z w32 c.in-Ok-watch.wd fits in
+    answered-serves m (call.AddWatch c.args.id c.args.path.now c.args.mask) c.of.result _ (reply.Wd (to_z w32 (of_z w32 c.in-Ok-watch.wd)))
+    (λ t s. add-seen-there t m s c.args.id i c.args.path.now c.args.mask n found.1 c.of-mask.ensures (c.law.ensures.looks t.world s.world) seen None c.in_default.ensures there at
+    (ap (λ d. add_refusal i.watches seen.number n d) (sym c.is_directory.ensures) ∙ free))
+    (λ t s. ap reply.Wd (same ∙ wd) ∙ answer-there t m s c.args.id i c.args.path.now c.args.mask n found.1 c.of-mask.ensures (c.law.ensures.looks t.world s.world) seen at)
+    (λ t s. IsMachineOf-watching t m s c.args.id i c.args.path.now c.args.mask n found.1 c.of-mask.ensures (c.law.ensures.looks t.world s.world) seen c.watch.new.self at c.in-Ok-watch.ensures.ok)
+    refl c.of.ensures.journaled c.of.ensures.given c.of.ensures.memory
 
-pub returns-clause-tree : goal.returns-clause-tree
-unfolding after_add_watch
-returns-clause-tree c =
-    let at = rw c.as_slice.ensures.value at c.in-Some.ensures in
-    let number = c.unwrap_or-number.ensures ∙ ap (λ o. unwrap_or o 0) (c.number_at.ensures ∙ ap (number_at c.self.inside.files) c.names.ensures) in
-    let w : Instance = c.index_mut-opened.result.now in
-    let items : List Instance = c.self.inside.instances.items in
-    let all = changed_place items c.args.id c.in-Some.place w (λ i. watching_file i (unwrap_or (number_at c.self.inside.files c.args.path.now) 0) c.args.mask) at c.index_mut-opened.ensures.value in
-    rw (← c.self.view_is)
-    (ap (λ is. record (tree_of c.self.inside) { instances = is }) (ap (slice_set items c.in-Some.place) (c.in_ok-watch.ensures.ok ∙ ap (λ n. watching_file w n c.args.mask) number) ∙ sym all))
+pub returns-in-Err-watch : goal.returns-in-Err-watch
+returns-in-Err-watch c =
+    let m : Machine = c.args.self.now in
+    let found = copied-some c.get.result (instance_of m.instances c.args.id) c.get.ensures (c.is_none.ensures ∙ ap not c.if-is_none.false) in
+    let i = found.0 in
+    let n = c.of-mask.result.0 in
+    let seen = c.in-Ok.seen in
+    let r = c.in-Err-watch.refusal in
+    let there = subst (λ p. find (look_in m.table) p ≡ None) c.names.ensures c.in-Ok.ensures.none in
+    let at = subst (λ p. look_in m.table p ≡ Some seen) c.names.ensures c.in-Ok.ensures.seen in
+    let either = at-instance (λ i. (add_refusal i.watches seen.number n c.is_directory.result ≡ Some r) ⊎ (r ≡ Enomem)) (instance_of m.instances c.args.id) i found.1 c.in-Err-watch.ensures.refusals in
+    let apart : r ≡ Enomem → ⊥ = first_of (search rules, grind arith) in
+    let why = first-of-two (add_refusal i.watches seen.number n c.is_directory.result ≡ Some r) r apart either in
+    subst (λ (x : Instances). Serves m (call.AddWatch c.args.id c.args.path.now c.args.mask) (Ok c.refused-in-Err-watch.result) (record m { instances = x })) (sym c.in-Err-watch.ensures.err)
+    (refused-serves m (call.AddWatch c.args.id c.args.path.now c.args.mask) r c.refused-in-Err-watch.result c.refused-in-Err-watch.ensures.journaled c.refused-in-Err-watch.ensures.given
+    (λ t s. add-seen-there t m s c.args.id i c.args.path.now c.args.mask n found.1 c.of-mask.ensures (c.law.ensures.looks t.world s.world) seen (Some r) c.in_default.ensures there at
+    (ap (λ d. add_refusal i.watches seen.number n d) (sym c.is_directory.ensures) ∙ why)))

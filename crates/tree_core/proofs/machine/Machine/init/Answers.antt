@@ -1,14 +1,25 @@
-use Rattle.std.proofs.Common.{refl, arith}
+use Rattle.std.proofs.Common.{arith, ap, ◌∙◌, refl, None}
+use Rattle.tree_core.specs.declared.call.Call.TheVariants as call
+use Rattle.tree_core.specs.declared.reply.Reply.TheVariants as reply
+use Rattle.instance_table.specs.Instances.{new_instance}
 use Rattle.tree_core.specs.Tree.{after_init}
-use Rattle.tree_core.specs.MachineView.{tree_of}
-use Rattle.tree_core.proofs.Accepted.{next_id-accepted}
+use Rattle.tree_core.proofs.Instances.{accepted-serves, init-fault-there, init-passes, IsMachineOf-opened}
 use Rattle.tree_core.proofs.machine.Machine.init.Goals as goal
 
-pub overflow_add-self : goal.overflow_add-self
-overflow_add-self c =
-    let small = next_id-accepted (tree_of c.self.inside) c.args.limit (rw c.self.view_is c.requires) in
-    omega (arith, small, c.self.inside.limits.ids_in)
+pub open-requires-clause-limit : goal.open-requires-clause-limit
+open-requires-clause-limit c =
+    let m = c.args.self.now in
+    let passes = init-passes m.limits m.instances m.next_id c.args.limit c.in_default.ensures in
+    let most = m.limits.queue_in.1 in
+    (passes.0, omega arith)
 
-pub returns-clause-tree : goal.returns-clause-tree
+pub returns : goal.returns
 unfolding after_init
-returns-clause-tree c = rw (c.in_ok-push.ensures.items, c.new.ensures, ← c.self.view_is) refl
+returns c =
+    let m = c.args.self.now in
+    accepted-serves m (call.Init c.args.limit c.args.piped) c.in_ok-replies.replies _
+    (λ t s. init-fault-there t m s c.args.limit None c.in_default.ensures)
+    (λ t s. c.in_ok-replies.ensures.journaled ∙ ap reply.Instance s.next_id)
+    (λ t s. c.in_ok-replies.ensures.given ∙ ap reply.Instance s.next_id)
+    (λ t s. IsMachineOf-opened t m s c.open.new.self (λ l. new_instance l c.args.limit c.args.piped) c.in_ok-open.ensures.ok (init-passes m.limits m.instances m.next_id c.args.limit c.in_default.ensures).2)
+    refl

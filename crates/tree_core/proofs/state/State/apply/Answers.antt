@@ -1,33 +1,38 @@
-use Rattle.std.proofs.Common.{[], ◌∷◌, sym, ap, ◌∙◌, arith, length-append}
+use Rattle.std.proofs.Common.{◌≡◌, ◌<◌, [], ◌∷◌, ◌++◌, length, Ok, Err, sym, ap, ◌∙◌, arith}
 use Rattle.tree_core.specs.declared.reply.Entry.{Entry}
-use Rattle.tree_core.specs.Tree.{compacted, reply_of, after}
-use Rattle.tree_core.specs.Journal.{stands_for}
-use Rattle.tree_core.proofs.Lawful.{IsLawful-append, stands_for-append}
-use Rattle.tree_core.proofs.After.{reply_of-alike, after-alike}
+use Rattle.tree_core.specs.Journal.{stands_for, with_entry}
+use Rattle.tree_core.specs.Machines.{Serves}
+use Rattle.tree_core.proofs.Keeping.{IsKept-same, IsKept-more}
 use Rattle.tree_core.proofs.state.State.apply.Goals as goal
+
+pub invariant_of-self-in_err-replies : goal.invariant_of-self-in_err-replies
+invariant_of-self-in_err-replies c =
+    let a = c.self.inside in
+    let served : Serves a.machine c.args.call (Err c.in_err-replies.field-0.0) c.answer.new.self = c.in_err-replies.ensures in
+    IsKept-same a (record { machine = c.answer.new.self; journal = c.reserve.new.self }) c.self.invariant served.limits c.reserve.ensures.items
+    (served.err (stands_for a.machine.limits a.journal.items) c.self.invariant.stands)
 
 pub invariant_of-self-2 : goal.invariant_of-self-2
 invariant_of-self-2 c =
-    let entry : Entry = record { caller = c.args.caller; call = c.args.call; reply = c.in_ok-reply.reply } in
-    let same = c.in_ok-reply.ensures.reply ∙ ap (λ m. reply_of m c.args.call) c.in_ok-machine.ensures.ok in
-    let reply = same ∙ reply_of-alike c.self.inside.machine (stands_for c.self.inside.limits c.self.inside.journal.items) c.args.call c.self.invariant.stands in
-    let tree = c.in_ok-reply.ensures.tree ∙ ap (λ m. compacted (after m c.args.call)) c.in_ok-machine.ensures.ok
-    ∙ after-alike c.self.inside.machine (stands_for c.self.inside.limits c.self.inside.journal.items) c.args.call c.self.invariant.stands in
-    record {
-      lawful = rw c.in_ok-push_entry.ensures.ok (IsLawful-append c.self.inside.limits c.self.inside.journal.items entry c.self.invariant.lawful reply);
-      stands = rw c.in_ok-push_entry.ensures.ok (tree ∙ ap compacted (sym (stands_for-append c.self.inside.limits c.self.inside.journal.items entry)));
-      few = rw c.in_ok-push_entry.ensures.ok (omega (arith, length-append c.self.inside.journal.items (entry ∷ [])));
-    }
+    let a = c.self.inside in
+    let t = stands_for a.machine.limits a.journal.items in
+    let served : Serves a.machine c.args.call (Ok c.in_ok-replies.replies) c.answer.new.self = c.in_ok-replies.ensures in
+    let entry : Entry = record { caller = c.args.caller; call = c.args.call; reply = c.in_ok-replies.replies.journaled } in
+    let room : length a.journal.items < a.machine.limits.journal = omega (arith, a.journal.ok.0, c.if-len-self.false, c.len.ensures) in
+    IsKept-more a (record { machine = c.answer.new.self; journal = c.push_reserved.new.self }) entry c.self.invariant served.limits
+    (c.push_reserved.ensures.items ∙ ap (λ es. es ++ entry ∷ []) c.reserve.ensures.items) room
+    (served.journaled t c.self.invariant.stands) (served.tree t c.self.invariant.stands)
 
-pub returns-clause-reply : goal.returns-clause-reply
-returns-clause-reply c =
-    let same = c.in_ok-reply.ensures.reply ∙ ap (λ m. reply_of m c.args.call) c.in_ok-machine.ensures.ok in
-    rw (← c.self.view_is)
-    (c.in_ok-told.ensures.ok ∙ same ∙ reply_of-alike c.self.inside.machine (stands_for c.self.inside.limits c.self.inside.journal.items) c.args.call c.self.invariant.stands)
+pub returns-clause-entry : goal.returns-clause-entry
+returns-clause-entry c =
+    let a = c.self.inside in
+    let t = stands_for a.machine.limits a.journal.items in
+    let served : Serves a.machine c.args.call (Ok c.in_ok-replies.replies) c.answer.new.self = c.in_ok-replies.ensures in
+    let entry : Entry = record { caller = c.args.caller; call = c.args.call; reply = c.in_ok-replies.replies.journaled } in
+    let items : c.push_reserved.new.self.items ≡ a.journal.items ++ entry ∷ [] = c.push_reserved.ensures.items ∙ ap (λ es. es ++ entry ∷ []) c.reserve.ensures.items in
+    let same : c.in_ok-replies.replies.journaled ≡ c.in_ok-replies.replies.given = served.journaled t c.self.invariant.stands ∙ sym (served.given t c.self.invariant.stands) in
+    (λ i. record { limits = served.limits i; entries = items i })
+    ∙ (λ i. with_entry (c.self.view_is i) (record { caller = c.args.caller; call = c.args.call; reply = same i }))
 
 pub returns-clause-lawful : goal.returns-clause-lawful
-returns-clause-lawful c =
-    let entry : Entry = record { caller = c.args.caller; call = c.args.call; reply = c.in_ok-reply.reply } in
-    let same = c.in_ok-reply.ensures.reply ∙ ap (λ m. reply_of m c.args.call) c.in_ok-machine.ensures.ok in
-    let reply = same ∙ reply_of-alike c.self.inside.machine (stands_for c.self.inside.limits c.self.inside.journal.items) c.args.call c.self.invariant.stands in
-    rw c.in_ok-push_entry.ensures.ok (IsLawful-append c.self.inside.limits c.self.inside.journal.items entry c.self.invariant.lawful reply)
+returns-clause-lawful c = (invariant_of-self-2 c).lawful

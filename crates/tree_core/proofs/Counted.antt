@@ -1,0 +1,140 @@
+-- The numbers that come next stay within the limits, where a call on files is accepted.
+use Rattle.std.proofs.Common.{◌≡◌, ℕ, ◌+◌, ◌≤◌, ◌==◌, ◌||◌, nat_lt, nat_le, Bool, true, false, cond, if◌then◌else◌, List, [], ◌∷◌, map, Option, Some, None, IsSome, option_map, refl, sym, ap, subst, ◌∙◌, arith}
+use Rattle.std.proofs.lemmas.Bool.{or_parts, ltb-false, true≢false}
+use Rattle.std.specs.FinMap as finmap
+use Rattle.std.specs.FinMap.{find, get-from_entries, get-entries}
+use Rattle.std.specs.Ordering.{nat_cmp, eq_by_cmp}
+use Rattle.std.specs.Cmp.{nat_cmp_total}
+use Rattle.tree_paths.specs.Greatest.{most_cookies}
+use Rattle.tree_paths.specs.Rows.{row, first_row}
+use Rattle.tree_paths.specs.declared.limits.Limits.{Limits}
+use Rattle.tree_paths.specs.declared.refusal.Refusal.{Refusal}
+use Rattle.tree_paths.specs.declared.refusal.Refusal.TheVariants.{NumbersSpent, CookiesSpent}
+use Rattle.inode_table.specs.declared.seen.Seen.{Seen}
+use Rattle.inode_table.specs.World.{look}
+use Rattle.inode_table.specs.Refusals.{Look}
+use Rattle.tree_ops.specs.declared.call.Counts.{Counts}
+use Rattle.tree_ops.specs.declared.call.FileCall.{FileCall}
+use Rattle.tree_ops.specs.declared.call.FileCall.TheVariants.{Create, Write, ReadFile, Truncate, Chmod, Mkdir, Link, Unlink, Rmdir, Rename, Stat as Status, List as Listed}
+use Rattle.tree_ops.specs.Refused.{refused, refusal_of, cookies_of, cookies_row, are_same_seen, make_rows, rename_rows, move_rows}
+use Rattle.tree_ops.specs.After.{numbers_of}
+use Rattle.event_rules.specs.Table.{notices_of}
+use Rattle.instance_table.specs.declared.instance.Instance.{Instance}
+use Rattle.instance_table.specs.Instances.{Instances, instance_of, all_changed, told}
+use Rattle.tree_core.specs.Tree.{Tree, cookie_now, counts_of, after_file}
+use Rattle.tree_core.specs.Machines.{IsCounted}
+
+-- ---- where no row answers, none holds
+
+abbrev Each : List (Option Refusal) → Type 0
+Each [] = Unit {0}
+Each (o ∷ rows) = (o ≡ None) × Each rows
+
+first-passes : (o : Option Refusal) (rows : List (Option Refusal)) → first_row (o ∷ rows) ≡ None → (o ≡ None) × (first_row rows ≡ None)
+first-passes None rows e = (refl, e)
+first-passes (Some r) rows e = absurd (cc)
+
+each-passes : (rows : List (Option Refusal)) → first_row rows ≡ None → Each rows
+each-passes [] e = tt
+each-passes (o ∷ rows) e = let w = first-passes o rows e in (w.0, each-passes rows w.1)
+
+row-passes : (b : Bool) (r : Refusal) → row b r ≡ None → b ≡ false
+row-passes true r e = absurd (cc)
+row-passes false r e = refl
+
+-- ---- numbers of files
+
+make-left : (at : Look) (limits : Limits) (counts : Counts) (p : List (List ℕ)) (mode : ℕ) → first_row (make_rows at limits counts p mode) ≡ None → counts.next_number ≤ limits.numbers
+unfolding make_rows
+make-left at limits counts p mode none =
+    let each = each-passes (make_rows at limits counts p mode) none in
+    ltb-false limits.numbers counts.next_number (row-passes (nat_lt limits.numbers counts.next_number) NumbersSpent each.1.1.1.1.0)
+
+numbers-left : (t : Tree) (f : FileCall) → refused t.world t.limits (counts_of t) f ≡ None → t.next_number ≤ t.limits.numbers + 1 → t.next_number + numbers_of f ≤ t.limits.numbers + 1
+unfolding refusal_of
+numbers-left t (Create p mode) none few = let last : t.next_number ≤ t.limits.numbers = make-left (look t.world) t.limits (counts_of t) p mode none in omega arith
+numbers-left t (Mkdir p mode) none few = let last : t.next_number ≤ t.limits.numbers = make-left (look t.world) t.limits (counts_of t) p mode none in omega arith
+numbers-left t (Write p offset bytes) none few = omega arith
+numbers-left t (ReadFile p offset count) none few = omega arith
+numbers-left t (Truncate p len) none few = omega arith
+numbers-left t (Chmod p mode) none few = omega arith
+numbers-left t (Link old new) none few = omega arith
+numbers-left t (Unlink p) none few = omega arith
+numbers-left t (Rmdir p) none few = omega arith
+numbers-left t (Rename old new) none few = omega arith
+numbers-left t (Status p) none few = omega arith
+numbers-left t (Listed p) none few = omega arith
+
+-- ---- cookies
+
+cookie-left : (limits : Limits) (counts : Counts) (next : ℕ) → counts.next_cookie ≡ cookie_now next → cookies_row limits counts ≡ None → next ≤ limits.cookies
+cookie-left limits counts next now none =
+    by (nat_le next most_cookies)
+    (ap (λ (c : ℕ). (c == 0) || nat_lt limits.cookies c) (sym now) ∙ row-passes ((counts.next_cookie == 0) || nat_lt limits.cookies counts.next_cookie) CookiesSpent none)
+  where
+    by : (b : Bool) → (((if b then next else 0) == 0) || nat_lt limits.cookies (if b then next else 0)) ≡ false → next ≤ limits.cookies
+    by true e = ltb-false limits.cookies next (or_parts (next == 0) (nat_lt limits.cookies next) e).1
+    by false e = absurd (true≢false e)
+
+move-left : (limits : Limits) (counts : Counts) (old new : Option Seen) → Each (move_rows limits counts old new) → cookies_row limits counts ≡ None
+unfolding move_rows
+move-left limits counts old new each = each.1.1.1.0
+
+rename-left : (at : Look) (limits : Limits) (counts : Counts) (next : ℕ) (old new : List (List ℕ)) → counts.next_cookie ≡ cookie_now next → first_row (rename_rows at limits counts old new) ≡ None → next ≤ limits.cookies + 1
+    → next + (if are_same_seen (at old) (at new) then 0 else 1) ≤ limits.cookies + 1
+unfolding rename_rows
+rename-left at limits counts next old new now none few = by (are_same_seen (at old) (at new)) (each-passes (rename_rows at limits counts old new) none).1.1.1.1
+  where
+    by : (b : Bool) → Each (if b then [] else move_rows limits counts (at old) (at new)) → next + (if b then 0 else 1) ≤ limits.cookies + 1
+    by true each = omega arith
+    by false each = let last : next ≤ limits.cookies = cookie-left limits counts next now (move-left limits counts (at old) (at new) each) in omega arith
+
+cookies-left : (t : Tree) (f : FileCall) → refused t.world t.limits (counts_of t) f ≡ None → t.next_cookie ≤ t.limits.cookies + 1 → t.next_cookie + cookies_of t.world f ≤ t.limits.cookies + 1
+unfolding refusal_of
+cookies-left t (Create p mode) none few = omega arith
+cookies-left t (Mkdir p mode) none few = omega arith
+cookies-left t (Write p offset bytes) none few = omega arith
+cookies-left t (ReadFile p offset count) none few = omega arith
+cookies-left t (Truncate p len) none few = omega arith
+cookies-left t (Chmod p mode) none few = omega arith
+cookies-left t (Link old new) none few = omega arith
+cookies-left t (Unlink p) none few = omega arith
+cookies-left t (Rmdir p) none few = omega arith
+cookies-left t (Rename old new) none few = rename-left (look t.world) t.limits (counts_of t) t.next_cookie old new refl none few
+cookies-left t (Status p) none few = omega arith
+cookies-left t (Listed p) none few = omega arith
+
+-- ---- open instances
+
+find-mapped : (change : Instance → Instance) (es : List (ℕ × Instance)) (q : ℕ) → find nat_cmp q (map (λ (e : ℕ × Instance). (e.0, change e.1)) es) ≡ option_map change (find nat_cmp q es)
+find-mapped change [] q = refl
+find-mapped change (e ∷ es) q =
+    elim (eq_by_cmp nat_cmp q e.0) as (λ t. cond t (Some (change e.1)) (find nat_cmp q (map (λ (e : ℕ × Instance). (e.0, change e.1)) es)) ≡ option_map change (cond t (Some e.1) (find nat_cmp q es))) [
+      | true ↦ refl
+      | false ↦ find-mapped change es q
+    ]
+
+-- a change of all leaves each instance open
+pub instance_of-all_changed : (m : Instances) (change : Instance → Instance) (id : ℕ) → instance_of (all_changed m change) id ≡ option_map change (instance_of m id)
+unfolding all_changed
+instance_of-all_changed m change id =
+    get-from_entries nat_cmp_total (map (λ (e : ℕ × Instance). (e.0, change e.1)) (finmap.entries m)) id
+    ∙ find-mapped change (finmap.entries m) id ∙ ap (option_map change) (sym (get-entries m id))
+
+was-open : (m : Instances) (change : Instance → Instance) (id : ℕ) → IsSome (instance_of (all_changed m change) id) → IsSome (instance_of m id)
+was-open m change id there = by (instance_of m id) (subst (λ (o : Option Instance). IsSome o) (instance_of-all_changed m change id) there)
+  where
+    by : (o : Option Instance) → IsSome (option_map change o) → IsSome o
+    by None h = h
+    by (Some i) h = refl
+
+-- ---- all of them
+
+pub IsCounted-filed : (t : Tree) (f : FileCall) → IsCounted t → refused t.world t.limits (counts_of t) f ≡ None → IsCounted (after_file t f)
+unfolding after_file
+IsCounted-filed t f is none = record {
+  numbers = numbers-left t f none is.numbers;
+  cookies = cookies-left t f none is.cookies;
+  ids = is.ids;
+  opened = λ id there. is.opened id (was-open t.instances (told (notices_of t.world f (cookie_now t.next_cookie))) id there);
+}

@@ -1,0 +1,334 @@
+-- What serves a call, and the calls on instances.
+use Rattle.std.proofs.Common.{◌≡◌, ℕ, ◌+◌, ◌<◌, ◌≤◌, Bool, true, false, cond, ◌||◌, Bor, eqb, ltb, leb, List, [], ◌∷◌, ◌++◌, take, Option, Some, None, is_some, refl, sym, ap, ◌∙◌, subst, inl, inr, arith}
+use Rattle.std.proofs.lemmas.Bool.{eqb-true}
+use Rattle.std.proofs.lemmas.Bool.Decides.{nat_tests}
+use Rattle.std.proofs.lemmas.Grind.{flat_map-append}
+use Rattle.std.proofs.lemmas.List.{append-nil, take_more}
+use Rattle.std.proofs.lemmas.Option.{get_or_from_slice_get, slice_get_within}
+use Rattle.std.specs.Prelude.{◌⊎◌, Result, Ok, Err, IsSome, IfSome, option_copied, slice_get, IfOk, IfErr, OnOk, OnErr}
+use Rattle.std.specs.FinMap as finmap
+use Rattle.std.specs.FinMap.{get-empty, get-insert, get-remove}
+use Rattle.std.specs.Cmp.{nat_cmp_total, unsigned_tied}
+use Rattle.std.specs.Ordering.{nat_cmp}
+use Rattle.record_codec.specs.declared.event.Event.{Event}
+use Rattle.record_codec.specs.Records.{record_bytes, spelling}
+use Rattle.tree_paths.specs.Rows.{row, first_row}
+use Rattle.tree_paths.specs.declared.limits.Limits.{Limits}
+use Rattle.tree_paths.specs.declared.refusal.Refusal.{Refusal}
+use Rattle.tree_paths.specs.declared.refusal.Refusal.TheVariants.{Enomem, Ebadf, Einval, Emfile}
+use Rattle.inode_table.specs.declared.seen.Kind.TheVariants.{Directory}
+use Rattle.inode_table.specs.declared.seen.Seen.{Seen}
+use Rattle.inode_table.specs.Tree.{Tree as Table}
+use Rattle.inode_table.specs.World.{File, look, opening_world, root_number, root_mode}
+use Rattle.inode_table.specs.Refusals.{Look, find, is_directory_kind}
+use Rattle.inode_table.specs.Stands.{Stands, file_of, look_in}
+use Rattle.tree_ops.specs.ReadyCall.{HasNumbersBelow}
+use Rattle.watch_table.specs.Masks.{known, mask_fault}
+use Rattle.watch_table.specs.Watching.{add_refusal, wd_added}
+use Rattle.instance_table.specs.declared.instance.Instance.{Instance}
+use Rattle.instance_table.specs.Instances.{Instances, instance_of, changed, changed_by, watching}
+use Rattle.tree_core.specs.declared.call.Call.{Call}
+use Rattle.tree_core.specs.declared.machine.Machine.{Machine}
+use Rattle.tree_core.specs.declared.machine.Replies.{Replies}
+use Rattle.tree_core.specs.declared.reply.Reply.{Reply}
+use Rattle.tree_core.specs.declared.reply.Reply.TheVariants as reply
+use Rattle.tree_core.specs.Machines.{IsCounted, IsMachineOf, Serves}
+use Rattle.tree_core.specs.Tree.{Tree, refusal_of, reply_by, answer_of, accepted, tree_by, init_rows, add_watch_rows, seen_fault, read_rows, watch_answer, number_seen, after_add_watch}
+
+-- ---- what serves a call
+
+module _ (m : Machine) (c : Call) where
+  -- a call that every tree refuses
+  pub refused-serves : (r : Refusal) (out : Replies) → out.journaled ≡ reply.Refused r → out.given ≡ reply.Refused r
+      → ((t : Tree) → IsMachineOf t m → refusal_of t c ≡ Some r) → Serves m c (Ok out) m
+  refused-serves r out journaled given refused = record {
+    journaled = λ t s. journaled ∙ ap (λ o. reply_by o (answer_of t c)) (sym (refused t s));
+    given = λ t s. given ∙ ap (λ o. reply_by o (answer_of t c)) (sym (refused t s));
+    tree = λ t s. subst (λ o. IsMachineOf (tree_by o t (accepted t c)) m) (sym (refused t s)) s;
+    err = λ t s. tt;
+    memory = tt;
+    limits = refl;
+  }
+
+  -- a call that every tree accepts
+  pub accepted-serves : (out : Replies) (new : Machine)
+      → ((t : Tree) → IsMachineOf t m → refusal_of t c ≡ None)
+      → ((t : Tree) → IsMachineOf t m → out.journaled ≡ answer_of t c)
+      → ((t : Tree) → IsMachineOf t m → out.given ≡ answer_of t c)
+      → ((t : Tree) → IsMachineOf t m → IsMachineOf (accepted t c) new)
+      → new.limits ≡ m.limits → Serves m c (Ok out) new
+  accepted-serves out new passes journaled given stands limits = record {
+    journaled = λ t s. journaled t s ∙ ap (λ o. reply_by o (answer_of t c)) (sym (passes t s));
+    given = λ t s. given t s ∙ ap (λ o. reply_by o (answer_of t c)) (sym (passes t s));
+    tree = λ t s. subst (λ o. IsMachineOf (tree_by o t (accepted t c)) new) (sym (passes t s)) (stands t s);
+    err = λ t s. tt;
+    memory = tt;
+    limits = limits;
+  }
+
+  -- want of memory
+  pub failed-serves : (e : Refusal) → e ≡ Enomem → Serves m c (Err e) m
+  failed-serves e memory = record {
+    journaled = λ t s. tt;
+    given = λ t s. tt;
+    tree = λ t s. tt;
+    err = λ t s. s;
+    memory = memory;
+    limits = refl;
+  }
+
+  -- a call that every tree accepts, and that may want memory
+  pub result-serves : (result : Result Replies Refusal) (new next : Machine) (answer : Reply)
+      → ((t : Tree) → IsMachineOf t m → refusal_of t c ≡ None)
+      → ((t : Tree) → IsMachineOf t m → answer ≡ answer_of t c)
+      → ((t : Tree) → IsMachineOf t m → IsMachineOf (accepted t c) next)
+      → next.limits ≡ m.limits
+      → IfOk result (λ r. r.journaled ≡ answer) → IfOk result (λ r. r.given ≡ answer) → OnOk result (new ≡ next)
+      → OnErr result (new ≡ m) → IfErr result (λ e. e ≡ Enomem) → Serves m c result new
+  result-serves (Ok out) new next answer passes is stands limits journaled given ok err memory =
+      subst (Serves m c (Ok out)) (sym ok) (accepted-serves out next passes (λ t s. journaled ∙ is t s) (λ t s. given ∙ is t s) stands limits)
+  result-serves (Err e) new next answer passes is stands limits journaled given ok err memory = subst (Serves m c (Err e)) (sym err) (failed-serves e memory)
+
+  -- a call that every tree accepts, where the copy of its answer takes no memory
+  pub answered-serves : (result : Result Replies Refusal) (new : Machine) (answer : Reply)
+      → ((t : Tree) → IsMachineOf t m → refusal_of t c ≡ None)
+      → ((t : Tree) → IsMachineOf t m → answer ≡ answer_of t c)
+      → ((t : Tree) → IsMachineOf t m → IsMachineOf (accepted t c) new)
+      → new.limits ≡ m.limits
+      → IfOk result (λ r. r.journaled ≡ answer) → IfOk result (λ r. r.given ≡ answer) → OnErr result (false ≡ true) → Serves m c result new
+  answered-serves (Ok out) new answer passes is stands limits journaled given memory = accepted-serves out new passes (λ t s. journaled ∙ is t s) (λ t s. given ∙ is t s) stands limits
+  answered-serves (Err e) new answer passes is stands limits journaled given memory = absurd (cc)
+
+-- ---- which instances are open after a change
+
+get-put : (m : Instances) (id : ℕ) (i : Instance) (q : ℕ) → instance_of (finmap.insert m id i) q ≡ cond (eqb q id) (Some i) (instance_of m q)
+get-put m id i q = get-insert nat_cmp_total m id i q ∙ ap (λ b. cond b (Some i) (instance_of m q)) (unsigned_tied q id)
+
+get-cut : (m : Instances) (id q : ℕ) → instance_of (finmap.remove m id) q ≡ cond (eqb q id) None (instance_of m q)
+get-cut m id q = get-remove nat_cmp_total m id q ∙ ap (λ b. cond b None (instance_of m q)) (unsigned_tied q id)
+
+some-put : (b : Bool) (i : Instance) (o : Option Instance) → IsSome (cond b (Some i) o) → (b ≡ true) ⊎ IsSome o
+some-put true i o h = inl refl
+some-put false i o h = inr h
+
+-- an instance that is open after one was put there is that one, or was open
+pub opened-put : (m : Instances) (id : ℕ) (i : Instance) (q : ℕ) → IsSome (instance_of (finmap.insert m id i) q) → (q ≡ id) ⊎ IsSome (instance_of m q)
+opened-put m id i q h =
+    elim (some-put (eqb q id) i (instance_of m q) (subst IsSome (get-put m id i q) h)) as (λ _. (q ≡ id) ⊎ IsSome (instance_of m q)) [
+      | inl e ↦ inl (eqb-true q id e)
+      | inr there ↦ inr there
+    ]
+
+some-cut : (b : Bool) (o : Option Instance) → IsSome (cond b None o) → IsSome o
+some-cut true o h = absurd (cc)
+some-cut false o h = h
+
+pub opened-cut : (m : Instances) (id q : ℕ) → IsSome (instance_of (finmap.remove m id) q) → IsSome (instance_of m q)
+opened-cut m id q h = some-cut (eqb q id) (instance_of m q) (subst IsSome (get-cut m id q) h)
+
+opened-changed_by : (m : Instances) (id : ℕ) (change : Instance → Instance) (o : Option Instance) (q : ℕ) → instance_of m id ≡ o → IsSome (instance_of (changed_by m id change o) q) → IsSome (instance_of m q)
+opened-changed_by m id change None q e h = h
+opened-changed_by m id change (Some i) q e h =
+    elim (opened-put m id (change i) q h) as (λ _. IsSome (instance_of m q)) [
+      | inl same ↦ ap (λ n. is_some (instance_of m n)) same ∙ ap is_some e
+      | inr there ↦ there
+    ]
+
+-- a change of one opens none
+pub opened-changed : (m : Instances) (id : ℕ) (change : Instance → Instance) (q : ℕ) → IsSome (instance_of (changed m id change) q) → IsSome (instance_of m q)
+unfolding changed
+opened-changed m id change q h = opened-changed_by m id change (instance_of m id) q refl h
+
+-- two changes that do the same to an instance
+pub changed-same : (m : Instances) (id : ℕ) (f g : Instance → Instance) (i : Instance) → instance_of m id ≡ Some i → f i ≡ g i → changed m id f ≡ changed m id g
+unfolding changed
+changed-same m id f g i is e = ap (changed_by m id f) is ∙ ap (finmap.insert m id) e ∙ sym (ap (changed_by m id g) is)
+
+-- ---- what was lent
+
+pub copied-none : (o : Option (Bor Instance)) (x : Option Instance) → option_copied o ≡ x → is_some o ≡ false → x ≡ None
+copied-none None x e h = sym e
+copied-none (Some b) x e h = absurd (cc)
+
+pub copied-some : (o : Option (Bor Instance)) (x : Option Instance) → option_copied o ≡ x → is_some o ≡ true → (i : Instance) × (x ≡ Some i)
+copied-some None x e h = absurd (cc)
+copied-some (Some b) x e h = (b.now, sym e)
+
+-- what a clause says of an instance that is there
+pub at-instance : (P : Instance → Type 0) (o : Option Instance) (i : Instance) → o ≡ Some i → IfSome o P → P i
+at-instance P o i e h = subst (λ x. IfSome x P) e h
+
+-- a refusal that is no want of memory
+pub first-of-two : (A : Type 0) (r : Refusal) → (r ≡ Enomem → ⊥) → A ⊎ (r ≡ Enomem) → A
+first-of-two A r apart (inl a) = a
+first-of-two A r apart (inr e) = absurd (apart e)
+
+alone : (o : Option Refusal) → first_row (o ∷ []) ≡ o
+alone None = refl
+alone (Some r) = refl
+
+-- ---- the machine of a tree with other instances
+
+module _ (t : Tree) (m : Machine) (stands : IsMachineOf t m) where
+  with-instances : (x y : Instances) → x ≡ y → ((q : ℕ) → IsSome (instance_of y q) → IsSome (instance_of t.instances q)) → IsMachineOf (record t { instances = y }) (record m { instances = x })
+  with-instances x y same opened = record {
+    limits = stands.limits;
+    world = stands.world;
+    below = stands.below;
+    next_number = stands.next_number;
+    next_cookie = stands.next_cookie;
+    next_id = stands.next_id;
+    instances = same;
+    counted = record {
+      numbers = stands.counted.numbers;
+      cookies = stands.counted.cookies;
+      ids = stands.counted.ids;
+      opened = λ q h. stands.counted.opened q (opened q h);
+    };
+  }
+
+  -- one changed
+  pub IsMachineOf-changed : (x : Instances) (id : ℕ) (change : Instance → Instance) → x ≡ changed m.instances id change
+      → IsMachineOf (record t { instances = changed t.instances id change }) (record m { instances = x })
+  IsMachineOf-changed x id change e =
+      with-instances x (changed t.instances id change) (e ∙ ap (λ n. changed n id change) stands.instances) (λ q h. opened-changed t.instances id change q h)
+
+  -- one was closed
+  pub IsMachineOf-closed : (x : Instances) (id : ℕ) → x ≡ finmap.remove m.instances id
+      → IsMachineOf (record t { instances = finmap.remove t.instances id }) (record m { instances = x })
+  IsMachineOf-closed x id e =
+      with-instances x (finmap.remove t.instances id) (e ∙ ap (λ n. finmap.remove n id) stands.instances) (λ q h. opened-cut t.instances id q h)
+
+  -- one was opened, under the number that comes next
+  pub IsMachineOf-opened : (x : Instances) (make : Limits → Instance) → x ≡ finmap.insert m.instances m.next_id (make m.limits) → m.next_id ≤ m.limits.ids
+      → IsMachineOf (record t { next_id = t.next_id + 1; instances = finmap.insert t.instances t.next_id (make t.limits) }) (record m { next_id = m.next_id + 1; instances = x })
+  IsMachineOf-opened x make e few = record {
+    limits = stands.limits;
+    world = stands.world;
+    below = stands.below;
+    next_number = stands.next_number;
+    next_cookie = stands.next_cookie;
+    next_id = ap (λ n. n + 1) stands.next_id;
+    instances =
+        e ∙ ap (λ l. finmap.insert m.instances m.next_id (make l)) stands.limits
+        ∙ ap (λ n. finmap.insert n m.next_id (make t.limits)) stands.instances ∙ ap (λ n. finmap.insert t.instances n (make t.limits)) stands.next_id;
+    counted = record {
+      numbers = stands.counted.numbers;
+      cookies = stands.counted.cookies;
+      ids =
+          let last : t.next_id ≤ t.limits.ids = subst (λ n. n ≤ t.limits.ids) stands.next_id (subst (λ l. m.next_id ≤ l.ids) stands.limits few) in
+          omega arith;
+      opened = λ q h.
+          elim (opened-put t.instances t.next_id (make t.limits) q h) as (λ _. q < t.next_id + 1) [
+            | inl same ↦ omega arith
+            | inr there ↦ let below : q < t.next_id = stands.counted.opened q there in omega arith
+          ];
+    };
+  }
+
+  -- what is read of the instances of a machine is read of those of its tree
+  pub there : (id : ℕ) → instance_of m.instances id ≡ instance_of t.instances id
+  there id = ap (λ n. instance_of n id) stands.instances
+
+  -- what is said of the instance of a number holds in the tree too
+  pub fault-there : (fault : Option Instance → Option Refusal) (id : ℕ) (o : Option Instance) (r : Option Refusal) → o ≡ instance_of m.instances id → r ≡ fault o → fault (instance_of t.instances id) ≡ r
+  fault-there fault id o r e h = sym (h ∙ ap fault (e ∙ there id))
+
+  pub init-fault-there : (limit : ℕ) (r : Option Refusal) → r ≡ first_row (init_rows m.limits m.instances m.next_id limit) → first_row (init_rows t.limits t.instances t.next_id limit) ≡ r
+  init-fault-there limit r h =
+      sym (h ∙ ap (λ l. first_row (init_rows l m.instances m.next_id limit)) stands.limits
+      ∙ ap (λ x. first_row (init_rows t.limits x m.next_id limit)) stands.instances
+      ∙ ap (λ n. first_row (init_rows t.limits t.instances n limit)) stands.next_id)
+
+  -- the rows of a call to watch, where the instance is there
+  module _ (id : ℕ) (i : Instance) (p : List (List ℕ)) (mask n : ℕ) (is : instance_of m.instances id ≡ Some i) (e : n ≡ known mask) (looks : (q : List (List ℕ)) → look t.world q ≡ look_in m.table q) where
+    add-rows-there : first_row (add_watch_rows (look t.world) p (known mask) (instance_of t.instances id)) ≡ first_row (mask_fault n ∷ find (look_in m.table) p ∷ seen_fault i n (look_in m.table p) ∷ [])
+    unfolding add_watch_rows
+    add-rows-there =
+        ap (λ o. first_row (add_watch_rows (look t.world) p (known mask) o)) (sym (there id) ∙ is)
+        ∙ ap (λ (at : Look). first_row (mask_fault (known mask) ∷ find at p ∷ seen_fault i (known mask) (at p) ∷ [])) (λ k q. looks q k)
+        ∙ ap (λ k. first_row (mask_fault k ∷ find (look_in m.table) p ∷ seen_fault i k (look_in m.table p) ∷ [])) (sym e)
+
+    pub add-mask-there : (r : Refusal) → Some r ≡ mask_fault n → first_row (add_watch_rows (look t.world) p (known mask) (instance_of t.instances id)) ≡ Some r
+    add-mask-there r h = add-rows-there ∙ ap (λ o. first_row (o ∷ find (look_in m.table) p ∷ seen_fault i n (look_in m.table p) ∷ [])) (sym h)
+
+    pub add-path-there : (r : Refusal) → None ≡ mask_fault n → find (look_in m.table) p ≡ Some r → first_row (add_watch_rows (look t.world) p (known mask) (instance_of t.instances id)) ≡ Some r
+    add-path-there r h missing =
+        add-rows-there ∙ ap (λ o. first_row (o ∷ find (look_in m.table) p ∷ seen_fault i n (look_in m.table p) ∷ [])) (sym h)
+        ∙ ap (λ o. first_row (o ∷ seen_fault i n (look_in m.table p) ∷ [])) missing
+
+    pub add-seen-there : (seen : Seen) (r : Option Refusal) → None ≡ mask_fault n → find (look_in m.table) p ≡ None → look_in m.table p ≡ Some seen
+        → add_refusal i.watches seen.number n (is_directory_kind seen.kind) ≡ r → first_row (add_watch_rows (look t.world) p (known mask) (instance_of t.instances id)) ≡ r
+    add-seen-there seen r h found at refusal =
+        add-rows-there ∙ ap (λ o. first_row (o ∷ find (look_in m.table) p ∷ seen_fault i n (look_in m.table p) ∷ [])) (sym h)
+        ∙ ap (λ o. first_row (o ∷ seen_fault i n (look_in m.table p) ∷ [])) found
+        ∙ alone (seen_fault i n (look_in m.table p)) ∙ ap (seen_fault i n) at ∙ refusal
+
+    -- the watch that was made
+    pub answer-there : (seen : Seen) → look_in m.table p ≡ Some seen → reply.Wd (wd_added i.watches seen.number) ≡ watch_answer (number_seen (look t.world p)) (instance_of t.instances id)
+    answer-there seen at =
+        sym (ap (λ o. watch_answer (number_seen (look t.world p)) o) (sym (there id) ∙ is)
+        ∙ ap (λ o. reply.Wd (wd_added i.watches (number_seen o))) (looks p ∙ at))
+
+    pub IsMachineOf-watching : (seen : Seen) (x : Instances) → look_in m.table p ≡ Some seen → x ≡ changed m.instances id (watching seen.number n) → IsMachineOf (after_add_watch t id p mask) (record m { instances = x })
+    unfolding after_add_watch
+    IsMachineOf-watching seen x at now =
+        IsMachineOf-changed x id (watching (number_seen (look t.world p)) (known mask))
+        (now ∙ ap (λ o. changed m.instances id (watching (number_seen o) n)) (sym (looks p ∙ at)) ∙ ap (λ k. changed m.instances id (watching (number_seen (look t.world p)) k)) e)
+
+  pub add-bad-there : (id : ℕ) (p : List (List ℕ)) (mask : ℕ) → instance_of m.instances id ≡ None → first_row (add_watch_rows (look t.world) p (known mask) (instance_of t.instances id)) ≡ Some Ebadf
+  unfolding add_watch_rows
+  add-bad-there id p mask is = ap (λ o. first_row (add_watch_rows (look t.world) p (known mask) o)) (sym (there id) ∙ is)
+
+-- ---- what acceptance gives
+
+rows-pass : (a b c : Bool) (x y z : Refusal) → None ≡ first_row (row a x ∷ row b y ∷ row c z ∷ []) → (a ≡ false) × (b ≡ false) × (c ≡ false)
+rows-pass true b c x y z h = absurd (cc)
+rows-pass false true c x y z h = absurd (cc)
+rows-pass false false true x y z h = absurd (cc)
+rows-pass false false false x y z h = (refl, refl, refl)
+
+either-false : (a b : Bool) → (a || b) ≡ false → (a ≡ false) × (b ≡ false)
+either-false true b h = absurd (cc)
+either-false false b h = (refl, h)
+
+pub init-passes : (limits : Limits) (instances : Instances) (next_id limit : ℕ) → None ≡ first_row (init_rows limits instances next_id limit) → (1 ≤ limit) × (limit ≤ limits.queue) × (next_id ≤ limits.ids)
+unfolding init_rows
+init-passes limits instances next_id limit h =
+    let passes = rows-pass ((eqb limit 0) || ltb limits.queue limit) (leb limits.instances (finmap.len instances)) (ltb limits.ids next_id) Einval Emfile Emfile h in
+    let first = either-false (eqb limit 0) (ltb limits.queue limit) passes.0 in
+    (grind (arith, nat_tests, first.0), grind (arith, nat_tests, first.1), grind (arith, nat_tests, passes.2))
+
+-- what is read is read of an open instance
+pub read-open : (pumps : Bool) (bytes : ℕ) (o : Option Instance) → None ≡ first_row (read_rows pumps bytes o) → IsSome o
+unfolding read_rows
+read-open pumps bytes None h = absurd (cc)
+read-open pumps bytes (Some i) h = refl
+
+-- ---- the bytes of records
+
+-- one record more
+pub spelling_more : (es : List Event) (i : ℕ) (e : Event) → slice_get es i ≡ Some e → spelling (take (i + 1) es) ≡ spelling (take i es) ++ record_bytes e
+spelling_more es i e h =
+    ap spelling (take_more es i e (slice_get_within es i e h) ∙ ap (λ x. take i es ++ x ∷ []) (get_or_from_slice_get es i e e h))
+    ∙ flat_map-append record_bytes (take i es) (e ∷ [])
+    ∙ ap (λ x. spelling (take i es) ++ x) (append-nil (record_bytes e))
+
+-- ---- the root alone
+
+is-root : (b : Bool) (n : ℕ) (f g : File) (o : Option File) → eqb n root_number ≡ b → o ≡ None → cond b (Some f) o ≡ Some g → n < root_number + 1
+is-root true n f g o same none h = let e : n ≡ root_number = eqb-true n root_number same in omega arith
+is-root false n f g o same none h = absurd (cc)
+
+pub below-opening : (t : Table) → Stands t opening_world → HasNumbersBelow t (root_number + 1)
+unfolding opening_world
+below-opening t s k v e =
+    let f : File = record { kind = Directory; mode = root_mode; bytes = [] } in
+    let none : finmap.FinMap nat_cmp File = finmap.empty in
+    is-root (eqb v.number root_number) v.number f (file_of v) (finmap.get none v.number) refl (get-empty nat_cmp v.number)
+    (sym (get-insert nat_cmp_total none root_number f v.number ∙ ap (λ b. cond b (Some f) (finmap.get none v.number)) (unsigned_tied v.number root_number)) ∙ s.files k v e)
+
+pub none-opened : (id : ℕ) → IsSome (instance_of finmap.empty id) → ⊥
+none-opened id h =
+    let e : ◌≡◌ {A = Bool} false true = sym (ap is_some (get-empty {X = Instance} nat_cmp id)) ∙ h in
+    absurd (cc)

@@ -1,0 +1,63 @@
+use Rattle.std.proofs.Common.{◌≡◌, ◌+◌, ◌<◌, None, refl, sym, ap, subst, ◌∙◌}
+use Rattle.tree_ops.specs.declared.call.Counts.{Counts}
+use Rattle.tree_ops.specs.ReadyCall.{HasNumbersBelow}
+use Rattle.tree_ops.specs.Refused.{refused}
+use Rattle.tree_ops.specs.After.{numbers_of}
+use Rattle.event_rules.specs.Table.{notices_of}
+use Rattle.instance_table.specs.Instances.{all_changed, told}
+use Rattle.tree_core.specs.declared.call.Call.TheVariants as call
+use Rattle.tree_core.specs.declared.machine.Machine.{Machine}
+use Rattle.tree_core.specs.declared.reply.Reply.TheVariants as reply
+use Rattle.tree_core.specs.Tree.{Tree, counts_of, cookie_now}
+use Rattle.tree_core.specs.Machines.{IsMachineOf}
+use Rattle.tree_core.proofs.Serving.{Serves-err, Serves-accepted, IsMachineOf-table}
+use Rattle.tree_core.proofs.Filed.{IsCarriedOut, IsCarriedOut-checked, IsMachineOf-listed, IsMachineOf-filed}
+use Rattle.tree_core.proofs.machine.Machine.file.Goals as goal
+
+pub check-requires : goal.check-requires
+check-requires c =
+    let t = c.requires.0 in
+    let is : IsMachineOf t c.args.self.now = c.requires.1 in
+    let same = c.counts-counts.ensures t is in
+    record { numbers = λ k file at. subst (λ n. file.number < n) (sym (ap (λ (x : Counts). x.next_number) same)) (is.below k file at) }
+
+pub returns-in_err-answer : goal.returns-in_err-answer
+returns-in_err-answer c =
+    let m = c.args.self.now in
+    let u = c.carry_out.new.table in
+    Serves-err m (record m { table = u }) (call.File c.args.call.now) c.from_residual-in_err-answer.result c.in_err-answer.field-0.0 c.from_residual-in_err-answer.ensures.1 c.in_err-answer.ensures.memory refl (λ t is.
+    IsMachineOf-table t m u is (c.in_err-answer.ensures.err_world t.world is.world)
+    (subst (λ (x : Counts). HasNumbersBelow u x.next_number) (c.in-Ok.ensures.counts ∙ c.counts-counts.ensures t is) c.in_err-answer.ensures.err_numbers))
+
+pub returns-in_err-replies : goal.returns-in_err-replies
+returns-in_err-replies c =
+    let m = c.args.self.now in
+    let u = c.carry_out.new.table in
+    let f = c.args.call.now in
+    Serves-err m (record m { table = u }) (call.File f) c.from_residual-in_err-replies.result c.in_err-replies.field-0.0 c.from_residual-in_err-replies.ensures.1 c.in_err-replies.ensures.err refl (λ t is.
+    let done : IsCarriedOut t f u c.in_ok-answer.answer = IsCarriedOut-checked t f c.in-Ok.ready u c.in_ok-answer.answer c.in-Ok.ensures.call (c.in-Ok.ensures.counts ∙ c.counts-counts.ensures t is) (c.in_ok-answer.ensures.world t.world is.world) c.in_ok-answer.ensures.numbers (c.in_ok-answer.ensures.answer t.world is.world) in
+    IsMachineOf-listed t m f u c.in_ok-answer.answer is done c.in_err-replies.ensures.memory)
+
+pub returns : goal.returns
+returns c =
+    let m = c.args.self.now in
+    let u = c.carry_out.new.table in
+    let f = c.args.call.now in
+    let said = c.in_ok-answer.answer in
+    let ready = c.in-Ok.ready in
+    let n : Machine = record { alloc = m.alloc; limits = m.limits; table = u; next_number = m.next_number + c.numbers-numbers.result; next_cookie = m.next_cookie + c.from.result; next_id = m.next_id; instances = c.tell.new.self } in
+    let counts : (t : Tree) (is : IsMachineOf t m) → ready.counts ≡ counts_of t = λ t is. c.in-Ok.ensures.counts ∙ c.counts-counts.ensures t is in
+    let done : (t : Tree) (is : IsMachineOf t m) → IsCarriedOut t f u said = λ t is.
+    IsCarriedOut-checked t f ready u said c.in-Ok.ensures.call (counts t is) (c.in_ok-answer.ensures.world t.world is.world) c.in_ok-answer.ensures.numbers (c.in_ok-answer.ensures.answer t.world is.world) in
+    let passes : (t : Tree) (is : IsMachineOf t m) → refused t.world t.limits (counts_of t) f ≡ None = λ t is.
+    (λ i. refused t.world (sym is.limits i) (sym (c.counts-counts.ensures t is) i) f) ∙ c.in-Ok.ensures.accepted t.world is.world in
+    let heard : (t : Tree) (is : IsMachineOf t m) → c.tell.new.self ≡ all_changed m.instances (told (notices_of t.world f (cookie_now t.next_cookie))) = λ t is.
+    let slice : c.as_slice-2.result.now ≡ notices_of t.world ready.call c.counts-counts.result.next_cookie = c.as_slice-2.ensures ∙ c.in_ok-notices.ensures.told t.world is.world in
+    c.tell.ensures ∙ ap (λ ns. all_changed m.instances (told ns)) (slice ∙ (λ i. notices_of t.world (c.in-Ok.ensures.call i) (c.counts-counts.ensures t is i).next_cookie)) in
+    Serves-accepted m n (call.File f) c.in_ok-replies.replies refl passes
+    (λ t is. c.in_ok-replies.ensures.journaled ∙ ap (λ a. reply.File a) (done t is).answer)
+    (c.in_ok-replies.ensures.given ∙ sym c.in_ok-replies.ensures.journaled)
+    (λ t is. IsMachineOf-filed t m n f said is (passes t is) (done t is) refl
+    (ap (λ x. m.next_number + x) (c.numbers-numbers.ensures ∙ ap numbers_of c.in-Ok.ensures.call))
+    (ap (λ x. m.next_cookie + x) (c.from.ensures ∙ c.cookies-cookies.ensures ∙ c.in-Ok.ensures.cookies t.world is.world))
+    refl (heard t is))

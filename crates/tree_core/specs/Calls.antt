@@ -1,0 +1,26 @@
+-- Calls that pipes are for, and replies that take memory.
+use Rattle.std.specs.Prelude.{Bool, true, false, not}
+use Rattle.tree_ops.specs.declared.answer.Answer.{Answer}
+use Rattle.tree_ops.specs.declared.answer.Answer.TheVariants as answer
+use Rattle.tree_core.specs.declared.call.Call.{Call}
+use Rattle.tree_core.specs.declared.call.Call.TheVariants as call
+use Rattle.tree_core.specs.declared.reply.Reply.{Reply}
+use Rattle.tree_core.specs.declared.reply.Reply.TheVariants as reply
+
+-- neither a pump, nor an instance with a pipe
+abbrev pub is_plain : Call → Bool
+is_plain (call.Init limit is_piped) = not is_piped
+is_plain (call.Pump id bytes) = false
+is_plain _ = true
+
+-- whether an answer holds a list
+abbrev pub has_list : Answer → Bool
+has_list (answer.Bytes bytes) = true
+has_list (answer.Names names) = true
+has_list _ = false
+
+-- whether a reply holds a list, so that a copy of it takes memory
+abbrev pub takes_memory : Reply → Bool
+takes_memory (reply.File a) = has_list a
+takes_memory (reply.Records bytes) = true
+takes_memory _ = false

@@ -1,0 +1,43 @@
+-- The tree that a machine stands for, and what the machine does for a call.
+use Rattle.std.specs.Prelude.{◌≡◌, ◌<◌, ◌≤◌, ◌+◌, ℕ, IsSome, Result, IfOk, IfErr, OnOk, OnErr}
+use Rattle.tree_paths.specs.declared.refusal.Refusal.{Refusal}
+use Rattle.tree_paths.specs.declared.refusal.Refusal.TheVariants.{Enomem}
+use Rattle.inode_table.specs.Stands.{Stands}
+use Rattle.tree_ops.specs.ReadyCall.{HasNumbersBelow}
+use Rattle.instance_table.specs.Instances.{instance_of}
+use Rattle.tree_core.specs.declared.call.Call.{Call}
+use Rattle.tree_core.specs.declared.machine.Machine.{Machine}
+use Rattle.tree_core.specs.declared.machine.Replies.{Replies}
+use Rattle.tree_core.specs.Tree.{Tree, reply_of, after}
+
+-- the numbers that come next are those behind all that were given, and within the limits
+pub record IsCounted (t : Tree) : Type 0 where
+  pub numbers : t.next_number ≤ t.limits.numbers + 1
+  pub cookies : t.next_cookie ≤ t.limits.cookies + 1
+  pub ids : t.next_id ≤ t.limits.ids + 1
+  pub opened : (id : ℕ) → IsSome (instance_of t.instances id) → id < t.next_id
+
+-- the table has the files of the tree, all with numbers below the next one, and all else is the same
+pub record IsMachineOf (t : Tree) (m : Machine) : Type 0 where
+  pub limits : m.limits ≡ t.limits
+  pub world : Stands m.table t.world
+  pub below : HasNumbersBelow m.table t.next_number
+  pub next_number : m.next_number ≡ t.next_number
+  pub next_cookie : m.next_cookie ≡ t.next_cookie
+  pub next_id : m.next_id ≡ t.next_id
+  pub instances : m.instances ≡ t.instances
+  pub counted : IsCounted t
+
+-- a machine stands for some tree
+abbrev pub HasTree : Machine → Type 0
+HasTree m = (t : Tree) × IsMachineOf t m
+
+-- a call is replied to as in each tree that the machine stands for, and leads to the tree after it. An error is want of
+-- memory, and leaves the tree as it was
+pub record Serves (old : Machine) (c : Call) (result : Result Replies Refusal) (new : Machine) : Type 0 where
+  pub journaled : (t : Tree) → IsMachineOf t old → IfOk result (λ r. r.journaled ≡ reply_of t c)
+  pub given : (t : Tree) → IsMachineOf t old → IfOk result (λ r. r.given ≡ reply_of t c)
+  pub tree : (t : Tree) → IsMachineOf t old → OnOk result (IsMachineOf (after t c) new)
+  pub err : (t : Tree) → IsMachineOf t old → OnErr result (IsMachineOf t new)
+  pub memory : IfErr result (λ refusal. refusal ≡ Enomem)
+  pub limits : new.limits ≡ old.limits
