@@ -22,7 +22,7 @@ use Rattle.event_rules.specs.Table.{notices_of}
 use Rattle.instance_table.specs.declared.instance.Instance.{Instance}
 use Rattle.instance_table.specs.Instances.{Instances, instance_of, all_changed, told}
 use Rattle.tree_core.specs.Tree.{Tree, cookie_now, counts_of, after_file}
-use Rattle.tree_core.specs.Machines.{IsCounted}
+use Rattle.tree_core.specs.Sound.{IsCounted}
 
 -- ---- where no row answers, none holds
 

@@ -1,21 +1,14 @@
 -- The tree that a machine stands for, and what the machine does for a call.
-use Rattle.std.specs.Prelude.{◌≡◌, ◌<◌, ◌≤◌, ◌+◌, ℕ, IsSome, Result, IfOk, IfErr, OnOk, OnErr}
+use Rattle.std.specs.Prelude.{◌≡◌, Result, IfOk, IfErr, OnOk, OnErr}
 use Rattle.tree_paths.specs.declared.refusal.Refusal.{Refusal}
 use Rattle.tree_paths.specs.declared.refusal.Refusal.TheVariants.{Enomem}
 use Rattle.inode_table.specs.Stands.{Stands}
 use Rattle.tree_ops.specs.ReadyCall.{HasNumbersBelow}
-use Rattle.instance_table.specs.Instances.{instance_of}
 use Rattle.tree_core.specs.declared.call.Call.{Call}
 use Rattle.tree_core.specs.declared.machine.Machine.{Machine}
 use Rattle.tree_core.specs.declared.machine.Replies.{Replies}
+use Rattle.tree_core.specs.Sound.{IsCounted}
 use Rattle.tree_core.specs.Tree.{Tree, reply_of, after}
-
--- the numbers that come next are those behind all that were given, and within the limits
-pub record IsCounted (t : Tree) : Type 0 where
-  pub numbers : t.next_number ≤ t.limits.numbers + 1
-  pub cookies : t.next_cookie ≤ t.limits.cookies + 1
-  pub ids : t.next_id ≤ t.limits.ids + 1
-  pub opened : (id : ℕ) → IsSome (instance_of t.instances id) → id < t.next_id
 
 -- the table has the files of the tree, all with numbers below the next one, and all else is the same
 pub record IsMachineOf (t : Tree) (m : Machine) : Type 0 where

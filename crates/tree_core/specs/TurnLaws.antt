@@ -1,0 +1,134 @@
+-- Laws of all lawful journals: numbers, descriptors and cookies are given once, and nothing follows the end of a watch.
+use Rattle.std.specs.Prelude.{◌≡◌, ◌≢◌, ℕ, ℤ, ◌+◌, ◌≤◌, ◌==◌, List, [], ◌∷◌, ◌++◌, Option, Some, None, All, IsTrue, if◌then◌else◌}
+use Rattle.record_codec.specs.declared.event.Event.{Event}
+use Rattle.tree_paths.specs.declared.limits.Limits.{Limits}
+use Rattle.tree_paths.specs.declared.refusal.Refusal.{Refusal}
+use Rattle.inode_table.specs.World.{root_number}
+use Rattle.tree_ops.specs.declared.answer.Answer.TheVariants.{Number}
+use Rattle.tree_ops.specs.Refused.{cookies_of}
+use Rattle.watch_table.specs.Watching.{HasEnded}
+use Rattle.event_rules.specs.Raised.{event_bit}
+use Rattle.event_rules.specs.Laws.{TellsNothing, cookie_for, says_ended}
+use Rattle.event_rules.specs.declared.notice.TheConstants.{NO_COOKIE}
+use Rattle.instance_table.specs.declared.instance.Instance.{Instance}
+use Rattle.instance_table.specs.Instances.{instance_of}
+use Rattle.tree_core.specs.declared.call.Call.{Call}
+use Rattle.tree_core.specs.declared.call.Call.TheVariants as call
+use Rattle.tree_core.specs.declared.reply.Entry.{Entry}
+use Rattle.tree_core.specs.declared.reply.Reply.{Reply}
+use Rattle.tree_core.specs.declared.reply.Reply.TheVariants as reply
+use Rattle.tree_core.specs.Sound.{IsSoundTree}
+use Rattle.tree_core.specs.Tree.{Tree, opening, cookie_now, refusal_of, reply_of, after}
+use Rattle.tree_core.specs.Journal.{IsLawful, stands_for}
+use Rattle.tree_core.specs.Histories.{Raised, raised_by, raised_in, events, joined, where_same}
+
+-- each tree that a journal stands for is sound
+abbrev pub TreesAreSound : Type 0
+TreesAreSound = (limits : Limits) (es : List Entry) → IsSoundTree (stands_for limits es)
+
+-- ---- numbers that are given
+
+-- these are numbers in turn, from the first on: none is there twice
+abbrev pub AreInTurn : ℕ → List ℕ → Type 0
+AreInTurn n [] = Unit {0}
+AreInTurn n (x ∷ xs) = (x ≡ n) × AreInTurn (n + 1) xs
+
+abbrev pub number_in : Reply → List ℕ
+number_in (reply.File (Number n)) = n ∷ []
+number_in _ = []
+
+-- the numbers of files that were given, in order
+abbrev pub numbers_given : List Entry → List ℕ
+numbers_given [] = []
+numbers_given (e ∷ es) = number_in e.reply ++ numbers_given es
+
+abbrev pub NumbersAreInTurn : Type 0
+NumbersAreInTurn = (limits : Limits) (es : List Entry) → IsLawful limits es → AreInTurn (root_number + 1) (numbers_given es)
+
+abbrev pub id_in : Reply → List ℕ
+id_in (reply.Instance id) = id ∷ []
+id_in _ = []
+
+-- the numbers of instances that were given, in order
+abbrev pub ids_given : List Entry → List ℕ
+ids_given [] = []
+ids_given (e ∷ es) = id_in e.reply ++ ids_given es
+
+abbrev pub IdsAreInTurn : Type 0
+IdsAreInTurn = (limits : Limits) (es : List Entry) → IsLawful limits es → AreInTurn 1 (ids_given es)
+
+-- ---- cookies
+
+abbrev pub cookies_taken : ℕ → ℕ → List ℕ
+cookies_taken used next = if used == 0 then [] else cookie_now next ∷ []
+
+abbrev pub cookies_by : Option Refusal → Tree → Call → List ℕ
+cookies_by (Some refusal) t c = []
+cookies_by None t (call.File f) = cookies_taken (cookies_of t.world f) t.next_cookie
+cookies_by None t _ = []
+
+-- the cookie that a call uses, if it is a rename that moves something
+abbrev pub cookies_used : Tree → Call → List ℕ
+cookies_used t c = cookies_by (refusal_of t c) t c
+
+-- the cookies that the renames of a journal use, in order
+abbrev pub cookies_in : Tree → List Entry → List ℕ
+cookies_in t [] = []
+cookies_in t (e ∷ es) = cookies_used t e.call ++ cookies_in (after t e.call) es
+
+-- cookies are used in turn, so no two renames share one, and none is 0
+abbrev pub CookiesAreInTurn : Type 0
+CookiesAreInTurn = (limits : Limits) (es : List Entry) → AreInTurn 1 (cookies_in (opening limits) es)
+
+abbrev pub only : List ℕ → ℕ
+only [] = NO_COOKIE
+only (cookie ∷ cookies) = cookie
+
+-- both events of a move have its cookie, and all others have none
+abbrev pub CookiesTieMoves : Type 0
+CookiesTieMoves = (t : Tree) (c : Call) (id : ℕ) → All (λ e. e.cookie ≡ cookie_for (event_bit e.mask) (only (cookies_used t c))) (events (raised_by t c id))
+
+-- ---- the end of a watch
+
+-- nothing of a watch follows its IN_IGNORED, so there is one at most
+abbrev pub NothingFollowsIgnored : List Event → Type 0
+NothingFollowsIgnored es = (before after : List Event) (e : Event) → es ≡ before ++ e ∷ after → IsTrue (says_ended e) → TellsNothing e.wd after
+
+-- neither of what is raised for an instance, nor of what joins its queue
+pub record EndsOnce (rs : List Raised) : Type 0 where
+  pub raised : NothingFollowsIgnored (events rs)
+  pub joined : NothingFollowsIgnored (joined rs)
+
+abbrev pub WatchesEndOnce : Type 0
+WatchesEndOnce = (limits : Limits) (es : List Entry) (id : ℕ) → EndsOnce (raised_in (opening limits) es id)
+
+abbrev pub wd_in : Reply → List ℤ
+wd_in (reply.Wd wd) = wd ∷ []
+wd_in _ = []
+
+-- the descriptors that an instance gave, in order
+abbrev pub wds_of : ℕ → Call → Reply → List ℤ
+wds_of id (call.AddWatch by path mask) r = where_same by id (wd_in r)
+wds_of id _ r = []
+
+abbrev pub wds_given : ℕ → List Entry → List ℤ
+wds_given id [] = []
+wds_given id (e ∷ es) = wds_of id e.call e.reply ++ wds_given id es
+
+-- a descriptor whose watch has ended is never given again, and nothing of it is raised
+abbrev pub DescriptorsEndForGood : Type 0
+DescriptorsEndForGood =
+    (limits : Limits) (front rest : List Entry) (id : ℕ) (i : Instance) (wd : ℤ)
+    → IsLawful limits (front ++ rest) → instance_of (stands_for limits front).instances id ≡ Some i → HasEnded i.watches wd
+    → All (λ given. given ≢ wd) (wds_given id rest) × TellsNothing wd (events (raised_in (stands_for limits front) rest id))
+
+-- ---- what a reply tells of its tree
+
+-- records are read of open instances, and pumped of those with a pipe; a new instance has the next number; numbers of
+-- instances never fall; a closed instance was open; a refused call changes nothing
+pub record RepliesTell (t : Tree) (c : Call) : Type 0 where
+  pub pumped : (id count : ℕ) (bytes : List ℕ) → c ≡ call.Pump id count → reply_of t c ≡ reply.Records bytes → (i : Instance) × (instance_of t.instances id ≡ Some i) × IsTrue i.is_piped
+  pub opened : (id : ℕ) → reply_of t c ≡ reply.Instance id → id ≡ t.next_id
+  pub closed : (id : ℕ) → c ≡ call.Close id → reply_of t c ≡ reply.Done → (i : Instance) × (instance_of t.instances id ≡ Some i)
+  pub rising : t.next_id ≤ (after t c).next_id
+  pub refused : (refusal : Refusal) → reply_of t c ≡ reply.Refused refusal → after t c ≡ t
