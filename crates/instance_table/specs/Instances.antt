@@ -3,6 +3,7 @@ use Rattle.std.specs.Prelude.{ℕ, ℤ, Bool, false, List, [], Option, Some, Non
 use Rattle.std.specs.FinMap as finmap
 use Rattle.std.specs.List.{filter}
 use Rattle.std.specs.Ordering.{nat_cmp}
+use Rattle.record_codec.specs.declared.event.Event.{Event}
 use Rattle.tree_paths.specs.declared.limits.Limits.{Limits}
 use Rattle.watch_table.specs.Watching.{no_watches, watch_of, added, removed}
 use Rattle.event_queue.specs.Backlogs.{after_offer}
@@ -17,6 +18,11 @@ Instances = finmap.FinMap nat_cmp Instance
 -- the open instance of a number
 abbrev pub instance_of : Instances → ℕ → Option Instance
 instance_of m id = finmap.get m id
+
+-- the records that wait in an instance
+abbrev pub waiting_of : Option Instance → List Event
+waiting_of None = []
+waiting_of (Some i) = i.queue.waiting
 
 -- ---- changes of one instance
 

@@ -1,5 +1,5 @@
 //! Numbers of instances, rising.
-ghost use Rattle.std.specs.Prelude.{◌≡◌, IsTrue, OnOk, OnErr};
+ghost use Rattle.std.specs.Prelude.{◌≡◌, ◌↔◌, IsTrue, OnOk, OnErr};
 ghost use Rattle.std.specs.FinMap as map;
 
 use std::alloc::{AllocError, Global};
@@ -66,7 +66,7 @@ impl Ids {
 
     /// Whether there is none.
     pub fn is_empty(&self) -> bool
-        ensures { IsTrue result → self.now ≡ map.empty }
+        ensures { IsTrue result ↔ (self.now ≡ map.empty) }
     {
         self.ids.is_empty()
     }

@@ -1,5 +1,5 @@
 //! The open instances.
-ghost use Rattle.std.specs.Prelude.{◌≡◌, ◌≤◌, ◌⊎◌, ◌&&◌, ◌||◌, ◌==◌, ℕ, not, is_some, drop, fold, Some, None, Ok, Err, IfOk, IfErr, OnOk, OnErr, IsSome, IfSome, length};
+ghost use Rattle.std.specs.Prelude.{◌≡◌, ◌≤◌, ◌+◌, ◌++◌, ◌⊎◌, ◌&&◌, ◌||◌, ◌==◌, ℕ, not, is_some, drop, fold, take, vec_len, vec_capacity, Some, None, Ok, Err, IfOk, IfErr, OnOk, OnErr, IsSome, IfSome, length};
 ghost use Rattle.std.specs.Option.{option_copied};
 ghost use Rattle.std.specs.FinMap as finmap;
 ghost use Rattle.tree_paths.specs.declared.refusal.Refusal.{Refusal};
@@ -8,7 +8,7 @@ ghost use Rattle.event_queue.specs.Backlogs.{IsLimit, after_offer};
 ghost use Rattle.watch_table.specs.Masks.{mask_fault};
 ghost use Rattle.watch_table.specs.Watching.{add_refusal, added, removed, watch_of, wd_added};
 ghost use Rattle.instance_table.specs.Index.{is_noted};
-ghost use Rattle.instance_table.specs.Instances.{after_read, changed, instance_of, new_instance, unwatching, watchers_of, watching};
+ghost use Rattle.instance_table.specs.Instances.{after_read, changed, instance_of, new_instance, unwatching, waiting_of, watchers_of, watching};
 
 use crate::index::Index;
 use crate::instance::Instance;
@@ -162,6 +162,19 @@ impl Instances {
         drop_oldest(&mut instance.queue, count);
     }
 
+    /// Moves the oldest records out of an instance's queue, behind those of a vector that has room for them. It takes no
+    /// memory.
+    pub fn move_oldest(&mut self, id: u32, count: usize, records: &mut Vec<Event>)
+        requires room { vec_len records.old + count ≤ vec_capacity records.old }
+        ensures instances { self.new ≡ changed self.old id (after_read count) }
+        ensures records { records.new.items ≡ records.old.items ++ take count (waiting_of (instance_of self.old id)) }
+    {
+        let Some(instance) = self.opened.get_mut(&id) else {
+            return;
+        };
+        move_oldest(&mut instance.queue, count, records);
+    }
+
     // Raises an event.
     pub(crate) fn offer(&mut self, id: u32, event: Event)
         ensures { self.new ≡ changed self.old id (λ i. record i { queue = after_offer i.queue event }) }
@@ -253,5 +266,19 @@ fn drop_oldest(queue: &mut Queue, count: usize)
 {
     for _ in 0..count {
         queue.take();
+    }
+}
+
+// Moves the oldest records out of a queue, behind those of a vector.
+fn move_oldest(queue: &mut Queue, count: usize, records: &mut Vec<Event>)
+    requires room { vec_len records.old + count ≤ vec_capacity records.old }
+    ensures queue { queue.new ≡ record queue.old { waiting = drop count queue.old.waiting } }
+    ensures records { records.new.items ≡ records.old.items ++ take count queue.old.waiting }
+{
+    for _ in 0..count {
+        let Some(event) = queue.take() else {
+            return;
+        };
+        records.push_reserved(event);
     }
 }

@@ -7,34 +7,29 @@ ghost use Rattle.tree_core.specs.TurnLaws.{CookiesAreInTurn, CookiesTieMoves, De
 
 /// A law: in each tree that a journal stands for, the numbers that come next are behind all that were given, watches are
 /// of files that are there, and queues keep their bounds.
-
 pub fn trees_are_sound()
     ensures { TreesAreSound }
 {}
 
 /// A law: numbers of files and of instances are given in turn, so none is given twice.
-
 pub fn numbers_are_in_turn()
     ensures files { NumbersAreInTurn }
     ensures instances { IdsAreInTurn }
 {}
 
 /// A law: no two renames share a cookie; both events of a rename have its cookie, and all other events have none.
-
 pub fn cookies_are_in_turn()
     ensures turn { CookiesAreInTurn }
     ensures tie { CookiesTieMoves }
 {}
 
 /// A law: nothing of a watch follows its `IN_IGNORED`, and its descriptor is never given again.
-
 pub fn watches_end_once()
     ensures ends { WatchesEndOnce }
     ensures descriptors { DescriptorsEndForGood }
 {}
 
 /// A law: what the reply to a call tells of the tree that gave it. A refused call changes nothing.
-
 pub fn replies_tell()
     ensures { (t : Tree) (c : Call) → RepliesTell t c }
 {}

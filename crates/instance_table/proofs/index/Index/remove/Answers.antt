@@ -27,7 +27,7 @@ returns-then-is_empty c =
     let dropped = c.remove-then-is_empty.ensures.updates in
     noted-cut a (record a { watchers = c.remove-then-is_empty.new.self }) number None
     (λ n. dropped.0 n ∙ ap (cond (eq_by_cmp nat_cmp number n) None) (put.0 n) ∙ twice (eq_by_cmp nat_cmp number n) (Some c.remove.new.self) (tree.get nat_cmp a.watchers n)) c.args.id
-    (sym (c.is_empty.ensures c.if-is_empty.true) ∙ c.remove.ensures ∙ ap (λ ids. map.remove ids c.args.id) (sym (ids-some a number c.in-Some.ids.now there)))
+    (sym (c.is_empty.ensures.0 c.if-is_empty.true) ∙ c.remove.ensures ∙ ap (λ ids. map.remove ids c.args.id) (sym (ids-some a number c.in-Some.ids.now there)))
   where
     twice : (t : Bool) (x y : Option IdSet) → cond t None (cond t x y) ≡ cond t None y
     twice true x y = refl
