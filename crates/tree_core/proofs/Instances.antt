@@ -1,4 +1,4 @@
--- What serves a call, and the calls on instances.
+-- The calls on instances.
 use Rattle.std.proofs.Common.{◌≡◌, ℕ, ◌+◌, ◌<◌, ◌≤◌, Bool, true, false, cond, ◌||◌, Bor, eqb, ltb, leb, List, [], ◌∷◌, ◌++◌, take, Option, Some, None, is_some, refl, sym, ap, ◌∙◌, subst, inl, inr, arith}
 use Rattle.std.proofs.lemmas.Bool.{eqb-true}
 use Rattle.std.proofs.lemmas.Bool.Decides.{nat_tests}
@@ -11,7 +11,7 @@ use Rattle.std.specs.FinMap.{get-empty, get-insert, get-remove}
 use Rattle.std.specs.Cmp.{nat_cmp_total, unsigned_tied}
 use Rattle.std.specs.Ordering.{nat_cmp}
 use Rattle.record_codec.specs.declared.event.Event.{Event}
-use Rattle.record_codec.specs.Records.{record_bytes, spelling}
+use Rattle.record_codec.specs.Records.{AreEvents, IsEvent, record_bytes, spelling}
 use Rattle.tree_paths.specs.Rows.{row, first_row}
 use Rattle.tree_paths.specs.declared.limits.Limits.{Limits}
 use Rattle.tree_paths.specs.declared.refusal.Refusal.{Refusal}
@@ -27,78 +27,11 @@ use Rattle.watch_table.specs.Masks.{known, mask_fault}
 use Rattle.watch_table.specs.Watching.{add_refusal, wd_added}
 use Rattle.instance_table.specs.declared.instance.Instance.{Instance}
 use Rattle.instance_table.specs.Instances.{Instances, instance_of, changed, changed_by, watching}
-use Rattle.tree_core.specs.declared.call.Call.{Call}
 use Rattle.tree_core.specs.declared.machine.Machine.{Machine}
-use Rattle.tree_core.specs.declared.machine.Replies.{Replies}
-use Rattle.tree_core.specs.declared.reply.Reply.{Reply}
 use Rattle.tree_core.specs.declared.reply.Reply.TheVariants as reply
-use Rattle.tree_core.specs.Machines.{IsMachineOf, Serves}
+use Rattle.tree_core.specs.Machines.{IsMachineOf}
 use Rattle.tree_core.specs.Sound.{IsCounted}
-use Rattle.tree_core.specs.Tree.{Tree, refusal_of, reply_by, answer_of, accepted, tree_by, init_rows, add_watch_rows, seen_fault, read_rows, watch_answer, number_seen, after_add_watch}
-
--- ---- what serves a call
-
-module _ (m : Machine) (c : Call) where
-  -- a call that every tree refuses
-  pub refused-serves : (r : Refusal) (out : Replies) → out.journaled ≡ reply.Refused r → out.given ≡ reply.Refused r
-      → ((t : Tree) → IsMachineOf t m → refusal_of t c ≡ Some r) → Serves m c (Ok out) m
-  refused-serves r out journaled given refused = record {
-    journaled = λ t s. journaled ∙ ap (λ o. reply_by o (answer_of t c)) (sym (refused t s));
-    given = λ t s. given ∙ ap (λ o. reply_by o (answer_of t c)) (sym (refused t s));
-    tree = λ t s. subst (λ o. IsMachineOf (tree_by o t (accepted t c)) m) (sym (refused t s)) s;
-    err = λ t s. tt;
-    memory = tt;
-    limits = refl;
-  }
-
-  -- a call that every tree accepts
-  pub accepted-serves : (out : Replies) (new : Machine)
-      → ((t : Tree) → IsMachineOf t m → refusal_of t c ≡ None)
-      → ((t : Tree) → IsMachineOf t m → out.journaled ≡ answer_of t c)
-      → ((t : Tree) → IsMachineOf t m → out.given ≡ answer_of t c)
-      → ((t : Tree) → IsMachineOf t m → IsMachineOf (accepted t c) new)
-      → new.limits ≡ m.limits → Serves m c (Ok out) new
-  accepted-serves out new passes journaled given stands limits = record {
-    journaled = λ t s. journaled t s ∙ ap (λ o. reply_by o (answer_of t c)) (sym (passes t s));
-    given = λ t s. given t s ∙ ap (λ o. reply_by o (answer_of t c)) (sym (passes t s));
-    tree = λ t s. subst (λ o. IsMachineOf (tree_by o t (accepted t c)) new) (sym (passes t s)) (stands t s);
-    err = λ t s. tt;
-    memory = tt;
-    limits = limits;
-  }
-
-  -- want of memory
-  pub failed-serves : (e : Refusal) → e ≡ Enomem → Serves m c (Err e) m
-  failed-serves e memory = record {
-    journaled = λ t s. tt;
-    given = λ t s. tt;
-    tree = λ t s. tt;
-    err = λ t s. s;
-    memory = memory;
-    limits = refl;
-  }
-
-  -- a call that every tree accepts, and that may want memory
-  pub result-serves : (result : Result Replies Refusal) (new next : Machine) (answer : Reply)
-      → ((t : Tree) → IsMachineOf t m → refusal_of t c ≡ None)
-      → ((t : Tree) → IsMachineOf t m → answer ≡ answer_of t c)
-      → ((t : Tree) → IsMachineOf t m → IsMachineOf (accepted t c) next)
-      → next.limits ≡ m.limits
-      → IfOk result (λ r. r.journaled ≡ answer) → IfOk result (λ r. r.given ≡ answer) → OnOk result (new ≡ next)
-      → OnErr result (new ≡ m) → IfErr result (λ e. e ≡ Enomem) → Serves m c result new
-  result-serves (Ok out) new next answer passes is stands limits journaled given ok err memory =
-      subst (Serves m c (Ok out)) (sym ok) (accepted-serves out next passes (λ t s. journaled ∙ is t s) (λ t s. given ∙ is t s) stands limits)
-  result-serves (Err e) new next answer passes is stands limits journaled given ok err memory = subst (Serves m c (Err e)) (sym err) (failed-serves e memory)
-
-  -- a call that every tree accepts, where the copy of its answer takes no memory
-  pub answered-serves : (result : Result Replies Refusal) (new : Machine) (answer : Reply)
-      → ((t : Tree) → IsMachineOf t m → refusal_of t c ≡ None)
-      → ((t : Tree) → IsMachineOf t m → answer ≡ answer_of t c)
-      → ((t : Tree) → IsMachineOf t m → IsMachineOf (accepted t c) new)
-      → new.limits ≡ m.limits
-      → IfOk result (λ r. r.journaled ≡ answer) → IfOk result (λ r. r.given ≡ answer) → OnErr result (false ≡ true) → Serves m c result new
-  answered-serves (Ok out) new answer passes is stands limits journaled given memory = accepted-serves out new passes (λ t s. journaled ∙ is t s) (λ t s. given ∙ is t s) stands limits
-  answered-serves (Err e) new answer passes is stands limits journaled given memory = absurd (cc)
+use Rattle.tree_core.specs.Tree.{Tree, init_rows, add_watch_rows, seen_fault, read_rows, watch_answer, number_seen, after_add_watch}
 
 -- ---- which instances are open after a change
 
@@ -314,6 +247,14 @@ spelling_more es i e h =
     ap spelling (take_more es i e (slice_get_within es i e h) ∙ ap (λ x. take i es ++ x ∷ []) (get_or_from_slice_get es i e e h))
     ∙ flat_map-append record_bytes (take i es) (e ∷ [])
     ∙ ap (λ x. spelling (take i es) ++ x) (append-nil (record_bytes e))
+
+AreEvents-append : (es : List Event) (e : Event) → AreEvents es → IsEvent e → AreEvents (es ++ e ∷ [])
+AreEvents-append [] e are is = (is, tt)
+AreEvents-append (x ∷ es) e are is = (are.0, AreEvents-append es e are.1 is)
+
+pub events_more : (es : List Event) (i : ℕ) (e : Event) → slice_get es i ≡ Some e → AreEvents (take i es) → IsEvent e → AreEvents (take (i + 1) es)
+events_more es i e h are is =
+    subst AreEvents (sym (take_more es i e (slice_get_within es i e h) ∙ ap (λ x. take i es ++ x ∷ []) (get_or_from_slice_get es i e e h))) (AreEvents-append (take i es) e are is)
 
 -- ---- the root alone
 

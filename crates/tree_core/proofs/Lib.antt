@@ -3,4 +3,5 @@ pub mod Counted
 pub mod Filed
 pub mod Lawful
 pub mod Keeping
+pub mod Pumping
 mod Instances

@@ -1,9 +1,11 @@
--- Calls that pipes are for, and replies that take memory.
-use Rattle.std.specs.Prelude.{Bool, true, false, not}
+-- Calls that pipes are for, replies that take memory, and what is kept of a call.
+use Rattle.std.specs.Prelude.{◌≡◌, Bool, true, false, not}
 use Rattle.tree_ops.specs.declared.answer.Answer.{Answer}
 use Rattle.tree_ops.specs.declared.answer.Answer.TheVariants as answer
 use Rattle.tree_core.specs.declared.call.Call.{Call}
 use Rattle.tree_core.specs.declared.call.Call.TheVariants as call
+use Rattle.tree_core.specs.declared.reply.Kept.{Kept}
+use Rattle.tree_core.specs.declared.reply.Receipt.{Receipt}
 use Rattle.tree_core.specs.declared.reply.Reply.{Reply}
 use Rattle.tree_core.specs.declared.reply.Reply.TheVariants as reply
 
@@ -24,3 +26,7 @@ abbrev pub takes_memory : Reply → Bool
 takes_memory (reply.File a) = has_list a
 takes_memory (reply.Records bytes) = true
 takes_memory _ = false
+
+-- what is kept of a call is its place, the call and its reply
+abbrev pub IsKeptAs : Receipt → Kept → Call → Type 0
+IsKeptAs receipt kept c = kept ≡ record { place = receipt.place; call = c; reply = receipt.reply }

@@ -14,7 +14,9 @@ use Rattle.instance_table.specs.Instances.{instance_of}
 use Rattle.tree_core.specs.declared.call.Call.{Call}
 use Rattle.tree_core.specs.declared.call.Call.TheVariants as call
 use Rattle.tree_core.specs.declared.reply.Entry.{Entry}
-use Rattle.tree_core.specs.Tree.{Tree, cookie_now, refusal_of, after}
+use Rattle.tree_core.specs.declared.reply.Reply.{Reply}
+use Rattle.tree_core.specs.declared.reply.Reply.TheVariants as reply
+use Rattle.tree_core.specs.Tree.{Tree, cookie_now, refusal_of, reply_of, after}
 
 -- ---- one call, and one open instance
 
@@ -60,6 +62,14 @@ raised_by t c id = where_open (refusal_of t c) (instance_of t.instances id) (λ 
 -- the records that a call reads of the instance of a number
 unfoldable pub read_by : Tree → Call → ℕ → List Event
 read_by t c id = where_open (refusal_of t c) (instance_of t.instances id) (records_for c id)
+
+abbrev pub where_records : Reply → List Event → Option (List Event)
+where_records (reply.Records bytes) es = Some es
+where_records _ es = None
+
+-- the records that a pump hands over, where it is not refused
+abbrev pub pumped : Tree → ℕ → ℕ → Option (List Event)
+pumped t id bytes = where_records (reply_of t (call.Pump id bytes)) (read_by t (call.Pump id bytes) id)
 
 -- ---- a journal, from a tree on
 

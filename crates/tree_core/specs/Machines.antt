@@ -1,12 +1,14 @@
 -- The tree that a machine stands for, and what the machine does for a call.
-use Rattle.std.specs.Prelude.{◌≡◌, Result, IfOk, IfErr, OnOk, OnErr}
+use Rattle.std.specs.Prelude.{◌≡◌, Bool, true, false, Option, Some, None, Result, Ok, Err, IfOk, IfErr, OnOk, OnErr}
 use Rattle.tree_paths.specs.declared.refusal.Refusal.{Refusal}
 use Rattle.tree_paths.specs.declared.refusal.Refusal.TheVariants.{Enomem}
 use Rattle.inode_table.specs.Stands.{Stands}
 use Rattle.tree_ops.specs.ReadyCall.{HasNumbersBelow}
 use Rattle.tree_core.specs.declared.call.Call.{Call}
 use Rattle.tree_core.specs.declared.machine.Machine.{Machine}
+use Rattle.tree_core.specs.declared.machine.Pumped.{Pumped}
 use Rattle.tree_core.specs.declared.machine.Replies.{Replies}
+use Rattle.tree_core.specs.declared.reply.Reply.{Reply}
 use Rattle.tree_core.specs.Sound.{IsCounted}
 use Rattle.tree_core.specs.Tree.{Tree, reply_of, after}
 
@@ -25,11 +27,22 @@ pub record IsMachineOf (t : Tree) (m : Machine) : Type 0 where
 abbrev pub HasTree : Machine → Type 0
 HasTree m = (t : Tree) × IsMachineOf t m
 
+abbrev pub kept_where : Bool → Reply → Option Reply
+kept_where true r = Some r
+kept_where false r = None
+
+-- a reply, with a copy where it is kept
+abbrev pub copies_of : Bool → Reply → Replies
+copies_of keeps r = record { journaled = r; given = r; kept = kept_where keeps r }
+
+abbrev pub replies_in : Result Pumped Refusal → Result Replies Refusal
+replies_in (Ok p) = Ok p.replies
+replies_in (Err e) = Err e
+
 -- a call is replied to as in each tree that the machine stands for, and leads to the tree after it. An error is want of
 -- memory, and leaves the tree as it was
-pub record Serves (old : Machine) (c : Call) (result : Result Replies Refusal) (new : Machine) : Type 0 where
-  pub journaled : (t : Tree) → IsMachineOf t old → IfOk result (λ r. r.journaled ≡ reply_of t c)
-  pub given : (t : Tree) → IsMachineOf t old → IfOk result (λ r. r.given ≡ reply_of t c)
+pub record Serves (old : Machine) (c : Call) (keeps : Bool) (result : Result Replies Refusal) (new : Machine) : Type 0 where
+  pub replies : (t : Tree) → IsMachineOf t old → IfOk result (λ r. r ≡ copies_of keeps (reply_of t c))
   pub tree : (t : Tree) → IsMachineOf t old → OnOk result (IsMachineOf (after t c) new)
   pub err : (t : Tree) → IsMachineOf t old → OnErr result (IsMachineOf t new)
   pub memory : IfErr result (λ refusal. refusal ≡ Enomem)

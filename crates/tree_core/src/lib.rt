@@ -12,7 +12,7 @@ pub use call::Call;
 pub use queue_laws::{
     bytes_are_of_records, closed_instances_hear_nothing, events_are_accounted_for, reads_are_in_order,
 };
-pub use reply::{Entry, Receipt, Reply};
+pub use reply::{Entry, Kept, Receipt, Reply};
 pub use state::State;
 pub use turn_laws::{
     cookies_are_in_turn, numbers_are_in_turn, replies_tell, trees_are_sound, watches_end_once,

@@ -1,13 +1,14 @@
 //! The files and the instances: what they answer to each call.
-ghost use Rattle.std.specs.Prelude.{◌≡◌, ◌≤◌, true, IfOk, IfErr, OnOk, OnErr, IsSome, length, take};
+ghost use Rattle.std.specs.Prelude.{◌≡◌, ◌≤◌, true, IfOk, IfErr, IfSome, OnOk, OnErr, IsSome, length, option_map, take};
 ghost use Rattle.std.specs.Option.{option_copied};
-ghost use Rattle.record_codec.specs.Records.{spelling};
+ghost use Rattle.record_codec.specs.Records.{AreEvents, spelling};
 ghost use Rattle.tree_paths.specs.Rows.{first_row};
 ghost use Rattle.tree_paths.specs.declared.refusal.Refusal.TheVariants.{Enomem};
 ghost use Rattle.tree_core.specs.Calls.{takes_memory};
 ghost use Rattle.inode_table.specs.Refusals.{is_directory_kind};
 ghost use Rattle.instance_table.specs.Instances.{instance_of, changed};
-ghost use Rattle.tree_core.specs.Machines.{HasTree, IsMachineOf, Serves};
+ghost use Rattle.tree_core.specs.Histories.{oldest, pumped};
+ghost use Rattle.tree_core.specs.Machines.{HasTree, IsMachineOf, Serves, copies_of, replies_in};
 ghost use Rattle.tree_core.specs.Tree.{Tree, opening, counts_of, init_rows, rm_watch_rows, read_rows, close_rows, read_answer, after_reading};
 
 use crate::call::Call;
@@ -16,7 +17,7 @@ use event_queue::Queue;
 use event_rules::notices;
 use inode_table::{Kind, Table};
 use instance_table::{Instance, Instances};
-use record_codec::{Bytes, append};
+use record_codec::{Bytes, Events, append};
 use std::alloc::{AllocError, Global};
 use tree_ops::{Counts, FileCall, carry_out, check};
 use tree_paths::{Limits, Path, Refusal};
@@ -37,36 +38,49 @@ pub struct Machine {
     pub(crate) instances: Instances,
 }
 
-/// What a call answers, twice: for the journal, and for who made the call.
+/// What a call answers: for the journal, for who made the call, and for what is kept of it, where it is kept.
 #[derive(Drop)]
 pub struct Replies {
     pub journaled: Reply,
     pub given: Reply,
+    pub kept: Option<Reply>,
+}
+
+/// What a pump answers, with the records that it read, if it read any.
+#[derive(Drop)]
+pub struct Pumped {
+    pub replies: Replies,
+    pub records: Option<Events>,
 }
 
 impl Replies {
-    // A reply, and a copy of it.
-    fn of(reply: Reply) -> Result<Replies, Refusal>
-        ensures journaled { IfOk result (λ r. r.journaled ≡ reply) }
-        ensures given { IfOk result (λ r. r.given ≡ reply) }
+    // A reply, and copies of it.
+    fn of(reply: Reply, keeps: bool) -> Result<Replies, Refusal>
+        ensures ok { IfOk result (λ r. r ≡ copies_of keeps reply) }
         ensures err { IfErr result (λ refusal. refusal ≡ Enomem) }
         ensures memory { OnErr result (takes_memory reply ≡ true) }
     {
         let given = reply.copy()?;
+        let kept = if keeps { Some(reply.copy()?) } else { None };
         Ok(Replies {
             journaled: reply,
             given,
+            kept,
         })
     }
 
     // A refusal. It takes no memory.
-    fn refused(refusal: Refusal) -> Replies
-        ensures journaled { result.journaled ≡ Reply.Refused refusal }
-        ensures given { result.given ≡ Reply.Refused refusal }
+    fn refused(refusal: Refusal, keeps: bool) -> Replies
+        ensures { result ≡ copies_of keeps (Reply.Refused refusal) }
     {
         Replies {
             journaled: Reply::Refused(refusal),
             given: Reply::Refused(refusal),
+            kept: if keeps {
+                Some(Reply::Refused(refusal))
+            } else {
+                None
+            },
         }
     }
 }
@@ -89,22 +103,22 @@ impl Machine {
     }
 
     /// Carries out a call, which may be refused. What takes memory comes first: an error leaves all as it was.
-    pub fn answer(&mut self, call: &Call) -> Result<Replies, Refusal>
+    pub fn answer(&mut self, call: &Call, keeps: bool) -> Result<Replies, Refusal>
         requires { HasTree self.old }
-        ensures { Serves self.old call.now result self.new }
+        ensures { Serves self.old call.now keeps result self.new }
     {
         match call {
-            Call::File(call) => self.file(call),
-            Call::Init { limit, piped } => self.init(*limit, *piped),
+            Call::File(call) => self.file(call, keeps),
+            Call::Init { limit, piped } => self.init(*limit, *piped, keeps),
             Call::AddWatch {
                 instance,
                 path,
                 mask,
-            } => self.add_watch(*instance, path, *mask),
-            Call::RmWatch { instance, wd } => self.rm_watch(*instance, *wd),
-            Call::Read { instance, bytes } => self.read(*instance, *bytes),
-            Call::Pump { instance, bytes } => self.pump(*instance, *bytes),
-            Call::Close { instance } => self.close(*instance),
+            } => self.add_watch(*instance, path, *mask, keeps),
+            Call::RmWatch { instance, wd } => self.rm_watch(*instance, *wd, keeps),
+            Call::Read { instance, bytes } => self.read(*instance, *bytes, keeps),
+            Call::Pump { instance, bytes } => self.pump(*instance, *bytes, keeps),
+            Call::Close { instance } => self.close(*instance, keeps),
         }
     }
 
@@ -119,21 +133,21 @@ impl Machine {
     }
 
     // Carries out a call on files.
-    fn file(&mut self, call: &FileCall) -> Result<Replies, Refusal>
+    fn file(&mut self, call: &FileCall, keeps: bool) -> Result<Replies, Refusal>
         requires { HasTree self.old }
-        ensures { Serves self.old (Call.File call.now) result self.new }
+        ensures { Serves self.old (Call.File call.now) keeps result self.new }
     {
         let counts = self.counts();
         let ready = match check(&self.table, call, &counts, &self.limits) {
             Ok(ready) => ready,
-            Err(refusal) => return Ok(Replies::refused(refusal)),
+            Err(refusal) => return Ok(Replies::refused(refusal, keeps)),
         };
         let notices = notices(self.alloc, &self.table, &ready, counts.next_cookie)?;
         let staging = self.instances.stage(notices.as_slice())?;
         let numbers = ready.numbers();
         let cookies = ready.cookies();
         let answer = carry_out(self.alloc, &mut self.table, ready)?;
-        let replies = Replies::of(Reply::File(answer))?;
+        let replies = Replies::of(Reply::File(answer), keeps)?;
         self.instances.tell(notices.as_slice(), staging);
         self.next_number += numbers;
         self.next_cookie += u64::from(cookies);
@@ -158,87 +172,92 @@ impl Machine {
     }
 
     // Makes an instance.
-    fn init(&mut self, limit: u32, piped: bool) -> Result<Replies, Refusal>
+    fn init(&mut self, limit: u32, piped: bool, keeps: bool) -> Result<Replies, Refusal>
         requires { HasTree self.old }
-        ensures { Serves self.old (Call.Init limit piped) result self.new }
+        ensures { Serves self.old (Call.Init limit piped) keeps result self.new }
     {
         if let Some(refusal) = self.init_fault(limit) {
-            return Ok(Replies::refused(refusal));
+            return Ok(Replies::refused(refusal, keeps));
         }
         let id = self.next_id;
-        let replies = Replies::of(Reply::Instance(id))?;
+        let replies = Replies::of(Reply::Instance(id), keeps)?;
         self.instances.open(id, limit, piped, &self.limits)?;
         self.next_id += 1;
         Ok(replies)
     }
 
     // Watches a file.
-    fn add_watch(&mut self, id: u32, path: &Path, mask: u32) -> Result<Replies, Refusal>
+    fn add_watch(
+        &mut self,
+        id: u32,
+        path: &Path,
+        mask: u32,
+        keeps: bool,
+    ) -> Result<Replies, Refusal>
         requires { HasTree self.old }
-        ensures { Serves self.old (Call.AddWatch id path.now mask) result self.new }
+        ensures { Serves self.old (Call.AddWatch id path.now mask) keeps result self.new }
     {
         self.table.law();
         if self.instances.get(id).is_none() {
-            return Ok(Replies::refused(Refusal::Ebadf));
+            return Ok(Replies::refused(Refusal::Ebadf, keeps));
         }
         let mask = Mask::of(mask);
         if let Some(refusal) = mask.fault() {
-            return Ok(Replies::refused(refusal));
+            return Ok(Replies::refused(refusal, keeps));
         }
         let seen = match self.table.look(path.names()) {
             Ok(seen) => seen,
-            Err(refusal) => return Ok(Replies::refused(refusal)),
+            Err(refusal) => return Ok(Replies::refused(refusal, keeps)),
         };
         match self
             .instances
             .watch(id, seen.number, mask, is_directory(seen.kind))
         {
-            Ok(wd) => Replies::of(Reply::Wd(wd)),
+            Ok(wd) => Replies::of(Reply::Wd(wd), keeps),
             Err(Refusal::Enomem) => Err(Refusal::Enomem),
-            Err(refusal) => Ok(Replies::refused(refusal)),
+            Err(refusal) => Ok(Replies::refused(refusal, keeps)),
         }
     }
 
     // Ends a watch.
-    fn rm_watch(&mut self, id: u32, wd: i32) -> Result<Replies, Refusal>
+    fn rm_watch(&mut self, id: u32, wd: i32, keeps: bool) -> Result<Replies, Refusal>
         requires { HasTree self.old }
-        ensures { Serves self.old (Call.RmWatch id wd) result self.new }
+        ensures { Serves self.old (Call.RmWatch id wd) keeps result self.new }
     {
         if let Some(refusal) = rm_watch_fault(self.instances.get(id), wd) {
-            return Ok(Replies::refused(refusal));
+            return Ok(Replies::refused(refusal, keeps));
         }
-        let replies = Replies::of(Reply::Done)?;
+        let replies = Replies::of(Reply::Done, keeps)?;
         self.instances.unwatch(id, wd);
         Ok(replies)
     }
 
     // Reads records.
-    fn read(&mut self, id: u32, bytes: u32) -> Result<Replies, Refusal>
+    fn read(&mut self, id: u32, bytes: u32, keeps: bool) -> Result<Replies, Refusal>
         requires { HasTree self.old }
-        ensures { Serves self.old (Call.Read id bytes) result self.new }
+        ensures { Serves self.old (Call.Read id bytes) keeps result self.new }
     {
         if let Some(refusal) = read_fault(self.instances.get(id), bytes, false) {
-            return Ok(Replies::refused(refusal));
+            return Ok(Replies::refused(refusal, keeps));
         }
-        self.take_records(id, bytes)
+        self.take_records(id, bytes, keeps)
     }
 
     // Reads records for a pipe.
-    fn pump(&mut self, id: u32, bytes: u32) -> Result<Replies, Refusal>
+    fn pump(&mut self, id: u32, bytes: u32, keeps: bool) -> Result<Replies, Refusal>
         requires { HasTree self.old }
-        ensures { Serves self.old (Call.Pump id bytes) result self.new }
+        ensures { Serves self.old (Call.Pump id bytes) keeps result self.new }
     {
         if let Some(refusal) = read_fault(self.instances.get(id), bytes, true) {
-            return Ok(Replies::refused(refusal));
+            return Ok(Replies::refused(refusal, keeps));
         }
-        self.take_records(id, bytes)
+        self.take_records(id, bytes, keeps)
     }
 
     // Takes the records that fit out of an instance's queue.
-    fn take_records(&mut self, id: u32, bytes: u32) -> Result<Replies, Refusal>
+    fn take_records(&mut self, id: u32, bytes: u32, keeps: bool) -> Result<Replies, Refusal>
         requires { IsSome (instance_of self.old.instances id) }
-        ensures journaled { IfOk result (λ r. r.journaled ≡ read_answer bytes (instance_of self.old.instances id)) }
-        ensures given { IfOk result (λ r. r.given ≡ read_answer bytes (instance_of self.old.instances id)) }
+        ensures replies { IfOk result (λ r. r ≡ copies_of keeps (read_answer bytes (instance_of self.old.instances id))) }
         ensures ok { OnOk result (self.new ≡ record self.old { instances = changed self.old.instances id (after_reading bytes) }) }
         ensures err { OnErr result (self.new ≡ self.old) }
         ensures memory { IfErr result (λ refusal. refusal ≡ Enomem) }
@@ -248,20 +267,60 @@ impl Machine {
         };
         let count = instance.queue.fit(bytes as usize);
         let records = spelled(self.alloc, &instance.queue, count)?;
-        let replies = Replies::of(Reply::Records(records))?;
+        let replies = Replies::of(Reply::Records(records), keeps)?;
         self.instances.drop_oldest(id, count);
         Ok(replies)
     }
 
-    // Closes an instance.
-    fn close(&mut self, id: u32) -> Result<Replies, Refusal>
+    /// Reads records for a pipe, and moves them out of the queue.
+    pub fn pump_out(&mut self, id: u32, bytes: u32) -> Result<Pumped, Refusal>
         requires { HasTree self.old }
-        ensures { Serves self.old (Call.Close id) result self.new }
+        ensures served { Serves self.old (Call.Pump id bytes) true (replies_in result) self.new }
+        ensures records { (t : Tree) → IsMachineOf t self.old → IfOk result (λ p. p.records ≡ pumped t id bytes) }
+        ensures events { IfOk result (λ p. IfSome p.records AreEvents) }
+    {
+        if let Some(refusal) = read_fault(self.instances.get(id), bytes, true) {
+            return Ok(Pumped {
+                replies: Replies::refused(refusal, true),
+                records: None,
+            });
+        }
+        self.move_records(id, bytes)
+    }
+
+    // Moves the records that fit out of an instance's queue.
+    fn move_records(&mut self, id: u32, bytes: u32) -> Result<Pumped, Refusal>
+        requires { IsSome (instance_of self.old.instances id) }
+        ensures replies { IfOk result (λ p. p.replies ≡ copies_of true (read_answer bytes (instance_of self.old.instances id))) }
+        ensures records { IfOk result (λ p. p.records ≡ option_map (oldest bytes) (instance_of self.old.instances id)) }
+        ensures events { IfOk result (λ p. IfSome p.records AreEvents) }
+        ensures ok { OnOk result (self.new ≡ record self.old { instances = changed self.old.instances id (after_reading bytes) }) }
+        ensures err { OnErr result (self.new ≡ self.old) }
+        ensures memory { IfErr result (λ refusal. refusal ≡ Enomem) }
+    {
+        let Some(instance) = self.instances.get(id) else {
+            unreachable!()
+        };
+        let count = instance.queue.fit(bytes as usize);
+        let spelled = spelled(self.alloc, &instance.queue, count)?;
+        let replies = Replies::of(Reply::Records(spelled), true)?;
+        let mut records = Vec::with_capacity(self.alloc, count)?;
+        self.instances.move_oldest(id, count, &mut records);
+        Ok(Pumped {
+            replies,
+            records: Some(Events::from_vec(records)),
+        })
+    }
+
+    // Closes an instance.
+    fn close(&mut self, id: u32, keeps: bool) -> Result<Replies, Refusal>
+        requires { HasTree self.old }
+        ensures { Serves self.old (Call.Close id) keeps result self.new }
     {
         if let Some(refusal) = close_fault(self.instances.get(id)) {
-            return Ok(Replies::refused(refusal));
+            return Ok(Replies::refused(refusal, keeps));
         }
-        let replies = Replies::of(Reply::Done)?;
+        let replies = Replies::of(Reply::Done, keeps)?;
         self.instances.close(id);
         Ok(replies)
     }
@@ -324,7 +383,8 @@ fn close_fault(instance: Option<&Instance>) -> Option<Refusal>
 // The bytes of the oldest records.
 fn spelled(alloc: Global, queue: &Queue, count: usize) -> Result<Bytes, AllocError>
     requires { count ≤ length queue.now.waiting }
-    ensures { IfOk result (λ bytes. bytes ≡ spelling (take count queue.now.waiting)) }
+    ensures bytes { IfOk result (λ bytes. bytes ≡ spelling (take count queue.now.waiting)) }
+    ensures events { OnOk result (AreEvents (take count queue.now.waiting)) }
 {
     let mut bytes = Vec::new(alloc);
     for index in 0..count {

@@ -45,6 +45,17 @@ pub struct Receipt {
     pub reply: Reply,
 }
 
+/// A copy of what the journal keeps of a call, for who made it.
+#[derive(Debug, Drop, PartialEq, Eq)]
+pub struct Kept {
+    /// The place of the call's entry, the first being 1.
+    pub place: u64,
+    /// The call.
+    pub call: Call,
+    /// What it answered.
+    pub reply: Reply,
+}
+
 impl Reply {
     ghost use Rattle.tree_paths.specs.declared.refusal.Refusal.TheVariants.{Enomem};
 

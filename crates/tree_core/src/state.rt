@@ -1,12 +1,18 @@
 //! A tree with the journal of its calls.
-ghost use Rattle.std.specs.Prelude.{◌≡◌, ◌↔◌, ◌-◌, ◌≤◌, [], ◌∷◌, ◌++◌, ◌⊎◌, IfOk, IfErr, OnOk, OnErr, length};
+ghost use Rattle.std.specs.Prelude.{◌≡◌, ◌↔◌, ◌-◌, ◌<◌, ◌≤◌, [], ◌∷◌, ◌++◌, ◌⊎◌, IfOk, IfErr, IfSome, OnOk, OnErr, length, true, vec_len, vec_capacity};
+ghost use Rattle.record_codec.specs.Records.{AreEvents, spelling};
 ghost use Rattle.instance_table.specs.Instances.{watchers_of};
+ghost use Rattle.tree_core.specs.Histories.{pumped};
+ghost use Rattle.tree_core.specs.Machines.{copies_of};
 ghost use Rattle.tree_core.specs.Tree.{reply_of};
+ghost use Rattle.tree_core.specs.Calls.{IsKeptAs};
+ghost use Rattle.tree_core.specs.declared.reply.Reply.{Reply as ReplyValue};
 ghost use Rattle.tree_core.specs.Journal.{IsLawful, now, with_entry, waiting_in};
 
 use crate::call::Call;
-use crate::machine::Machine;
-use crate::reply::{Entry, Receipt};
+use crate::machine::{Machine, Pumped, Replies};
+use crate::reply::{Entry, Kept, Receipt, Reply};
+use record_codec::Events;
 use std::alloc::{AllocError, Global};
 use std::marker::Model;
 use tree_paths::{Limits, Refusal};
@@ -66,20 +72,84 @@ impl State {
         ensures full { (result ≡ Err Refusal.JournalFull) ↔ (self.old.limits.journal ≤ length self.old.entries) }
         ensures errors { IfErr result (λ e. (e ≡ Refusal.JournalFull) ⊎ (e ≡ Refusal.Enomem)) }
     {
-        if self.journal.len() >= self.machine.limits.journal as usize {
-            return Err(Refusal::JournalFull);
-        }
-        self.journal.reserve(1)?;
-        let replies = self.machine.answer(&call)?;
+        make_room(&mut self.journal, &self.machine.limits)?;
+        let replies = self.machine.answer(&call, false)?;
+        let Replies {
+            journaled,
+            given,
+            ..
+        } = replies;
         self.journal.push_reserved(Entry {
             caller,
             call,
-            reply: replies.journaled,
+            reply: journaled,
         });
         Ok(Receipt {
             place: self.journal.len() as u64,
-            reply: replies.given,
+            reply: given,
         })
+    }
+
+    /// Carries out a call as [`State::apply`], and also gives a copy of what the journal keeps of it. The copy is made
+    /// before anything changes.
+    ///
+    /// # Errors
+    /// Those of [`State::apply`].
+    pub fn keep(&mut self, caller: u32, call: Call) -> Result<(Receipt, Kept), Refusal>
+        ensures kept { IfOk result (λ r. IsKeptAs r.0 r.1 call) }
+        ensures entry { IfOk result (λ r. self.new ≡ with_entry self.old (record { caller = caller; call = call; reply = r.0.reply })) }
+        ensures place { IfOk result (λ r. r.0.place ≡ length self.new.entries) }
+        ensures reply { IfOk result (λ r. r.0.reply ≡ reply_of (now self.old) call) }
+        ensures lawful { IsLawful self.new.limits self.new.entries }
+        ensures err { OnErr result (self.new ≡ self.old) }
+        ensures full { (result ≡ Err Refusal.JournalFull) ↔ (self.old.limits.journal ≤ length self.old.entries) }
+        ensures errors { IfErr result (λ e. (e ≡ Refusal.JournalFull) ⊎ (e ≡ Refusal.Enomem)) }
+    {
+        make_room(&mut self.journal, &self.machine.limits)?;
+        let copy = call.copy()?;
+        let replies = self.machine.answer(&call, true)?;
+        let place = self.journal.len() as u64 + 1;
+        let (receipt, reply, kept) = taken_apart(replies, place, copy);
+        self.journal.push_reserved(Entry {
+            caller,
+            call,
+            reply,
+        });
+        Ok((receipt, kept))
+    }
+
+    /// Carries out a [`Call::Pump`] as [`State::keep`], and also gives the records that it read, moved out of the queue.
+    /// `None` where it was refused.
+    ///
+    /// # Errors
+    /// Those of [`State::apply`].
+    pub fn pump(
+        &mut self,
+        caller: u32,
+        instance: u32,
+        bytes: u32,
+    ) -> Result<(Receipt, Kept, Option<Events>), Refusal>
+        ensures records { IfOk result (λ r. r.2 ≡ pumped (now self.old) instance bytes) }
+        ensures spelled { IfOk result (λ r. IfSome r.2 (λ records. AreEvents records × (r.0.reply ≡ Reply.Records (spelling records)))) }
+        ensures kept { IfOk result (λ r. IsKeptAs r.0 r.1 (Call.Pump instance bytes)) }
+        ensures entry { IfOk result (λ r. self.new ≡ with_entry self.old (record { caller = caller; call = Call.Pump instance bytes; reply = r.0.reply })) }
+        ensures place { IfOk result (λ r. r.0.place ≡ length self.new.entries) }
+        ensures reply { IfOk result (λ r. r.0.reply ≡ reply_of (now self.old) (Call.Pump instance bytes)) }
+        ensures lawful { IsLawful self.new.limits self.new.entries }
+        ensures err { OnErr result (self.new ≡ self.old) }
+        ensures full { (result ≡ Err Refusal.JournalFull) ↔ (self.old.limits.journal ≤ length self.old.entries) }
+        ensures errors { IfErr result (λ e. (e ≡ Refusal.JournalFull) ⊎ (e ≡ Refusal.Enomem)) }
+    {
+        make_room(&mut self.journal, &self.machine.limits)?;
+        let Pumped { replies, records } = self.machine.pump_out(instance, bytes)?;
+        let place = self.journal.len() as u64 + 1;
+        let (receipt, reply, kept) = taken_apart(replies, place, Call::Pump { instance, bytes });
+        self.journal.push_reserved(Entry {
+            caller,
+            call: Call::Pump { instance, bytes },
+            reply,
+        });
+        Ok((receipt, kept, records))
     }
 
     /// The calls so far in order, each with who made it and what it answered.
@@ -111,4 +181,42 @@ impl State {
     {
         (self.machine.limits.journal as u64).saturating_sub(self.journal.len() as u64)
     }
+}
+
+// Room for one more entry.
+fn make_room(journal: &mut Vec<Entry>, limits: &Limits) -> Result<(), Refusal>
+    ensures items { journal.new.items ≡ journal.old.items }
+    ensures room { OnOk result (vec_len journal.new < vec_capacity journal.new) }
+    ensures free { OnOk result (length journal.old.items < limits.now.journal) }
+    ensures full { (result ≡ Err Refusal.JournalFull) ↔ (limits.now.journal ≤ length journal.old.items) }
+    ensures errors { IfErr result (λ e. (e ≡ Refusal.JournalFull) ⊎ (e ≡ Refusal.Enomem)) }
+{
+    if journal.len() >= limits.journal as usize {
+        return Err(Refusal::JournalFull);
+    }
+    journal.reserve(1)?;
+    Ok(())
+}
+
+// The receipt, the journal's reply, and what is kept of a call.
+fn taken_apart(replies: Replies, place: u64, call: Call) -> (Receipt, Reply, Kept)
+    requires { (r : ReplyValue) × (replies ≡ copies_of true r) }
+    ensures receipt { result.0 ≡ record { place = place; reply = replies.given } }
+    ensures journaled { result.1 ≡ replies.journaled }
+    ensures kept { IsKeptAs result.0 result.2 call }
+{
+    let Replies {
+        journaled,
+        given,
+        kept,
+    } = replies;
+    let Some(reply) = kept else { unreachable!() };
+    (
+        Receipt {
+            place,
+            reply: given,
+        },
+        journaled,
+        Kept { place, call, reply },
+    )
 }

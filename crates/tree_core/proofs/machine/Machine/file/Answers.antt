@@ -10,7 +10,7 @@ use Rattle.tree_core.specs.declared.machine.Machine.{Machine}
 use Rattle.tree_core.specs.declared.reply.Reply.TheVariants as reply
 use Rattle.tree_core.specs.Tree.{Tree, counts_of, cookie_now}
 use Rattle.tree_core.specs.Machines.{IsMachineOf}
-use Rattle.tree_core.proofs.Serving.{Serves-err, Serves-accepted, IsMachineOf-table}
+use Rattle.tree_core.proofs.Serving.{Serves-err, accepted-serves, IsMachineOf-table}
 use Rattle.tree_core.proofs.Filed.{IsCarriedOut, IsCarriedOut-checked, IsMachineOf-listed, IsMachineOf-filed}
 use Rattle.tree_core.proofs.machine.Machine.file.Goals as goal
 
@@ -25,7 +25,7 @@ pub returns-in_err-answer : goal.returns-in_err-answer
 returns-in_err-answer c =
     let m = c.args.self.now in
     let u = c.carry_out.new.table in
-    Serves-err m (record m { table = u }) (call.File c.args.call.now) c.from_residual-in_err-answer.result c.in_err-answer.field-0.0 c.from_residual-in_err-answer.ensures.1 c.in_err-answer.ensures.memory refl (λ t is.
+    Serves-err m (record m { table = u }) (call.File c.args.call.now) c.args.keeps c.from_residual-in_err-answer.result c.in_err-answer.field-0.0 c.from_residual-in_err-answer.ensures.1 c.in_err-answer.ensures.memory refl (λ t is.
     IsMachineOf-table t m u is (c.in_err-answer.ensures.err_world t.world is.world)
     (subst (λ (x : Counts). HasNumbersBelow u x.next_number) (c.in-Ok.ensures.counts ∙ c.counts-counts.ensures t is) c.in_err-answer.ensures.err_numbers))
 
@@ -34,7 +34,7 @@ returns-in_err-replies c =
     let m = c.args.self.now in
     let u = c.carry_out.new.table in
     let f = c.args.call.now in
-    Serves-err m (record m { table = u }) (call.File f) c.from_residual-in_err-replies.result c.in_err-replies.field-0.0 c.from_residual-in_err-replies.ensures.1 c.in_err-replies.ensures.err refl (λ t is.
+    Serves-err m (record m { table = u }) (call.File f) c.args.keeps c.from_residual-in_err-replies.result c.in_err-replies.field-0.0 c.from_residual-in_err-replies.ensures.1 c.in_err-replies.ensures.err refl (λ t is.
     let done : IsCarriedOut t f u c.in_ok-answer.answer = IsCarriedOut-checked t f c.in-Ok.ready u c.in_ok-answer.answer c.in-Ok.ensures.call (c.in-Ok.ensures.counts ∙ c.counts-counts.ensures t is) (c.in_ok-answer.ensures.world t.world is.world) c.in_ok-answer.ensures.numbers (c.in_ok-answer.ensures.answer t.world is.world) in
     IsMachineOf-listed t m f u c.in_ok-answer.answer is done c.in_err-replies.ensures.memory)
 
@@ -54,10 +54,10 @@ returns c =
     let heard : (t : Tree) (is : IsMachineOf t m) → c.tell.new.self ≡ all_changed m.instances (told (notices_of t.world f (cookie_now t.next_cookie))) = λ t is.
     let slice : c.as_slice-2.result.now ≡ notices_of t.world ready.call c.counts-counts.result.next_cookie = c.as_slice-2.ensures ∙ c.in_ok-notices.ensures.told t.world is.world in
     c.tell.ensures ∙ ap (λ ns. all_changed m.instances (told ns)) (slice ∙ (λ i. notices_of t.world (c.in-Ok.ensures.call i) (c.counts-counts.ensures t is i).next_cookie)) in
-    Serves-accepted m n (call.File f) c.in_ok-replies.replies refl passes
-    (λ t is. c.in_ok-replies.ensures.journaled ∙ ap (λ a. reply.File a) (done t is).answer)
-    (c.in_ok-replies.ensures.given ∙ sym c.in_ok-replies.ensures.journaled)
+    accepted-serves m (call.File f) c.args.keeps c.in_ok-replies.replies n (reply.File said) c.in_ok-replies.ensures.ok passes
+    (λ t is. ap (λ a. reply.File a) (done t is).answer)
     (λ t is. IsMachineOf-filed t m n f said is (passes t is) (done t is) refl
     (ap (λ x. m.next_number + x) (c.numbers-numbers.ensures ∙ ap numbers_of c.in-Ok.ensures.call))
     (ap (λ x. m.next_cookie + x) (c.from.ensures ∙ c.cookies-cookies.ensures ∙ c.in-Ok.ensures.cookies t.world is.world))
     refl (heard t is))
+    refl

@@ -3,7 +3,8 @@ use Rattle.tree_core.specs.declared.call.Call.TheVariants as call
 use Rattle.tree_core.specs.declared.reply.Reply.TheVariants as reply
 use Rattle.instance_table.specs.Instances.{new_instance}
 use Rattle.tree_core.specs.Tree.{after_init}
-use Rattle.tree_core.proofs.Instances.{accepted-serves, init-fault-there, init-passes, IsMachineOf-opened}
+use Rattle.tree_core.proofs.Serving.{accepted-serves}
+use Rattle.tree_core.proofs.Instances.{init-fault-there, init-passes, IsMachineOf-opened}
 use Rattle.tree_core.proofs.machine.Machine.init.Goals as goal
 
 pub open-requires-clause-limit : goal.open-requires-clause-limit
@@ -17,9 +18,8 @@ pub returns : goal.returns
 unfolding after_init
 returns c =
     let m = c.args.self.now in
-    accepted-serves m (call.Init c.args.limit c.args.piped) c.in_ok-replies.replies _
+    accepted-serves m (call.Init c.args.limit c.args.piped) c.args.keeps c.in_ok-replies.replies _ (reply.Instance m.next_id) c.in_ok-replies.ensures.ok
     (λ t s. init-fault-there t m s c.args.limit None c.in_default.ensures)
-    (λ t s. c.in_ok-replies.ensures.journaled ∙ ap reply.Instance s.next_id)
-    (λ t s. c.in_ok-replies.ensures.given ∙ ap reply.Instance s.next_id)
+    (λ t s. ap reply.Instance s.next_id)
     (λ t s. IsMachineOf-opened t m s c.open.new.self (λ l. new_instance l c.args.limit c.args.piped) c.in_ok-open.ensures.ok (init-passes m.limits m.instances m.next_id c.args.limit c.in_default.ensures).2)
     refl

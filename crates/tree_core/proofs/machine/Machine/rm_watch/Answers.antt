@@ -4,8 +4,10 @@ use Rattle.std.specs.Option.{option_copied}
 use Rattle.tree_paths.specs.Rows.{first_row}
 use Rattle.tree_core.specs.declared.call.Call.TheVariants as call
 use Rattle.instance_table.specs.Instances.{changed, unwatching}
+use Rattle.tree_core.specs.declared.reply.Reply.TheVariants as reply
 use Rattle.tree_core.specs.Tree.{rm_watch_rows, after_rm_watch}
-use Rattle.tree_core.proofs.Instances.{accepted-serves, fault-there, IsMachineOf-changed}
+use Rattle.tree_core.proofs.Serving.{accepted-serves}
+use Rattle.tree_core.proofs.Instances.{fault-there, IsMachineOf-changed}
 use Rattle.tree_core.proofs.machine.Machine.rm_watch.Goals as goal
 
 pub returns : goal.returns
@@ -13,9 +15,8 @@ unfolding after_rm_watch
 returns c =
     let m = c.args.self.now in
     let same = to_z-of_z w32 c.args.wd c.ranges.wd in
-    accepted-serves m (call.RmWatch c.args.id c.args.wd) c.in_ok-replies.replies _
+    accepted-serves m (call.RmWatch c.args.id c.args.wd) c.args.keeps c.in_ok-replies.replies _ reply.Done c.in_ok-replies.ensures.ok
     (λ t s. fault-there t m s (λ o. first_row (rm_watch_rows c.args.wd o)) c.args.id _ None c.get.ensures (c.in_default.ensures ∙ ap (λ z. first_row (rm_watch_rows z (option_copied c.get.result))) same))
-    (λ t s. c.in_ok-replies.ensures.journaled)
-    (λ t s. c.in_ok-replies.ensures.given)
+    (λ t s. refl)
     (λ t s. IsMachineOf-changed t m s c.unwatch.new.self c.args.id (unwatching c.args.wd) (c.unwatch.ensures ∙ ap (λ z. changed m.instances c.args.id (unwatching z)) same))
     refl
