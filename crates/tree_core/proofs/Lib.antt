@@ -7,3 +7,4 @@ mod Instances
 pub mod Opened
 pub mod SoundWatches
 pub mod Untouched
+pub mod BytesRead
