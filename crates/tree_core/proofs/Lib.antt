@@ -8,3 +8,4 @@ pub mod Opened
 pub mod SoundWatches
 pub mod Untouched
 pub mod BytesRead
+pub mod InOrder
