@@ -9,3 +9,4 @@ pub mod SoundWatches
 pub mod Untouched
 pub mod BytesRead
 pub mod InOrder
+pub mod Accounts
