@@ -18,13 +18,9 @@ use Rattle.tree_core.specs.Journal.{IsLawfulFrom, IsLawful}
 use Rattle.tree_core.specs.Histories.{where_open, where_same, oldest, records_for, read_by, read_in}
 use Rattle.tree_core.specs.QueueLaws.{bytes_in, bytes_of, bytes_read, BytesAreOfRecords}
 
--- these, where two numbers are the same
-abbrev where_true : {A : Type 0} → Bool → List A → List A
-where_true b xs = if b then xs else []
-
 -- ---- one call
 
-none-of-none : {A : Type 0} (b : Bool) → where_true {A = A} b [] ≡ []
+none-of-none : (b : Bool) → let none : List ℕ = [] in (if b then none else none) ≡ none
 none-of-none true = refl
 none-of-none false = refl
 
@@ -38,13 +34,13 @@ refused-bytes id (call.Pump from count) r = none-of-none (from == id)
 refused-bytes id (call.Close from) r = refl
 
 -- what a read of one instance answers, and what is read of the other
-answered : (m : Bool) (bytes : ℕ) (o : Option Instance) → where_true m (bytes_in (read_answer bytes o)) ≡ spelling (where_open None o (λ i. where_true m (oldest bytes i)))
+answered : (m : Bool) (bytes : ℕ) (o : Option Instance) → (if m then bytes_in (read_answer bytes o) else []) ≡ spelling (where_open None o (λ i. if m then oldest bytes i else []))
 answered true bytes None = refl
 answered true bytes (Some i) = refl
 answered false bytes None = refl
 answered false bytes (Some i) = refl
 
-same-answer : (t : Tree) (from id bytes : ℕ) (m : Bool) → (from == id) ≡ m → where_true m (bytes_in (read_answer bytes (instance_of t.instances from))) ≡ where_true m (bytes_in (read_answer bytes (instance_of t.instances id)))
+same-answer : (t : Tree) (from id bytes : ℕ) (m : Bool) → (from == id) ≡ m → (if m then bytes_in (read_answer bytes (instance_of t.instances from)) else []) ≡ (if m then bytes_in (read_answer bytes (instance_of t.instances id)) else [])
 same-answer t from id bytes true e = ap (λ (n : ℕ). bytes_in (read_answer bytes (instance_of t.instances n))) (eqb-true from id e)
 same-answer t from id bytes false e = refl
 

@@ -89,19 +89,21 @@ same-waiting true change None keeps = refl
 same-waiting true change (Some i) keeps = ap (λ (q : Backlog). q.waiting) (keeps i)
 same-waiting false change o keeps = refl
 
--- these, where the numbers are the same
-abbrev where_true : {A : Type 0} → Bool → List A → List A
-where_true b xs = if b then xs else []
+-- a watch ends in one instance, which is told so
+abbrev IsUnwatched : Bool → ℤ → Option Instance → Option Instance → Type 0
+IsUnwatched b wd o new = GoesOn o (where_open None o (λ i. raised_to i.queue (if b then ignored wd ∷ [] else []))) (where_open None o (λ i. [])) new
 
-unwatched : (b : Bool) (wd : ℤ) (o : Option Instance)
-    → GoesOn o (where_open None o (λ i. raised_to i.queue (where_true b (ignored wd ∷ [])))) (where_open None o (λ i. [])) (cond b (option_map (unwatching wd) o) o)
+unwatched : (b : Bool) (wd : ℤ) (o : Option Instance) → IsUnwatched b wd o (cond b (option_map (unwatching wd) o) o)
 unwatched true wd None = refl
 unwatched true wd (Some i) = sym (waiting-joined i.queue (ignored wd ∷ []))
 unwatched false wd None = refl
 unwatched false wd (Some i) = append-nil i.queue.waiting
 
-is_read : (b : Bool) (bytes : ℕ) (o : Option Instance)
-    → GoesOn o (where_open None o (λ i. raised_to i.queue [])) (where_open None o (λ i. where_true b (oldest bytes i))) (cond b (option_map (after_reading bytes) o) o)
+-- one instance is read
+abbrev IsRead : Bool → ℕ → Option Instance → Option Instance → Type 0
+IsRead b bytes o new = GoesOn o (where_open None o (λ i. raised_to i.queue [])) (where_open None o (λ i. if b then oldest bytes i else [])) new
+
+is_read : (b : Bool) (bytes : ℕ) (o : Option Instance) → IsRead b bytes o (cond b (option_map (after_reading bytes) o) o)
 is_read true bytes None = refl
 is_read true bytes (Some i) = append-nil i.queue.waiting ∙ sym (take-append-drop (fitting bytes i.queue.waiting) i.queue.waiting)
 is_read false bytes None = refl
@@ -135,11 +137,11 @@ module _ (t : Tree) (ahead : NoneAhead t) (id : ℕ) where
   accepted-leads (call.AddWatch from p mask) o is =
       inl (quiet o (left_of t (call.AddWatch from p mask) id o) (same-waiting (eqb id from) (watching (number_seen (look t.world p)) (known mask)) o (λ i. refl)))
   accepted-leads (call.RmWatch from wd) o is =
-      inl (subst (λ (b : Bool). GoesOn o (where_open None o (λ i. raised_to i.queue (where_true b (ignored wd ∷ [])))) (where_open None o (λ i. [])) (left_of t (call.RmWatch from wd) id o)) (eqb-swap id from) (unwatched (eqb id from) wd o))
+      inl (subst (λ b. IsUnwatched b wd o (left_of t (call.RmWatch from wd) id o)) (eqb-swap id from) (unwatched (eqb id from) wd o))
   accepted-leads (call.Read from bytes) o is =
-      inl (subst (λ (b : Bool). GoesOn o (where_open None o (λ i. raised_to i.queue [])) (where_open None o (λ i. where_true b (oldest bytes i))) (left_of t (call.Read from bytes) id o)) (eqb-swap id from) (is_read (eqb id from) bytes o))
+      inl (subst (λ b. IsRead b bytes o (left_of t (call.Read from bytes) id o)) (eqb-swap id from) (is_read (eqb id from) bytes o))
   accepted-leads (call.Pump from bytes) o is =
-      inl (subst (λ (b : Bool). GoesOn o (where_open None o (λ i. raised_to i.queue [])) (where_open None o (λ i. where_true b (oldest bytes i))) (left_of t (call.Pump from bytes) id o)) (eqb-swap id from) (is_read (eqb id from) bytes o))
+      inl (subst (λ b. IsRead b bytes o (left_of t (call.Pump from bytes) id o)) (eqb-swap id from) (is_read (eqb id from) bytes o))
   accepted-leads (call.Close from) o is = is_closed (eqb id from) o
 
   leads-by : (c : Call) (o : Option Refusal)
