@@ -1,13 +1,12 @@
 -- What becomes of the events that are raised for an instance.
-use Rattle.std.proofs.Common.{◌≡◌, ℕ, zero, suc, ◌+◌, ◌≤◌, Bool, true, false, not, cond, if◌then◌else◌, ◌==◌, eqb, List, [], ◌∷◌, ◌++◌, map, length, Option, Some, None, refl, sym, ap, subst, ◌∙◌, arith}
+use Rattle.std.proofs.Common.{◌≡◌, ℕ, suc, ◌+◌, Bool, true, false, not, cond, if◌then◌else◌, ◌==◌, List, [], ◌∷◌, ◌++◌, length, Option, Some, None, refl, sym, ap, subst, ◌∙◌, arith}
 use Rattle.std.proofs.lemmas.Bool.{eqb-true}
 use Rattle.std.proofs.lemmas.List.Elements.{All-nil, All-append, All-cons, All-head, All-tail, All-weaker}
 use Rattle.std.proofs.lemmas.List.Sums.{sum_by-cons}
-use Rattle.std.specs.Prelude.{ℤ, pos, negsuc, ◌≤ℤ◌, ◌↔◌, All, IfSome, is_none, count_by}
+use Rattle.std.specs.Prelude.{ℤ, pos, negsuc, ◌≤ℤ◌, ◌↔◌, All, is_none, count_by}
 use Rattle.std.specs.List.{filter}
 use Rattle.record_codec.specs.declared.event.Event.{Event}
 use Rattle.tree_paths.specs.Rows.{row, first_row}
-use Rattle.tree_paths.specs.declared.limits.Limits.{Limits}
 use Rattle.tree_paths.specs.declared.refusal.Refusal.{Refusal}
 use Rattle.tree_paths.specs.declared.refusal.Refusal.TheVariants.{Einval}
 use Rattle.watch_table.specs.Watching.{Watching, IsSound, number_of, wd_of}
@@ -27,8 +26,8 @@ use Rattle.tree_core.specs.declared.call.Call.{Call}
 use Rattle.tree_core.specs.declared.call.Call.TheVariants as call
 use Rattle.tree_core.specs.declared.reply.Entry.{Entry}
 use Rattle.tree_core.specs.Tree.{Tree, opening, cookie_now, refusal_of, rm_watch_rows, after}
-use Rattle.tree_core.specs.Histories.{Raised, where_open, where_same, events_for, raised_to, raised_by, raised_in, fate, is_keeping, is_merging, is_losing, events, joined, kept}
-use Rattle.tree_core.specs.QueueLaws.{AreAccountedFor, EventsAreAccountedFor}
+use Rattle.tree_core.specs.Histories.{Raised, where_open, events_for, raised_to, raised_by, raised_in, fate, is_keeping, is_merging, is_losing, events, joined, kept}
+use Rattle.tree_core.specs.QueueLaws.{EventsAreAccountedFor}
 use Rattle.tree_core.proofs.SoundWatches.{WatchLaws, HasSoundWatches, WatchesAreSound, WatchesAreSound-after, WatchesAreSound-opening}
 
 -- ---- of any events

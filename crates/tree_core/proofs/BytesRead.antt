@@ -1,10 +1,8 @@
 -- The bytes that reads answered are those of the records that were read.
-use Rattle.std.proofs.Common.{◌≡◌, ℕ, Bool, true, false, if◌then◌else◌, ◌==◌, eqb, List, [], ◌∷◌, ◌++◌, Option, Some, None, refl, sym, ap, ◌∙◌}
+use Rattle.std.proofs.Common.{◌≡◌, ℕ, Bool, true, false, if◌then◌else◌, ◌==◌, List, [], ◌∷◌, ◌++◌, Option, Some, None, refl, sym, ap, ◌∙◌}
 use Rattle.std.proofs.lemmas.Bool.{eqb-true}
 use Rattle.std.proofs.lemmas.Grind.{flat_map-append}
-use Rattle.record_codec.specs.declared.event.Event.{Event}
 use Rattle.record_codec.specs.Records.{record_bytes, spelling}
-use Rattle.tree_paths.specs.declared.limits.Limits.{Limits}
 use Rattle.tree_paths.specs.declared.refusal.Refusal.{Refusal}
 use Rattle.instance_table.specs.declared.instance.Instance.{Instance}
 use Rattle.instance_table.specs.Instances.{instance_of}
@@ -15,7 +13,7 @@ use Rattle.tree_core.specs.declared.reply.Reply.{Reply}
 use Rattle.tree_core.specs.declared.reply.Reply.TheVariants as reply
 use Rattle.tree_core.specs.Tree.{Tree, opening, refusal_of, answer_of, read_answer, reply_by, reply_of, after}
 use Rattle.tree_core.specs.Journal.{IsLawfulFrom, IsLawful}
-use Rattle.tree_core.specs.Histories.{where_open, where_same, oldest, records_for, read_by, read_in}
+use Rattle.tree_core.specs.Histories.{where_open, oldest, records_for, read_by, read_in}
 use Rattle.tree_core.specs.QueueLaws.{bytes_in, bytes_of, bytes_read, BytesAreOfRecords}
 
 -- ---- one call

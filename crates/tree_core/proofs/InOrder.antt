@@ -1,5 +1,5 @@
 -- What was read of an instance, followed by what waits, is all that joined its queue.
-use Rattle.std.proofs.Common.{◌≡◌, ◌⊎◌, ℕ, ◌+◌, ◌<◌, ◌≤◌, Bool, true, false, cond, if◌then◌else◌, ◌==◌, eqb, ltb, List, [], ◌∷◌, ◌++◌, take, drop, Option, Some, None, refl, sym, ap, subst, ◌∙◌, inl, inr, arith, append_assoc, append-nil}
+use Rattle.std.proofs.Common.{◌≡◌, ◌⊎◌, ℕ, ◌<◌, ◌≤◌, Bool, true, false, cond, if◌then◌else◌, eqb, ltb, List, [], ◌∷◌, ◌++◌, Option, Some, None, refl, sym, ap, subst, ◌∙◌, inl, inr, arith, append_assoc, append-nil}
 use Rattle.std.proofs.lemmas.Bool.{eqb-true, ltb-true, ltb-false}
 use Rattle.std.proofs.lemmas.Grind.{flat_map-append}
 use Rattle.std.proofs.lemmas.List.{take-append-drop}
@@ -21,10 +21,10 @@ use Rattle.tree_core.specs.declared.call.Call.TheVariants as call
 use Rattle.tree_core.specs.declared.reply.Entry.{Entry}
 use Rattle.tree_core.specs.Tree.{Tree, opening, cookie_now, number_seen, refusal_of, accepted, tree_by, after, after_reading}
 use Rattle.tree_core.specs.Journal.{tree_after, stands_for}
-use Rattle.tree_core.specs.Histories.{Raised, where_open, where_same, oldest, events_for, records_for, raised_to, raised_by, raised_in, read_by, read_in, fate, joined}
+use Rattle.tree_core.specs.Histories.{Raised, where_open, oldest, events_for, records_for, raised_to, raised_by, raised_in, read_by, read_in, fate, joined}
 use Rattle.tree_core.specs.QueueLaws.{IsInOrder, ReadsAreInOrder}
 use Rattle.tree_core.proofs.Opened.{eqb-swap, left_of, instance_of-accepted}
-use Rattle.tree_core.proofs.Untouched.{raised_by-none, read_by-none, none-after, none-tree_after, next-after, none-opening, untouched}
+use Rattle.tree_core.proofs.Untouched.{none-after, none-tree_after, next-after, none-opening, untouched}
 
 -- ---- queues
 
@@ -195,8 +195,8 @@ module _ (id : ℕ) where
       let u : Tree = after t e.call in
       elim (leads t ahead id e.call) as (λ _. IsInOrder (read_in t (e ∷ es) id) (waiting_of (instance_of t.instances id) ++ joined (raised_in t (e ∷ es) id)) (instance_of (tree_after t (e ∷ es)).instances id)) [
         | inl goes ↦ in-order-more (read_by t e.call id) (read_in u es id) (waiting_of (instance_of u.instances id) ++ joined (raised_in u es id)) _ (instance_of (tree_after u es).instances id)
-          (parts (waiting_of (instance_of t.instances id)) (waiting_of (instance_of u.instances id)) (read_by t e.call id) (raised_by t e.call id) (raised_in u es id) goes)
-          (in-order u es (NoneAhead-after t e.call ahead))
+            (parts (waiting_of (instance_of t.instances id)) (waiting_of (instance_of u.instances id)) (read_by t e.call id) (raised_by t e.call id) (raised_in u es id) goes)
+            (in-order u es (NoneAhead-after t e.call ahead))
         | inr closing ↦ closes t ahead e es closing
       ]
 
