@@ -5,3 +5,9 @@ pub mod Lawful
 pub mod Keeping
 pub mod Pumping
 mod Instances
+pub mod Opened
+pub mod SoundWatches
+pub mod Untouched
+pub mod BytesRead
+pub mod InOrder
+pub mod Accounts
