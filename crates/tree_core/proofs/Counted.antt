@@ -26,15 +26,15 @@ use Rattle.tree_core.specs.Sound.{IsCounted}
 
 -- ---- where no row answers, none holds
 
-abbrev Each : List (Option Refusal) → Type 0
+abbrev pub Each : List (Option Refusal) → Type 0
 Each [] = Unit {0}
 Each (o ∷ rows) = (o ≡ None) × Each rows
 
-first-passes : (o : Option Refusal) (rows : List (Option Refusal)) → first_row (o ∷ rows) ≡ None → (o ≡ None) × (first_row rows ≡ None)
+pub first-passes : (o : Option Refusal) (rows : List (Option Refusal)) → first_row (o ∷ rows) ≡ None → (o ≡ None) × (first_row rows ≡ None)
 first-passes None rows e = (refl, e)
 first-passes (Some r) rows e = absurd (cc)
 
-each-passes : (rows : List (Option Refusal)) → first_row rows ≡ None → Each rows
+pub each-passes : (rows : List (Option Refusal)) → first_row rows ≡ None → Each rows
 each-passes [] e = tt
 each-passes (o ∷ rows) e = let w = first-passes o rows e in (w.0, each-passes rows w.1)
 

@@ -4,3 +4,4 @@ pub mod Filed
 pub mod Lawful
 pub mod Keeping
 mod Instances
+mod Replies
