@@ -5,3 +5,4 @@ pub mod Lawful
 pub mod Keeping
 mod Instances
 mod Replies
+mod Turns
