@@ -38,7 +38,7 @@ pub each-passes : (rows : List (Option Refusal)) → first_row rows ≡ None →
 each-passes [] e = tt
 each-passes (o ∷ rows) e = let w = first-passes o rows e in (w.0, each-passes rows w.1)
 
-row-passes : (b : Bool) (r : Refusal) → row b r ≡ None → b ≡ false
+pub row-passes : (b : Bool) (r : Refusal) → row b r ≡ None → b ≡ false
 row-passes true r e = absurd (cc)
 row-passes false r e = refl
 
@@ -76,7 +76,7 @@ cookie-left limits counts next now none =
     by true e = ltb-false limits.cookies next (or_parts (next == 0) (nat_lt limits.cookies next) e).1
     by false e = absurd (true≢false e)
 
-move-left : (limits : Limits) (counts : Counts) (old new : Option Seen) → Each (move_rows limits counts old new) → cookies_row limits counts ≡ None
+pub move-left : (limits : Limits) (counts : Counts) (old new : Option Seen) → Each (move_rows limits counts old new) → cookies_row limits counts ≡ None
 unfolding move_rows
 move-left limits counts old new each = each.1.1.1.0
 

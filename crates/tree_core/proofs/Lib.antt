@@ -6,3 +6,4 @@ pub mod Keeping
 mod Instances
 mod Replies
 mod Turns
+mod Cookies

@@ -18,13 +18,13 @@ use Rattle.tree_core.specs.Tree.{Tree, opening, counts_of, refusal_of, after_fil
 use Rattle.tree_core.specs.TurnLaws.{AreInTurn, number_in, numbers_given, NumbersAreInTurn, id_in, ids_given, IdsAreInTurn}
 
 -- what a call gives is in turn: what is in turn from the number that comes next after it is so behind it too
-record Step (now next : ℕ) (given : List ℕ) : Type 0 where
-  all : (rest : List ℕ) → AreInTurn next rest → AreInTurn now (given ++ rest)
+pub record Step (now next : ℕ) (given : List ℕ) : Type 0 where
+  pub all : (rest : List ℕ) → AreInTurn next rest → AreInTurn now (given ++ rest)
 
-gives-none : (now next : ℕ) (given : List ℕ) → given ≡ [] → next ≡ now → Step now next given
+pub gives-none : (now next : ℕ) (given : List ℕ) → given ≡ [] → next ≡ now → Step now next given
 gives-none now next given none stays = record { all = λ rest h. subst (λ (xs : List ℕ). AreInTurn now (xs ++ rest)) (sym none) (subst (λ (n : ℕ). AreInTurn n rest) stays h) }
 
-gives-one : (now next : ℕ) (given : List ℕ) → given ≡ now ∷ [] → next ≡ now + 1 → Step now next given
+pub gives-one : (now next : ℕ) (given : List ℕ) → given ≡ now ∷ [] → next ≡ now + 1 → Step now next given
 gives-one now next given one rises =
     record { all = λ rest h. subst (λ (xs : List ℕ). AreInTurn now (xs ++ rest)) (sym one) (refl, subst (λ (n : ℕ). AreInTurn n rest) rises h) }
 
@@ -43,7 +43,7 @@ read-number : (bytes : ℕ) (o : Option Instance) → number_in (read_answer byt
 read-number bytes None = refl
 read-number bytes (Some i) = refl
 
-same-number : (n : ℕ) → n + 0 ≡ n
+pub same-number : (n : ℕ) → n + 0 ≡ n
 same-number n = omega arith
 
 file-step : (t : Tree) (f : FileCall) → Step t.next_number (t.next_number + ops.numbers_of f) (number_in (reply.File (ops.answer_of t.world (counts_of t) f)))

@@ -5,6 +5,8 @@ ghost use Rattle.tree_core.specs.declared.call.Call.{Call};
 ghost use Rattle.tree_core.specs.Tree.{Tree};
 ghost use Rattle.tree_core.specs.TurnLaws.{CookiesAreInTurn, CookiesTieMoves, DescriptorsEndForGood, IdsAreInTurn, NumbersAreInTurn, RepliesTell, TreesAreSound, WatchesEndOnce};
 
+use event_rules::cookies_tie_moves;
+
 /// A law: in each tree that a journal stands for, the numbers that come next are behind all that were given, watches are
 /// of files that are there, and queues keep their bounds.
 
@@ -24,7 +26,9 @@ pub fn numbers_are_in_turn()
 pub fn cookies_are_in_turn()
     ensures turn { CookiesAreInTurn }
     ensures tie { CookiesTieMoves }
-{}
+{
+    cookies_tie_moves();
+}
 
 /// A law: nothing of a watch follows its `IN_IGNORED`, and its descriptor is never given again.
 
