@@ -4,6 +4,9 @@ pub mod Filed
 pub mod Lawful
 pub mod Keeping
 mod Instances
+pub mod Opened
+pub mod SoundWatches
+pub mod Untouched
 mod Replies
 mod Turns
 mod Cookies

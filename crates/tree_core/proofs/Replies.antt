@@ -1,5 +1,5 @@
 -- What a reply tells of the tree that gave it.
-use Rattle.std.proofs.Common.{◌≡◌, ℕ, ◌≤◌, Bool, true, false, not, IsTrue, List, Option, Some, None, refl, sym, ap, ◌∙◌, arith}
+use Rattle.std.proofs.Common.{◌≡◌, ℕ, Bool, true, false, not, IsTrue, List, Option, Some, None, refl, sym, ap, ◌∙◌}
 use Rattle.tree_paths.specs.Rows.{first_row}
 use Rattle.tree_paths.specs.declared.refusal.Refusal.{Refusal}
 use Rattle.inode_table.specs.Refusals.{Look}
@@ -10,9 +10,10 @@ use Rattle.instance_table.specs.Instances.{instance_of}
 use Rattle.tree_core.specs.declared.call.Call.{Call}
 use Rattle.tree_core.specs.declared.call.Call.TheVariants as call
 use Rattle.tree_core.specs.declared.reply.Reply.TheVariants as reply
-use Rattle.tree_core.specs.Tree.{Tree, refusal_of, add_watch_rows, read_rows, way_row, close_rows, after_file, after_init, after_add_watch, after_rm_watch, after_accepted_read, after_close, accepted, watch_answer, read_answer, number_seen, answer_of, reply_by, tree_by, reply_of}
+use Rattle.tree_core.specs.Tree.{Tree, refusal_of, add_watch_rows, read_rows, way_row, close_rows, accepted, watch_answer, read_answer, number_seen, answer_of, reply_by, tree_by, reply_of}
 use Rattle.tree_core.specs.TurnLaws.{RepliesTell}
 use Rattle.tree_core.proofs.Counted.{first-passes}
+use Rattle.tree_core.proofs.Untouched.{next-after}
 
 -- ---- where the instance of a call is open
 
@@ -87,28 +88,12 @@ refused-same : (t : Tree) (c : Call) (r : Refusal) (o : Option Refusal) → refu
 refused-same t c r None passes e = absurd (no-refusal t c r passes e)
 refused-same t c r (Some s) passes e = refl
 
--- ---- numbers of instances
-
-accepted-rising : (t : Tree) (c : Call) → t.next_id ≤ (accepted t c).next_id
-unfolding after_file after_init after_add_watch after_rm_watch after_accepted_read after_close
-accepted-rising t (call.File f) = omega arith
-accepted-rising t (call.Init limit is_piped) = omega arith
-accepted-rising t (call.AddWatch id p mask) = omega arith
-accepted-rising t (call.RmWatch id wd) = omega arith
-accepted-rising t (call.Read id bytes) = omega arith
-accepted-rising t (call.Pump id bytes) = omega arith
-accepted-rising t (call.Close id) = omega arith
-
-after-rising : (t : Tree) (c : Call) (o : Option Refusal) → t.next_id ≤ (tree_by o t (accepted t c)).next_id
-after-rising t c None = accepted-rising t c
-after-rising t c (Some r) = omega arith
-
 pub replies-tell : (t : Tree) (c : Call) → RepliesTell t c
 replies-tell t c = record {
   read = λ id count bytes is e. piped-not (given-open false count bytes (instance_of t.instances id) (refusal_of t (call.Read id count)) refl (ap (reply_of t) (sym is) ∙ e));
   pumped = λ id count bytes is e. given-open true count bytes (instance_of t.instances id) (refusal_of t (call.Pump id count)) refl (ap (reply_of t) (sym is) ∙ e);
   opened = λ id e. opened-by t c id (refusal_of t c) e;
   closed = λ id is e. closed-open (instance_of t.instances id) (refusal_of t (call.Close id)) refl (ap (reply_of t) (sym is) ∙ e);
-  rising = after-rising t c (refusal_of t c);
+  rising = next-after t c;
   refused = λ refusal e. refused-same t c refusal (refusal_of t c) refl e;
 }
