@@ -33,6 +33,7 @@ use Rattle.tree_core.specs.declared.machine.Replies.{Replies}
 use Rattle.tree_core.specs.declared.reply.Reply.{Reply}
 use Rattle.tree_core.specs.declared.reply.Reply.TheVariants as reply
 use Rattle.tree_core.specs.Machines.{IsMachineOf, Serves}
+use Rattle.tree_core.specs.Sound.{IsCounted}
 use Rattle.tree_core.specs.Tree.{Tree, refusal_of, reply_by, answer_of, accepted, tree_by, init_rows, add_watch_rows, seen_fault, read_rows, watch_answer, number_seen, after_add_watch}
 
 -- ---- what serves a call

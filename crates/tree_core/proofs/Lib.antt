@@ -10,3 +10,5 @@ pub mod Untouched
 mod Replies
 mod Turns
 mod Cookies
+mod Quiet
+mod Ends

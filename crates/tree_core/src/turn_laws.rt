@@ -5,7 +5,8 @@ ghost use Rattle.tree_core.specs.declared.call.Call.{Call};
 ghost use Rattle.tree_core.specs.Tree.{Tree};
 ghost use Rattle.tree_core.specs.TurnLaws.{CookiesAreInTurn, CookiesTieMoves, DescriptorsEndForGood, IdsAreInTurn, NumbersAreInTurn, RepliesTell, TreesAreSound, WatchesEndOnce};
 
-use event_rules::cookies_tie_moves;
+use event_rules::{cookies_tie_moves, nothing_follows_ignored, other_watches_stay};
+use watch_table::{descriptors_end_for_good, descriptors_tell_files, watches_stay_sound};
 
 /// A law: in each tree that a journal stands for, the numbers that come next are behind all that were given, watches are
 /// of files that are there, and queues keep their bounds.
@@ -35,7 +36,13 @@ pub fn cookies_are_in_turn()
 pub fn watches_end_once()
     ensures ends { WatchesEndOnce }
     ensures descriptors { DescriptorsEndForGood }
-{}
+{
+    descriptors_end_for_good();
+    descriptors_tell_files();
+    nothing_follows_ignored();
+    other_watches_stay();
+    watches_stay_sound();
+}
 
 /// A law: what the reply to a call tells of the tree that gave it. A refused call changes nothing.
 
