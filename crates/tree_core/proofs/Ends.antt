@@ -1,6 +1,6 @@
 -- Nothing of a watch follows its end, along a journal, and its descriptor is not given again.
-use Rattle.std.proofs.Common.{◌≡◌, ◌≢◌, ◌↔◌, ℕ, ◌+◌, ◌<◌, ◌≤◌, ◌==◌, Bool, true, false, cond, eqb, if◌then◌else◌, IsTrue, List, [], ◌∷◌, ◌++◌, Option, Some, None, is_none, is_some, refl, sym, ap, ◌∙◌, subst, arith}
-use Rattle.std.specs.Prelude.{ℤ, pos, ◌≤ℤ◌, ◌<ℤ◌, All, IsSome, filter, map, option_map}
+use Rattle.std.proofs.Common.{◌≡◌, ◌≢◌, ◌↔◌, ℕ, ◌+◌, ◌<◌, ◌==◌, Bool, true, false, cond, eqb, if◌then◌else◌, IsTrue, List, [], ◌∷◌, ◌++◌, Option, Some, None, is_none, is_some, refl, sym, ap, ◌∙◌, subst, arith}
+use Rattle.std.specs.Prelude.{ℤ, pos, ◌<ℤ◌, All, IsSome, filter, map, option_map}
 use Rattle.std.proofs.lemmas.Bool.{eqb-true}
 use Rattle.std.proofs.lemmas.Int.{ints}
 use Rattle.std.proofs.lemmas.List.{map-append}
@@ -26,7 +26,7 @@ use Rattle.tree_core.specs.declared.reply.Reply.{Reply}
 use Rattle.tree_core.specs.Histories.{Raised, raised_to, raised_by, raised_in, events, events_for, where_open}
 use Rattle.tree_core.specs.Journal.{tree_after, IsLawfulFrom, IsLawful, stands_for}
 use Rattle.tree_core.specs.Tree.{Tree, opening, cookie_now, rm_watch_rows, refusal_of, number_seen, after_reading, after_file, after_init, after_add_watch, after_rm_watch, after_accepted_read, after_close, accepted, tree_by, watch_answer, reply_by, reply_of, after}
-use Rattle.tree_core.specs.TurnLaws.{EndsOnce, WatchesEndOnce, wd_in, wds_of, wds_given, DescriptorsEndForGood}
+use Rattle.tree_core.specs.TurnLaws.{WatchesEndOnce, wd_in, wds_of, wds_given, DescriptorsEndForGood}
 use Rattle.tree_core.proofs.Cookies.{events-raised_to}
 use Rattle.tree_core.proofs.Counted.{first-passes, row-passes}
 use Rattle.tree_core.proofs.Opened.{eqb-other, eqb-swap, left_of, instance_of-accepted}
@@ -191,6 +191,7 @@ module _ (laws : EndLaws) where
     where
       P : Event → Type 0
       P = Ends (OverLeft t (call.RmWatch from wd) id i)
+
       by : (b : Bool) → (from == id) ≡ b → All P (if b then ignored wd ∷ [] else [])
       by true is =
           let open_one : instance_of t.instances from ≡ Some i = ap (instance_of t.instances) (eqb-true from id is) ∙ there in

@@ -1,5 +1,5 @@
 -- Events of which nothing of a watch follows its end, and what of them joins a queue.
-use Rattle.std.proofs.Common.{◌≡◌, ◌≢◌, ℕ, Bool, true, false, cond, IsTrue, List, [], ◌∷◌, ◌++◌, Option, refl, sym, ap, ◌∙◌, subst, arith}
+use Rattle.std.proofs.Common.{◌≡◌, ◌≢◌, Bool, true, false, cond, IsTrue, List, [], ◌∷◌, ◌++◌, refl, sym, ap, subst, arith}
 use Rattle.std.specs.Prelude.{ℤ, pos, negsuc, ◌≤ℤ◌, All, filter}
 use Rattle.std.proofs.lemmas.Int.{ints}
 use Rattle.std.proofs.lemmas.List.Elements.{All-nil, All-append, All-cons, All-head, All-tail}
@@ -35,9 +35,10 @@ Ends P e = IsTrue (says_ended e) → P e.wd
 
 pub Quiet-append : (xs ys : List Event) → Quiet xs → Quiet ys → All (Ends (λ wd. TellsNothing wd ys)) xs → Quiet (xs ++ ys)
 Quiet-append [] ys q r over = r
-Quiet-append (x ∷ xs) ys q r over =
-    ((λ said. All-append (λ (e : Event). e.wd ≢ x.wd) xs ys (q.0 said) (All-head (Ends (λ wd. TellsNothing wd ys)) x xs over said)),
-    Quiet-append xs ys q.1 r (All-tail (Ends (λ wd. TellsNothing wd ys)) x xs over))
+Quiet-append (x ∷ xs) ys q r over = (
+  (λ said. All-append (λ (e : Event). e.wd ≢ x.wd) xs ys (q.0 said) (All-head (Ends (λ wd. TellsNothing wd ys)) x xs over said)),
+  Quiet-append xs ys q.1 r (All-tail (Ends (λ wd. TellsNothing wd ys)) x xs over),
+)
 
 -- what holds of each that passes a test
 pub All-unfiltered : (test : Event → Bool) (P : Event → Type 0) (es : List Event) → All P (filter test es) → All (λ e. IsTrue (test e) → P e) es
