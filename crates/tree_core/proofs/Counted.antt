@@ -26,19 +26,19 @@ use Rattle.tree_core.specs.Sound.{IsCounted}
 
 -- ---- where no row answers, none holds
 
-abbrev Each : List (Option Refusal) → Type 0
+abbrev pub Each : List (Option Refusal) → Type 0
 Each [] = Unit {0}
 Each (o ∷ rows) = (o ≡ None) × Each rows
 
-first-passes : (o : Option Refusal) (rows : List (Option Refusal)) → first_row (o ∷ rows) ≡ None → (o ≡ None) × (first_row rows ≡ None)
+pub first-passes : (o : Option Refusal) (rows : List (Option Refusal)) → first_row (o ∷ rows) ≡ None → (o ≡ None) × (first_row rows ≡ None)
 first-passes None rows e = (refl, e)
 first-passes (Some r) rows e = absurd (cc)
 
-each-passes : (rows : List (Option Refusal)) → first_row rows ≡ None → Each rows
+pub each-passes : (rows : List (Option Refusal)) → first_row rows ≡ None → Each rows
 each-passes [] e = tt
 each-passes (o ∷ rows) e = let w = first-passes o rows e in (w.0, each-passes rows w.1)
 
-row-passes : (b : Bool) (r : Refusal) → row b r ≡ None → b ≡ false
+pub row-passes : (b : Bool) (r : Refusal) → row b r ≡ None → b ≡ false
 row-passes true r e = absurd (cc)
 row-passes false r e = refl
 
@@ -76,7 +76,7 @@ cookie-left limits counts next now none =
     by true e = ltb-false limits.cookies next (or_parts (next == 0) (nat_lt limits.cookies next) e).1
     by false e = absurd (true≢false e)
 
-move-left : (limits : Limits) (counts : Counts) (old new : Option Seen) → Each (move_rows limits counts old new) → cookies_row limits counts ≡ None
+pub move-left : (limits : Limits) (counts : Counts) (old new : Option Seen) → Each (move_rows limits counts old new) → cookies_row limits counts ≡ None
 unfolding move_rows
 move-left limits counts old new each = each.1.1.1.0
 

@@ -11,3 +11,8 @@ pub mod Untouched
 pub mod BytesRead
 pub mod InOrder
 pub mod Accounts
+mod Replies
+mod Turns
+mod Cookies
+mod Quiet
+mod Ends

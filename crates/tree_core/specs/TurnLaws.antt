@@ -1,5 +1,5 @@
 -- Laws of all lawful journals: numbers, descriptors and cookies are given once, and nothing follows the end of a watch.
-use Rattle.std.specs.Prelude.{◌≡◌, ◌≢◌, ℕ, ℤ, ◌+◌, ◌≤◌, ◌==◌, List, [], ◌∷◌, ◌++◌, Option, Some, None, All, IsTrue, if◌then◌else◌}
+use Rattle.std.specs.Prelude.{◌≡◌, ◌≢◌, ℕ, ℤ, ◌+◌, ◌≤◌, ◌==◌, List, [], ◌∷◌, ◌++◌, Option, Some, None, All, IsTrue, not, if◌then◌else◌}
 use Rattle.record_codec.specs.declared.event.Event.{Event}
 use Rattle.tree_paths.specs.declared.limits.Limits.{Limits}
 use Rattle.tree_paths.specs.declared.refusal.Refusal.{Refusal}
@@ -124,9 +124,10 @@ DescriptorsEndForGood =
 
 -- ---- what a reply tells of its tree
 
--- records are read of open instances, and pumped of those with a pipe; a new instance has the next number; numbers of
--- instances never fall; a closed instance was open; a refused call changes nothing
+-- records are read of open instances without a pipe, and pumped of those with one; a new instance has the next number;
+-- numbers of instances never fall; a closed instance was open; a refused call changes nothing
 pub record RepliesTell (t : Tree) (c : Call) : Type 0 where
+  pub read : (id count : ℕ) (bytes : List ℕ) → c ≡ call.Read id count → reply_of t c ≡ reply.Records bytes → (i : Instance) × (instance_of t.instances id ≡ Some i) × IsTrue (not i.is_piped)
   pub pumped : (id count : ℕ) (bytes : List ℕ) → c ≡ call.Pump id count → reply_of t c ≡ reply.Records bytes → (i : Instance) × (instance_of t.instances id ≡ Some i) × IsTrue i.is_piped
   pub opened : (id : ℕ) → reply_of t c ≡ reply.Instance id → id ≡ t.next_id
   pub closed : (id : ℕ) → c ≡ call.Close id → reply_of t c ≡ reply.Done → (i : Instance) × (instance_of t.instances id ≡ Some i)

@@ -5,6 +5,9 @@ ghost use Rattle.tree_core.specs.declared.call.Call.{Call};
 ghost use Rattle.tree_core.specs.Tree.{Tree};
 ghost use Rattle.tree_core.specs.TurnLaws.{CookiesAreInTurn, CookiesTieMoves, DescriptorsEndForGood, IdsAreInTurn, NumbersAreInTurn, RepliesTell, TreesAreSound, WatchesEndOnce};
 
+use event_rules::{cookies_tie_moves, nothing_follows_ignored, other_watches_stay};
+use watch_table::{descriptors_end_for_good, descriptors_tell_files, watches_stay_sound};
+
 /// A law: in each tree that a journal stands for, the numbers that come next are behind all that were given, watches are
 /// of files that are there, and queues keep their bounds.
 pub fn trees_are_sound()
@@ -21,13 +24,21 @@ pub fn numbers_are_in_turn()
 pub fn cookies_are_in_turn()
     ensures turn { CookiesAreInTurn }
     ensures tie { CookiesTieMoves }
-{}
+{
+    cookies_tie_moves();
+}
 
 /// A law: nothing of a watch follows its `IN_IGNORED`, and its descriptor is never given again.
 pub fn watches_end_once()
     ensures ends { WatchesEndOnce }
     ensures descriptors { DescriptorsEndForGood }
-{}
+{
+    descriptors_end_for_good();
+    descriptors_tell_files();
+    nothing_follows_ignored();
+    other_watches_stay();
+    watches_stay_sound();
+}
 
 /// A law: what the reply to a call tells of the tree that gave it. A refused call changes nothing.
 pub fn replies_tell()

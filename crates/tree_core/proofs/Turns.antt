@@ -1,0 +1,120 @@
+-- Numbers of files and of instances are given in turn.
+use Rattle.std.proofs.Common.{◌≡◌, ℕ, ◌+◌, List, [], ◌∷◌, ◌++◌, Option, Some, None, refl, sym, subst, arith}
+use Rattle.std.specs.FinMap as finmap
+use Rattle.tree_paths.specs.declared.refusal.Refusal.{Refusal}
+use Rattle.inode_table.specs.World.{World, File, file_at, look}
+use Rattle.tree_ops.specs.declared.call.FileCall.{FileCall}
+use Rattle.tree_ops.specs.declared.call.FileCall.TheVariants.{Create, Write, ReadFile, Truncate, Chmod, Mkdir, Link, Unlink, Rmdir, Rename, Stat as Status, List as Listed}
+use Rattle.tree_ops.specs.After as ops
+use Rattle.instance_table.specs.declared.instance.Instance.{Instance}
+use Rattle.instance_table.specs.Instances.{instance_of}
+use Rattle.tree_core.specs.declared.call.Call.{Call}
+use Rattle.tree_core.specs.declared.call.Call.TheVariants as call
+use Rattle.tree_core.specs.declared.reply.Entry.{Entry}
+use Rattle.tree_core.specs.declared.reply.Reply.{Reply}
+use Rattle.tree_core.specs.declared.reply.Reply.TheVariants as reply
+use Rattle.tree_core.specs.Journal.{IsLawfulFrom, IsLawful}
+use Rattle.tree_core.specs.Tree.{Tree, opening, counts_of, refusal_of, after_file, after_init, after_add_watch, after_rm_watch, after_accepted_read, after_close, accepted, watch_answer, read_answer, number_seen, answer_of, reply_by, tree_by, after}
+use Rattle.tree_core.specs.TurnLaws.{AreInTurn, number_in, numbers_given, NumbersAreInTurn, id_in, ids_given, IdsAreInTurn}
+
+-- what a call gives is in turn: what is in turn from the number that comes next after it is so behind it too
+pub record Step (now next : ℕ) (given : List ℕ) : Type 0 where
+  pub all : (rest : List ℕ) → AreInTurn next rest → AreInTurn now (given ++ rest)
+
+pub gives-none : (now next : ℕ) (given : List ℕ) → given ≡ [] → next ≡ now → Step now next given
+gives-none now next given none stays = record { all = λ rest h. subst (λ (xs : List ℕ). AreInTurn now (xs ++ rest)) (sym none) (subst (λ (n : ℕ). AreInTurn n rest) stays h) }
+
+pub gives-one : (now next : ℕ) (given : List ℕ) → given ≡ now ∷ [] → next ≡ now + 1 → Step now next given
+gives-one now next given one rises =
+    record { all = λ rest h. subst (λ (xs : List ℕ). AreInTurn now (xs ++ rest)) (sym one) (refl, subst (λ (n : ℕ). AreInTurn n rest) rises h) }
+
+-- ---- numbers of files
+
+stat-number : (w : World) (n : Option ℕ) (f : Option File) → number_in (reply.File (ops.stat_by w n f)) ≡ []
+stat-number w None f = refl
+stat-number w (Some n) None = refl
+stat-number w (Some n) (Some f) = refl
+
+watch-number : (number : ℕ) (o : Option Instance) → number_in (watch_answer number o) ≡ []
+watch-number number None = refl
+watch-number number (Some i) = refl
+
+read-number : (bytes : ℕ) (o : Option Instance) → number_in (read_answer bytes o) ≡ []
+read-number bytes None = refl
+read-number bytes (Some i) = refl
+
+pub same-number : (n : ℕ) → n + 0 ≡ n
+same-number n = omega arith
+
+file-step : (t : Tree) (f : FileCall) → Step t.next_number (t.next_number + ops.numbers_of f) (number_in (reply.File (ops.answer_of t.world (counts_of t) f)))
+unfolding ops.stat_of
+file-step t (Create p mode) = gives-one _ _ _ refl refl
+file-step t (Mkdir p mode) = gives-one _ _ _ refl refl
+file-step t (Write p offset bytes) = gives-none _ _ _ refl (same-number t.next_number)
+file-step t (ReadFile p offset count) = gives-none _ _ _ refl (same-number t.next_number)
+file-step t (Truncate p len) = gives-none _ _ _ refl (same-number t.next_number)
+file-step t (Chmod p mode) = gives-none _ _ _ refl (same-number t.next_number)
+file-step t (Link old new) = gives-none _ _ _ refl (same-number t.next_number)
+file-step t (Unlink p) = gives-none _ _ _ refl (same-number t.next_number)
+file-step t (Rmdir p) = gives-none _ _ _ refl (same-number t.next_number)
+file-step t (Rename old new) = gives-none _ _ _ refl (same-number t.next_number)
+file-step t (Status p) = gives-none _ _ _ (stat-number t.world (finmap.get t.world.paths p) (file_at t.world p)) (same-number t.next_number)
+file-step t (Listed p) = gives-none _ _ _ refl (same-number t.next_number)
+
+accepted-numbers : (t : Tree) (c : Call) → Step t.next_number (accepted t c).next_number (number_in (answer_of t c))
+unfolding after_file after_init after_add_watch after_rm_watch after_accepted_read after_close
+accepted-numbers t (call.File f) = file-step t f
+accepted-numbers t (call.Init limit is_piped) = gives-none _ _ _ refl refl
+accepted-numbers t (call.AddWatch id p mask) = gives-none _ _ _ (watch-number (number_seen (look t.world p)) (instance_of t.instances id)) refl
+accepted-numbers t (call.RmWatch id wd) = gives-none _ _ _ refl refl
+accepted-numbers t (call.Read id bytes) = gives-none _ _ _ (read-number bytes (instance_of t.instances id)) refl
+accepted-numbers t (call.Pump id bytes) = gives-none _ _ _ (read-number bytes (instance_of t.instances id)) refl
+accepted-numbers t (call.Close id) = gives-none _ _ _ refl refl
+
+step-numbers : (t : Tree) (c : Call) (o : Option Refusal) → Step t.next_number (tree_by o t (accepted t c)).next_number (number_in (reply_by o (answer_of t c)))
+step-numbers t c None = accepted-numbers t c
+step-numbers t c (Some r) = gives-none _ _ _ refl refl
+
+numbers-from : (t : Tree) (es : List Entry) → IsLawfulFrom t es → AreInTurn t.next_number (numbers_given es)
+numbers-from t [] h = tt
+numbers-from t (e ∷ es) h =
+    subst (λ (r : Reply). AreInTurn t.next_number (number_in r ++ numbers_given es)) (sym h.0)
+    ((step-numbers t e.call (refusal_of t e.call)).all (numbers_given es) (numbers-from (after t e.call) es h.1))
+
+pub numbers-in-turn : NumbersAreInTurn
+unfolding IsLawful opening
+numbers-in-turn limits es h = numbers-from (opening limits) es h
+
+-- ---- numbers of instances
+
+watch-id : (number : ℕ) (o : Option Instance) → id_in (watch_answer number o) ≡ []
+watch-id number None = refl
+watch-id number (Some i) = refl
+
+read-id : (bytes : ℕ) (o : Option Instance) → id_in (read_answer bytes o) ≡ []
+read-id bytes None = refl
+read-id bytes (Some i) = refl
+
+accepted-ids : (t : Tree) (c : Call) → Step t.next_id (accepted t c).next_id (id_in (answer_of t c))
+unfolding after_file after_init after_add_watch after_rm_watch after_accepted_read after_close
+accepted-ids t (call.File f) = gives-none _ _ _ refl refl
+accepted-ids t (call.Init limit is_piped) = gives-one _ _ _ refl refl
+accepted-ids t (call.AddWatch id p mask) = gives-none _ _ _ (watch-id (number_seen (look t.world p)) (instance_of t.instances id)) refl
+accepted-ids t (call.RmWatch id wd) = gives-none _ _ _ refl refl
+accepted-ids t (call.Read id bytes) = gives-none _ _ _ (read-id bytes (instance_of t.instances id)) refl
+accepted-ids t (call.Pump id bytes) = gives-none _ _ _ (read-id bytes (instance_of t.instances id)) refl
+accepted-ids t (call.Close id) = gives-none _ _ _ refl refl
+
+step-ids : (t : Tree) (c : Call) (o : Option Refusal) → Step t.next_id (tree_by o t (accepted t c)).next_id (id_in (reply_by o (answer_of t c)))
+step-ids t c None = accepted-ids t c
+step-ids t c (Some r) = gives-none _ _ _ refl refl
+
+ids-from : (t : Tree) (es : List Entry) → IsLawfulFrom t es → AreInTurn t.next_id (ids_given es)
+ids-from t [] h = tt
+ids-from t (e ∷ es) h =
+    subst (λ (r : Reply). AreInTurn t.next_id (id_in r ++ ids_given es)) (sym h.0)
+    ((step-ids t e.call (refusal_of t e.call)).all (ids_given es) (ids-from (after t e.call) es h.1))
+
+pub ids-in-turn : IdsAreInTurn
+unfolding IsLawful opening
+ids-in-turn limits es h = ids-from (opening limits) es h
