@@ -7,6 +7,9 @@ mod Instances
 pub mod Opened
 pub mod SoundWatches
 pub mod Untouched
+pub mod BytesRead
+pub mod InOrder
+pub mod Accounts
 mod Replies
 mod Turns
 mod Cookies

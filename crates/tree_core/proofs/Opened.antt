@@ -1,9 +1,7 @@
 -- What a call leaves of the open instance of a number.
-use Rattle.std.proofs.Common.{◌≡◌, ℕ, ◌+◌, ◌<◌, ◌≤◌, Bool, true, false, cond, eqb, Option, Some, None, refl, sym, ap, subst, ◌∙◌, arith}
+use Rattle.std.proofs.Common.{◌≡◌, ℕ, Bool, true, false, cond, eqb, Option, Some, None, refl, sym, ap, ◌∙◌}
 use Rattle.std.proofs.lemmas.Bool.{eqb-true, eqb-false}
-use Rattle.std.specs.Prelude.{ℤ, option_map}
-use Rattle.std.specs.FinMap as finmap
-use Rattle.tree_paths.specs.declared.refusal.Refusal.{Refusal}
+use Rattle.std.specs.Prelude.{option_map}
 use Rattle.inode_table.specs.World.{look}
 use Rattle.watch_table.specs.Masks.{known}
 use Rattle.event_rules.specs.Table.{notices_of}
@@ -11,7 +9,7 @@ use Rattle.instance_table.specs.declared.instance.Instance.{Instance}
 use Rattle.instance_table.specs.Instances.{Instances, instance_of, new_instance, told, watching, unwatching, changed, changed_by}
 use Rattle.tree_core.specs.declared.call.Call.{Call}
 use Rattle.tree_core.specs.declared.call.Call.TheVariants as call
-use Rattle.tree_core.specs.Tree.{Tree, refusal_of, cookie_now, number_seen, after_reading, after_file, after_init, after_add_watch, after_rm_watch, after_accepted_read, after_close, accepted, tree_by, after}
+use Rattle.tree_core.specs.Tree.{Tree, cookie_now, number_seen, after_reading, after_file, after_init, after_add_watch, after_rm_watch, after_accepted_read, after_close, accepted}
 use Rattle.tree_core.proofs.Counted.{instance_of-all_changed}
 use Rattle.tree_core.proofs.Instances.{get-put, get-cut}
 
