@@ -1,6 +1,6 @@
 //! The calls of a tree.
 
-ghost use Rattle.std.specs.Prelude.{◌≡◌, IfOk, IfErr};
+ghost use Rattle.std.specs.Prelude.{◌≡◌, ◌↔◌, IfOk, IfErr, IsTrue};
 ghost use Rattle.tree_core.specs.Calls.{is_plain};
 
 use tree_ops::FileCall;
@@ -121,5 +121,12 @@ impl Call {
                 instance: *instance,
             },
         })
+    }
+
+    /// Whether the other call is the same one.
+    pub fn is_same(&self, other: &Call) -> bool
+        ensures { IsTrue result ↔ (self.now ≡ other.now) }
+    {
+        self == other
     }
 }

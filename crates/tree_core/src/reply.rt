@@ -1,6 +1,6 @@
 //! What calls answer, and the entries of a journal.
 
-ghost use Rattle.std.specs.Prelude.{◌≡◌, true, IfOk, IfErr, OnErr};
+ghost use Rattle.std.specs.Prelude.{◌≡◌, ◌↔◌, true, IfOk, IfErr, IsTrue, OnErr};
 ghost use Rattle.tree_core.specs.Calls.{has_list, takes_memory};
 
 use crate::call::Call;
@@ -76,6 +76,13 @@ impl Reply {
             Reply::Done => Reply::Done,
             Reply::Refused(refusal) => Reply::Refused(*refusal),
         })
+    }
+
+    /// Whether the other reply is the same one.
+    pub fn is_same(&self, other: &Reply) -> bool
+        ensures { IsTrue result ↔ (self.now ≡ other.now) }
+    {
+        self == other
     }
 }
 

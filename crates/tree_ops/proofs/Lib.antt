@@ -6,3 +6,4 @@ pub mod Changed
 pub mod SameRows
 pub mod NamesIn
 pub mod Numbers
+pub mod Same
