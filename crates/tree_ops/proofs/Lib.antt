@@ -6,3 +6,8 @@ pub mod Changed
 pub mod SameRows
 pub mod NamesIn
 pub mod Numbers
+pub mod Worlds
+pub mod WorldChanges
+pub mod WorldMoves
+pub mod WorldsStay
+pub mod FilesAfter
