@@ -1,9 +1,10 @@
 -- Which files are there after a call: those that were, but for one that had no other path, and the new one.
-use Rattle.std.proofs.Common.{◌≡◌, ◌≢◌, ◌⊎◌, inl, inr, ℕ, false, List, Option, Some, None, IsSome, refl, sym, ◌∙◌, subst}
+use Rattle.std.proofs.Common.{◌≡◌, ◌≢◌, ◌⊎◌, inl, inr, ℕ, false, List, Option, Some, None, IsSome, refl, sym, ◌∙◌, subst, ap}
 use Rattle.std.proofs.lemmas.Bool.{cases_eq}
 use Rattle.std.specs.Cmp.{nat_cmp_total}
 use Rattle.std.specs.FinMap as finmap
 use Rattle.std.specs.FinMap.{nat_cmp-IsAntisymmetric}
+use Rattle.tree_paths.specs.declared.limits.Limits.{Limits}
 use Rattle.inode_table.specs.Bytes.{resized, written}
 use Rattle.inode_table.specs.Rows.{Label}
 use Rattle.inode_table.specs.World.{World, File, IsWorld, links, look, linked, with_file, with_path, without_path, with_move, changed_at}
@@ -11,20 +12,20 @@ use Rattle.inode_table.proofs.TreeLemmas.{some_none}
 use Rattle.inode_table.proofs.CountLemmas.{IsCount-one, IsCount-more}
 use Rattle.inode_table.proofs.MapLemmas.{count-of}
 use Rattle.inode_table.proofs.SeenLemmas.{is_value}
-use Rattle.inode_table.proofs.WorldLemmas.{path_total, path_exact, get-insert_other}
+use Rattle.inode_table.proofs.WorldLemmas.{path_total, path_exact, get-insert_here, get-insert_other}
 use Rattle.tree_ops.specs.declared.call.Counts.{Counts}
 use Rattle.tree_ops.specs.declared.call.FileCall.{FileCall}
 use Rattle.tree_ops.specs.declared.call.FileCall.TheVariants.{Create, Write, ReadFile, Truncate, Chmod, Mkdir, Link, Unlink, Rmdir, Rename, Stat as Status, List as Listed}
-use Rattle.tree_ops.specs.Refused.{are_same_seen}
+use Rattle.tree_ops.specs.Refused.{refused, refusal_of, are_same_seen}
 use Rattle.tree_ops.specs.After.{after, after_unlink, after_rename, numbers_of}
-use Rattle.tree_ops.proofs.Rows.{RenameKnown}
+use Rattle.tree_ops.proofs.Rows.{RenameKnown, rename-known}
 use Rattle.tree_ops.proofs.WorldChanges.{decide_path, numbers-changed, dropped-other, files-left, numbers-lost, lost-is, none-counted}
 use Rattle.tree_ops.proofs.WorldMoves.{path-moved, moved-files}
 use Rattle.tree_ops.proofs.WorldsStay.{same-file, moving, by-same}
 
 -- ---- no file comes but one of the next number
 
-abbrev IsThere : World → ℕ → Type 0
+abbrev pub IsThere : World → ℕ → Type 0
 IsThere w n = IsSome (finmap.get w.files n)
 
 new-file : (w : World) (p : List Label) (n : ℕ) (f : File) (k : ℕ) → IsThere (with_file w p n f) k → IsThere w k ⊎ (k ≡ n)
@@ -101,3 +102,46 @@ IsAlone-rename w is old new n known h =
       sym (same-file w is old new) ∙ off,
       record { there = lost.0; links = alone w (with_move w old new) new n lost.0 (λ q to other. path-moved w old new m.apart m.below q n to other) lost.1 },
     ))
+
+-- ---- every call that a file goes with
+
+stays-made : (w : World) (p : List Label) (n : ℕ) (f : File) (k : ℕ) → IsThere w k → finmap.get (with_file w p n f).files k ≢ None
+unfolding with_file
+stays-made w p n f k h gone =
+    elim (cases_eq k n) [
+      | inl e ↦ some_none gone (ap (finmap.get (finmap.insert w.files n f)) e ∙ get-insert_here nat_cmp_total nat_cmp-IsAntisymmetric w.files n f)
+      | inr off ↦ let g = is_value (finmap.get w.files k) h in some_none (sym (get-insert_other nat_cmp_total nat_cmp-IsAntisymmetric w.files n f k off) ∙ gone) g.1
+    ]
+
+there-none : (o : Option File) → IsSome o → o ≢ None
+there-none o h e = let f = is_value o h in some_none e f.1
+
+stays-changed : (w : World) (p : List Label) (change : File → File) (k : ℕ) → IsThere w k → finmap.get (changed_at w p change).files k ≢ None
+stays-changed w p change k h = there-none (finmap.get (changed_at w p change).files k) (numbers-changed w p change k ∙ h)
+
+stays-linked : (w : World) (p : List Label) (o : Option ℕ) (k : ℕ) → IsThere w k → finmap.get (linked w p o).files k ≢ None
+unfolding with_path
+stays-linked w p None k h = there-none (finmap.get w.files k) h
+stays-linked w p (Some n) k h = there-none (finmap.get w.files k) h
+
+-- a file goes with its only path, which is removed or written over
+abbrev pub Goes : World → FileCall → ℕ → Type 0
+Goes w (Unlink p) n = IsAlone w p n
+Goes w (Rmdir p) n = IsAlone w p n
+Goes w (Rename old new) n = (are_same_seen (look w old) (look w new) ≡ false) × IsAlone w new n
+Goes w _ n = ⊥
+
+pub gone-goes : (w : World) → IsWorld w → (limits : Limits) (counts : Counts) (call : FileCall) (n : ℕ) → refused w limits counts call ≡ None → IsThere w n → finmap.get (after w counts call).files n ≡ None → Goes w call n
+unfolding refusal_of
+gone-goes w is limits counts (Create p mode) n e h gone = stays-made w p counts.next_number _ n h gone
+gone-goes w is limits counts (Mkdir p mode) n e h gone = stays-made w p counts.next_number _ n h gone
+gone-goes w is limits counts (Write p offset bytes) n e h gone = stays-changed w p (λ f. record f { bytes = written offset bytes f.bytes }) n h gone
+gone-goes w is limits counts (ReadFile p offset count) n e h gone = there-none (finmap.get w.files n) h gone
+gone-goes w is limits counts (Truncate p len) n e h gone = stays-changed w p (λ f. record f { bytes = resized len f.bytes }) n h gone
+gone-goes w is limits counts (Chmod p mode) n e h gone = stays-changed w p (λ f. record f { mode = mode }) n h gone
+gone-goes w is limits counts (Link old new) n e h gone = stays-linked w new (finmap.get w.paths old) n h gone
+gone-goes w is limits counts (Unlink p) n e h gone = IsAlone-unlink w p n h gone
+gone-goes w is limits counts (Rmdir p) n e h gone = IsAlone-unlink w p n h gone
+gone-goes w is limits counts (Rename old new) n e h gone = IsAlone-rename w is old new n (rename-known (look w) limits counts old new e) h gone
+gone-goes w is limits counts (Status p) n e h gone = there-none (finmap.get w.files n) h gone
+gone-goes w is limits counts (Listed p) n e h gone = there-none (finmap.get w.files n) h gone
