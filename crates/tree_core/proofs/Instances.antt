@@ -102,10 +102,10 @@ module _ (m : Machine) (c : Call) where
 
 -- ---- which instances are open after a change
 
-get-put : (m : Instances) (id : ℕ) (i : Instance) (q : ℕ) → instance_of (finmap.insert m id i) q ≡ cond (eqb q id) (Some i) (instance_of m q)
+pub get-put : (m : Instances) (id : ℕ) (i : Instance) (q : ℕ) → instance_of (finmap.insert m id i) q ≡ cond (eqb q id) (Some i) (instance_of m q)
 get-put m id i q = get-insert nat_cmp_total m id i q ∙ ap (λ b. cond b (Some i) (instance_of m q)) (unsigned_tied q id)
 
-get-cut : (m : Instances) (id q : ℕ) → instance_of (finmap.remove m id) q ≡ cond (eqb q id) None (instance_of m q)
+pub get-cut : (m : Instances) (id q : ℕ) → instance_of (finmap.remove m id) q ≡ cond (eqb q id) None (instance_of m q)
 get-cut m id q = get-remove nat_cmp_total m id q ∙ ap (λ b. cond b None (instance_of m q)) (unsigned_tied q id)
 
 some-put : (b : Bool) (i : Instance) (o : Option Instance) → IsSome (cond b (Some i) o) → (b ≡ true) ⊎ IsSome o

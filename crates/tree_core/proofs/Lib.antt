@@ -4,3 +4,5 @@ pub mod Filed
 pub mod Lawful
 pub mod Keeping
 mod Instances
+pub mod Opened
+pub mod SoundWatches
