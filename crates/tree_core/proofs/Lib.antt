@@ -6,3 +6,4 @@ pub mod Keeping
 mod Instances
 pub mod Opened
 pub mod SoundWatches
+pub mod Soundness

@@ -10,7 +10,8 @@ mod turn_laws;
 
 pub use call::Call;
 pub use queue_laws::{
-    bytes_are_of_records, closed_instances_hear_nothing, events_are_accounted_for, reads_are_in_order,
+    bytes_are_of_records, closed_instances_hear_nothing, events_are_accounted_for,
+    reads_are_in_order,
 };
 pub use reply::{Entry, Receipt, Reply};
 pub use state::State;
