@@ -4,3 +4,4 @@ pub mod Removals
 pub mod Stages
 pub mod Others
 pub mod Followed
+pub mod Lost

@@ -1,5 +1,5 @@
 -- The lines of the table of events.
-use Rattle.std.proofs.Common.{◌≡◌, ℕ, ◌++◌, Bool, true, false, if◌then◌else◌, List, [], ◌∷◌, Option, Some, None, refl, sym, ap, ◌∙◌}
+use Rattle.std.proofs.Common.{◌≡◌, ℕ, ◌++◌, Bool, false, if◌then◌else◌, List, [], ◌∷◌, Option, Some, None, refl, sym, ap, ◌∙◌}
 use Rattle.std.specs.List.{last_or}
 use Rattle.inode_table.specs.declared.seen.Kind.{Kind}
 use Rattle.inode_table.specs.declared.seen.Seen.{Seen}
@@ -35,5 +35,5 @@ module _ (at : Look) (old new : List (List ℕ)) (cookie : ℕ) (moved replaced 
       let kind_is : kind ≡ kind_seen (at old) = is_kind ∙ ap kind_seen is_moved in
       let begun : from ≡ to_dir at old (kind_seen (at old)) IN_MOVED_FROM cookie = begins ∙ (λ i. opens i ++ to_dir at old (kind_is i) IN_MOVED_FROM cookie) in
       let lines = ends ∙ ap (λ l. l ++ to_self moved IN_MOVE_SELF) (loses ∙ ap (λ l. l ++ path_lost replaced) (arrives ∙ ap (λ l. l ++ to_dir at new kind IN_MOVED_TO cookie) begun))
-          ∙ (λ i. to_dir at old (kind_seen (at old)) IN_MOVED_FROM cookie ++ to_dir at new (kind_is i) IN_MOVED_TO cookie ++ path_lost (is_replaced i) ++ to_self (is_moved i) IN_MOVE_SELF) in
+      ∙ (λ i. to_dir at old (kind_seen (at old)) IN_MOVED_FROM cookie ++ to_dir at new (kind_is i) IN_MOVED_TO cookie ++ path_lost (is_replaced i) ++ to_self (is_moved i) IN_MOVE_SELF) in
       lines ∙ ap (λ b. if b then [] else move_told at old new cookie) (sym apart)

@@ -1,13 +1,18 @@
 //! Laws of the definitions. Each is a function that does nothing, and its contract is the law.
 
-ghost use Rattle.std.specs.Prelude.{◌≡◌, ◌⊎◌, ◌++◌, ◌∷◌, [], ℕ, ℤ, List, All, Contains, Some, None, filter, fold, map, IsTrue};
-ghost use Rattle.inode_table.specs.World.{World};
+ghost use Rattle.std.specs.Prelude.{◌≡◌, ◌⊎◌, ◌++◌, ◌∷◌, [], ℕ, ℤ, List, All, Contains, Some, None, IsSome, filter, fold, map, IsTrue};
+ghost use Rattle.std.specs.FinMap as finmap;
+ghost use Rattle.tree_paths.specs.declared.limits.Limits.{Limits};
+ghost use Rattle.inode_table.specs.World.{World, IsWorld};
 ghost use Rattle.record_codec.specs.declared.event.Event.{Event};
+ghost use Rattle.tree_ops.specs.declared.call.Counts.{Counts};
 ghost use Rattle.tree_ops.specs.declared.call.FileCall.{FileCall};
-ghost use Rattle.tree_ops.specs.Refused.{cookies_of};
+ghost use Rattle.tree_ops.specs.Refused.{cookies_of, refused};
+ghost use Rattle.tree_ops.specs.After.{after};
 ghost use Rattle.watch_table.specs.Watching.{HasEnded, IsSound, Watch, Watching, removed, watch_of};
 ghost use Rattle.event_rules.specs.declared.notice.TheConstants.{NO_COOKIE};
 ghost use Rattle.event_rules.specs.declared.notice.Notice.{Notice};
+ghost use Rattle.event_rules.specs.declared.notice.Notice.TheVariants.{Gone};
 ghost use Rattle.event_rules.specs.Table.{notices_of};
 ghost use Rattle.event_rules.specs.Raised.{events_of, ignored, told_number, watches_after, wds_ended};
 ghost use Rattle.event_rules.specs.Laws.{HasCookie, HasOneEvent, HasWatch, IsPartOf, TellsNothing, says_ended, watch_without};
@@ -51,6 +56,14 @@ pub fn nothing_follows_ignored()
     descriptors_tell_files();
     watches_stay_sound();
 }
+
+/// A law: a file that an accepted call leaves with no path is told that it is gone, and then no watch of it is left.
+pub fn lost_files_are_gone()
+    ensures told { (w : World) (limits : Limits) (counts : Counts) (call : FileCall) (cookie number : ℕ) → IsWorld w
+        → refused w limits counts call ≡ None → IsSome (finmap.get w.files number) → finmap.get (after w counts call).files number ≡ None
+        → Contains (notices_of w call cookie) (Gone number) }
+    ensures unwatched { (w : Watching) (ns : List Notice) (number : ℕ) → Contains ns (Gone number) → watch_of (watches_after w ns) number ≡ None }
+{}
 
 /// A law: the other watches stay as they are.
 pub fn other_watches_stay()

@@ -7,9 +7,9 @@ mod staging;
 mod telling;
 
 pub use laws::{
-    cookies_tie_moves, events_are_of_watches, nothing_follows_ignored, notices_tell_one_event,
-    other_watches_stay, removals_leave_the_rest, removed_watches_are_left_out,
-    unwatched_files_raise_nothing,
+    cookies_tie_moves, events_are_of_watches, lost_files_are_gone, nothing_follows_ignored,
+    notices_tell_one_event, other_watches_stay, removals_leave_the_rest,
+    removed_watches_are_left_out, unwatched_files_raise_nothing,
 };
 pub use notice::{NO_COOKIE, Notice, Notices};
 pub use staging::{Staged, ignored, stage};

@@ -76,7 +76,13 @@ module _ {t : Tree} {w : World} (stands : Stands t w) where
       ap is_some (ap (finmap.get w.files) (sym number) ∙ stands.files k.0 v there)
 
   pub IsWorld-of : IsWorld w
-  IsWorld-of = record { root = stands.paths [] ∙ stands.table.root; files = files-of; fronts = fronts-of; one_path = one_path-of }
+  IsWorld-of = record {
+    root = stands.paths [] ∙ stands.table.root;
+    root_directory = directory-at [] 0 refl stands.table.tree.root;
+    files = files-of;
+    fronts = fronts-of;
+    one_path = one_path-of;
+  }
 
   -- a number that the world has not is no node's
   pub unused-of : (n : ℕ) → finmap.get w.files n ≡ None → IsUnused t n

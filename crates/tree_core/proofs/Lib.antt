@@ -16,3 +16,4 @@ mod Turns
 mod Cookies
 mod Quiet
 mod Ends
+pub mod Soundness

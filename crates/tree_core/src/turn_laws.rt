@@ -5,14 +5,27 @@ ghost use Rattle.tree_core.specs.declared.call.Call.{Call};
 ghost use Rattle.tree_core.specs.Tree.{Tree};
 ghost use Rattle.tree_core.specs.TurnLaws.{CookiesAreInTurn, CookiesTieMoves, DescriptorsEndForGood, IdsAreInTurn, NumbersAreInTurn, RepliesTell, TreesAreSound, WatchesEndOnce};
 
-use event_rules::{cookies_tie_moves, nothing_follows_ignored, other_watches_stay};
+use event_queue::bounds_are_kept;
+use event_rules::{
+    cookies_tie_moves, events_are_of_watches, lost_files_are_gone, nothing_follows_ignored,
+    other_watches_stay,
+};
+use tree_ops::{files_get_numbers, worlds_stay_worlds};
 use watch_table::{descriptors_end_for_good, descriptors_tell_files, watches_stay_sound};
 
 /// A law: in each tree that a journal stands for, the numbers that come next are behind all that were given, watches are
 /// of files that are there, and queues keep their bounds.
 pub fn trees_are_sound()
     ensures { TreesAreSound }
-{}
+{
+    worlds_stay_worlds();
+    files_get_numbers();
+    lost_files_are_gone();
+    watches_stay_sound();
+    other_watches_stay();
+    events_are_of_watches();
+    bounds_are_kept();
+}
 
 /// A law: numbers of files and of instances are given in turn, so none is given twice.
 pub fn numbers_are_in_turn()

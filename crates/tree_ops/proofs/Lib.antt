@@ -7,3 +7,8 @@ pub mod SameRows
 pub mod NamesIn
 pub mod Numbers
 pub mod Same
+pub mod Worlds
+pub mod WorldChanges
+pub mod WorldMoves
+pub mod WorldsStay
+pub mod FilesAfter

@@ -8,6 +8,7 @@ mod answer;
 mod call;
 mod carrying;
 mod checking;
+mod laws;
 mod opening;
 #[cfg(test)]
 mod tests;
@@ -16,4 +17,5 @@ pub use answer::Answer;
 pub use call::{Counts, FileCall, MAX_MODE};
 pub use carrying::carry_out;
 pub use checking::{Ready, check};
+pub use laws::{files_get_numbers, worlds_stay_worlds};
 pub use opening::opening_table;

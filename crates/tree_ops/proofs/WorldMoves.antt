@@ -1,0 +1,188 @@
+-- A move of all paths of a front leaves a world one, where what it moves to is no front of what moves and has nothing below it.
+use Rattle.std.proofs.Common.{◌≡◌, ◌≢◌, ◌⊎◌, inl, inr, ℕ, List, [], ◌∷◌, ◌++◌, append-nil, append_assoc, Option, Some, None, IsSome, is_some, refl, sym, ap, ◌∙◌, subst}
+use Rattle.std.specs.Option.{option_and_then, IsSomeAnd}
+use Rattle.std.specs.FinMap as finmap
+use Rattle.std.specs.FinMap.{FinMap}
+use Rattle.inode_table.specs.declared.seen.Kind.TheVariants.{Directory}
+use Rattle.inode_table.specs.Walk.{Avoids, MovesPath}
+use Rattle.inode_table.specs.Rows.{Label}
+use Rattle.inode_table.specs.Paths.{path_cmp, retargeted}
+use Rattle.inode_table.specs.World.{World, File, IsWorld, IsDirectoryAt, with_move}
+use Rattle.inode_table.proofs.TreeLemmas.{some_none, origin}
+use Rattle.inode_table.proofs.ChangeLemmas.{decide_label}
+use Rattle.inode_table.proofs.MapLemmas.{get-renamed, get-renamed_none, get-remove_here, get-remove_other}
+use Rattle.inode_table.proofs.PathLemmas.{append-cancel, retargeted-below, retargeted-off}
+use Rattle.inode_table.proofs.SeenLemmas.{is_value}
+use Rattle.inode_table.proofs.WorldLemmas.{path_total, path_exact}
+use Rattle.tree_ops.proofs.Worlds.{begins, front-past, directory-of, directory-by, directory-front}
+use Rattle.tree_ops.proofs.WorldChanges.{decide_path}
+
+-- ---- the paths after it
+
+pub moved-files : (w : World) (from to : List Label) → (with_move w from to).files ≡ w.files
+unfolding with_move
+moved-files w from to = refl
+
+module _ (w : World) (from to : List Label) (apart : Avoids from to) (empty : (l : Label) (s : List Label) → finmap.get w.paths (to ++ l ∷ s) ≡ None) where
+  abbrev left : FinMap path_cmp ℕ
+  left = finmap.remove w.paths to
+
+  abbrev turn : List Label → List Label
+  turn = retargeted from to
+
+  -- nothing is left at the new path or below it
+  nothing : (s : List Label) → finmap.get left (to ++ s) ≡ None
+  nothing [] = ap (finmap.get left) (append-nil to) ∙ get-remove_here path_total path_exact w.paths to
+  nothing (l ∷ s) =
+      elim (decide_path (to ++ l ∷ s) to) [
+        | inl e ↦ ap (finmap.get left) e ∙ get-remove_here path_total path_exact w.paths to
+        | inr off ↦ get-remove_other path_total path_exact w.paths to (to ++ l ∷ s) off ∙ empty l s
+      ]
+
+  found : (y s : List Label) → IsSome (finmap.get left y) → y ≢ to ++ s
+  found y s h e = let n = is_value (finmap.get left y) h in some_none (ap (finmap.get left) e ∙ nothing s) n.1
+
+  -- a path comes from where it was before, or is as it was
+  turned : (y : List Label) → ((r : List Label) × (y ≡ from ++ r) × (turn y ≡ to ++ r)) ⊎ (Avoids from y × (turn y ≡ y))
+  turned y =
+      elim (begins from y) [
+        | inl c ↦ inl (c.0, c.1, ap turn c.1 ∙ retargeted-below from to c.0)
+        | inr off ↦ inr (off, retargeted-off from to y off)
+      ]
+
+  from-front : (y s : List Label) → IsSome (finmap.get left y) → turn y ≡ to ++ s → y ≡ from ++ s
+  from-front y s h e =
+      elim (turned y) [
+        | inl c ↦ c.1 ∙ ap (λ x. from ++ x) (append-cancel to c.0 s (sym c.2 ∙ e))
+        | inr c ↦ absurd (found y s h (sym c.1 ∙ e))
+      ]
+
+  from-off : (y q : List Label) → Avoids to q → turn y ≡ q → Avoids from y × (y ≡ q)
+  from-off y q off e =
+      elim (turned y) [
+        | inl c ↦ absurd (off c.0 (sym e ∙ c.2))
+        | inr c ↦ (c.0, sym c.1 ∙ e)
+      ]
+
+  pub MovesPath-with_move : MovesPath (finmap.get w.paths) (finmap.get (with_move w from to).paths) from to
+  unfolding with_move
+  MovesPath-with_move = record {
+    moved = λ s.
+        get-renamed turn left (to ++ s) (from ++ s) (λ y h e. from-front y s h e) (retargeted-below from to s)
+        ∙ get-remove_other path_total path_exact w.paths to (from ++ s) (λ e. apart s (sym e));
+    gone = λ s off. get-renamed_none turn left (from ++ s) (λ y h e. let c = from-off y (from ++ s) off e in c.0 s c.1);
+    others = λ q off_from off_to.
+        get-renamed turn left q q (λ y h e. (from-off y q off_to e).1) (retargeted-off from to q off_from)
+        ∙ get-remove_other path_total path_exact w.paths to q (λ e. off_to [] (e ∙ sym (append-nil to)));
+  }
+
+  -- ---- the world after it
+
+  abbrev now : List Label → Option ℕ
+  now = finmap.get (with_move w from to).paths
+
+  directory-moved : (x y : List Label) → now x ≡ finmap.get w.paths y → IsDirectoryAt w y → IsDirectoryAt (with_move w from to) x
+  unfolding with_move
+  directory-moved x y e h = subst (λ o. IsSomeAnd (option_and_then (finmap.get w.files) o) (λ (f : File). f.kind ≡ Directory)) (sym e) h
+
+  came : (x : List Label) (n : ℕ) → now x ≡ Some n → ((s : List Label) × (x ≡ to ++ s) × (finmap.get w.paths (from ++ s) ≡ Some n)) ⊎ (Avoids from x × (finmap.get w.paths x ≡ Some n))
+  came x n at = origin decide_label MovesPath-with_move x n at
+
+  -- a file that is not written over has a path still
+  pub path-moved : (x : List Label) (n : ℕ) → finmap.get w.paths x ≡ Some n → x ≢ to → (y : List Label) × (now y ≡ Some n)
+  path-moved x n at off =
+      elim (begins from x) [
+        | inl c ↦ (to ++ c.0, MovesPath-with_move.moved c.0 ∙ sym (ap (finmap.get w.paths) c.1) ∙ at)
+        | inr off_from ↦ (x, MovesPath-with_move.others x off_from (λ s e. past s e) ∙ at)
+      ]
+    where
+      past : (s : List Label) → x ≢ to ++ s
+      past [] e = off (e ∙ append-nil to)
+      past (l ∷ s) e = some_none (ap (finmap.get w.paths) e ∙ empty l s) at
+
+  module _ (is : IsWorld w) (from_named : from ≢ []) (to_named : to ≢ []) (q : List Label) (k : Label) (parts : to ≡ q ++ k ∷ []) (directory : IsDirectoryAt w q) where
+    -- a directory that is above what moves and what it moves to stays where it is
+    stays : (x : List Label) → IsDirectoryAt w x → Avoids from x → Avoids to x → IsDirectoryAt (with_move w from to) x
+    stays x h off_from off_to = directory-moved x x (MovesPath-with_move.others x off_from off_to) h
+
+    longer-off : (front x : List Label) (l : Label) (s : List Label) → Avoids front (x ++ l ∷ s) → Avoids front x
+    longer-off front x l s off r e = off (r ++ l ∷ s) (ap (λ y. y ++ l ∷ s) e ∙ append_assoc front r (l ∷ s))
+
+    fronts-to : (x : List Label) (l : Label) (s t : List Label) (n : ℕ) → x ++ l ∷ s ≡ to ++ t → finmap.get w.paths (from ++ t) ≡ Some n → IsDirectoryAt (with_move w from to) x
+    fronts-to x l s t n e at =
+        elim (begins to x) [
+          | inl c ↦
+              let rest : c.0 ++ l ∷ s ≡ t = append-cancel to (c.0 ++ l ∷ s) t (sym (append_assoc to c.0 (l ∷ s)) ∙ sym (ap (λ y. y ++ l ∷ s) c.1) ∙ e) in
+              let there : finmap.get w.paths ((from ++ c.0) ++ l ∷ s) ≡ Some n = ap (finmap.get w.paths) (append_assoc from c.0 (l ∷ s) ∙ ap (λ y. from ++ y) rest) ∙ at in
+              directory-moved x (from ++ c.0) (ap now c.1 ∙ MovesPath-with_move.moved c.0) (is.fronts (from ++ c.0) l s (ap is_some there))
+          | inr off ↦ above x l s t off e
+        ]
+      where
+        -- the path is above the new one
+        under : (x y : List Label) (l : Label) (s t : List Label) → Avoids y x → x ++ l ∷ s ≡ y ++ t → (m : Label) × (r : List Label) × (y ≡ x ++ m ∷ r)
+        under [] [] l s t off e = absurd (off [] refl)
+        under [] (m ∷ y) l s t off e = (m, y, refl)
+        under (m ∷ x) [] l s t off e = absurd (off (m ∷ x) refl)
+        under (m ∷ x) (k ∷ y) l s t off e =
+            let head : k ≡ m = cc in
+            let w = under x y l s t (λ r g. off r (λ i. sym head i ∷ g i)) (cc) in
+            (w.0, w.1, λ i. head i ∷ w.2 i)
+
+        above : (x : List Label) (l : Label) (s t : List Label) → Avoids to x → x ++ l ∷ s ≡ to ++ t → IsDirectoryAt (with_move w from to) x
+        above x l s t off e =
+            let u = under x to l s t off e in
+            let r = front-past q x k u.0 u.1 (sym parts ∙ u.2) in
+            stays x (directory-front w is q x r.0 directory r.1)
+            (λ v g. apart (v ++ u.0 ∷ u.1) (u.2 ∙ ap (λ y. y ++ u.0 ∷ u.1) g ∙ append_assoc from v (u.0 ∷ u.1))) off
+
+    fronts : (x : List Label) (l : Label) (s : List Label) → IsSome (now (x ++ l ∷ s)) → IsDirectoryAt (with_move w from to) x
+    fronts x l s h =
+        let n = is_value (now (x ++ l ∷ s)) h in
+        elim (came (x ++ l ∷ s) n.0 n.1) [
+          | inl c ↦ fronts-to x l s c.0 n.0 c.1 c.2
+          | inr c ↦ stays x (is.fronts x l s (ap is_some c.1)) (longer-off from x l s c.0) (λ r e.
+              some_none (ap (finmap.get w.paths) (ap (λ y. y ++ l ∷ s) e) ∙ beyond r l s) c.1)
+        ]
+      where
+        beyond : (r : List Label) (l : Label) (s : List Label) → finmap.get w.paths ((to ++ r) ++ l ∷ s) ≡ None
+        beyond [] l s = ap (λ y. finmap.get w.paths (y ++ l ∷ s)) (append-nil to) ∙ empty l s
+        beyond (m ∷ r) l s = ap (finmap.get w.paths) (append_assoc to (m ∷ r) (l ∷ s)) ∙ empty m (r ++ l ∷ s)
+
+    -- a directory had one path
+    one : (n : ℕ) (f : File) → finmap.get w.files n ≡ Some f → f.kind ≡ Directory → (x y : List Label) → finmap.get w.paths x ≡ Some n → finmap.get w.paths y ≡ Some n → x ≡ y
+    one n f file kind x y at_x at_y = is.one_path x y (directory-by w x n f at_x file kind) (at_x ∙ sym at_y)
+
+    one_path : (x y : List Label) → IsDirectoryAt (with_move w from to) x → now x ≡ now y → x ≡ y
+    one_path x y h e =
+        let d = directory-of (with_move w from to) x h in
+        let file : finmap.get w.files d.number ≡ Some d.file = ap (λ fs. finmap.get fs d.number) (sym (moved-files w from to)) ∙ d.is in
+        elim (came x d.number d.there) [
+          | inl a ↦ elim (came y d.number (sym e ∙ d.there)) [
+            | inl b ↦ a.1 ∙ ap (λ s. to ++ s) (append-cancel from a.0 b.0 (one d.number d.file file d.kind (from ++ a.0) (from ++ b.0) a.2 b.2)) ∙ sym b.1
+            | inr b ↦ absurd (b.0 a.0 (one d.number d.file file d.kind y (from ++ a.0) b.1 a.2))
+          ]
+          | inr a ↦ elim (came y d.number (sym e ∙ d.there)) [
+            | inl b ↦ absurd (a.0 b.0 (one d.number d.file file d.kind x (from ++ b.0) a.1 b.2))
+            | inr b ↦ one d.number d.file file d.kind x y a.1 b.1
+          ]
+        ]
+
+    files-there : (x : List Label) (n : ℕ) → now x ≡ Some n → IsSome (finmap.get w.files n)
+    files-there x n at =
+        elim (came x n at) [
+          | inl c ↦ is.files (from ++ c.0) n c.2
+          | inr c ↦ is.files x n c.1
+        ]
+
+    no-front : (y s : List Label) → y ≢ [] → [] ≢ y ++ s
+    no-front [] s named e = named refl
+    no-front (l ∷ y) s named e = cc
+
+    pub IsWorld-with_move : IsWorld (with_move w from to)
+    IsWorld-with_move = record {
+      root = MovesPath-with_move.others [] (λ s. no-front from s from_named) (λ s. no-front to s to_named) ∙ is.root;
+      root_directory = stays [] is.root_directory (λ s. no-front from s from_named) (λ s. no-front to s to_named);
+      files = λ x n at. subst (λ fs. IsSome (finmap.get fs n)) (sym (moved-files w from to)) (files-there x n at);
+      fronts = fronts;
+      one_path = one_path;
+    }

@@ -1,0 +1,246 @@
+-- The files stay a world over each call that no row refuses, each with a path.
+use Rattle.std.proofs.Common.{◌≡◌, ◌≢◌, inl, inr, ℕ, ◌==◌, true, false, List, [], ◌∷◌, ◌++◌, Option, Some, None, IsSome, is_some, refl, sym, ap, ◌∙◌, subst, if◌then◌else◌}
+use Rattle.std.proofs.lemmas.Bool.{cases_eq}
+use borrow.Author.Tests.{eq-eqb}
+use Rattle.std.specs.Option.{option_map}
+use Rattle.std.specs.Ordering.{nat_cmp}
+use Rattle.std.specs.Cmp.{nat_cmp_total}
+use Rattle.std.specs.FinMap as finmap
+use Rattle.std.specs.FinMap.{nat_cmp-IsAntisymmetric, get-empty}
+use Rattle.tree_paths.specs.declared.limits.Limits.{Limits}
+use Rattle.inode_table.specs.declared.seen.Kind.TheVariants.{Directory}
+use Rattle.inode_table.specs.declared.seen.Seen.{Seen}
+use Rattle.inode_table.specs.Bytes.{resized, written}
+use Rattle.inode_table.specs.Walk.{Avoids}
+use Rattle.inode_table.specs.Rows.{Label}
+use Rattle.inode_table.specs.Paths.{path_cmp}
+use Rattle.inode_table.specs.Refusals.{parent_of}
+use Rattle.inode_table.specs.World.{World, File, IsWorld, IsWhole, IsDirectoryAt, look, seen_as, linked, opening_world, root_number, root_mode, without_path, with_move, without_lost}
+use Rattle.inode_table.proofs.TreeLemmas.{some_none, same_some}
+use Rattle.inode_table.proofs.SeenLemmas.{is_value}
+use Rattle.inode_table.proofs.WorldLemmas.{path_total, path_exact, get-insert_here, get-insert_other}
+use Rattle.tree_ops.specs.declared.call.Counts.{Counts}
+use Rattle.tree_ops.specs.declared.call.FileCall.{FileCall}
+use Rattle.tree_ops.specs.declared.call.FileCall.TheVariants.{Create, Write, ReadFile, Truncate, Chmod, Mkdir, Link, Unlink, Rmdir, Rename, Stat as Status, List as Listed}
+use Rattle.tree_ops.specs.Refused.{refused, refusal_of, are_same_seen}
+use Rattle.tree_ops.specs.After.{after, after_unlink, after_rename, are_same}
+use Rattle.tree_ops.proofs.Rows.{make-known, link-known, unlink-known, rmdir-known, rename-known, MakeKnown, LinkKnown, FileKnown, RmdirKnown, RenameKnown}
+use Rattle.tree_ops.proofs.Worlds.{parted, directory-of, directory-by, directory-seen, regular-seen, standing, unseen, seen-some, nothing-below, nothing-under, apart-from}
+use Rattle.tree_ops.proofs.WorldChanges.{decide_path, IsWorld-with_path, IsWhole-with_path, IsWorld-with_file, IsWhole-with_file, IsWorld-changed, IsWhole-changed, dropped-other, files-left, IsWorld-without_path, IsWorld-lost, IsWhole-lost}
+use Rattle.tree_ops.proofs.WorldMoves.{IsWorld-with_move, path-moved, moved-files}
+
+-- ---- the root alone
+
+abbrev root_file : File
+root_file = record { kind = Directory; mode = root_mode; bytes = [] }
+
+opening-root : finmap.get opening_world.paths [] ≡ Some root_number
+unfolding opening_world
+opening-root = get-insert_here path_total path_exact finmap.empty [] root_number
+
+opening-path : (p : List Label) → p ≢ [] → finmap.get opening_world.paths p ≡ None
+unfolding opening_world
+opening-path p off = get-insert_other path_total path_exact finmap.empty [] root_number p off ∙ get-empty path_cmp p
+
+opening-file : finmap.get opening_world.files root_number ≡ Some root_file
+unfolding opening_world
+opening-file = get-insert_here nat_cmp_total nat_cmp-IsAntisymmetric finmap.empty root_number root_file
+
+opening-no_file : (n : ℕ) → n ≢ root_number → finmap.get opening_world.files n ≡ None
+unfolding opening_world
+opening-no_file n off = get-insert_other nat_cmp_total nat_cmp-IsAntisymmetric finmap.empty root_number root_file n off ∙ get-empty nat_cmp n
+
+at-root : (p : List Label) (n : ℕ) → finmap.get opening_world.paths p ≡ Some n → p ≡ []
+at-root p n at = elim (decide_path p []) [ inl e ↦ e | inr off ↦ absurd (some_none (opening-path p off) at) ]
+
+only-root : (p : List Label) (l : Label) (s : List Label) → p ++ l ∷ s ≢ []
+only-root [] l s e = cc
+only-root (m ∷ p) l s e = cc
+
+pub IsWorld-opening : IsWorld opening_world
+IsWorld-opening = record {
+  root = opening-root;
+  root_directory = directory-by opening_world [] root_number root_file opening-root opening-file refl;
+  files = λ p n at.
+      let e : root_number ≡ n = same_some root_number n (sym opening-root ∙ sym (ap (finmap.get opening_world.paths) (at-root p n at)) ∙ at) in
+      ap is_some (ap (finmap.get opening_world.files) (sym e) ∙ opening-file);
+  fronts = λ p l s h. let n = is_value (finmap.get opening_world.paths (p ++ l ∷ s)) h in absurd (only-root p l s (at-root (p ++ l ∷ s) n.0 n.1));
+  one_path = λ p q h e. let d = directory-of opening_world p h in at-root p d.number d.there ∙ sym (at-root q d.number (sym e ∙ d.there));
+}
+
+pub IsWhole-opening : IsWhole opening_world
+IsWhole-opening n h =
+    elim (cases_eq n root_number) [
+      | inl e ↦ ([], opening-root ∙ ap Some (sym e))
+      | inr off ↦ let f = is_value (finmap.get opening_world.files n) h in absurd (some_none (opening-no_file n off) f.1)
+    ]
+
+-- ---- what is known of an accepted call
+
+pub record NewPath (w : World) (p : List Label) : Type 0 where
+  pub free : finmap.get w.paths p ≡ None
+  pub name : Label
+  pub parts : p ≡ parent_of p ++ name ∷ []
+  pub directory : IsDirectoryAt w (parent_of p)
+
+new-path : (w : World) → IsWorld w → (p : List Label) → MakeKnown (look w) p → NewPath w p
+new-path w is p known =
+    let m = parted p known.named in
+    record { free = unseen w is p known.free; name = m.0; parts = m.1; directory = directory-seen w (parent_of p) known.directory }
+
+link-path : (w : World) → IsWorld w → (limits : Limits) (old new : List Label) → LinkKnown (look w) limits old new → NewPath w new
+link-path w is limits old new known =
+    let m = parted new known.named in
+    record { free = unseen w is new known.free; name = m.0; parts = m.1; directory = directory-seen w (parent_of new) known.directory }
+
+-- a path that goes, and what it led to
+pub record Going (w : World) (p : List Label) : Type 0 where
+  pub named : p ≢ []
+  pub below : (l : Label) (s : List Label) → finmap.get w.paths (p ++ l ∷ s) ≡ None
+
+unlinked : (w : World) → IsWorld w → (p : List Label) → FileKnown (look w) p → Going w p
+unlinked w is p known = record {
+  named = λ e. regular-seen w p known.regular (subst (IsDirectoryAt w) (sym e) is.root_directory);
+  below = nothing-under w is p (regular-seen w p known.regular);
+}
+
+rmdir-going : (w : World) → IsWorld w → (p : List Label) → RmdirKnown (look w) p → Going w p
+rmdir-going w is p known = record { named = known.named; below = nothing-below w is p known.empty }
+
+-- ---- a path that goes
+
+module _ (w : World) (is : IsWorld w) (p : List Label) (going : Going w p) where
+  IsWorld-going : IsWorld (after_unlink w p)
+  IsWorld-going = IsWorld-lost (without_path w p) (finmap.get w.paths p) (IsWorld-without_path w p is going.named going.below)
+
+  IsWhole-going : IsWhole w → IsWhole (after_unlink w p)
+  IsWhole-going whole =
+      IsWhole-lost (without_path w p) (finmap.get w.paths p) (λ k h off.
+      let x = whole k (subst (λ fs. IsSome (finmap.get fs k)) (files-left w p) h) in
+      (x.0, dropped-other w p x.0 (λ e. off (sym (ap (finmap.get w.paths) e) ∙ x.1)) ∙ x.1))
+
+-- ---- a rename that moves something
+
+abbrev number_in : Option Seen → Option ℕ
+number_in o = option_map (λ (s : Seen). s.number) o
+
+-- the number under a path is the one that is seen there
+number-seen : (w : World) → IsWorld w → (p : List Label) → finmap.get w.paths p ≡ number_in (look w p)
+unfolding seen_as
+number-seen w is p =
+    elim (look w p) as (λ o. look w p ≡ o → finmap.get w.paths p ≡ number_in o) [
+      | None ↦ λ e. unseen w is p e
+      | Some s ↦ λ e. let a = standing w p s e in a.there ∙ ap (λ (x : Seen). Some x.number) a.seen
+    ] refl
+
+pub same-file : (w : World) → IsWorld w → (old new : List Label) → are_same (finmap.get w.paths old) (finmap.get w.paths new) ≡ are_same_seen (look w old) (look w new)
+same-file w is old new = (λ i. are_same (number-seen w is old i) (number-seen w is new i)) ∙ by (look w old) (look w new)
+  where
+    by : (o p : Option Seen) → are_same (number_in o) (number_in p) ≡ are_same_seen o p
+    by None p = refl
+    by (Some s) None = refl
+    by (Some s) (Some r) = refl
+
+-- what moves, and what it moves to
+pub record Moving (w : World) (old new : List Label) : Type 0 where
+  pub named : old ≢ []
+  pub other_named : new ≢ []
+  pub apart : Avoids old new
+  pub below : (l : Label) (s : List Label) → finmap.get w.paths (new ++ l ∷ s) ≡ None
+  pub name : Label
+  pub parts : new ≡ parent_of new ++ name ∷ []
+  pub directory : IsDirectoryAt w (parent_of new)
+
+pub moving : (w : World) → IsWorld w → (old new : List Label) → RenameKnown (look w) old new → are_same (finmap.get w.paths old) (finmap.get w.paths new) ≡ false → Moving w old new
+moving w is old new known off =
+    let m = parted new known.other_named in
+    let directory = directory-seen w (parent_of new) known.directory in
+    record {
+      named = known.named;
+      other_named = known.other_named;
+      apart = apart-from w is old new (parent_of new) m.0 m.1 directory other known.below;
+      below = nothing-below w is new (known.empty (sym (same-file w is old new) ∙ off));
+      name = m.0;
+      parts = m.1;
+      directory = directory;
+    }
+  where
+    other : old ≢ new
+    other e =
+        let s = seen-some w old known.there in
+        let n = s.1.number in
+        let itself : (n == n) ≡ true = eq-eqb n n refl in
+        let clash : true ≡ false = sym itself ∙ sym (λ i. are_same (s.1.there i) ((ap (finmap.get w.paths) (sym e) ∙ s.1.there) i)) ∙ off in
+        cc
+
+-- what a rename leaves: the same world, or the one after a move
+pub by-same : (P : World → Type 0) (w : World) (old new : List Label) → P w → (are_same (finmap.get w.paths old) (finmap.get w.paths new) ≡ false → P (without_lost (with_move w old new) (finmap.get w.paths new))) → P (after_rename w old new)
+unfolding after_rename
+by-same P w old new here moved =
+    elim (are_same (finmap.get w.paths old) (finmap.get w.paths new)) as (λ b. are_same (finmap.get w.paths old) (finmap.get w.paths new) ≡ b → P (if b then w else without_lost (with_move w old new) (finmap.get w.paths new))) [
+      | true ↦ λ _. here
+      | false ↦ λ e. moved e
+    ] refl
+
+IsWorld-renamed : (w : World) → IsWorld w → (old new : List Label) → RenameKnown (look w) old new → IsWorld (after_rename w old new)
+IsWorld-renamed w is old new known =
+    by-same IsWorld w old new is (λ off.
+    let m = moving w is old new known off in
+    IsWorld-lost (with_move w old new) (finmap.get w.paths new)
+    (IsWorld-with_move w old new m.apart m.below is m.named m.other_named (parent_of new) m.name m.parts m.directory))
+
+IsWhole-renamed : (w : World) → IsWorld w → IsWhole w → (old new : List Label) → RenameKnown (look w) old new → IsWhole (after_rename w old new)
+IsWhole-renamed w is whole old new known =
+    by-same IsWhole w old new whole (λ off.
+    let m = moving w is old new known off in
+    IsWhole-lost (with_move w old new) (finmap.get w.paths new) (λ k h other.
+    let x = whole k (subst (λ fs. IsSome (finmap.get fs k)) (moved-files w old new) h) in
+    path-moved w old new m.apart m.below x.0 k x.1 (λ e. other (sym (ap (finmap.get w.paths) e) ∙ x.1))))
+
+-- ---- one path more
+
+linking : (w : World) → IsWorld w → (limits : Limits) (old new : List Label) → LinkKnown (look w) limits old new → IsWorld (linked w new (finmap.get w.paths old))
+linking w is limits old new known =
+    let s = (seen-some w old known.file.there).1 in
+    let path = link-path w is limits old new known in
+    subst (λ o. IsWorld (linked w new o)) (sym s.there)
+    (IsWorld-with_path w new s.number is path.free (parent_of new) path.name path.parts path.directory (ap is_some s.is)
+    (λ f at kind. absurd (regular-seen w old known.file.regular (directory-by w old s.number f s.there at kind))))
+
+linking-whole : (w : World) → IsWorld w → IsWhole w → (limits : Limits) (old new : List Label) → LinkKnown (look w) limits old new → IsWhole (linked w new (finmap.get w.paths old))
+linking-whole w is whole limits old new known =
+    let s = (seen-some w old known.file.there).1 in
+    subst (λ o. IsWhole (linked w new o)) (sym s.there) (IsWhole-with_path w new s.number (link-path w is limits old new known).free (λ k h off. whole k h))
+
+-- ---- every call
+
+module _ (w : World) (limits : Limits) (counts : Counts) (is : IsWorld w) where
+  pub IsWorld-after : (call : FileCall) → refused w limits counts call ≡ None → finmap.get w.files counts.next_number ≡ None → IsWorld (after w counts call)
+  unfolding refusal_of
+  IsWorld-after (Create p mode) e unused = let k = new-path w is p (make-known (look w) limits counts p mode e) in IsWorld-with_file w is counts.next_number unused _ p k.free (parent_of p) k.name k.parts k.directory
+  IsWorld-after (Mkdir p mode) e unused = let k = new-path w is p (make-known (look w) limits counts p mode e) in IsWorld-with_file w is counts.next_number unused _ p k.free (parent_of p) k.name k.parts k.directory
+  IsWorld-after (Write p offset bytes) e unused = IsWorld-changed w is p (λ f. record f { bytes = written offset bytes f.bytes }) (λ f. refl)
+  IsWorld-after (ReadFile p offset count) e unused = is
+  IsWorld-after (Truncate p len) e unused = IsWorld-changed w is p (λ f. record f { bytes = resized len f.bytes }) (λ f. refl)
+  IsWorld-after (Chmod p mode) e unused = IsWorld-changed w is p (λ f. record f { mode = mode }) (λ f. refl)
+  IsWorld-after (Link old new) e unused = linking w is limits old new (link-known (look w) limits old new e)
+  IsWorld-after (Unlink p) e unused = IsWorld-going w is p (unlinked w is p (unlink-known (look w) p e))
+  IsWorld-after (Rmdir p) e unused = IsWorld-going w is p (rmdir-going w is p (rmdir-known (look w) p e))
+  IsWorld-after (Rename old new) e unused = IsWorld-renamed w is old new (rename-known (look w) limits counts old new e)
+  IsWorld-after (Status p) e unused = is
+  IsWorld-after (Listed p) e unused = is
+
+  pub IsWhole-after : IsWhole w → (call : FileCall) → refused w limits counts call ≡ None → finmap.get w.files counts.next_number ≡ None → IsWhole (after w counts call)
+  unfolding refusal_of
+  IsWhole-after whole (Create p mode) e unused = IsWhole-with_file w is counts.next_number unused _ whole p (new-path w is p (make-known (look w) limits counts p mode e)).free
+  IsWhole-after whole (Mkdir p mode) e unused = IsWhole-with_file w is counts.next_number unused _ whole p (new-path w is p (make-known (look w) limits counts p mode e)).free
+  IsWhole-after whole (Write p offset bytes) e unused = IsWhole-changed w whole p (λ f. record f { bytes = written offset bytes f.bytes })
+  IsWhole-after whole (ReadFile p offset count) e unused = whole
+  IsWhole-after whole (Truncate p len) e unused = IsWhole-changed w whole p (λ f. record f { bytes = resized len f.bytes })
+  IsWhole-after whole (Chmod p mode) e unused = IsWhole-changed w whole p (λ f. record f { mode = mode })
+  IsWhole-after whole (Link old new) e unused = linking-whole w is whole limits old new (link-known (look w) limits old new e)
+  IsWhole-after whole (Unlink p) e unused = IsWhole-going w is p (unlinked w is p (unlink-known (look w) p e)) whole
+  IsWhole-after whole (Rmdir p) e unused = IsWhole-going w is p (rmdir-going w is p (rmdir-known (look w) p e)) whole
+  IsWhole-after whole (Rename old new) e unused = IsWhole-renamed w is whole old new (rename-known (look w) limits counts old new e)
+  IsWhole-after whole (Status p) e unused = whole
+  IsWhole-after whole (Listed p) e unused = whole
