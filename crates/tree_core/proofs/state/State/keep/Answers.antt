@@ -41,8 +41,8 @@ returns-clause-entry c =
     let entry : Entry = record { caller = c.args.caller; call = c.args.call; reply = c.taken_apart-receipt.result.1 } in
     let items : c.push_reserved.new.self.items ≡ a.journal.items ++ entry ∷ [] = c.push_reserved.ensures.items ∙ ap (λ es. es ++ entry ∷ []) c.make_room.ensures.items in
     let same : c.taken_apart-receipt.result.1 ≡ c.taken_apart-receipt.result.0.reply =
-        said.journaled ∙ ap (λ (r : Replies). r.journaled) (served.replies t c.self.invariant.stands)
-        ∙ sym (ap (λ (r : Receipt). r.reply) said.receipt ∙ ap (λ (r : Replies). r.given) (served.replies t c.self.invariant.stands)) in
+    said.journaled ∙ ap (λ (r : Replies). r.journaled) (served.replies t c.self.invariant.stands)
+    ∙ sym (ap (λ (r : Receipt). r.reply) said.receipt ∙ ap (λ (r : Replies). r.given) (served.replies t c.self.invariant.stands)) in
     (λ i. record { limits = served.limits i; entries = items i })
     ∙ (λ i. with_entry (c.self.view_is i) (record { caller = c.args.caller; call = c.args.call; reply = same i }))
 
