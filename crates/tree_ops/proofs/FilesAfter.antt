@@ -12,14 +12,14 @@ use Rattle.inode_table.proofs.TreeLemmas.{some_none}
 use Rattle.inode_table.proofs.CountLemmas.{IsCount-one, IsCount-more}
 use Rattle.inode_table.proofs.MapLemmas.{count-of}
 use Rattle.inode_table.proofs.SeenLemmas.{is_value}
-use Rattle.inode_table.proofs.WorldLemmas.{path_total, path_exact, get-insert_here, get-insert_other}
+use Rattle.inode_table.proofs.WorldLemmas.{decide_path, path_total, path_exact, get-insert_here, get-insert_other}
 use Rattle.tree_ops.specs.declared.call.Counts.{Counts}
 use Rattle.tree_ops.specs.declared.call.FileCall.{FileCall}
 use Rattle.tree_ops.specs.declared.call.FileCall.TheVariants.{Create, Write, ReadFile, Truncate, Chmod, Mkdir, Link, Unlink, Rmdir, Rename, Stat as Status, List as Listed}
 use Rattle.tree_ops.specs.Refused.{refused, refusal_of, are_same_seen}
 use Rattle.tree_ops.specs.After.{after, after_unlink, after_rename, numbers_of}
 use Rattle.tree_ops.proofs.Rows.{RenameKnown, rename-known}
-use Rattle.tree_ops.proofs.WorldChanges.{decide_path, numbers-changed, dropped-other, files-left, numbers-lost, lost-is, none-counted}
+use Rattle.tree_ops.proofs.WorldChanges.{numbers-changed, dropped-other, files-left, numbers-lost, lost-is, none-counted}
 use Rattle.tree_ops.proofs.WorldMoves.{path-moved, moved-files}
 use Rattle.tree_ops.proofs.WorldsStay.{same-file, moving, by-same}
 

@@ -1,5 +1,5 @@
 -- Each change of a world leaves it one, where nothing is lost below the path that changes.
-use Rattle.std.proofs.Common.{◌≡◌, ◌≢◌, ◌⊎◌, inl, inr, ℕ, zero, suc, ◌==◌, List, [], ◌∷◌, ◌++◌, Option, Some, None, IsSome, is_some, refl, sym, ap, ◌∙◌, subst, if◌then◌else◌}
+use Rattle.std.proofs.Common.{◌≡◌, ◌≢◌, inl, inr, ℕ, zero, suc, ◌==◌, List, [], ◌∷◌, ◌++◌, Option, Some, None, IsSome, is_some, refl, sym, ap, ◌∙◌, subst, if◌then◌else◌}
 use Rattle.std.proofs.lemmas.Bool.{cases_eq}
 use borrow.Author.Tests.{ne_eqb}
 use Rattle.std.specs.Option.{option_and_then, option_map, IsSomeAnd}
@@ -14,12 +14,9 @@ use Rattle.inode_table.specs.Rows.{Label}
 use Rattle.inode_table.specs.World.{World, File, IsWorld, IsWhole, IsDirectoryAt, file_at, links, with_file, with_path, without_path, with_content, without_file, without_lost, content_by, changed_at}
 use Rattle.inode_table.proofs.TreeLemmas.{some_none, same_some}
 use Rattle.inode_table.proofs.MapLemmas.{count-of, get-remove_here, get-remove_other}
-use Rattle.inode_table.proofs.SeenLemmas.{is_value}
-use Rattle.inode_table.proofs.WorldLemmas.{decide_key, path_total, path_exact, get-insert_here, get-insert_other}
-use Rattle.tree_ops.proofs.Worlds.{front-past, directory-of, directory-by, directory-there, directory-front}
-
-pub decide_path : (p q : List Label) → (p ≡ q) ⊎ (p ≢ q)
-decide_path = decide_key path_total path_exact
+use Rattle.inode_table.proofs.SeenLemmas.{is_value, front-past}
+use Rattle.inode_table.proofs.WorldLemmas.{decide_path, path_total, path_exact, get-insert_here, get-insert_other}
+use Rattle.tree_ops.proofs.Worlds.{directory-of, directory-by, directory-there, directory-front}
 
 abbrev kind_in : Option File → Option Kind
 kind_in o = option_map (λ (f : File). f.kind) o

@@ -2,81 +2,24 @@
 use Rattle.std.proofs.Common.{◌≡◌, ◌≢◌, ◌⊎◌, inl, inr, ℕ, List, [], ◌∷◌, ◌++◌, append-nil, append_assoc, Option, Some, None, IsSome, is_some, refl, sym, ap, ◌∙◌, subst}
 use Rattle.std.specs.Option.{option_and_then, IsSomeAnd}
 use Rattle.std.specs.FinMap as finmap
-use Rattle.std.specs.FinMap.{FinMap}
 use Rattle.inode_table.specs.declared.seen.Kind.TheVariants.{Directory}
 use Rattle.inode_table.specs.Walk.{Avoids, MovesPath}
 use Rattle.inode_table.specs.Rows.{Label}
-use Rattle.inode_table.specs.Paths.{path_cmp, retargeted}
 use Rattle.inode_table.specs.World.{World, File, IsWorld, IsDirectoryAt, with_move}
 use Rattle.inode_table.proofs.TreeLemmas.{some_none, origin}
 use Rattle.inode_table.proofs.ChangeLemmas.{decide_label}
-use Rattle.inode_table.proofs.MapLemmas.{get-renamed, get-renamed_none, get-remove_here, get-remove_other}
-use Rattle.inode_table.proofs.PathLemmas.{append-cancel, retargeted-below, retargeted-off}
-use Rattle.inode_table.proofs.SeenLemmas.{is_value}
-use Rattle.inode_table.proofs.WorldLemmas.{path_total, path_exact}
-use Rattle.tree_ops.proofs.Worlds.{begins, front-past, directory-of, directory-by, directory-front}
-use Rattle.tree_ops.proofs.WorldChanges.{decide_path}
-
--- ---- the paths after it
+use Rattle.inode_table.proofs.PathLemmas.{begins, append-cancel}
+use Rattle.inode_table.proofs.PathMoves.{MovesPath-with_move}
+use Rattle.inode_table.proofs.SeenLemmas.{is_value, front-past}
+use Rattle.tree_ops.proofs.Worlds.{directory-of, directory-by, directory-front}
 
 pub moved-files : (w : World) (from to : List Label) → (with_move w from to).files ≡ w.files
 unfolding with_move
 moved-files w from to = refl
 
 module _ (w : World) (from to : List Label) (apart : Avoids from to) (empty : (l : Label) (s : List Label) → finmap.get w.paths (to ++ l ∷ s) ≡ None) where
-  abbrev left : FinMap path_cmp ℕ
-  left = finmap.remove w.paths to
-
-  abbrev turn : List Label → List Label
-  turn = retargeted from to
-
-  -- nothing is left at the new path or below it
-  nothing : (s : List Label) → finmap.get left (to ++ s) ≡ None
-  nothing [] = ap (finmap.get left) (append-nil to) ∙ get-remove_here path_total path_exact w.paths to
-  nothing (l ∷ s) =
-      elim (decide_path (to ++ l ∷ s) to) [
-        | inl e ↦ ap (finmap.get left) e ∙ get-remove_here path_total path_exact w.paths to
-        | inr off ↦ get-remove_other path_total path_exact w.paths to (to ++ l ∷ s) off ∙ empty l s
-      ]
-
-  found : (y s : List Label) → IsSome (finmap.get left y) → y ≢ to ++ s
-  found y s h e = let n = is_value (finmap.get left y) h in some_none (ap (finmap.get left) e ∙ nothing s) n.1
-
-  -- a path comes from where it was before, or is as it was
-  turned : (y : List Label) → ((r : List Label) × (y ≡ from ++ r) × (turn y ≡ to ++ r)) ⊎ (Avoids from y × (turn y ≡ y))
-  turned y =
-      elim (begins from y) [
-        | inl c ↦ inl (c.0, c.1, ap turn c.1 ∙ retargeted-below from to c.0)
-        | inr off ↦ inr (off, retargeted-off from to y off)
-      ]
-
-  from-front : (y s : List Label) → IsSome (finmap.get left y) → turn y ≡ to ++ s → y ≡ from ++ s
-  from-front y s h e =
-      elim (turned y) [
-        | inl c ↦ c.1 ∙ ap (λ x. from ++ x) (append-cancel to c.0 s (sym c.2 ∙ e))
-        | inr c ↦ absurd (found y s h (sym c.1 ∙ e))
-      ]
-
-  from-off : (y q : List Label) → Avoids to q → turn y ≡ q → Avoids from y × (y ≡ q)
-  from-off y q off e =
-      elim (turned y) [
-        | inl c ↦ absurd (off c.0 (sym e ∙ c.2))
-        | inr c ↦ (c.0, sym c.1 ∙ e)
-      ]
-
-  pub MovesPath-with_move : MovesPath (finmap.get w.paths) (finmap.get (with_move w from to).paths) from to
-  unfolding with_move
-  MovesPath-with_move = record {
-    moved = λ s.
-        get-renamed turn left (to ++ s) (from ++ s) (λ y h e. from-front y s h e) (retargeted-below from to s)
-        ∙ get-remove_other path_total path_exact w.paths to (from ++ s) (λ e. apart s (sym e));
-    gone = λ s off. get-renamed_none turn left (from ++ s) (λ y h e. let c = from-off y (from ++ s) off e in c.0 s c.1);
-    others = λ q off_from off_to.
-        get-renamed turn left q q (λ y h e. (from-off y q off_to e).1) (retargeted-off from to q off_from)
-        ∙ get-remove_other path_total path_exact w.paths to q (λ e. off_to [] (e ∙ sym (append-nil to)));
-  }
-
-  -- ---- the world after it
+  moves : MovesPath (finmap.get w.paths) (finmap.get (with_move w from to).paths) from to
+  moves = MovesPath-with_move w from to apart empty
 
   abbrev now : List Label → Option ℕ
   now = finmap.get (with_move w from to).paths
@@ -86,14 +29,14 @@ module _ (w : World) (from to : List Label) (apart : Avoids from to) (empty : (l
   directory-moved x y e h = subst (λ o. IsSomeAnd (option_and_then (finmap.get w.files) o) (λ (f : File). f.kind ≡ Directory)) (sym e) h
 
   came : (x : List Label) (n : ℕ) → now x ≡ Some n → ((s : List Label) × (x ≡ to ++ s) × (finmap.get w.paths (from ++ s) ≡ Some n)) ⊎ (Avoids from x × (finmap.get w.paths x ≡ Some n))
-  came x n at = origin decide_label MovesPath-with_move x n at
+  came x n at = origin decide_label moves x n at
 
   -- a file that is not written over has a path still
   pub path-moved : (x : List Label) (n : ℕ) → finmap.get w.paths x ≡ Some n → x ≢ to → (y : List Label) × (now y ≡ Some n)
   path-moved x n at off =
       elim (begins from x) [
-        | inl c ↦ (to ++ c.0, MovesPath-with_move.moved c.0 ∙ sym (ap (finmap.get w.paths) c.1) ∙ at)
-        | inr off_from ↦ (x, MovesPath-with_move.others x off_from (λ s e. past s e) ∙ at)
+        | inl c ↦ (to ++ c.0, moves.moved c.0 ∙ sym (ap (finmap.get w.paths) c.1) ∙ at)
+        | inr off_from ↦ (x, moves.others x off_from (λ s e. past s e) ∙ at)
       ]
     where
       past : (s : List Label) → x ≢ to ++ s
@@ -103,7 +46,7 @@ module _ (w : World) (from to : List Label) (apart : Avoids from to) (empty : (l
   module _ (is : IsWorld w) (from_named : from ≢ []) (to_named : to ≢ []) (q : List Label) (k : Label) (parts : to ≡ q ++ k ∷ []) (directory : IsDirectoryAt w q) where
     -- a directory that is above what moves and what it moves to stays where it is
     stays : (x : List Label) → IsDirectoryAt w x → Avoids from x → Avoids to x → IsDirectoryAt (with_move w from to) x
-    stays x h off_from off_to = directory-moved x x (MovesPath-with_move.others x off_from off_to) h
+    stays x h off_from off_to = directory-moved x x (moves.others x off_from off_to) h
 
     longer-off : (front x : List Label) (l : Label) (s : List Label) → Avoids front (x ++ l ∷ s) → Avoids front x
     longer-off front x l s off r e = off (r ++ l ∷ s) (ap (λ y. y ++ l ∷ s) e ∙ append_assoc front r (l ∷ s))
@@ -114,7 +57,7 @@ module _ (w : World) (from to : List Label) (apart : Avoids from to) (empty : (l
           | inl c ↦
               let rest : c.0 ++ l ∷ s ≡ t = append-cancel to (c.0 ++ l ∷ s) t (sym (append_assoc to c.0 (l ∷ s)) ∙ sym (ap (λ y. y ++ l ∷ s) c.1) ∙ e) in
               let there : finmap.get w.paths ((from ++ c.0) ++ l ∷ s) ≡ Some n = ap (finmap.get w.paths) (append_assoc from c.0 (l ∷ s) ∙ ap (λ y. from ++ y) rest) ∙ at in
-              directory-moved x (from ++ c.0) (ap now c.1 ∙ MovesPath-with_move.moved c.0) (is.fronts (from ++ c.0) l s (ap is_some there))
+              directory-moved x (from ++ c.0) (ap now c.1 ∙ moves.moved c.0) (is.fronts (from ++ c.0) l s (ap is_some there))
           | inr off ↦ above x l s t off e
         ]
       where
@@ -180,7 +123,7 @@ module _ (w : World) (from to : List Label) (apart : Avoids from to) (empty : (l
 
     pub IsWorld-with_move : IsWorld (with_move w from to)
     IsWorld-with_move = record {
-      root = MovesPath-with_move.others [] (λ s. no-front from s from_named) (λ s. no-front to s to_named) ∙ is.root;
+      root = moves.others [] (λ s. no-front from s from_named) (λ s. no-front to s to_named) ∙ is.root;
       root_directory = stays [] is.root_directory (λ s. no-front from s from_named) (λ s. no-front to s to_named);
       files = λ x n at. subst (λ fs. IsSome (finmap.get fs n)) (sym (moved-files w from to)) (files-there x n at);
       fronts = fronts;

@@ -1,5 +1,5 @@
 -- What is known of a world, and what is seen of it.
-use Rattle.std.proofs.Common.{◌≡◌, ◌≢◌, ◌⊎◌, inl, inr, ℕ, ◌-◌, length, take, true, false, ◌&&◌, List, [], ◌∷◌, ◌++◌, append-nil, Some, None, IsSome, is_some, refl, sym, ap, ◌∙◌, subst, arith, length-append}
+use Rattle.std.proofs.Common.{◌≡◌, ◌≢◌, ℕ, ◌-◌, length, take, true, false, ◌&&◌, List, [], ◌∷◌, ◌++◌, append-nil, Some, None, IsSome, is_some, refl, sym, ap, ◌∙◌, subst, arith, length-append}
 use Rattle.std.specs.Option.{option_and_then, option_map, IsSomeAnd}
 use Rattle.std.specs.FinMap as finmap
 use Rattle.inode_table.specs.declared.seen.Kind.{Kind}
@@ -7,39 +7,18 @@ use Rattle.inode_table.specs.declared.seen.Kind.TheVariants.{Regular, Directory}
 use Rattle.inode_table.specs.declared.seen.Seen.{Seen}
 use Rattle.inode_table.specs.Walk.{Avoids}
 use Rattle.inode_table.specs.Rows.{Label}
-use Rattle.inode_table.specs.Paths.{rest_after, is_below}
+use Rattle.inode_table.specs.Paths.{is_below}
 use Rattle.inode_table.specs.Refusals.{is_directory_kind, is_directory_seen, parent_of}
 use Rattle.inode_table.specs.World.{World, File, IsWorld, IsDirectoryAt, look, seen_as, has_names}
 use Rattle.inode_table.proofs.TreeLemmas.{some_none, same_some}
 use Rattle.inode_table.proofs.FindLemmas.{take-front}
 use Rattle.inode_table.proofs.MapLemmas.{keys-any}
-use Rattle.inode_table.proofs.PathLemmas.{rest_after-some, rest_after-none, is_below-rest}
-use Rattle.inode_table.proofs.SeenLemmas.{is_value}
+use Rattle.inode_table.proofs.PathLemmas.{is_below-rest}
+use Rattle.inode_table.proofs.SeenLemmas.{is_value, front-past}
 use Rattle.inode_table.proofs.WorldLemmas.{path_total, path_exact}
 use Rattle.tree_ops.specs.Refused.{has_names_seen}
 
 -- ---- paths
-
--- a path begins with a front, or it does not
-pub begins : (front p : List Label) → ((s : List Label) × (p ≡ front ++ s)) ⊎ Avoids front p
-begins front p =
-    elim (rest_after front p) as (λ o. rest_after front p ≡ o → ((s : List Label) × (p ≡ front ++ s)) ⊎ Avoids front p) [
-      | Some s ↦ λ e. inl (s, rest_after-some front p s e)
-      | None ↦ λ e. inr (rest_after-none front p e)
-    ] refl
-
--- a proper front of a path is a front of all but its last name
-pub front-past : (front old : List Label) (l m : Label) (s : List Label) → front ++ l ∷ [] ≡ old ++ m ∷ s → (r : List Label) × (front ≡ old ++ r)
-front-past front [] l m s e = (front, refl)
-front-past [] (x ∷ old) l m s e = absurd (short old m s (cc))
-  where
-    short : (old : List Label) (m : Label) (s : List Label) → [] ≡ old ++ m ∷ s → ⊥
-    short [] m s e = cc
-    short (x ∷ old) m s e = cc
-front-past (y ∷ front) (x ∷ old) l m s e =
-    let head : y ≡ x = cc in
-    let w = front-past front old l m s (cc) in
-    (w.0, λ i. head i ∷ w.1 i)
 
 last-of : (l : Label) (p : List Label) → (q : List Label) × (m : Label) × (l ∷ p ≡ q ++ m ∷ [])
 last-of l [] = ([], l, refl)

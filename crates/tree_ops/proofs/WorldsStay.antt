@@ -18,7 +18,7 @@ use Rattle.inode_table.specs.Refusals.{parent_of}
 use Rattle.inode_table.specs.World.{World, File, IsWorld, IsWhole, IsDirectoryAt, look, seen_as, linked, opening_world, root_number, root_mode, without_path, with_move, without_lost}
 use Rattle.inode_table.proofs.TreeLemmas.{some_none, same_some}
 use Rattle.inode_table.proofs.SeenLemmas.{is_value}
-use Rattle.inode_table.proofs.WorldLemmas.{path_total, path_exact, get-insert_here, get-insert_other}
+use Rattle.inode_table.proofs.WorldLemmas.{decide_path, path_total, path_exact, get-insert_here, get-insert_other}
 use Rattle.tree_ops.specs.declared.call.Counts.{Counts}
 use Rattle.tree_ops.specs.declared.call.FileCall.{FileCall}
 use Rattle.tree_ops.specs.declared.call.FileCall.TheVariants.{Create, Write, ReadFile, Truncate, Chmod, Mkdir, Link, Unlink, Rmdir, Rename, Stat as Status, List as Listed}
@@ -26,7 +26,7 @@ use Rattle.tree_ops.specs.Refused.{refused, refusal_of, are_same_seen}
 use Rattle.tree_ops.specs.After.{after, after_unlink, after_rename, are_same}
 use Rattle.tree_ops.proofs.Rows.{make-known, link-known, unlink-known, rmdir-known, rename-known, MakeKnown, LinkKnown, FileKnown, RmdirKnown, RenameKnown}
 use Rattle.tree_ops.proofs.Worlds.{parted, directory-of, directory-by, directory-seen, regular-seen, standing, unseen, seen-some, nothing-below, nothing-under, apart-from}
-use Rattle.tree_ops.proofs.WorldChanges.{decide_path, IsWorld-with_path, IsWhole-with_path, IsWorld-with_file, IsWhole-with_file, IsWorld-changed, IsWhole-changed, dropped-other, files-left, IsWorld-without_path, IsWorld-lost, IsWhole-lost}
+use Rattle.tree_ops.proofs.WorldChanges.{IsWorld-with_path, IsWhole-with_path, IsWorld-with_file, IsWhole-with_file, IsWorld-changed, IsWhole-changed, dropped-other, files-left, IsWorld-without_path, IsWorld-lost, IsWhole-lost}
 use Rattle.tree_ops.proofs.WorldMoves.{IsWorld-with_move, path-moved, moved-files}
 
 -- ---- the root alone
