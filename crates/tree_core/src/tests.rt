@@ -1,0 +1,324 @@
+//! The tree from outside: each call with its answer, what is heard of it, and each limit at its last value.
+//!
+//! A step that lacks memory is made once more, and must then answer as if nothing had happened.
+
+mod calls;
+mod events;
+mod instances;
+mod keeping;
+mod limits;
+mod refusals;
+
+use crate::{Call, Receipt, Reply, State};
+use inode_table::Kind;
+use record_codec::{Bytes, Event, Name, encode};
+use std::alloc::Global;
+use std::process::Abort;
+use tree_ops::{Answer, FileCall};
+use tree_paths::{Limits, Names, Path, Refusal};
+
+/// Who makes the calls.
+const CALLER: u32 = 7;
+
+/// Room for all that waits, in bytes.
+const ALL: u32 = 4096;
+
+/// A record: the descriptor, the mask, the cookie, and the name, which is empty where it has none.
+type Record<'a> = (i32, u32, u32, &'a str);
+
+// The root alone.
+fn opened(alloc: Global, limits: Limits) -> Result<State, Refusal> {
+    match State::new(alloc, limits) {
+        Err(Refusal::Enomem) => State::new(alloc, limits),
+        state => state,
+    }
+}
+
+// The same call once more.
+fn copied(call: &Call) -> Result<Call, Refusal> {
+    match call.copy() {
+        Err(Refusal::Enomem) => call.copy(),
+        copy => copy,
+    }
+}
+
+// Makes a call.
+fn made(state: &mut State, call: &Call) -> Result<Receipt, Refusal> {
+    let copy = copied(call)?;
+    match state.apply(CALLER, copy) {
+        Err(Refusal::Enomem) => state.apply(CALLER, copied(call)?),
+        receipt => receipt,
+    }
+}
+
+// Makes a call that is not to be refused.
+fn does(state: &mut State, call: Result<Call, Refusal>) -> Result<(), Refusal> {
+    match made(state, &call?)?.reply {
+        Reply::Refused(refusal) => Err(refusal),
+        _ => Ok(()),
+    }
+}
+
+// Whether the last entry of the journal is this call with this reply.
+fn is_last(state: &State, call: &Call, reply: &Reply) -> bool {
+    match state.journal().last() {
+        Some(entry) => entry.caller == CALLER && entry.call == *call && entry.reply == *reply,
+        None => false,
+    }
+}
+
+// The call answers what is wanted, and is the last entry of the journal.
+fn tells(
+    rt: &impl Abort,
+    state: &mut State,
+    call: Result<Call, Refusal>,
+    wanted: Result<Reply, Refusal>,
+) -> Result<(), Refusal> {
+    let call = call?;
+    let receipt = made(state, &call)?;
+    assert_eq!(rt; receipt.reply, wanted?);
+    assert_eq!(rt; receipt.place, state.journal().len() as u64);
+    assert!(rt; is_last(state, &call, &receipt.reply));
+    Ok(())
+}
+
+// The call is refused so, and what waits for the first two instances is as before.
+fn refuses(
+    rt: &impl Abort,
+    state: &mut State,
+    call: Result<Call, Refusal>,
+    refusal: Refusal,
+) -> Result<(), Refusal> {
+    let first = state.waiting(1);
+    let second = state.waiting(2);
+    tells(rt, state, call, Ok(Reply::Refused(refusal)))?;
+    assert_eq!(rt; state.waiting(1), first);
+    assert_eq!(rt; state.waiting(2), second);
+    Ok(())
+}
+
+// The instance has just these records to read.
+fn hears(
+    rt: &impl Abort,
+    state: &mut State,
+    alloc: Global,
+    instance: u32,
+    lines: &[Record],
+) -> Result<(), Refusal> {
+    assert_eq!(rt; state.waiting(instance), Some(lines.len()));
+    tells(rt, state, read(instance, ALL), records(alloc, lines))
+}
+
+// The instance has nothing to read.
+fn hears_nothing(rt: &impl Abort, state: &mut State, instance: u32) -> Result<(), Refusal> {
+    assert_eq!(rt; state.waiting(instance), Some(0));
+    refuses(rt, state, read(instance, ALL), Refusal::Eagain)
+}
+
+fn path(alloc: Global, text: &str) -> Result<Path, Refusal> {
+    match Path::parse(alloc, text.as_bytes()) {
+        Err(Refusal::Enomem) => Path::parse(alloc, text.as_bytes()),
+        path => path,
+    }
+}
+
+fn bytes(alloc: Global, slice: &[u8]) -> Result<Bytes, Refusal> {
+    let copy = Vec::from_slice(alloc, slice);
+    let copy = if copy.is_ok() {
+        copy?
+    } else {
+        Vec::from_slice(alloc, slice)?
+    };
+    Ok(Bytes::from_vec(copy))
+}
+
+fn create(alloc: Global, text: &str) -> Result<Call, Refusal> {
+    let path = path(alloc, text)?;
+    Ok(Call::File(FileCall::Create { path, mode: 0o644 }))
+}
+
+fn mkdir(alloc: Global, text: &str) -> Result<Call, Refusal> {
+    let path = path(alloc, text)?;
+    Ok(Call::File(FileCall::Mkdir { path, mode: 0o755 }))
+}
+
+fn write(alloc: Global, text: &str, offset: u64, slice: &[u8]) -> Result<Call, Refusal> {
+    Ok(Call::File(FileCall::Write {
+        path: path(alloc, text)?,
+        offset,
+        bytes: bytes(alloc, slice)?,
+    }))
+}
+
+fn read_file(alloc: Global, text: &str, offset: u64, count: u32) -> Result<Call, Refusal> {
+    Ok(Call::File(FileCall::ReadFile {
+        path: path(alloc, text)?,
+        offset,
+        count,
+    }))
+}
+
+fn truncate(alloc: Global, text: &str, len: u64) -> Result<Call, Refusal> {
+    let path = path(alloc, text)?;
+    Ok(Call::File(FileCall::Truncate { path, len }))
+}
+
+fn chmod(alloc: Global, text: &str, mode: u32) -> Result<Call, Refusal> {
+    let path = path(alloc, text)?;
+    Ok(Call::File(FileCall::Chmod { path, mode }))
+}
+
+fn link(alloc: Global, old: &str, new: &str) -> Result<Call, Refusal> {
+    let old = path(alloc, old)?;
+    let new = path(alloc, new)?;
+    Ok(Call::File(FileCall::Link { old, new }))
+}
+
+fn unlink(alloc: Global, text: &str) -> Result<Call, Refusal> {
+    let path = path(alloc, text)?;
+    Ok(Call::File(FileCall::Unlink { path }))
+}
+
+fn rmdir(alloc: Global, text: &str) -> Result<Call, Refusal> {
+    let path = path(alloc, text)?;
+    Ok(Call::File(FileCall::Rmdir { path }))
+}
+
+fn rename(alloc: Global, old: &str, new: &str) -> Result<Call, Refusal> {
+    let old = path(alloc, old)?;
+    let new = path(alloc, new)?;
+    Ok(Call::File(FileCall::Rename { old, new }))
+}
+
+fn stat(alloc: Global, text: &str) -> Result<Call, Refusal> {
+    let path = path(alloc, text)?;
+    Ok(Call::File(FileCall::Stat { path }))
+}
+
+fn list(alloc: Global, text: &str) -> Result<Call, Refusal> {
+    let path = path(alloc, text)?;
+    Ok(Call::File(FileCall::List { path }))
+}
+
+fn init(limit: u32) -> Result<Call, Refusal> {
+    Ok(Call::Init {
+        limit,
+        piped: false,
+    })
+}
+
+fn init_piped(limit: u32) -> Result<Call, Refusal> {
+    Ok(Call::Init { limit, piped: true })
+}
+
+fn watch(alloc: Global, instance: u32, text: &str, mask: u32) -> Result<Call, Refusal> {
+    Ok(Call::AddWatch {
+        instance,
+        path: path(alloc, text)?,
+        mask,
+    })
+}
+
+fn unwatch(instance: u32, wd: i32) -> Result<Call, Refusal> {
+    Ok(Call::RmWatch { instance, wd })
+}
+
+fn read(instance: u32, bytes: u32) -> Result<Call, Refusal> {
+    Ok(Call::Read { instance, bytes })
+}
+
+fn pump(instance: u32, bytes: u32) -> Result<Call, Refusal> {
+    Ok(Call::Pump { instance, bytes })
+}
+
+fn close(instance: u32) -> Result<Call, Refusal> {
+    Ok(Call::Close { instance })
+}
+
+fn number(number: u32) -> Result<Reply, Refusal> {
+    Ok(Reply::File(Answer::Number(number)))
+}
+
+fn count(count: u64) -> Result<Reply, Refusal> {
+    Ok(Reply::File(Answer::Count(count)))
+}
+
+// The answer of a call on files that has no other one.
+fn filed() -> Result<Reply, Refusal> {
+    Ok(Reply::File(Answer::Done))
+}
+
+// The answer with these bytes of a file.
+fn contents(alloc: Global, slice: &[u8]) -> Result<Reply, Refusal> {
+    Ok(Reply::File(Answer::Bytes(bytes(alloc, slice)?)))
+}
+
+fn names_of(alloc: Global, text: &str) -> Result<Reply, Refusal> {
+    let path = path(alloc, text)?;
+    let mut names = Vec::new(alloc);
+    for name in path.names() {
+        names.push(name.copy()?)?;
+    }
+    Ok(Reply::File(Answer::Names(Names::from_vec(names))))
+}
+
+// The answer with the names of this path.
+fn names(alloc: Global, text: &str) -> Result<Reply, Refusal> {
+    match names_of(alloc, text) {
+        Err(Refusal::Enomem) => names_of(alloc, text),
+        reply => reply,
+    }
+}
+
+fn file(number: u32, mode: u32, links: u64, size: u64) -> Result<Reply, Refusal> {
+    Ok(Reply::File(Answer::Stat {
+        number,
+        kind: Kind::Regular,
+        mode,
+        links,
+        size,
+    }))
+}
+
+fn directory(number: u32, mode: u32) -> Result<Reply, Refusal> {
+    Ok(Reply::File(Answer::Stat {
+        number,
+        kind: Kind::Directory,
+        mode,
+        links: 1,
+        size: 0,
+    }))
+}
+
+fn instance(id: u32) -> Result<Reply, Refusal> {
+    Ok(Reply::Instance(id))
+}
+
+fn wd(wd: i32) -> Result<Reply, Refusal> {
+    Ok(Reply::Wd(wd))
+}
+
+fn done() -> Result<Reply, Refusal> {
+    Ok(Reply::Done)
+}
+
+fn spelled(alloc: Global, lines: &[Record]) -> Result<Reply, Refusal> {
+    let mut events = Vec::new(alloc);
+    for line in lines {
+        events.push(Event {
+            wd: line.0,
+            mask: line.1,
+            cookie: line.2,
+            name: Name::new(alloc, line.3.as_bytes())?,
+        })?;
+    }
+    Ok(Reply::Records(Bytes::from_vec(encode(alloc, events.as_slice())?)))
+}
+
+// The answer with the bytes of these records.
+fn records(alloc: Global, lines: &[Record]) -> Result<Reply, Refusal> {
+    match spelled(alloc, lines) {
+        Err(Refusal::Enomem) => spelled(alloc, lines),
+        reply => reply,
+    }
+}
