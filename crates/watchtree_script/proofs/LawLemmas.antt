@@ -1,5 +1,9 @@
 -- The journals of printed texts are lawful, and texts are one.
 use Rattle.std.proofs.Common.{◌≡◌, ℕ, List, [], ◌∷◌, Result, Ok, Err, ◌++◌, ◌∙◌, ap, arith, sym, subst, inl, inr}
+use Rattle.std.specs.List.{flat_map}
+use Rattle.std.specs.Prelude.{length, decimal}
+use Rattle.record_codec.specs.declared.event.Event.{Event}
+use Rattle.record_codec.proofs.DecodeLemmas.{one_spelling}
 use Rattle.tree_paths.specs.Bounds.{full}
 use Rattle.tree_paths.specs.declared.limits.Limits.{Limits}
 use Rattle.tree_core.specs.Journal.{Journaled, IsLawful, IsLawfulFrom, tree_after, stands_for, with_entry}
@@ -7,11 +11,14 @@ use Rattle.tree_core.specs.Tree.{Tree, opening as opened, after, reply_of}
 use Rattle.tree_core.specs.declared.call.Call.{Call}
 use Rattle.tree_core.specs.declared.reply.Entry.{Entry}
 use Rattle.tree_core.specs.declared.reply.Reply.{Reply}
+use Rattle.tree_core.specs.declared.reply.Reply.TheVariants as replies
 use Rattle.watchtree_script.specs.declared.line.Line.{Line}
 use Rattle.watchtree_script.specs.declared.line.Line.TheVariants.{Silent, Run}
 use Rattle.watchtree_script.specs.declared.line.LineError.{LineError}
 use Rattle.watchtree_script.specs.declared.line.LineError.TheVariants.{Fault, Refused, Memory}
-use Rattle.watchtree_script.specs.Replies.{reply_text}
+use Rattle.watchtree_script.specs.declared.line.Shown.{Shown}
+use Rattle.watchtree_script.specs.declared.line.Shown.TheVariants as shown
+use Rattle.watchtree_script.specs.Replies.{AreOf, IsReadText, IsReplyText, event_line, ok_line}
 use Rattle.watchtree_script.specs.Commands.{line_of}
 use Rattle.watchtree_script.specs.Script.{caller, Prints, PrintsLine, Replies, PrintsLineBy, PrintsBy, AmpleReplies}
 use Rattle.watchtree_script.specs.Laws.{JournalsAreLawful, TextsAreOne}
@@ -39,7 +46,7 @@ reply-lawful old call reply new h (inr spent) = subst IsLawfulState (sym spent.s
 
 line-lawful : (old : Journaled) (asked : Result Line LineError) (text : List ℕ) (new : Journaled) → IsLawfulState old → PrintsLine old asked text new → IsLawfulState new
 line-lawful old (Ok Silent) text new h printed = subst IsLawfulState (sym printed.1) h
-line-lawful old (Ok (Run call shown)) text new h printed = reply-lawful old call printed.0 new h printed.1
+line-lawful old (Ok (Run call how)) text new h printed = reply-lawful old call printed.0 new h printed.1
 line-lawful old (Err (Refused refusal)) text new h printed = subst IsLawfulState (sym printed.1) h
 line-lawful old (Err (Fault fault)) text new h printed = absurd printed
 line-lawful old (Err Memory) text new h printed = absurd printed
@@ -62,12 +69,35 @@ reply-one old call reply other new after (inl a) (inr b) = let room = a.room in 
 reply-one old call reply other new after (inr a) (inl b) = let room = b.room in let full = a.full in absurd (omega (arith, room, full))
 reply-one old call reply other new after (inr a) (inr b) = (a.answer ∙ sym b.answer, a.same ∙ sym b.same)
 
+-- bytes are the records of one list of events alone
+events-one : (bytes : List ℕ) (es ns : List Event) → AreOf bytes es → AreOf bytes ns → es ≡ ns
+events-one bytes es ns (inl a) (inl b) = sym (one_spelling es ns a.0 b.0 (sym b.1 ∙ a.1))
+events-one bytes es ns (inl a) (inr b) = absurd (b.0 es a.0 a.1)
+events-one bytes es ns (inr a) (inl b) = absurd (a.0 ns b.0 b.1)
+events-one bytes es ns (inr a) (inr b) = a.1 ∙ sym b.1
+
+read-one : (how : Shown) (bytes text other : List ℕ) → IsReadText how bytes text → IsReadText how bytes other → text ≡ other
+read-one shown.Plain bytes text other p q = p ∙ sym q
+read-one shown.Records bytes text other p q =
+    let T : List Event → List ℕ = λ events. ok_line (decimal (length bytes)) ++ flat_map event_line events in
+    p.2 ∙ ap T (events-one bytes p.0 q.0 p.1 q.1) ∙ sym q.2
+read-one shown.Hexadecimal bytes text other p q = p ∙ sym q
+
+text-one : (how : Shown) (reply : Reply) (text other : List ℕ) → IsReplyText how reply text → IsReplyText how reply other → text ≡ other
+text-one how (replies.File answer) text other p q = p ∙ sym q
+text-one how (replies.Instance id) text other p q = p ∙ sym q
+text-one how (replies.Wd wd) text other p q = p ∙ sym q
+text-one how (replies.Records bytes) text other p q = read-one how bytes text other p q
+text-one how replies.Done text other p q = p ∙ sym q
+text-one how (replies.Refused refusal) text other p q = p ∙ sym q
+
 line-one : (old : Journaled) (asked : Result Line LineError) (text other : List ℕ) (new after : Journaled)
     → PrintsLineBy AmpleReplies old asked text new → PrintsLineBy AmpleReplies old asked other after → (text ≡ other) × (new ≡ after)
 line-one old (Ok Silent) text other new after p q = (p.0 ∙ sym q.0, p.1 ∙ sym q.1)
-line-one old (Ok (Run call shown)) text other new after p q =
+line-one old (Ok (Run call how)) text other new after p q =
     let one = reply-one old call p.0 q.0 new after p.1 q.1 in
-    (p.2 ∙ ap (reply_text shown) one.0 ∙ sym q.2, one.1)
+    let P : Reply → Type 0 = λ reply. IsReplyText how reply other in
+    (text-one how p.0 text other p.2 (subst P (sym one.0) q.2), one.1)
 line-one old (Err (Refused refusal)) text other new after p q = (p.0 ∙ sym q.0, p.1 ∙ sym q.1)
 line-one old (Err (Fault fault)) text other new after p q = absurd p
 line-one old (Err Memory) text other new after p q = absurd p

@@ -1,22 +1,24 @@
 -- The table of commands: what each line of a script asks for.
-use Rattle.std.specs.Prelude.{◌≡◌, ℕ, false, not, ◌==◌, List, [], ◌∷◌, length, codes, Option, Some, None, Result, Ok, Err, if◌then◌else◌}
+use Rattle.std.specs.Prelude.{◌≡◌, ℕ, ℤ, false, not, ◌==◌, List, [], ◌∷◌, length, codes, Option, Some, None, Result, Ok, Err, if◌then◌else◌}
 use Rattle.std.specs.List.{list_all, slice_index_or}
 use Rattle.std.specs.Str.{bytes_eq}
 use Rattle.tree_paths.specs.declared.refusal.Refusal.{Refusal}
 use Rattle.tree_paths.specs.Paths.{parsed}
 use Rattle.tree_ops.specs.declared.call.FileCall.{FileCall}
 use Rattle.tree_ops.specs.declared.call.FileCall.TheVariants as file
+use Rattle.tree_core.specs.declared.call.Call.{Call}
 use Rattle.tree_core.specs.declared.call.Call.TheVariants as call
 use Rattle.watchtree_script.specs.declared.fault.ScriptFault.TheVariants.{BadByte, UnknownCommand, WrongNumber}
 use Rattle.watchtree_script.specs.declared.line.Command.{Command}
 use Rattle.watchtree_script.specs.declared.line.Command.TheVariants as command
-use Rattle.watchtree_script.specs.declared.line.Shown.TheVariants.{Plain, Hexadecimal}
+use Rattle.watchtree_script.specs.declared.line.Shown.{Shown}
+use Rattle.watchtree_script.specs.declared.line.Shown.TheVariants as shown
 use Rattle.watchtree_script.specs.declared.line.Line.{Line}
 use Rattle.watchtree_script.specs.declared.line.Line.TheVariants.{Silent, Run}
 use Rattle.watchtree_script.specs.declared.line.LineError.{LineError}
 use Rattle.watchtree_script.specs.declared.line.LineError.TheVariants.{Fault, Refused, Memory}
 use Rattle.watchtree_script.specs.Lines.{words_of, is_silent, is_line_byte}
-use Rattle.watchtree_script.specs.Words.{path_word, mode_word, mask_word, u32_word}
+use Rattle.watchtree_script.specs.Words.{path_word, mode_word, mask_word, u32_word, u64_word, i32_word, hex_word}
 
 -- steps of which the first that has no value tells why the line asks for no call
 infixl 10 ◌>>=◌
@@ -37,62 +39,143 @@ unfoldable pub command_of : List ℕ → Option Command
 command_of word =
     if bytes_eq word (codes "mkdir") then Some command.Mkdir
     else if bytes_eq word (codes "create") then Some command.Create
+    else if bytes_eq word (codes "write") then Some command.Write
+    else if bytes_eq word (codes "cat") then Some command.Cat
+    else if bytes_eq word (codes "truncate") then Some command.Truncate
+    else if bytes_eq word (codes "chmod") then Some command.Chmod
+    else if bytes_eq word (codes "link") then Some command.Link
+    else if bytes_eq word (codes "unlink") then Some command.Unlink
+    else if bytes_eq word (codes "rmdir") then Some command.Rmdir
+    else if bytes_eq word (codes "rename") then Some command.Rename
+    else if bytes_eq word (codes "stat") then Some command.Stat
+    else if bytes_eq word (codes "list") then Some command.List
     else if bytes_eq word (codes "init") then Some command.Init
     else if bytes_eq word (codes "watch") then Some command.Watch
+    else if bytes_eq word (codes "unwatch") then Some command.Unwatch
+    else if bytes_eq word (codes "read") then Some command.Read
     else if bytes_eq word (codes "hex") then Some command.Hex
+    else if bytes_eq word (codes "close") then Some command.Close
     else None
 
 -- words by their number, of which a command takes so many
 abbrev pub nth : List (List ℕ) → ℕ → List ℕ
 nth words i = slice_index_or words i []
 
-abbrev pub none_or_one : List (List ℕ) → Result Line LineError → (List ℕ → Result Line LineError) → Result Line LineError
-none_or_one words none one =
-    if length words == 0 then none else if length words == 1 then one (nth words 0) else Err (Fault WrongNumber)
+abbrev pub one : {A : Type 0} → List (List ℕ) → (List ℕ → Result A LineError) → Result A LineError
+one words f = if length words == 1 then f (nth words 0) else Err (Fault WrongNumber)
 
-abbrev pub two : List (List ℕ) → (List ℕ → List ℕ → Result Line LineError) → Result Line LineError
+abbrev pub none_or_one : {A : Type 0} → List (List ℕ) → Result A LineError → (List ℕ → Result A LineError) → Result A LineError
+none_or_one words none f = if length words == 0 then none else one words f
+
+abbrev pub two : {A : Type 0} → List (List ℕ) → (List ℕ → List ℕ → Result A LineError) → Result A LineError
 two words f = if length words == 2 then f (nth words 0) (nth words 1) else Err (Fault WrongNumber)
 
-abbrev pub three : List (List ℕ) → (List ℕ → List ℕ → List ℕ → Result Line LineError) → Result Line LineError
+abbrev pub three : {A : Type 0} → List (List ℕ) → (List ℕ → List ℕ → List ℕ → Result A LineError) → Result A LineError
 three words f = if length words == 3 then f (nth words 0) (nth words 1) (nth words 2) else Err (Fault WrongNumber)
 
--- mkdir PATH MODE makes a directory, create PATH MODE a regular file
-unfoldable pub make_line : (List (List ℕ) → ℕ → FileCall) → List ℕ → List ℕ → Result Line LineError
-make_line kind path mode = do
+-- ---- the kinds of words behind a command. All words of a line are read before a path is parsed, and paths are parsed in order
+
+-- PATH
+unfoldable pub a_path : List ℕ → Result (List (List ℕ)) LineError
+a_path path = do
+  text ← path_word path
+  path_of text
+
+-- OLD NEW
+unfoldable pub old_and_new : List ℕ → List ℕ → Result (List (List ℕ) × List (List ℕ)) LineError
+old_and_new old new = do
+  old_text ← path_word old
+  new_text ← path_word new
+  old_names ← path_of old_text
+  new_names ← path_of new_text
+  Ok (old_names, new_names)
+
+-- PATH MODE
+unfoldable pub path_and_mode : List ℕ → List ℕ → Result (List (List ℕ) × ℕ) LineError
+path_and_mode path mode = do
   text ← path_word path
   bits ← mode_word mode
   names ← path_of text
-  Ok (Run (call.File (kind names bits)) Plain)
+  Ok (names, bits)
 
--- init LIMIT opens an instance whose queue has that limit
-unfoldable pub init_line : List ℕ → Result Line LineError
-init_line limit = do
-  n ← u32_word limit
-  Ok (Run (call.Init n false) Plain)
+-- ID BYTES
+unfoldable pub id_and_bytes : List ℕ → List ℕ → Result (ℕ × ℕ) LineError
+id_and_bytes id bytes = do
+  instance ← u32_word id
+  n ← u32_word bytes
+  Ok (instance, n)
+
+-- ---- what the commands with words of their own ask for
+
+-- write PATH OFFSET HEX writes bytes into a file
+unfoldable pub write_call : List ℕ → List ℕ → List ℕ → Result Call LineError
+write_call path offset bytes = do
+  text ← path_word path
+  at ← u64_word offset
+  given ← hex_word bytes
+  names ← path_of text
+  Ok (call.File (file.Write names at given))
+
+-- cat PATH OFFSET COUNT reads the bytes of a file
+unfoldable pub cat_call : List ℕ → List ℕ → List ℕ → Result Call LineError
+cat_call path offset count = do
+  text ← path_word path
+  at ← u64_word offset
+  n ← u32_word count
+  names ← path_of text
+  Ok (call.File (file.ReadFile names at n))
+
+-- truncate PATH LEN gives a file another length
+unfoldable pub truncate_call : List ℕ → List ℕ → Result Call LineError
+truncate_call path len = do
+  text ← path_word path
+  n ← u64_word len
+  names ← path_of text
+  Ok (call.File (file.Truncate names n))
 
 -- watch ID PATH MASK watches a file for the events of a mask
-unfoldable pub watch_line : List ℕ → List ℕ → List ℕ → Result Line LineError
-watch_line id path mask = do
+unfoldable pub watch_call : List ℕ → List ℕ → List ℕ → Result Call LineError
+watch_call id path mask = do
   instance ← u32_word id
   text ← path_word path
   bits ← mask_word mask
   names ← path_of text
-  Ok (Run (call.AddWatch instance names bits) Plain)
+  Ok (call.AddWatch instance names bits)
 
--- hex ID BYTES reads records of an instance, and shows their bytes
-unfoldable pub hex_line : List ℕ → List ℕ → Result Line LineError
-hex_line id bytes = do
+-- unwatch ID WD ends a watch
+unfoldable pub unwatch_call : List ℕ → List ℕ → Result Call LineError
+unwatch_call id wd = do
   instance ← u32_word id
-  n ← u32_word bytes
-  Ok (Run (call.Read instance n) Hexadecimal)
+  descriptor ← i32_word wd
+  Ok (call.RmWatch instance descriptor)
+
+-- ---- the table
+
+-- words that are read ask for the call that is made of them, and its reply is shown so
+abbrev pub asking : {A : Type 0} → Shown → (A → Call) → Result A LineError → Result Line LineError
+asking how f (Ok x) = Ok (Run (f x) how)
+asking how f (Err e) = Err e
 
 -- the rows of the table: a command with the words behind it. An init without a number takes the limit of the run
 abbrev pub row_of : ℕ → Command → List (List ℕ) → Result Line LineError
-row_of queue command.Mkdir words = two words (make_line file.Mkdir)
-row_of queue command.Create words = two words (make_line file.Create)
-row_of queue command.Init words = none_or_one words (Ok (Run (call.Init queue false) Plain)) init_line
-row_of queue command.Watch words = three words watch_line
-row_of queue command.Hex words = two words hex_line
+row_of queue command.Mkdir words = asking shown.Plain (λ w. call.File (file.Mkdir w.0 w.1)) (two words path_and_mode)
+row_of queue command.Create words = asking shown.Plain (λ w. call.File (file.Create w.0 w.1)) (two words path_and_mode)
+row_of queue command.Write words = asking shown.Plain (λ c. c) (three words write_call)
+row_of queue command.Cat words = asking shown.Plain (λ c. c) (three words cat_call)
+row_of queue command.Truncate words = asking shown.Plain (λ c. c) (two words truncate_call)
+row_of queue command.Chmod words = asking shown.Plain (λ w. call.File (file.Chmod w.0 w.1)) (two words path_and_mode)
+row_of queue command.Link words = asking shown.Plain (λ w. call.File (file.Link w.0 w.1)) (two words old_and_new)
+row_of queue command.Unlink words = asking shown.Plain (λ p. call.File (file.Unlink p)) (one words a_path)
+row_of queue command.Rmdir words = asking shown.Plain (λ p. call.File (file.Rmdir p)) (one words a_path)
+row_of queue command.Rename words = asking shown.Plain (λ w. call.File (file.Rename w.0 w.1)) (two words old_and_new)
+row_of queue command.Stat words = asking shown.Plain (λ p. call.File (file.Stat p)) (one words a_path)
+row_of queue command.List words = asking shown.Plain (λ p. call.File (file.List p)) (one words a_path)
+row_of queue command.Init words = asking shown.Plain (λ n. call.Init n false) (none_or_one words (Ok queue) u32_word)
+row_of queue command.Watch words = asking shown.Plain (λ c. c) (three words watch_call)
+row_of queue command.Unwatch words = asking shown.Plain (λ c. c) (two words unwatch_call)
+row_of queue command.Read words = asking shown.Records (λ w. call.Read w.0 w.1) (two words id_and_bytes)
+row_of queue command.Hex words = asking shown.Hexadecimal (λ w. call.Read w.0 w.1) (two words id_and_bytes)
+row_of queue command.Close words = asking shown.Plain (λ id. call.Close id) (one words u32_word)
 
 abbrev pub row_of_word : ℕ → Option Command → List (List ℕ) → Result Line LineError
 row_of_word queue None words = Err (Fault UnknownCommand)

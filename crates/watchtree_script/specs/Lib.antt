@@ -3,4 +3,5 @@ pub mod Words
 pub mod Commands
 pub mod Replies
 pub mod Script
+pub mod Running
 pub mod Laws

@@ -1,11 +1,13 @@
 -- How replies are printed.
-use Rattle.std.specs.Prelude.{ℕ, ◌+◌, ◌/◌, ◌%◌, List, [], ◌∷◌, ◌++◌, length, codes, decimal}
+use Rattle.std.specs.Prelude.{◌≡◌, ◌≢◌, ◌⊎◌, ℕ, ◌+◌, ◌/◌, ◌%◌, List, [], ◌∷◌, ◌++◌, length, codes, decimal}
 use Rattle.std.specs.List.{flat_map}
 use Rattle.std.specs.Fmt.{signed_decimal}
 use Rattle.hex.specs.Hex.{encode_lower}
 use Rattle.tree_paths.specs.declared.refusal.Refusal.{Refusal}
 use Rattle.tree_paths.specs.Refusals.{refusal_name, refusal_number}
-use Rattle.record_codec.specs.Lines.{printed_name}
+use Rattle.record_codec.specs.declared.event.Event.{Event}
+use Rattle.record_codec.specs.Records.{AreEvents, spelling}
+use Rattle.record_codec.specs.Lines.{printed_name, record_line}
 use Rattle.inode_table.specs.declared.seen.Kind.{Kind}
 use Rattle.inode_table.specs.declared.seen.Kind.TheVariants.{Regular, Directory}
 use Rattle.tree_ops.specs.declared.answer.Answer.{Answer}
@@ -13,7 +15,7 @@ use Rattle.tree_ops.specs.declared.answer.Answer.TheVariants as answer
 use Rattle.tree_core.specs.declared.reply.Reply.{Reply}
 use Rattle.tree_core.specs.declared.reply.Reply.TheVariants as reply
 use Rattle.watchtree_script.specs.declared.line.Shown.{Shown}
-use Rattle.watchtree_script.specs.declared.line.Shown.TheVariants.{Plain, Hexadecimal}
+use Rattle.watchtree_script.specs.declared.line.Shown.TheVariants.{Plain, Records, Hexadecimal}
 
 -- ok, and a value
 abbrev pub ok_line : List ℕ → List ℕ
@@ -59,16 +61,27 @@ answer_text (answer.Names names) = ok_line (decimal (length names)) ++ flat_map 
 answer_text (answer.Stat number kind mode links size) =
     ok_line (decimal number ++ codes " " ++ kind_letter kind ++ codes " " ++ mode_text mode ++ codes " " ++ decimal links ++ codes " " ++ decimal size)
 
--- the lines behind the reply of a read, each behind two spaces
-abbrev pub records_text : Shown → List ℕ → List ℕ
-records_text Plain bytes = []
-records_text Hexadecimal bytes = codes "  " ++ encode_lower bytes ++ codes "\n"
+-- a record behind two spaces
+abbrev pub event_line : Event → List ℕ
+event_line e = codes "  " ++ record_line e ++ codes "\n"
 
--- a reply, as its command shows it. Of a read the number is that of the bytes that were read
-abbrev pub reply_text : Shown → Reply → List ℕ
-reply_text shown (reply.File answer) = answer_text answer
-reply_text shown (reply.Instance id) = ok_line (decimal id)
-reply_text shown (reply.Wd wd) = ok_line (signed_decimal wd)
-reply_text shown (reply.Records bytes) = ok_line (decimal (length bytes)) ++ records_text shown bytes
-reply_text shown reply.Done = done_line
-reply_text shown (reply.Refused refusal) = refusal_text refusal
+-- the events whose records the bytes are, and none where the bytes are no records
+abbrev pub AreOf : List ℕ → List Event → Type 0
+AreOf bytes events =
+    (AreEvents events × (bytes ≡ spelling events)) ⊎ (((others : List Event) → AreEvents others → bytes ≢ spelling others) × (events ≡ []))
+
+-- the reply of a read: the number of bytes that were read, and behind it nothing more, a line for each record, or one line of the
+-- bytes in hexadecimal
+abbrev pub IsReadText : Shown → List ℕ → List ℕ → Type 0
+IsReadText Plain bytes text = text ≡ ok_line (decimal (length bytes))
+IsReadText Records bytes text = (events : List Event) × AreOf bytes events × (text ≡ ok_line (decimal (length bytes)) ++ flat_map event_line events)
+IsReadText Hexadecimal bytes text = text ≡ ok_line (decimal (length bytes)) ++ (codes "  " ++ encode_lower bytes ++ codes "\n")
+
+-- the text of a reply, as its command shows it
+abbrev pub IsReplyText : Shown → Reply → List ℕ → Type 0
+IsReplyText shown (reply.File answer) text = text ≡ answer_text answer
+IsReplyText shown (reply.Instance id) text = text ≡ ok_line (decimal id)
+IsReplyText shown (reply.Wd wd) text = text ≡ ok_line (signed_decimal wd)
+IsReplyText shown (reply.Records bytes) text = IsReadText shown bytes text
+IsReplyText shown reply.Done text = text ≡ done_line
+IsReplyText shown (reply.Refused refusal) text = text ≡ refusal_text refusal

@@ -1,5 +1,5 @@
 -- What a script prints.
-use Rattle.std.specs.Prelude.{◌≡◌, ◌<◌, ◌≤◌, ◌⊎◌, ⊤, ℕ, ◌+◌, List, [], ◌∷◌, ◌++◌, length, Option, Result, Ok, Err, IfSome}
+use Rattle.std.specs.Prelude.{◌≡◌, ◌<◌, ◌≤◌, ◌⊎◌, ℕ, ◌+◌, List, [], ◌∷◌, ◌++◌, length, Option, Result, Ok, Err, IfSome}
 use Rattle.std.specs.Io.KnownBytes.{Appends, Keeps}
 use Rattle.record_codec.specs.Ports.{one_more}
 use Rattle.tree_paths.specs.Bounds.{full}
@@ -18,7 +18,7 @@ use Rattle.watchtree_script.specs.declared.line.LineError.{LineError}
 use Rattle.watchtree_script.specs.declared.line.LineError.TheVariants.{Fault, Refused, Memory}
 use Rattle.watchtree_script.specs.Lines.{lines_of}
 use Rattle.watchtree_script.specs.Commands.{line_of}
-use Rattle.watchtree_script.specs.Replies.{reply_text, refusal_text}
+use Rattle.watchtree_script.specs.Replies.{IsReplyText, refusal_text}
 
 -- who makes the calls of a script
 abbrev pub caller : ℕ
@@ -52,7 +52,7 @@ Replies old call reply new = AmpleReplies old call reply new ⊎ IsOutOfMemory o
 -- what a line may print, from the old journal to the new one, where calls are replied to so
 abbrev pub PrintsLineBy : (Journaled → Call → Reply → Journaled → Type 0) → Journaled → Result Line LineError → List ℕ → Journaled → Type 0
 PrintsLineBy R old (Ok Silent) text new = (text ≡ []) × (new ≡ old)
-PrintsLineBy R old (Ok (Run call shown)) text new = (reply : Reply) × R old call reply new × (text ≡ reply_text shown reply)
+PrintsLineBy R old (Ok (Run call shown)) text new = (reply : Reply) × R old call reply new × IsReplyText shown reply text
 PrintsLineBy R old (Err (Refused refusal)) text new = (text ≡ refusal_text refusal) × (new ≡ old)
 PrintsLineBy R old (Err (Fault fault)) text new = ⊥
 PrintsLineBy R old (Err Memory) text new = ⊥
@@ -142,36 +142,3 @@ write_faults (Err (faults.Script line f)) n = n
 write_faults (Err faults.TooLong) n = n
 write_faults (Err faults.Read) n = n
 write_faults (Err faults.Memory) n = n
-
--- why a script is not read
-abbrev pub ReadTells : RunFault → Option (List ℕ) → Type 0
-ReadTells (faults.Script line f) read = ⊥
-ReadTells faults.TooLong read = IfSome read IsTooLong
-ReadTells faults.Read read = ⊤
-ReadTells faults.Write read = ⊥
-ReadTells faults.Memory read = ⊤
-
--- why a line prints nothing
-abbrev pub PrintsNothing : ℕ → ℕ → List ℕ → RunFault → Type 0
-PrintsNothing queue number line (faults.Script n f) = (n ≡ number) × (line_of queue line ≡ Err (Fault f))
-PrintsNothing queue number line faults.TooLong = ⊥
-PrintsNothing queue number line faults.Read = ⊥
-PrintsNothing queue number line faults.Write = ⊥
-PrintsNothing queue number line faults.Memory = ⊤
-
--- why a line is not printed whole, with what the writer held before and after
-abbrev pub LineTells : ℕ → ℕ → Journaled → List ℕ → RunFault → Option (List ℕ) → Option (List ℕ) → Type 0
-LineTells queue number journal line (faults.Script n f) old new = (n ≡ number) × (line_of queue line ≡ Err (Fault f)) × Keeps old new
-LineTells queue number journal line faults.TooLong old new = ⊥
-LineTells queue number journal line faults.Read old new = ⊥
-LineTells queue number journal line faults.Write old new =
-    (text more : List ℕ) × (after : Journaled) × PrintsLine journal (line_of queue line) (text ++ more) after × Appends old new text
-LineTells queue number journal line faults.Memory old new = Keeps old new
-
--- a fault of a run whose script was read
-abbrev pub IsRunFault : RunFault → Type 0
-IsRunFault (faults.Script line f) = ⊤
-IsRunFault faults.TooLong = ⊥
-IsRunFault faults.Read = ⊥
-IsRunFault faults.Write = ⊤
-IsRunFault faults.Memory = ⊤

@@ -7,8 +7,10 @@ mod fault;
 mod laws;
 mod line;
 mod numbers;
+mod page;
 mod pieces;
 mod print;
+mod rows;
 mod run;
 mod words;
 

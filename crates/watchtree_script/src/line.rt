@@ -1,26 +1,56 @@
 //! What a line of a script asks for.
 
-ghost use Rattle.std.specs.Prelude.{◌≡◌, ◌==◌, ◌∷◌, [], length, false, MatchResult};
+ghost use Rattle.std.specs.Prelude.{◌≡◌};
 ghost use Rattle.std.specs.List.{list_all};
 ghost use Rattle.watchtree_script.specs.Lines.{is_silent, is_line_byte};
-ghost use Rattle.watchtree_script.specs.Commands.{Gives, path_of, command_of, row_of, words_line, line_of};
+ghost use Rattle.watchtree_script.specs.Commands.{Gives, command_of, words_line, line_of};
 
 use crate::fault::ScriptFault;
 use crate::pieces::Runs;
-use crate::words::{mask_word, mode_word, path_word, u32_word};
+use crate::rows::Parser;
 use std::alloc::Global;
 use tree_core::Call;
-use tree_ops::FileCall;
-use tree_paths::{Path, Refusal};
+use tree_paths::Refusal;
 
 /// A command of a script.
 #[derive(Clone, Copy, Debug, PartialEq, Eq)]
 pub enum Command {
+    /// `mkdir PATH MODE` makes a directory.
     Mkdir,
+    /// `create PATH MODE` makes a regular file.
     Create,
+    /// `write PATH OFFSET HEX` writes bytes into a file.
+    Write,
+    /// `cat PATH OFFSET COUNT` reads bytes of a file.
+    Cat,
+    /// `truncate PATH LEN` gives a file another length.
+    Truncate,
+    /// `chmod PATH MODE` gives a file or a directory another mode.
+    Chmod,
+    /// `link OLD NEW` gives a file one more path.
+    Link,
+    /// `unlink PATH` takes a path from a file.
+    Unlink,
+    /// `rmdir PATH` takes away an empty directory.
+    Rmdir,
+    /// `rename OLD NEW` moves a file, or a directory with all that is below it.
+    Rename,
+    /// `stat PATH` tells what stands at a path.
+    Stat,
+    /// `list PATH` tells the names in a directory.
+    List,
+    /// `init` or `init LIMIT` makes an instance.
     Init,
+    /// `watch ID PATH MASK` watches a file.
     Watch,
+    /// `unwatch ID WD` ends a watch.
+    Unwatch,
+    /// `read ID BYTES` reads records of an instance, and shows a line of each.
+    Read,
+    /// `hex ID BYTES` reads records of an instance, and shows their bytes.
     Hex,
+    /// `close ID` closes an instance.
+    Close,
 }
 
 /// How the records of a reply are shown.
@@ -28,6 +58,8 @@ pub enum Command {
 pub enum Shown {
     /// By their number of bytes alone.
     Plain,
+    /// By a line of each too.
+    Records,
     /// By their bytes too, as hexadecimal digits.
     Hexadecimal,
 }
@@ -92,12 +124,7 @@ fn read_words(alloc: Global, queue: u32, mut words: Runs<'_>) -> Result<Line, Li
     let Some(command) = words.next_run().and_then(command_named) else {
         return Err(LineError::Fault(ScriptFault::UnknownCommand));
     };
-    let mut parser = Parser {
-        alloc,
-        queue,
-        words,
-    };
-    parser.row(command)
+    Parser::new(alloc, queue, words).row(command)
 }
 
 #[tactic(auto, unfolding(crate::specs::Commands::command_of))]
@@ -108,166 +135,39 @@ fn command_named(word: &[u8]) -> Option<Command>
         Some(Command::Mkdir)
     } else if word == b"create".as_slice() {
         Some(Command::Create)
+    } else if word == b"write".as_slice() {
+        Some(Command::Write)
+    } else if word == b"cat".as_slice() {
+        Some(Command::Cat)
+    } else if word == b"truncate".as_slice() {
+        Some(Command::Truncate)
+    } else if word == b"chmod".as_slice() {
+        Some(Command::Chmod)
+    } else if word == b"link".as_slice() {
+        Some(Command::Link)
+    } else if word == b"unlink".as_slice() {
+        Some(Command::Unlink)
+    } else if word == b"rmdir".as_slice() {
+        Some(Command::Rmdir)
+    } else if word == b"rename".as_slice() {
+        Some(Command::Rename)
+    } else if word == b"stat".as_slice() {
+        Some(Command::Stat)
+    } else if word == b"list".as_slice() {
+        Some(Command::List)
     } else if word == b"init".as_slice() {
         Some(Command::Init)
     } else if word == b"watch".as_slice() {
         Some(Command::Watch)
+    } else if word == b"unwatch".as_slice() {
+        Some(Command::Unwatch)
+    } else if word == b"read".as_slice() {
+        Some(Command::Read)
     } else if word == b"hex".as_slice() {
         Some(Command::Hex)
+    } else if word == b"close".as_slice() {
+        Some(Command::Close)
     } else {
         None
-    }
-}
-
-/// Reads the words behind a command.
-#[derive(Drop)]
-struct Parser<'a> {
-    alloc: Global,
-    /// The limit of an instance that names none.
-    queue: u32,
-    words: Runs<'a>,
-}
-
-impl<'a> Parser<'a> {
-    /// The row of a command in the table.
-    fn row(&mut self, command: Command) -> Result<Line, LineError>
-        ensures { Gives result (row_of self.old.queue command self.old.words) }
-    {
-        match command {
-            Command::Mkdir => self.mkdir(),
-            Command::Create => self.create(),
-            Command::Init => self.init(),
-            Command::Watch => self.watch(),
-            Command::Hex => self.hex(),
-        }
-    }
-
-    /// `mkdir PATH MODE`
-    #[tactic(auto, unfolding(crate::specs::Commands::make_line))]
-    fn mkdir(&mut self) -> Result<Line, LineError>
-        ensures { Gives result (row_of self.old.queue Command.Mkdir self.old.words) }
-    {
-        let (path, mode) = self.two()?;
-        let text = path_word(self.alloc, path)?;
-        let mode = mode_word(mode)?;
-        let path = path_of(self.alloc, text.as_slice())?;
-        Ok(plain(Call::File(FileCall::Mkdir { path, mode })))
-    }
-
-    /// `create PATH MODE`
-    #[tactic(auto, unfolding(crate::specs::Commands::make_line))]
-    fn create(&mut self) -> Result<Line, LineError>
-        ensures { Gives result (row_of self.old.queue Command.Create self.old.words) }
-    {
-        let (path, mode) = self.two()?;
-        let text = path_word(self.alloc, path)?;
-        let mode = mode_word(mode)?;
-        let path = path_of(self.alloc, text.as_slice())?;
-        Ok(plain(Call::File(FileCall::Create { path, mode })))
-    }
-
-    /// `init`, or `init LIMIT`
-    #[tactic(auto, unfolding(crate::specs::Commands::init_line))]
-    fn init(&mut self) -> Result<Line, LineError>
-        ensures { Gives result (row_of self.old.queue Command.Init self.old.words) }
-    {
-        if self.words.has(0) {
-            return Ok(plain(Call::Init {
-                limit: self.queue,
-                piped: false,
-            }));
-        }
-        let limit = u32_word(self.one()?)?;
-        Ok(plain(Call::Init {
-            limit,
-            piped: false,
-        }))
-    }
-
-    /// `watch ID PATH MASK`
-    #[tactic(auto, unfolding(crate::specs::Commands::watch_line))]
-    fn watch(&mut self) -> Result<Line, LineError>
-        ensures { Gives result (row_of self.old.queue Command.Watch self.old.words) }
-    {
-        let (id, path, mask) = self.three()?;
-        let instance = u32_word(id)?;
-        let text = path_word(self.alloc, path)?;
-        let mask = mask_word(mask)?;
-        let path = path_of(self.alloc, text.as_slice())?;
-        Ok(plain(Call::AddWatch {
-            instance,
-            path,
-            mask,
-        }))
-    }
-
-    /// `hex ID BYTES`
-    #[tactic(auto, unfolding(crate::specs::Commands::hex_line))]
-    fn hex(&mut self) -> Result<Line, LineError>
-        ensures { Gives result (row_of self.old.queue Command.Hex self.old.words) }
-    {
-        let (id, bytes) = self.two()?;
-        let instance = u32_word(id)?;
-        let bytes = u32_word(bytes)?;
-        Ok(Line::Run {
-            call: Call::Read { instance, bytes },
-            shown: Shown::Hexadecimal,
-        })
-    }
-
-    /// The only word.
-    fn one(&mut self) -> Result<&'a [u8], LineError>
-        ensures { MatchResult result (λ word. self.old.words ≡ word.now ∷ []) (λ error. (error ≡ LineError.Fault ScriptFault.WrongNumber) × ((length self.old.words == 1) ≡ false)) }
-    {
-        if !self.words.has(1) {
-            return Err(LineError::Fault(ScriptFault::WrongNumber));
-        }
-        Ok(self.words.take_run())
-    }
-
-    /// The only two words.
-    fn two(&mut self) -> Result<(&'a [u8], &'a [u8]), LineError>
-        ensures { MatchResult result (λ words. self.old.words ≡ words.0.now ∷ words.1.now ∷ []) (λ error. (error ≡ LineError.Fault ScriptFault.WrongNumber) × ((length self.old.words == 2) ≡ false)) }
-    {
-        if !self.words.has(2) {
-            return Err(LineError::Fault(ScriptFault::WrongNumber));
-        }
-        Ok((self.words.take_run(), self.words.take_run()))
-    }
-
-    /// The only three words.
-    fn three(&mut self) -> Result<(&'a [u8], &'a [u8], &'a [u8]), LineError>
-        ensures { MatchResult result (λ words. self.old.words ≡ words.0.now ∷ words.1.now ∷ words.2.now ∷ []) (λ error. (error ≡ LineError.Fault ScriptFault.WrongNumber) × ((length self.old.words == 3) ≡ false)) }
-    {
-        if !self.words.has(3) {
-            return Err(LineError::Fault(ScriptFault::WrongNumber));
-        }
-        Ok((
-            self.words.take_run(),
-            self.words.take_run(),
-            self.words.take_run(),
-        ))
-    }
-}
-
-/// The path of a text.
-#[tactic(auto, unfolding(crate::specs::Commands::path_of))]
-fn path_of(alloc: Global, text: &[u8]) -> Result<Path, LineError>
-    ensures { Gives result (path_of text.now) }
-{
-    match Path::parse(alloc, text) {
-        Ok(path) => Ok(path),
-        Err(Refusal::Enomem) => Err(LineError::Memory),
-        Err(refusal) => Err(LineError::Refused(refusal)),
-    }
-}
-
-/// A call whose reply is one line.
-fn plain(call: Call) -> Line
-    ensures { result ≡ Line.Run call Shown.Plain }
-{
-    Line::Run {
-        call,
-        shown: Shown::Plain,
     }
 }

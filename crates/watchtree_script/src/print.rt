@@ -1,21 +1,22 @@
 //! Replies as text.
 
-ghost use Rattle.std.specs.Prelude.{◌≡◌, ◌++◌, OnOk, decimal, length};
+ghost use Rattle.std.specs.Prelude.{◌≡◌, ◌≢◌, ◌++◌, ◌⊎◌, ℕ, List, [], IfOk, OnOk, decimal, length};
 ghost use Rattle.std.specs.List.{flat_map};
-ghost use Rattle.watchtree_script.specs.Replies.{ok_line, done_line, hexadecimal, name_line, mode_text, octal_digit, refusal_text, answer_text, records_text, reply_text};
+ghost use Rattle.watchtree_script.specs.Replies.{ok_line, done_line, hexadecimal, name_line, event_line, mode_text, octal_digit, refusal_text, answer_text, AreOf, IsReadText, IsReplyText};
 
 use crate::line::Shown;
 use inode_table::Kind;
 use itoa::{Buffer, Integer};
-use record_codec::{Name, append_name};
-use std::alloc::AllocError;
+use record_codec::{CodecFault, Event, Name, append_name, append_record_line, decode};
+use std::alloc::{AllocError, Global};
 use tree_core::Reply;
 use tree_ops::Answer;
 use tree_paths::Refusal;
 
-/// Adds a reply, as its command shows it.
+/// Adds a reply to an empty text, as its command shows it.
 pub(crate) fn push_reply(text: &mut Vec<u8>, shown: Shown, reply: &Reply) -> Result<(), AllocError>
-    ensures { OnOk result (text.new.items ≡ text.old.items ++ reply_text shown reply.now) }
+    requires { text.old.items ≡ [] }
+    ensures { OnOk result (IsReplyText shown reply.now text.new.items) }
 {
     match reply {
         Reply::File(answer) => push_answer(text, answer),
@@ -149,12 +150,18 @@ fn push_ok<I: Integer>(text: &mut Vec<u8>, value: I) -> Result<(), AllocError>
     text.extend_from_slice(b"\n")
 }
 
+// The reply of a read, in an empty text: the number of bytes that were read, and their records as they are shown.
 fn push_read(text: &mut Vec<u8>, shown: Shown, bytes: &[u8]) -> Result<(), AllocError>
-    ensures { OnOk result (text.new.items ≡ text.old.items ++ ok_line (decimal (length bytes.now)) ++ records_text shown bytes.now) }
+    requires { text.old.items ≡ [] }
+    ensures { OnOk result (IsReadText shown bytes.now text.new.items) }
 {
     push_ok(text, bytes.len())?;
     match shown {
         Shown::Plain => Ok(()),
+        Shown::Records => {
+            let events = events_in(*text.allocator(), bytes)?;
+            push_events(text, &events)
+        }
         Shown::Hexadecimal => {
             let digits = hex::encode(*text.allocator(), bytes)?;
             text.extend_from_slice(b"  ")?;
@@ -162,4 +169,33 @@ fn push_read(text: &mut Vec<u8>, shown: Shown, bytes: &[u8]) -> Result<(), Alloc
             text.extend_from_slice(b"\n")
         }
     }
+}
+
+// The events whose records the bytes are, and none where they are no records.
+fn events_in(alloc: Global, bytes: &[u8]) -> Result<Vec<Event>, AllocError>
+    ensures { IfOk result (λ events. AreOf bytes.now events.items) }
+{
+    match decode(alloc, bytes) {
+        Ok(events) => Ok(events),
+        Err(CodecFault::Memory) => Err(AllocError),
+        Err(_) => Ok(Vec::new(alloc)),
+    }
+}
+
+// A line for each event.
+fn push_events(text: &mut Vec<u8>, events: &[Event]) -> Result<(), AllocError>
+    ensures { OnOk result (text.new.items ≡ text.old.items ++ flat_map event_line events.now) }
+{
+    for event in events {
+        push_event(text, event)?;
+    }
+    Ok(())
+}
+
+fn push_event(text: &mut Vec<u8>, event: &Event) -> Result<(), AllocError>
+    ensures { OnOk result (text.new.items ≡ text.old.items ++ event_line event.now) }
+{
+    text.extend_from_slice(b"  ")?;
+    append_record_line(event, text)?;
+    text.extend_from_slice(b"\n")
 }

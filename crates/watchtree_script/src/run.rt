@@ -1,13 +1,14 @@
 //! Runs of scripts.
 
 ghost use Rattle.std.specs.Prelude.{◌≡◌, ◌<◌, ◌≤◌, [], ℕ, List, Some, IfOk, OnOk, IfErr, IfSome, Ok, length, take};
-ghost use Rattle.std.specs.Io.KnownBytes.{Appends};
 ghost use Rattle.record_codec.specs.Ports.{inner_of, faults_of};
 ghost use Rattle.watchtree_script.specs.Commands.{line_of};
-ghost use Rattle.watchtree_script.specs.Script.{PrintsLine, PrintsNothing, LineTells, ReadTells, FaultTells, IsRunFault, IsShort, Adds, IsText, Replies, write_faults, read_faults};
+ghost use Rattle.watchtree_script.specs.Script.{PrintsLine, FaultTells, IsShort, Adds, IsText, Replies, write_faults, read_faults};
+ghost use Rattle.watchtree_script.specs.Running.{PrintsNothing, LineTells, ReadTells, IsRunFault, Passes};
 
 use crate::fault::RunFault;
 use crate::line::{Line, LineError, read_line};
+use crate::page::Page;
 use crate::pieces::Pieces;
 use crate::print::{push_refusal, push_reply};
 use record_codec::Port;
@@ -88,30 +89,38 @@ fn run_lines<W: Write>(
     let mut lines = Pieces::new(b'\n', script);
     let mut number = 0;
     let mut text = Vec::new(alloc);
+    let mut page = Page::new(alloc)?;
     while let Some(line) = lines.next_piece() {
         number += 1;
-        run_line(&mut state, queue, number, line, &mut text, output)?;
+        run_line(
+            &mut state, queue, number, line, &mut text, &mut page, output,
+        )?;
     }
-    Ok(())
+    page.write(output)
 }
 
-/// Runs one line, and writes what it prints. The text is a buffer, which one line after another uses.
+/// Runs one line, and puts what it prints on the page. Where the line has a fault, what waits there is written.
+///
+/// The text is a buffer, which one line after another uses.
 fn run_line<W: Write>(
     state: &mut State,
     queue: u32,
     number: u64,
     line: &[u8],
     text: &mut Vec<u8>,
+    page: &mut Page,
     output: &mut Port<W>,
 ) -> Result<(), RunFault>
-    ensures ok { OnOk result ((printed : List ℕ) × PrintsLine state.old (line_of queue line.now) printed state.new × Appends (W.contents (inner_of output.old)) (W.contents (inner_of output.new)) printed) }
-    ensures err { IfErr result (λ fault. LineTells queue number state.old line.now fault (W.contents (inner_of output.old)) (W.contents (inner_of output.new))) }
+    ensures ok { OnOk result ((printed : List ℕ) × PrintsLine state.old (line_of queue line.now) printed state.new × Passes page.old.text.items printed page.new.text.items (W.contents (inner_of output.old)) (W.contents (inner_of output.new))) }
+    ensures err { IfErr result (λ fault. LineTells queue number state.old line.now fault page.old.text.items (W.contents (inner_of output.old)) (W.contents (inner_of output.new))) }
     ensures faults { faults_of output.new ≡ write_faults result (faults_of output.old) }
 {
-    print_line(text, state, queue, number, line)?;
-    match output.write_all(text) {
-        Ok(()) => Ok(()),
-        Err(_) => Err(RunFault::Write),
+    match print_line(text, state, queue, number, line) {
+        Ok(()) => page.take(output, text.as_slice()),
+        Err(fault) => {
+            page.write(output)?;
+            Err(fault)
+        }
     }
 }
 

@@ -1,12 +1,13 @@
 //! What the words behind a command stand for.
 
 ghost use Rattle.std.specs.Prelude.{◌≡◌, ◌<◌, ◌≤◌, length, IfOk, IfSome, MatchOption, None, Some, option_map};
-ghost use Rattle.watchtree_script.specs.Words.{byte_of, before, unescaped, behind, number_of, path_word, mode_word, mask_word, u32_word, u32_max};
+ghost use Rattle.watchtree_script.specs.Words.{byte_of, before, unescaped, behind, number_of, below_zero, from_zero, path_word, mode_word, mask_word, u32_word, u64_word, i32_word, hex_word, u32_max};
 ghost use Rattle.watchtree_script.specs.Commands.{Gives};
 
 use crate::fault::ScriptFault;
 use crate::line::LineError;
 use crate::numbers::number_of;
+use hex::FromHexError;
 use record_codec::Bytes;
 use std::alloc::{AllocError, Global};
 
@@ -24,6 +25,11 @@ const MODE_DIGITS: usize = 6;
 const MASK_DIGITS: usize = 8;
 /// The most digits of any other number.
 const NUMBER_DIGITS: usize = 20;
+
+/// The greatest number behind a minus sign that fits an i32.
+const I32_MIN_SIZE: u64 = 0x8000_0000;
+/// The greatest number that fits an i32.
+const I32_MAX: u64 = 0x7fff_ffff;
 
 /// The byte of two hexadecimal digits.
 fn byte_of(high: u8, low: u8) -> Option<u8>
@@ -105,10 +111,63 @@ pub(crate) fn mask_word(word: &[u8]) -> Result<u32, LineError>
     number32(HEXADECIMAL, MASK_DIGITS, digits).ok_or(LineError::Fault(ScriptFault::BadMask))
 }
 
-/// ID, BYTES, LIMIT: 1 to 20 decimal digits that fit a u32.
+/// ID, COUNT, BYTES, LIMIT: 1 to 20 decimal digits that fit a u32.
 #[tactic(auto, unfolding(crate::specs::Words::u32_word))]
 pub(crate) fn u32_word(word: &[u8]) -> Result<u32, LineError>
     ensures { result ≡ u32_word word.now }
 {
     number32(DECIMAL, NUMBER_DIGITS, word).ok_or(LineError::Fault(ScriptFault::BadNumber))
+}
+
+/// OFFSET, LEN: 1 to 20 decimal digits that fit a u64.
+#[tactic(auto, unfolding(crate::specs::Words::u64_word))]
+pub(crate) fn u64_word(word: &[u8]) -> Result<u64, LineError>
+    ensures { result ≡ u64_word word.now }
+{
+    number_of(DECIMAL, NUMBER_DIGITS, u64::MAX, word).ok_or(LineError::Fault(
+        ScriptFault::BadNumber,
+    ))
+}
+
+/// The number of digits behind a minus sign.
+fn below_zero(digits: &[u8]) -> Option<i32>
+    ensures { result ≡ below_zero digits.now }
+{
+    let number = number_of(DECIMAL, NUMBER_DIGITS, I32_MIN_SIZE, digits)?;
+    Some(-(number as i64) as i32)
+}
+
+/// The number of digits without a sign.
+fn from_zero(digits: &[u8]) -> Option<i32>
+    ensures { result ≡ from_zero digits.now }
+{
+    let number = number_of(DECIMAL, NUMBER_DIGITS, I32_MAX, digits)?;
+    Some(number as i32)
+}
+
+/// WD: 1 to 20 decimal digits, behind a minus sign if wanted, that fit an i32.
+#[tactic(auto, unfolding(crate::specs::Words::i32_word))]
+pub(crate) fn i32_word(word: &[u8]) -> Result<i32, LineError>
+    ensures { result ≡ i32_word word.now }
+{
+    let number = match word.strip_prefix(b"-".as_slice()) {
+        Some(digits) => below_zero(digits),
+        None => from_zero(word),
+    };
+    number.ok_or(LineError::Fault(ScriptFault::BadNumber))
+}
+
+/// HEX: bytes as two hexadecimal digits each, and a minus sign for no bytes.
+#[tactic(auto, unfolding(crate::specs::Words::hex_word))]
+pub(crate) fn hex_word(alloc: Global, word: &[u8]) -> Result<Bytes, LineError>
+    ensures { Gives result (hex_word word.now) }
+{
+    if word == b"-".as_slice() {
+        return Ok(Bytes::from_vec(Vec::new(alloc)));
+    }
+    match hex::decode(alloc, word) {
+        Ok(bytes) => Ok(Bytes::from_vec(bytes)),
+        Err(FromHexError::OutOfMemory) => Err(LineError::Memory),
+        Err(_) => Err(LineError::Fault(ScriptFault::BadHex)),
+    }
 }

@@ -1,0 +1,319 @@
+//! The rows of the table of commands: the words behind a command, and the call that they ask for.
+
+ghost use Rattle.std.specs.Prelude.{◌≡◌, ◌==◌, ◌∷◌, [], length, false, MatchResult};
+ghost use Rattle.watchtree_script.specs.Commands.{Gives, one, two, three, path_of, a_path, old_and_new, path_and_mode, id_and_bytes, write_call, cat_call, truncate_call, watch_call, unwatch_call, asking, row_of};
+ghost use Rattle.tree_core.specs.declared.call.Call.TheVariants as call;
+
+use crate::fault::ScriptFault;
+use crate::line::{Command, Line, LineError, Shown};
+use crate::pieces::Runs;
+use crate::words::{hex_word, i32_word, mask_word, mode_word, path_word, u32_word, u64_word};
+use std::alloc::Global;
+use tree_core::Call;
+use tree_ops::FileCall;
+use tree_paths::{Path, Refusal};
+
+/// Reads the words behind a command.
+#[derive(Drop)]
+pub(crate) struct Parser<'a> {
+    alloc: Global,
+    /// The limit of an instance that names none.
+    queue: u32,
+    words: Runs<'a>,
+}
+
+impl<'a> Parser<'a> {
+    pub fn new(alloc: Global, queue: u32, words: Runs<'a>) -> Parser<'a>
+        ensures queue { result.queue ≡ queue }
+        ensures words { result.words ≡ words.entry }
+    {
+        Parser {
+            alloc,
+            queue,
+            words,
+        }
+    }
+
+    /// What a command asks for with the words behind it: its row in the table.
+    pub fn row(&mut self, command: Command) -> Result<Line, LineError>
+        ensures { Gives result (row_of self.old.queue command self.old.words) }
+    {
+        match command {
+            Command::Mkdir => self.mkdir(),
+            Command::Create => self.create(),
+            Command::Write => self.write(),
+            Command::Cat => self.cat(),
+            Command::Truncate => self.truncate(),
+            Command::Chmod => self.chmod(),
+            Command::Link => self.link(),
+            Command::Unlink => self.unlink(),
+            Command::Rmdir => self.rmdir(),
+            Command::Rename => self.rename(),
+            Command::Stat => self.stat(),
+            Command::List => self.list(),
+            Command::Init => self.init(),
+            Command::Watch => self.watch(),
+            Command::Unwatch => self.unwatch(),
+            Command::Read => self.read(Shown::Records),
+            Command::Hex => self.read(Shown::Hexadecimal),
+            Command::Close => self.close(),
+        }
+    }
+
+    fn mkdir(&mut self) -> Result<Line, LineError>
+        ensures { Gives result (row_of self.old.queue Command.Mkdir self.old.words) }
+    {
+        let (path, mode) = self.path_and_mode()?;
+        Ok(plain(Call::File(FileCall::Mkdir { path, mode })))
+    }
+
+    fn create(&mut self) -> Result<Line, LineError>
+        ensures { Gives result (row_of self.old.queue Command.Create self.old.words) }
+    {
+        let (path, mode) = self.path_and_mode()?;
+        Ok(plain(Call::File(FileCall::Create { path, mode })))
+    }
+
+    #[tactic(auto, unfolding(crate::specs::Commands::write_call))]
+    fn write(&mut self) -> Result<Line, LineError>
+        ensures { Gives result (row_of self.old.queue Command.Write self.old.words) }
+    {
+        let (path, offset, bytes) = self.three()?;
+        let text = path_word(self.alloc, path)?;
+        let offset = u64_word(offset)?;
+        let bytes = hex_word(self.alloc, bytes)?;
+        let path = path_of(self.alloc, text.as_slice())?;
+        Ok(plain(Call::File(FileCall::Write {
+            path,
+            offset,
+            bytes,
+        })))
+    }
+
+    #[tactic(auto, unfolding(crate::specs::Commands::cat_call))]
+    fn cat(&mut self) -> Result<Line, LineError>
+        ensures { Gives result (row_of self.old.queue Command.Cat self.old.words) }
+    {
+        let (path, offset, count) = self.three()?;
+        let text = path_word(self.alloc, path)?;
+        let offset = u64_word(offset)?;
+        let count = u32_word(count)?;
+        let path = path_of(self.alloc, text.as_slice())?;
+        Ok(plain(Call::File(FileCall::ReadFile {
+            path,
+            offset,
+            count,
+        })))
+    }
+
+    #[tactic(auto, unfolding(crate::specs::Commands::truncate_call))]
+    fn truncate(&mut self) -> Result<Line, LineError>
+        ensures { Gives result (row_of self.old.queue Command.Truncate self.old.words) }
+    {
+        let (path, len) = self.two()?;
+        let text = path_word(self.alloc, path)?;
+        let len = u64_word(len)?;
+        let path = path_of(self.alloc, text.as_slice())?;
+        Ok(plain(Call::File(FileCall::Truncate { path, len })))
+    }
+
+    fn chmod(&mut self) -> Result<Line, LineError>
+        ensures { Gives result (row_of self.old.queue Command.Chmod self.old.words) }
+    {
+        let (path, mode) = self.path_and_mode()?;
+        Ok(plain(Call::File(FileCall::Chmod { path, mode })))
+    }
+
+    fn link(&mut self) -> Result<Line, LineError>
+        ensures { Gives result (row_of self.old.queue Command.Link self.old.words) }
+    {
+        let (old, new) = self.old_and_new()?;
+        Ok(plain(Call::File(FileCall::Link { old, new })))
+    }
+
+    fn unlink(&mut self) -> Result<Line, LineError>
+        ensures { Gives result (row_of self.old.queue Command.Unlink self.old.words) }
+    {
+        let path = self.a_path()?;
+        Ok(plain(Call::File(FileCall::Unlink { path })))
+    }
+
+    fn rmdir(&mut self) -> Result<Line, LineError>
+        ensures { Gives result (row_of self.old.queue Command.Rmdir self.old.words) }
+    {
+        let path = self.a_path()?;
+        Ok(plain(Call::File(FileCall::Rmdir { path })))
+    }
+
+    fn rename(&mut self) -> Result<Line, LineError>
+        ensures { Gives result (row_of self.old.queue Command.Rename self.old.words) }
+    {
+        let (old, new) = self.old_and_new()?;
+        Ok(plain(Call::File(FileCall::Rename { old, new })))
+    }
+
+    fn stat(&mut self) -> Result<Line, LineError>
+        ensures { Gives result (row_of self.old.queue Command.Stat self.old.words) }
+    {
+        let path = self.a_path()?;
+        Ok(plain(Call::File(FileCall::Stat { path })))
+    }
+
+    fn list(&mut self) -> Result<Line, LineError>
+        ensures { Gives result (row_of self.old.queue Command.List self.old.words) }
+    {
+        let path = self.a_path()?;
+        Ok(plain(Call::File(FileCall::List { path })))
+    }
+
+    fn init(&mut self) -> Result<Line, LineError>
+        ensures { Gives result (row_of self.old.queue Command.Init self.old.words) }
+    {
+        let limit = if self.words.has(0) {
+            self.queue
+        } else {
+            u32_word(self.one()?)?
+        };
+        Ok(plain(Call::Init {
+            limit,
+            piped: false,
+        }))
+    }
+
+    #[tactic(auto, unfolding(crate::specs::Commands::watch_call))]
+    fn watch(&mut self) -> Result<Line, LineError>
+        ensures { Gives result (row_of self.old.queue Command.Watch self.old.words) }
+    {
+        let (id, path, mask) = self.three()?;
+        let instance = u32_word(id)?;
+        let text = path_word(self.alloc, path)?;
+        let mask = mask_word(mask)?;
+        let path = path_of(self.alloc, text.as_slice())?;
+        Ok(plain(Call::AddWatch {
+            instance,
+            path,
+            mask,
+        }))
+    }
+
+    #[tactic(auto, unfolding(crate::specs::Commands::unwatch_call))]
+    fn unwatch(&mut self) -> Result<Line, LineError>
+        ensures { Gives result (row_of self.old.queue Command.Unwatch self.old.words) }
+    {
+        let (id, wd) = self.two()?;
+        let instance = u32_word(id)?;
+        let wd = i32_word(wd)?;
+        Ok(plain(Call::RmWatch { instance, wd }))
+    }
+
+    /// `read` and `hex`, which show the records so.
+    #[tactic(auto, unfolding(crate::specs::Commands::id_and_bytes))]
+    fn read(&mut self, shown: Shown) -> Result<Line, LineError>
+        ensures { Gives result (asking shown (λ w. call.Read w.0 w.1) (two self.old.words id_and_bytes)) }
+    {
+        let (id, bytes) = self.two()?;
+        let instance = u32_word(id)?;
+        let bytes = u32_word(bytes)?;
+        Ok(Line::Run {
+            call: Call::Read { instance, bytes },
+            shown,
+        })
+    }
+
+    fn close(&mut self) -> Result<Line, LineError>
+        ensures { Gives result (row_of self.old.queue Command.Close self.old.words) }
+    {
+        let instance = u32_word(self.one()?)?;
+        Ok(plain(Call::Close { instance }))
+    }
+
+    /// PATH
+    #[tactic(auto, unfolding(crate::specs::Commands::a_path))]
+    fn a_path(&mut self) -> Result<Path, LineError>
+        ensures { Gives result (one self.old.words a_path) }
+    {
+        let text = path_word(self.alloc, self.one()?)?;
+        path_of(self.alloc, text.as_slice())
+    }
+
+    /// PATH MODE
+    #[tactic(auto, unfolding(crate::specs::Commands::path_and_mode))]
+    fn path_and_mode(&mut self) -> Result<(Path, u32), LineError>
+        ensures { Gives result (two self.old.words path_and_mode) }
+    {
+        let (path, mode) = self.two()?;
+        let text = path_word(self.alloc, path)?;
+        let mode = mode_word(mode)?;
+        let path = path_of(self.alloc, text.as_slice())?;
+        Ok((path, mode))
+    }
+
+    /// OLD NEW
+    #[tactic(auto, unfolding(crate::specs::Commands::old_and_new))]
+    fn old_and_new(&mut self) -> Result<(Path, Path), LineError>
+        ensures { Gives result (two self.old.words old_and_new) }
+    {
+        let (old, new) = self.two()?;
+        let old = path_word(self.alloc, old)?;
+        let new = path_word(self.alloc, new)?;
+        let old = path_of(self.alloc, old.as_slice())?;
+        let new = path_of(self.alloc, new.as_slice())?;
+        Ok((old, new))
+    }
+
+    /// The only word.
+    fn one(&mut self) -> Result<&'a [u8], LineError>
+        ensures { MatchResult result (λ word. self.old.words ≡ word.now ∷ []) (λ error. (error ≡ LineError.Fault ScriptFault.WrongNumber) × ((length self.old.words == 1) ≡ false)) }
+    {
+        if !self.words.has(1) {
+            return Err(LineError::Fault(ScriptFault::WrongNumber));
+        }
+        Ok(self.words.take_run())
+    }
+
+    /// The only two words.
+    fn two(&mut self) -> Result<(&'a [u8], &'a [u8]), LineError>
+        ensures { MatchResult result (λ words. self.old.words ≡ words.0.now ∷ words.1.now ∷ []) (λ error. (error ≡ LineError.Fault ScriptFault.WrongNumber) × ((length self.old.words == 2) ≡ false)) }
+    {
+        if !self.words.has(2) {
+            return Err(LineError::Fault(ScriptFault::WrongNumber));
+        }
+        Ok((self.words.take_run(), self.words.take_run()))
+    }
+
+    /// The only three words.
+    fn three(&mut self) -> Result<(&'a [u8], &'a [u8], &'a [u8]), LineError>
+        ensures { MatchResult result (λ words. self.old.words ≡ words.0.now ∷ words.1.now ∷ words.2.now ∷ []) (λ error. (error ≡ LineError.Fault ScriptFault.WrongNumber) × ((length self.old.words == 3) ≡ false)) }
+    {
+        if !self.words.has(3) {
+            return Err(LineError::Fault(ScriptFault::WrongNumber));
+        }
+        Ok((
+            self.words.take_run(),
+            self.words.take_run(),
+            self.words.take_run(),
+        ))
+    }
+}
+
+/// The path of a text.
+#[tactic(auto, unfolding(crate::specs::Commands::path_of))]
+fn path_of(alloc: Global, text: &[u8]) -> Result<Path, LineError>
+    ensures { Gives result (path_of text.now) }
+{
+    match Path::parse(alloc, text) {
+        Ok(path) => Ok(path),
+        Err(Refusal::Enomem) => Err(LineError::Memory),
+        Err(refusal) => Err(LineError::Refused(refusal)),
+    }
+}
+
+/// A call whose reply is one line.
+fn plain(call: Call) -> Line
+    ensures { result ≡ Line.Run call Shown.Plain }
+{
+    Line::Run {
+        call,
+        shown: Shown::Plain,
+    }
+}
