@@ -4,7 +4,6 @@ use Rattle.std.specs.List.{list_all, slice_index_or}
 use Rattle.std.specs.Str.{bytes_eq}
 use Rattle.tree_paths.specs.declared.refusal.Refusal.{Refusal}
 use Rattle.tree_paths.specs.Paths.{parsed}
-use Rattle.tree_ops.specs.declared.call.FileCall.{FileCall}
 use Rattle.tree_ops.specs.declared.call.FileCall.TheVariants as file
 use Rattle.tree_core.specs.declared.call.Call.{Call}
 use Rattle.tree_core.specs.declared.call.Call.TheVariants as call
