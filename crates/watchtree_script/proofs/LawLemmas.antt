@@ -18,7 +18,7 @@ use Rattle.watchtree_script.specs.declared.line.LineError.{LineError}
 use Rattle.watchtree_script.specs.declared.line.LineError.TheVariants.{Fault, Refused, Memory}
 use Rattle.watchtree_script.specs.declared.line.Shown.{Shown}
 use Rattle.watchtree_script.specs.declared.line.Shown.TheVariants as shown
-use Rattle.watchtree_script.specs.Replies.{AreOf, IsReadText, IsReplyText, event_line, ok_line}
+use Rattle.watchtree_script.specs.Replies.{AreEventsIn, IsReadText, IsReplyText, event_line, ok_line}
 use Rattle.watchtree_script.specs.Commands.{line_of}
 use Rattle.watchtree_script.specs.Script.{caller, Prints, PrintsLine, Replies, PrintsLineBy, PrintsBy, AmpleReplies}
 use Rattle.watchtree_script.specs.Laws.{JournalsAreLawful, TextsAreOne}
@@ -70,7 +70,7 @@ reply-one old call reply other new after (inr a) (inl b) = let room = b.room in 
 reply-one old call reply other new after (inr a) (inr b) = (a.answer ∙ sym b.answer, a.same ∙ sym b.same)
 
 -- bytes are the records of one list of events alone
-events-one : (bytes : List ℕ) (es ns : List Event) → AreOf bytes es → AreOf bytes ns → es ≡ ns
+events-one : (bytes : List ℕ) (es ns : List Event) → AreEventsIn bytes es → AreEventsIn bytes ns → es ≡ ns
 events-one bytes es ns (inl a) (inl b) = sym (one_spelling es ns a.0 b.0 (sym b.1 ∙ a.1))
 events-one bytes es ns (inl a) (inr b) = absurd (b.0 es a.0 a.1)
 events-one bytes es ns (inr a) (inl b) = absurd (a.0 ns b.0 b.1)

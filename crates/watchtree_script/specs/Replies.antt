@@ -66,15 +66,15 @@ abbrev pub event_line : Event → List ℕ
 event_line e = codes "  " ++ record_line e ++ codes "\n"
 
 -- the events whose records the bytes are, and none where the bytes are no records
-abbrev pub AreOf : List ℕ → List Event → Type 0
-AreOf bytes events =
+abbrev pub AreEventsIn : List ℕ → List Event → Type 0
+AreEventsIn bytes events =
     (AreEvents events × (bytes ≡ spelling events)) ⊎ (((others : List Event) → AreEvents others → bytes ≢ spelling others) × (events ≡ []))
 
 -- the reply of a read: the number of bytes that were read, and behind it nothing more, a line for each record, or one line of the
 -- bytes in hexadecimal
 abbrev pub IsReadText : Shown → List ℕ → List ℕ → Type 0
 IsReadText Plain bytes text = text ≡ ok_line (decimal (length bytes))
-IsReadText Records bytes text = (events : List Event) × AreOf bytes events × (text ≡ ok_line (decimal (length bytes)) ++ flat_map event_line events)
+IsReadText Records bytes text = (events : List Event) × AreEventsIn bytes events × (text ≡ ok_line (decimal (length bytes)) ++ flat_map event_line events)
 IsReadText Hexadecimal bytes text = text ≡ ok_line (decimal (length bytes)) ++ (codes "  " ++ encode_lower bytes ++ codes "\n")
 
 -- the text of a reply, as its command shows it

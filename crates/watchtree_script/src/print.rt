@@ -2,7 +2,7 @@
 
 ghost use Rattle.std.specs.Prelude.{◌≡◌, ◌≢◌, ◌++◌, ◌⊎◌, ℕ, List, [], IfOk, OnOk, decimal, length};
 ghost use Rattle.std.specs.List.{flat_map};
-ghost use Rattle.watchtree_script.specs.Replies.{ok_line, done_line, hexadecimal, name_line, event_line, mode_text, octal_digit, refusal_text, answer_text, AreOf, IsReadText, IsReplyText};
+ghost use Rattle.watchtree_script.specs.Replies.{ok_line, done_line, hexadecimal, name_line, event_line, mode_text, octal_digit, refusal_text, answer_text, AreEventsIn, IsReadText, IsReplyText};
 
 use crate::line::Shown;
 use inode_table::Kind;
@@ -173,7 +173,7 @@ fn push_read(text: &mut Vec<u8>, shown: Shown, bytes: &[u8]) -> Result<(), Alloc
 
 // The events whose records the bytes are, and none where they are no records.
 fn events_in(alloc: Global, bytes: &[u8]) -> Result<Vec<Event>, AllocError>
-    ensures { IfOk result (λ events. AreOf bytes.now events.items) }
+    ensures { IfOk result (λ events. AreEventsIn bytes.now events.items) }
 {
     match decode(alloc, bytes) {
         Ok(events) => Ok(events),

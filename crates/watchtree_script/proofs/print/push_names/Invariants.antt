@@ -1,7 +1,6 @@
-use Rattle.std.proofs.Common.{◌≡◌, ◌++◌, take, length}
-use Rattle.std.specs.Prelude.{decimal}
+use Rattle.std.proofs.Common.{◌≡◌, ◌++◌, take}
 use Rattle.std.specs.List.{flat_map}
-use Rattle.watchtree_script.specs.Replies.{name_line, ok_line}
+use Rattle.watchtree_script.specs.Replies.{name_line}
 use Rattle.watchtree_script.proofs.print.push_names.Given as goal
 
 abbrev pub invariant-loop-name : goal.invariant-loop-name
