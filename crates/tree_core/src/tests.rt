@@ -51,14 +51,6 @@ fn made(state: &mut State, call: &Call) -> Result<Receipt, Refusal> {
     }
 }
 
-// Makes a call that is not to be refused.
-fn does(state: &mut State, call: Result<Call, Refusal>) -> Result<(), Refusal> {
-    match made(state, &call?)?.reply {
-        Reply::Refused(refusal) => Err(refusal),
-        _ => Ok(()),
-    }
-}
-
 // Whether the last entry of the journal is this call with this reply.
 fn is_last(state: &State, call: &Call, reply: &Reply) -> bool {
     match state.journal().last() {
@@ -67,52 +59,67 @@ fn is_last(state: &State, call: &Call, reply: &Reply) -> bool {
     }
 }
 
-// The call answers what is wanted, and is the last entry of the journal.
+// What a call answers, and whether the journal has it so as its last entry, at the receipt's place.
+fn answered(state: &mut State, call: Result<Call, Refusal>) -> Result<(Reply, bool), Refusal> {
+    let call = call?;
+    let receipt = made(state, &call)?;
+    let is_at_its_place = receipt.place == state.journal().len() as u64;
+    let is_journaled = is_at_its_place && is_last(state, &call, &receipt.reply);
+    Ok((receipt.reply, is_journaled))
+}
+
+// The call answers what is wanted, and so the journal has it.
 fn tells(
     rt: &impl Abort,
     state: &mut State,
     call: Result<Call, Refusal>,
     wanted: Result<Reply, Refusal>,
-) -> Result<(), Refusal> {
-    let call = call?;
-    let receipt = made(state, &call)?;
-    assert_eq!(rt; receipt.reply, wanted?);
-    assert_eq!(rt; receipt.place, state.journal().len() as u64);
-    assert!(rt; is_last(state, &call, &receipt.reply));
-    Ok(())
+) {
+    match answered(state, call) {
+        Ok((reply, is_journaled)) => {
+            assert_eq!(rt; Ok(reply), wanted);
+            assert!(rt; is_journaled);
+        }
+        Err(refusal) => assert!(rt; false, "{refusal:?}"),
+    }
+}
+
+// The call is not refused.
+fn does(rt: &impl Abort, state: &mut State, call: Result<Call, Refusal>) {
+    let told = answered(state, call);
+    assert!(rt;
+        !matches!(told, Ok((Reply::Refused(_), _)) | Err(_)),
+        "{told:?}"
+    );
 }
 
 // The call is refused so, and what waits for the first two instances is as before.
-fn refuses(
-    rt: &impl Abort,
-    state: &mut State,
-    call: Result<Call, Refusal>,
-    refusal: Refusal,
-) -> Result<(), Refusal> {
-    let first = state.waiting(1);
-    let second = state.waiting(2);
-    tells(rt, state, call, Ok(Reply::Refused(refusal)))?;
-    assert_eq!(rt; state.waiting(1), first);
-    assert_eq!(rt; state.waiting(2), second);
-    Ok(())
+fn refuses(rt: &impl Abort, state: &mut State, call: Result<Call, Refusal>, refusal: Refusal) {
+    let before = (state.waiting(1), state.waiting(2));
+    tells(rt, state, call, Ok(Reply::Refused(refusal)));
+    assert_eq!(rt; (state.waiting(1), state.waiting(2)), before);
+}
+
+// So many records wait for the instance.
+fn waits(rt: &impl Abort, state: &State, instance: u32, count: usize) {
+    assert_eq!(rt; state.waiting(instance), Some(count));
 }
 
 // The instance has just these records to read.
-fn hears(
-    rt: &impl Abort,
-    state: &mut State,
-    alloc: Global,
-    instance: u32,
-    lines: &[Record],
-) -> Result<(), Refusal> {
-    assert_eq!(rt; state.waiting(instance), Some(lines.len()));
-    tells(rt, state, read(instance, ALL), records(alloc, lines))
+fn hears(rt: &impl Abort, state: &mut State, alloc: Global, instance: u32, lines: &[Record]) {
+    waits(rt, state, instance, lines.len());
+    tells(rt, state, read(instance, ALL), records(alloc, lines));
 }
 
 // The instance has nothing to read.
-fn hears_nothing(rt: &impl Abort, state: &mut State, instance: u32) -> Result<(), Refusal> {
-    assert_eq!(rt; state.waiting(instance), Some(0));
-    refuses(rt, state, read(instance, ALL), Refusal::Eagain)
+fn hears_nothing(rt: &impl Abort, state: &mut State, instance: u32) {
+    waits(rt, state, instance, 0);
+    refuses(rt, state, read(instance, ALL), Refusal::Eagain);
+}
+
+// These instances watch the file of this number, and no others.
+fn watch_it(rt: &impl Abort, state: &State, number: u32, ids: &[u32]) {
+    assert_eq!(rt; state.watchers(number), ids);
 }
 
 fn path(alloc: Global, text: &str) -> Result<Path, Refusal> {

@@ -7,25 +7,25 @@ use std::test::Fail;
 fn files_are_made_and_written(rt: HostRuntime) -> Result<(), Fail> {
     let alloc = rt.alloc();
     let tree = &mut opened(alloc, Limits::full())?;
-    tells(&rt, tree, create(alloc, "/f"), number(2))?;
-    tells(&rt, tree, write(alloc, "/f", 3, b"ab"), count(2))?;
+    tells(&rt, tree, create(alloc, "/f"), number(2));
+    tells(&rt, tree, write(alloc, "/f", 3, b"ab"), count(2));
     tells(
         &rt,
         tree,
         read_file(alloc, "/f", 0, 10),
         contents(alloc, b"\0\0\0ab"),
-    )?;
+    );
     tells(
         &rt,
         tree,
         read_file(alloc, "/f", 9, 1),
         contents(alloc, b""),
-    )?;
-    tells(&rt, tree, stat(alloc, "/f"), file(2, 0o644, 1, 5))?;
-    tells(&rt, tree, stat(alloc, "/"), directory(1, 0o755))?;
-    tells(&rt, tree, truncate(alloc, "/f", 1), filed())?;
-    tells(&rt, tree, chmod(alloc, "/f", 0o600), filed())?;
-    tells(&rt, tree, stat(alloc, "/f"), file(2, 0o600, 1, 1))?;
+    );
+    tells(&rt, tree, stat(alloc, "/f"), file(2, 0o644, 1, 5));
+    tells(&rt, tree, stat(alloc, "/"), directory(1, 0o755));
+    tells(&rt, tree, truncate(alloc, "/f", 1), filed());
+    tells(&rt, tree, chmod(alloc, "/f", 0o600), filed());
+    tells(&rt, tree, stat(alloc, "/f"), file(2, 0o600, 1, 1));
     Ok(())
 }
 
@@ -33,17 +33,17 @@ fn files_are_made_and_written(rt: HostRuntime) -> Result<(), Fail> {
 fn names_are_given_and_taken(rt: HostRuntime) -> Result<(), Fail> {
     let alloc = rt.alloc();
     let tree = &mut opened(alloc, Limits::full())?;
-    tells(&rt, tree, mkdir(alloc, "/d"), number(2))?;
-    tells(&rt, tree, create(alloc, "/d/f"), number(3))?;
-    tells(&rt, tree, link(alloc, "/d/f", "/g"), filed())?;
-    tells(&rt, tree, stat(alloc, "/g"), file(3, 0o644, 2, 0))?;
-    tells(&rt, tree, unlink(alloc, "/d/f"), filed())?;
-    tells(&rt, tree, rename(alloc, "/g", "/h"), filed())?;
-    tells(&rt, tree, list(alloc, "/"), names(alloc, "/d/h"))?;
-    tells(&rt, tree, rmdir(alloc, "/d"), filed())?;
-    tells(&rt, tree, list(alloc, "/"), names(alloc, "/h"))?;
-    tells(&rt, tree, stat(alloc, "/h"), file(3, 0o644, 1, 0))?;
-    tells(&rt, tree, mkdir(alloc, "/d"), number(4))?;
+    tells(&rt, tree, mkdir(alloc, "/d"), number(2));
+    tells(&rt, tree, create(alloc, "/d/f"), number(3));
+    tells(&rt, tree, link(alloc, "/d/f", "/g"), filed());
+    tells(&rt, tree, stat(alloc, "/g"), file(3, 0o644, 2, 0));
+    tells(&rt, tree, unlink(alloc, "/d/f"), filed());
+    tells(&rt, tree, rename(alloc, "/g", "/h"), filed());
+    tells(&rt, tree, list(alloc, "/"), names(alloc, "/d/h"));
+    tells(&rt, tree, rmdir(alloc, "/d"), filed());
+    tells(&rt, tree, list(alloc, "/"), names(alloc, "/h"));
+    tells(&rt, tree, stat(alloc, "/h"), file(3, 0o644, 1, 0));
+    tells(&rt, tree, mkdir(alloc, "/d"), number(4));
     Ok(())
 }
 
@@ -51,13 +51,13 @@ fn names_are_given_and_taken(rt: HostRuntime) -> Result<(), Fail> {
 fn directories_move_with_what_is_below(rt: HostRuntime) -> Result<(), Fail> {
     let alloc = rt.alloc();
     let tree = &mut opened(alloc, Limits::full())?;
-    does(tree, mkdir(alloc, "/a"))?;
-    does(tree, mkdir(alloc, "/b"))?;
-    does(tree, create(alloc, "/a/f"))?;
-    tells(&rt, tree, rename(alloc, "/a", "/b"), filed())?;
-    tells(&rt, tree, list(alloc, "/"), names(alloc, "/b"))?;
-    tells(&rt, tree, stat(alloc, "/b"), directory(2, 0o755))?;
-    tells(&rt, tree, stat(alloc, "/b/f"), file(4, 0o644, 1, 0))?;
+    does(&rt, tree, mkdir(alloc, "/a"));
+    does(&rt, tree, mkdir(alloc, "/b"));
+    does(&rt, tree, create(alloc, "/a/f"));
+    tells(&rt, tree, rename(alloc, "/a", "/b"), filed());
+    tells(&rt, tree, list(alloc, "/"), names(alloc, "/b"));
+    tells(&rt, tree, stat(alloc, "/b"), directory(2, 0o755));
+    tells(&rt, tree, stat(alloc, "/b/f"), file(4, 0o644, 1, 0));
     Ok(())
 }
 
@@ -65,29 +65,29 @@ fn directories_move_with_what_is_below(rt: HostRuntime) -> Result<(), Fail> {
 fn instances_are_made_and_closed(rt: HostRuntime) -> Result<(), Fail> {
     let alloc = rt.alloc();
     let tree = &mut opened(alloc, Limits::full())?;
-    tells(&rt, tree, init(10), instance(1))?;
-    tells(&rt, tree, init_piped(10), instance(2))?;
-    tells(&rt, tree, watch(alloc, 1, "/", 0x100), wd(1))?;
-    tells(&rt, tree, watch(alloc, 2, "/", 0x40), wd(1))?;
-    tells(&rt, tree, create(alloc, "/f"), number(2))?;
-    tells(&rt, tree, rename(alloc, "/f", "/g"), filed())?;
+    tells(&rt, tree, init(10), instance(1));
+    tells(&rt, tree, init_piped(10), instance(2));
+    tells(&rt, tree, watch(alloc, 1, "/", 0x100), wd(1));
+    tells(&rt, tree, watch(alloc, 2, "/", 0x40), wd(1));
+    tells(&rt, tree, create(alloc, "/f"), number(2));
+    tells(&rt, tree, rename(alloc, "/f", "/g"), filed());
     tells(
         &rt,
         tree,
         read(1, 32),
         records(alloc, &[(1, 0x100, 0, "f")]),
-    )?;
-    tells(&rt, tree, pump(2, 32), records(alloc, &[(1, 0x40, 1, "f")]))?;
-    tells(&rt, tree, unwatch(1, 1), done())?;
+    );
+    tells(&rt, tree, pump(2, 32), records(alloc, &[(1, 0x40, 1, "f")]));
+    tells(&rt, tree, unwatch(1, 1), done());
     tells(
         &rt,
         tree,
         read(1, 16),
         records(alloc, &[(1, 0x8000, 0, "")]),
-    )?;
-    tells(&rt, tree, close(1), done())?;
-    tells(&rt, tree, close(2), done())?;
-    tells(&rt, tree, init(10), instance(3))?;
+    );
+    tells(&rt, tree, close(1), done());
+    tells(&rt, tree, close(2), done());
+    tells(&rt, tree, init(10), instance(3));
     Ok(())
 }
 
@@ -107,11 +107,11 @@ fn first_record(alloc: Global) -> Result<Reply, Refusal> {
 fn five_calls(rt: HostRuntime) -> Result<(), Fail> {
     let alloc = rt.alloc();
     let tree = &mut opened(alloc, Limits::full())?;
-    tells(&rt, tree, mkdir(alloc, "/d"), number(2))?;
-    tells(&rt, tree, init(10), instance(1))?;
-    tells(&rt, tree, watch(alloc, 1, "/d", 0x100), wd(1))?;
-    tells(&rt, tree, create(alloc, "/d/f"), number(3))?;
-    tells(&rt, tree, read(1, ALL), first_record(alloc))?;
+    tells(&rt, tree, mkdir(alloc, "/d"), number(2));
+    tells(&rt, tree, init(10), instance(1));
+    tells(&rt, tree, watch(alloc, 1, "/d", 0x100), wd(1));
+    tells(&rt, tree, create(alloc, "/d/f"), number(3));
+    tells(&rt, tree, read(1, ALL), first_record(alloc));
     assert_eq!(rt; tree.journal().len(), 5);
     Ok(())
 }
@@ -121,36 +121,39 @@ fn what_a_tree_says_of_itself(rt: HostRuntime) -> Result<(), Fail> {
     let alloc = rt.alloc();
     let tree = &mut opened(alloc, Limits::full())?;
     assert!(rt; tree.journal().is_empty());
-    does(tree, create(alloc, "/f"))?;
-    does(tree, init(10))?;
-    does(tree, watch(alloc, 1, "/f", 0x2))?;
-    does(tree, truncate(alloc, "/f", 0))?;
-    assert_eq!(rt; tree.waiting(1), Some(1));
+    does(&rt, tree, create(alloc, "/f"));
+    does(&rt, tree, init(10));
+    does(&rt, tree, watch(alloc, 1, "/f", 0x2));
+    does(&rt, tree, truncate(alloc, "/f", 0));
+    waits(&rt, tree, 1, 1);
     assert_eq!(rt; tree.waiting(0), None);
     assert_eq!(rt; tree.waiting(2), None);
-    assert_eq!(rt; tree.watchers(2), [1].as_slice());
-    assert!(rt; tree.watchers(1).is_empty());
-    assert!(rt; tree.watchers(3).is_empty());
+    watch_it(&rt, tree, 2, &[1]);
+    watch_it(&rt, tree, 1, &[]);
+    watch_it(&rt, tree, 3, &[]);
     assert_eq!(rt; tree.free_entries(), 999_996);
     assert_eq!(rt; tree.journal().len(), 4);
     Ok(())
 }
 
-// Whether the call is plain, or is none.
-fn is_plain(call: Result<Call, Refusal>) -> Result<bool, Refusal> {
-    Ok(call?.is_plain())
+// The call is plain, or one that pipes are for, as wanted.
+fn is_plain(rt: &impl Abort, call: Result<Call, Refusal>, wanted: bool) {
+    match call {
+        Ok(call) => assert_eq!(rt; call.is_plain(), wanted),
+        Err(refusal) => assert!(rt; false, "{refusal:?}"),
+    }
 }
 
 #[test]
 fn plain_calls(rt: HostRuntime) -> Result<(), Fail> {
     let alloc = rt.alloc();
-    assert!(rt; is_plain(mkdir(alloc, "/d"))?);
-    assert!(rt; is_plain(init(1))?);
-    assert!(rt; !is_plain(init_piped(1))?);
-    assert!(rt; is_plain(watch(alloc, 1, "/d", 1))?);
-    assert!(rt; is_plain(unwatch(1, 1))?);
-    assert!(rt; is_plain(read(1, 1))?);
-    assert!(rt; !is_plain(pump(1, 1))?);
-    assert!(rt; is_plain(close(1))?);
+    is_plain(&rt, mkdir(alloc, "/d"), true);
+    is_plain(&rt, init(1), true);
+    is_plain(&rt, init_piped(1), false);
+    is_plain(&rt, watch(alloc, 1, "/d", 1), true);
+    is_plain(&rt, unwatch(1, 1), true);
+    is_plain(&rt, read(1, 1), true);
+    is_plain(&rt, pump(1, 1), false);
+    is_plain(&rt, close(1), true);
     Ok(())
 }

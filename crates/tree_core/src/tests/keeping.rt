@@ -14,7 +14,7 @@ fn kept(state: &mut State, call: &Call) -> Result<(Receipt, Kept), Refusal> {
     }
 }
 
-// What is kept of the call is the last entry of the journal, at the receipt's place.
+// Whether what is kept of the call is the last entry of the journal, at the receipt's place.
 fn is_as_journaled(state: &State, receipt: &Receipt, kept: &Kept) -> bool {
     receipt.place == state.journal().len() as u64
         && kept.place == receipt.place
@@ -22,20 +22,18 @@ fn is_as_journaled(state: &State, receipt: &Receipt, kept: &Kept) -> bool {
         && is_last(state, &kept.call, &kept.reply)
 }
 
-// The call gives the same in both trees, and what is kept of it is its entry.
-fn keeps(
-    rt: &impl Abort,
-    trees: &mut (State, State),
-    call: Result<Call, Refusal>,
-) -> Result<(), Refusal> {
+// Whether the call gives the same in both trees, and what is kept of it is its entry.
+fn is_kept(trees: &mut (State, State), call: Result<Call, Refusal>) -> Result<bool, Refusal> {
     let call = call?;
     let receipt = made(&mut trees.0, &call)?;
     let (given, kept) = kept(&mut trees.1, &call)?;
-    assert_eq!(rt; given, receipt);
-    assert_eq!(rt; kept.call, call);
-    assert!(rt; is_as_journaled(&trees.1, &given, &kept));
+    Ok(given == receipt && kept.call == call && is_as_journaled(&trees.1, &given, &kept))
+}
+
+// The call gives the same in both trees, what is kept of it is its entry, and as many records wait.
+fn keeps(rt: &impl Abort, trees: &mut (State, State), call: Result<Call, Refusal>) {
+    assert_eq!(rt; is_kept(trees, call), Ok(true));
     assert_eq!(rt; trees.0.waiting(1), trees.1.waiting(1));
-    Ok(())
 }
 
 // Two trees of the root alone.
@@ -49,19 +47,19 @@ fn pair(alloc: Global) -> Result<(State, State), Refusal> {
 fn calls_on_files_are_kept(rt: HostRuntime) -> Result<(), Fail> {
     let alloc = rt.alloc();
     let trees = &mut pair(alloc)?;
-    keeps(&rt, trees, mkdir(alloc, "/d"))?;
-    keeps(&rt, trees, create(alloc, "/d/f"))?;
-    keeps(&rt, trees, write(alloc, "/d/f", 0, b"abc"))?;
-    keeps(&rt, trees, read_file(alloc, "/d/f", 1, 9))?;
-    keeps(&rt, trees, truncate(alloc, "/d/f", 1))?;
-    keeps(&rt, trees, chmod(alloc, "/d", 0o700))?;
-    keeps(&rt, trees, link(alloc, "/d/f", "/g"))?;
-    keeps(&rt, trees, list(alloc, "/"))?;
-    keeps(&rt, trees, unlink(alloc, "/d/f"))?;
-    keeps(&rt, trees, rename(alloc, "/g", "/h"))?;
-    keeps(&rt, trees, stat(alloc, "/h"))?;
-    keeps(&rt, trees, rmdir(alloc, "/d"))?;
-    keeps(&rt, trees, rmdir(alloc, "/d"))?;
+    keeps(&rt, trees, mkdir(alloc, "/d"));
+    keeps(&rt, trees, create(alloc, "/d/f"));
+    keeps(&rt, trees, write(alloc, "/d/f", 0, b"abc"));
+    keeps(&rt, trees, read_file(alloc, "/d/f", 1, 9));
+    keeps(&rt, trees, truncate(alloc, "/d/f", 1));
+    keeps(&rt, trees, chmod(alloc, "/d", 0o700));
+    keeps(&rt, trees, link(alloc, "/d/f", "/g"));
+    keeps(&rt, trees, list(alloc, "/"));
+    keeps(&rt, trees, unlink(alloc, "/d/f"));
+    keeps(&rt, trees, rename(alloc, "/g", "/h"));
+    keeps(&rt, trees, stat(alloc, "/h"));
+    keeps(&rt, trees, rmdir(alloc, "/d"));
+    keeps(&rt, trees, rmdir(alloc, "/d"));
     Ok(())
 }
 
@@ -69,19 +67,19 @@ fn calls_on_files_are_kept(rt: HostRuntime) -> Result<(), Fail> {
 fn calls_of_instances_are_kept(rt: HostRuntime) -> Result<(), Fail> {
     let alloc = rt.alloc();
     let trees = &mut pair(alloc)?;
-    keeps(&rt, trees, init(10))?;
-    keeps(&rt, trees, init_piped(10))?;
-    keeps(&rt, trees, watch(alloc, 1, "/", 0xfff))?;
-    keeps(&rt, trees, watch(alloc, 2, "/", 0x100))?;
-    keeps(&rt, trees, create(alloc, "/f"))?;
-    keeps(&rt, trees, read(1, 64))?;
-    keeps(&rt, trees, pump(1, 64))?;
-    keeps(&rt, trees, pump(2, 64))?;
-    keeps(&rt, trees, unwatch(1, 1))?;
-    keeps(&rt, trees, read(1, ALL))?;
-    keeps(&rt, trees, read(1, ALL))?;
-    keeps(&rt, trees, close(1))?;
-    keeps(&rt, trees, close(1))?;
+    keeps(&rt, trees, init(10));
+    keeps(&rt, trees, init_piped(10));
+    keeps(&rt, trees, watch(alloc, 1, "/", 0xfff));
+    keeps(&rt, trees, watch(alloc, 2, "/", 0x100));
+    keeps(&rt, trees, create(alloc, "/f"));
+    keeps(&rt, trees, read(1, 64));
+    keeps(&rt, trees, pump(1, 64));
+    keeps(&rt, trees, pump(2, 64));
+    keeps(&rt, trees, unwatch(1, 1));
+    keeps(&rt, trees, read(1, ALL));
+    keeps(&rt, trees, read(1, ALL));
+    keeps(&rt, trees, close(1));
+    keeps(&rt, trees, close(1));
     Ok(())
 }
 
@@ -111,59 +109,56 @@ fn spelled_by(alloc: Global, events: &Option<Events>) -> Result<Option<Reply>, R
     Ok(Some(Reply::Records(Bytes::from_vec(bytes))))
 }
 
-// The pump answers what is wanted, with the records that the answer spells.
-fn pumps(
-    rt: &impl Abort,
+// What the pump answers, where the journal has it so, and the reply that spells its records.
+fn pumping(
     state: &mut State,
     alloc: Global,
-    call: (u32, u32),
-    wanted: Result<Reply, Refusal>,
-) -> Result<(), Refusal> {
-    let (receipt, kept, events) = pumped(state, call.0, call.1)?;
-    assert!(rt; is_as_journaled(state, &receipt, &kept));
-    assert_eq!(rt; kept.call, pump(call.0, call.1)?);
-    assert_eq!(rt; receipt.reply, wanted?);
-    if let Some(reply) = spelled_by(alloc, &events)? {
-        assert_eq!(rt; reply, receipt.reply);
-    } else {
-        assert!(rt; matches!(receipt.reply, Reply::Refused(_)));
+    id: u32,
+    bytes: u32,
+) -> Result<(Reply, Option<Reply>, bool), Refusal> {
+    let (receipt, kept, events) = pumped(state, id, bytes)?;
+    let is_journaled = is_as_journaled(state, &receipt, &kept) && kept.call == pump(id, bytes)?;
+    let spelled = spelled_by(alloc, &events)?;
+    Ok((receipt.reply, spelled, is_journaled))
+}
+
+// The pump answers what is wanted, with the records that the answer spells.
+fn pumps(rt: &impl Abort, state: &mut State, alloc: Global, room: (u32, u32), lines: &[Record]) {
+    match pumping(state, alloc, room.0, room.1) {
+        Ok((reply, spelled, is_journaled)) => {
+            assert_eq!(rt; spelled, Some(reply));
+            assert_eq!(rt; spelled.ok_or(Refusal::Eagain), records(alloc, lines));
+            assert!(rt; is_journaled);
+        }
+        Err(refusal) => assert!(rt; false, "{refusal:?}"),
     }
-    Ok(())
 }
 
 // The pump is refused so, and gives no records.
 fn refuses_to_pump(
     rt: &impl Abort,
     state: &mut State,
-    call: (u32, u32),
+    alloc: Global,
+    room: (u32, u32),
     refusal: Refusal,
-) -> Result<(), Refusal> {
-    let (receipt, kept, events) = pumped(state, call.0, call.1)?;
-    assert!(rt; events.is_none());
-    assert_eq!(rt; receipt.reply, Reply::Refused(refusal));
-    assert!(rt; is_as_journaled(state, &receipt, &kept));
-    Ok(())
+) {
+    let told = pumping(state, alloc, room.0, room.1);
+    assert_eq!(rt; told, Ok((Reply::Refused(refusal), None, true)));
 }
 
 #[test]
 fn pumps_move_records(rt: HostRuntime) -> Result<(), Fail> {
     let alloc = rt.alloc();
     let tree = &mut opened(alloc, Limits::full())?;
-    does(tree, init_piped(10))?;
-    does(tree, watch(alloc, 1, "/", 0x10c))?;
-    does(tree, create(alloc, "/f"))?;
-    does(tree, chmod(alloc, "/", 0o700))?;
+    does(&rt, tree, init_piped(10));
+    does(&rt, tree, watch(alloc, 1, "/", 0x10c));
+    does(&rt, tree, create(alloc, "/f"));
+    does(&rt, tree, chmod(alloc, "/", 0o700));
     let first = [(1, 0x100, 0, "f"), (1, 0x8, 0, "f")];
-    pumps(&rt, tree, alloc, (1, 79), records(alloc, &first))?;
-    assert_eq!(rt; tree.waiting(1), Some(1));
-    pumps(
-        &rt,
-        tree,
-        alloc,
-        (1, ALL),
-        records(alloc, &[(1, 0x4000_0004, 0, "")]),
-    )?;
-    assert_eq!(rt; tree.waiting(1), Some(0));
+    pumps(&rt, tree, alloc, (1, 79), &first);
+    waits(&rt, tree, 1, 1);
+    pumps(&rt, tree, alloc, (1, ALL), &[(1, 0x4000_0004, 0, "")]);
+    waits(&rt, tree, 1, 0);
     assert_eq!(rt; tree.journal().len(), 6);
     Ok(())
 }
@@ -172,76 +167,82 @@ fn pumps_move_records(rt: HostRuntime) -> Result<(), Fail> {
 fn refused_pumps_move_nothing(rt: HostRuntime) -> Result<(), Fail> {
     let alloc = rt.alloc();
     let tree = &mut opened(alloc, Limits::full())?;
-    does(tree, init_piped(10))?;
-    does(tree, init(10))?;
-    does(tree, watch(alloc, 1, "/", 0x100))?;
-    refuses_to_pump(&rt, tree, (1, ALL), Refusal::Eagain)?;
-    refuses_to_pump(&rt, tree, (2, ALL), Refusal::NotPiped)?;
-    refuses_to_pump(&rt, tree, (3, ALL), Refusal::Ebadf)?;
-    does(tree, create(alloc, "/f"))?;
-    refuses_to_pump(&rt, tree, (1, 31), Refusal::Einval)?;
-    assert_eq!(rt; tree.waiting(1), Some(1));
-    pumps(
-        &rt,
-        tree,
-        alloc,
-        (1, 32),
-        records(alloc, &[(1, 0x100, 0, "f")]),
-    )?;
-    refuses_to_pump(&rt, tree, (1, 32), Refusal::Eagain)?;
+    does(&rt, tree, init_piped(10));
+    does(&rt, tree, init(10));
+    does(&rt, tree, watch(alloc, 1, "/", 0x100));
+    refuses_to_pump(&rt, tree, alloc, (1, ALL), Refusal::Eagain);
+    refuses_to_pump(&rt, tree, alloc, (2, ALL), Refusal::NotPiped);
+    refuses_to_pump(&rt, tree, alloc, (3, ALL), Refusal::Ebadf);
+    does(&rt, tree, create(alloc, "/f"));
+    refuses_to_pump(&rt, tree, alloc, (1, 31), Refusal::Einval);
+    waits(&rt, tree, 1, 1);
+    pumps(&rt, tree, alloc, (1, 32), &[(1, 0x100, 0, "f")]);
+    refuses_to_pump(&rt, tree, alloc, (1, 32), Refusal::Eagain);
     Ok(())
 }
 
-// The call and its copy are equal.
-fn copies(rt: &impl Abort, call: Result<Call, Refusal>) -> Result<(), Refusal> {
+// Whether the call and its copy are equal.
+fn is_copied(call: Result<Call, Refusal>) -> Result<bool, Refusal> {
     let call = call?;
-    let copy = copied(&call)?;
-    assert_eq!(rt; copy, call);
-    Ok(())
+    Ok(copied(&call)? == call)
+}
+
+// The call and its copy are equal.
+fn copies(rt: &impl Abort, call: Result<Call, Refusal>) {
+    assert_eq!(rt; is_copied(call), Ok(true));
+}
+
+// The calls are not equal.
+fn differ(rt: &impl Abort, first: Result<Call, Refusal>, second: Result<Call, Refusal>) {
+    assert!(rt; first != second);
 }
 
 #[test]
 fn copies_of_calls(rt: HostRuntime) -> Result<(), Fail> {
     let alloc = rt.alloc();
-    copies(&rt, rename(alloc, "/a/b", "/c"))?;
-    copies(&rt, write(alloc, "/a", 5, b"xy"))?;
-    copies(&rt, init(1))?;
-    copies(&rt, init_piped(2))?;
-    copies(&rt, watch(alloc, 1, "/a/b", 3))?;
-    copies(&rt, unwatch(1, -1))?;
-    copies(&rt, read(1, 2))?;
-    copies(&rt, pump(1, 2))?;
-    copies(&rt, close(1))?;
-    assert!(rt; read(1, 2)? != pump(1, 2)?);
-    assert!(rt; init(2)? != init_piped(2)?);
+    copies(&rt, rename(alloc, "/a/b", "/c"));
+    copies(&rt, write(alloc, "/a", 5, b"xy"));
+    copies(&rt, init(1));
+    copies(&rt, init_piped(2));
+    copies(&rt, watch(alloc, 1, "/a/b", 3));
+    copies(&rt, unwatch(1, -1));
+    copies(&rt, read(1, 2));
+    copies(&rt, pump(1, 2));
+    copies(&rt, close(1));
+    differ(&rt, read(1, 2), pump(1, 2));
+    differ(&rt, init(2), init_piped(2));
     Ok(())
 }
 
-// The reply and its copy are equal.
-fn copies_reply(rt: &impl Abort, reply: Result<Reply, Refusal>) -> Result<(), Refusal> {
+// Whether the reply and its copy are equal.
+fn is_copied_reply(reply: Result<Reply, Refusal>) -> Result<bool, Refusal> {
     let reply = reply?;
     let copy = match reply.copy() {
-        Err(Refusal::Enomem) => reply.copy()?,
-        copy => copy?,
+        Err(Refusal::Enomem) => reply.copy(),
+        copy => copy,
     };
-    assert_eq!(rt; copy, reply);
-    Ok(())
+    Ok(copy? == reply)
+}
+
+// The reply and its copy are equal.
+fn copies_reply(rt: &impl Abort, reply: Result<Reply, Refusal>) {
+    assert_eq!(rt; is_copied_reply(reply), Ok(true));
 }
 
 #[test]
 fn copies_of_replies(rt: HostRuntime) -> Result<(), Fail> {
     let alloc = rt.alloc();
-    copies_reply(&rt, filed())?;
-    copies_reply(&rt, number(2))?;
-    copies_reply(&rt, count(3))?;
-    copies_reply(&rt, file(2, 0o644, 1, 5))?;
-    copies_reply(&rt, contents(alloc, b"abc"))?;
-    copies_reply(&rt, names(alloc, "/a/b"))?;
-    copies_reply(&rt, instance(1))?;
-    copies_reply(&rt, wd(1))?;
-    copies_reply(&rt, records(alloc, &[(1, 0x100, 0, "f")]))?;
-    copies_reply(&rt, done())?;
-    copies_reply(&rt, Ok(Reply::Refused(Refusal::Eagain)))?;
-    assert!(rt; number(2)? != count(2)?);
+    copies_reply(&rt, filed());
+    copies_reply(&rt, number(2));
+    copies_reply(&rt, count(3));
+    copies_reply(&rt, file(2, 0o644, 1, 5));
+    copies_reply(&rt, contents(alloc, b"abc"));
+    copies_reply(&rt, names(alloc, "/a/b"));
+    copies_reply(&rt, instance(1));
+    copies_reply(&rt, wd(1));
+    copies_reply(&rt, records(alloc, &[(1, 0x100, 0, "f")]));
+    copies_reply(&rt, done());
+    copies_reply(&rt, Ok(Reply::Refused(Refusal::Eagain)));
+    assert!(rt; number(2) != count(2));
     Ok(())
 }
