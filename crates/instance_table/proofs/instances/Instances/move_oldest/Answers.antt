@@ -21,7 +21,7 @@ returns-in_default-clause-records c =
     let a = c.self.inside in
     let none : instance_of (instances_of a) c.args.id ≡ None = get-from_map a.opened c.args.id ∙ sym c.in_default.ensures.value in
     let nothing : take c.args.count (waiting_of (instance_of c.args.self.now c.args.id)) ≡ [] =
-        ap (λ o. take c.args.count (waiting_of o)) (ap (λ m. instance_of m c.args.id) (sym c.self.view_is) ∙ none) ∙ take-nil c.args.count in
+    ap (λ o. take c.args.count (waiting_of o)) (ap (λ m. instance_of m c.args.id) (sym c.self.view_is) ∙ none) ∙ take-nil c.args.count in
     sym (ap (λ es. c.args.records.now.items ++ es) nothing ∙ append-nil c.args.records.now.items)
 
 pub invariant_of-self-2 : goal.invariant_of-self-2
