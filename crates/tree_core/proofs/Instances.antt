@@ -5,7 +5,7 @@ use Rattle.std.proofs.lemmas.Bool.Decides.{nat_tests}
 use Rattle.std.proofs.lemmas.Grind.{flat_map-append}
 use Rattle.std.proofs.lemmas.List.{append-nil, take_more}
 use Rattle.std.proofs.lemmas.Option.{get_or_from_slice_get, slice_get_within}
-use Rattle.std.specs.Prelude.{◌⊎◌, Result, Ok, Err, IsSome, IfSome, option_copied, slice_get, IfOk, IfErr, OnOk, OnErr}
+use Rattle.std.specs.Prelude.{◌⊎◌, IsSome, IfSome, option_copied, slice_get}
 use Rattle.std.specs.FinMap as finmap
 use Rattle.std.specs.FinMap.{get-empty, get-insert, get-remove}
 use Rattle.std.specs.Cmp.{nat_cmp_total, unsigned_tied}
@@ -30,7 +30,6 @@ use Rattle.instance_table.specs.Instances.{Instances, instance_of, changed, chan
 use Rattle.tree_core.specs.declared.machine.Machine.{Machine}
 use Rattle.tree_core.specs.declared.reply.Reply.TheVariants as reply
 use Rattle.tree_core.specs.Machines.{IsMachineOf}
-use Rattle.tree_core.specs.Sound.{IsCounted}
 use Rattle.tree_core.specs.Tree.{Tree, init_rows, add_watch_rows, seen_fault, read_rows, watch_answer, number_seen, after_add_watch}
 
 -- ---- which instances are open after a change

@@ -1,5 +1,5 @@
 -- What a tree answers to each call, and what it is after it.
-use Rattle.std.specs.Prelude.{ℕ, ℤ, ◌+◌, Bool, true, false, not, ◌||◌, List, [], ◌∷◌, Option, Some, None, is_none, length, take, nat_lt, nat_le, ◌==◌, if◌then◌else◌}
+use Rattle.std.specs.Prelude.{ℕ, ℤ, ◌+◌, Bool, true, false, ◌||◌, List, [], ◌∷◌, Option, Some, None, is_none, length, take, nat_lt, nat_le, ◌==◌, if◌then◌else◌}
 use Rattle.std.specs.FinMap as finmap
 use Rattle.record_codec.specs.Records.{spelling}
 use Rattle.tree_paths.specs.Greatest.{most_cookies}

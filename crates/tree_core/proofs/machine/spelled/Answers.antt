@@ -1,5 +1,5 @@
-use Rattle.std.proofs.Common.{sym, ap, ◌∙◌, ◌++◌, subst, take}
-use Rattle.record_codec.specs.Records.{record_bytes, AreEvents}
+use Rattle.std.proofs.Common.{sym, ap, ◌∙◌, ◌++◌}
+use Rattle.record_codec.specs.Records.{record_bytes}
 use Rattle.tree_core.proofs.Instances.{spelling_more, events_more}
 use Rattle.tree_core.proofs.machine.spelled.Goals as goal
 

@@ -1,4 +1,4 @@
-use Rattle.std.proofs.Common.{arith, ap, ◌∙◌, refl, None}
+use Rattle.std.proofs.Common.{arith, ap, refl, None}
 use Rattle.tree_core.specs.declared.call.Call.TheVariants as call
 use Rattle.tree_core.specs.declared.reply.Reply.TheVariants as reply
 use Rattle.instance_table.specs.Instances.{new_instance}

@@ -1,4 +1,4 @@
-use Rattle.std.proofs.Common.{◌≡◌, is_some, ap, sym, subst, ◌∙◌, refl, None, Some, IsSome, true, option_map}
+use Rattle.std.proofs.Common.{◌≡◌, is_some, ap, sym, ◌∙◌, refl, None, true, option_map}
 use Rattle.tree_paths.specs.Rows.{first_row}
 use Rattle.tree_core.specs.declared.call.Call.TheVariants as call
 use Rattle.instance_table.specs.Instances.{instance_of, changed}
