@@ -1,0 +1,29 @@
+//! Any sink, in a box.
+
+use crate::fault::SinkFault;
+use crate::sink::Sink;
+use record_codec::Event;
+
+impl Sink for Box<dyn Sink> {
+    ghost record_list = { λ b. (Sink-box b).record_list b.value };
+
+    ghost live = { λ b. (Sink-box b).live b.value };
+
+    ghost full = { λ b. (Sink-box b).full b.value };
+
+    fn put(&mut self, event: &Event) -> Result<(), SinkFault> {
+        (**self).put(event)
+    }
+
+    fn close(&mut self) {
+        (**self).close()
+    }
+
+    fn is_open(&self) -> bool {
+        (**self).is_open()
+    }
+
+    fn taken(&self) -> u64 {
+        (**self).taken()
+    }
+}

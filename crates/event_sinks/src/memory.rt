@@ -1,0 +1,69 @@
+//! A sink that keeps the records that it took.
+
+ghost use Rattle.std.specs.Prelude.{◌≡◌, ◌++◌, [], ◌∷◌, true, false, IfErr, OnOk, OnErr};
+ghost use Rattle.event_sinks.specs.Sinks.{taking};
+ghost use Rattle.event_sinks.specs.declared.fault.SinkFault.TheVariants.{Memory};
+
+use crate::fault::SinkFault;
+use crate::sink::Sink;
+use record_codec::Event;
+use std::alloc::Global;
+use std::marker::Model;
+
+/// Keeps a copy of each record.
+#[derive(Drop)]
+pub struct MemorySink {
+    records: Vec<Event>,
+    open: bool,
+}
+
+impl Model for MemorySink {
+    ghost use Rattle.event_sinks.specs.Sinks.{Taking, taking};
+
+    ghost Value = { Taking };
+
+    ghost view = { λ s. taking s.records.items s.open };
+}
+
+impl MemorySink {
+    /// An open sink that took nothing. It takes no memory yet.
+    pub fn new(alloc: Global) -> MemorySink
+        ensures { result ≡ taking [] true }
+    {
+        MemorySink {
+            records: Vec::new(alloc),
+            open: true,
+        }
+    }
+}
+
+impl Sink for MemorySink {
+    ghost record_list = { λ s. s.records };
+
+    ghost live = { λ s. s.live };
+
+    ghost full = { λ _. false };
+
+    fn put(&mut self, event: &Event) -> Result<(), SinkFault>
+        requires { self.old.live ≡ true }
+        ensures ok { OnOk result (self.new ≡ taking (self.old.records ++ event.now ∷ []) true) }
+        ensures err { OnErr result (self.new ≡ self.old) }
+        ensures memory { IfErr result (λ fault. fault ≡ Memory) }
+    {
+        let copy = event.copy()?;
+        self.records.push(copy)?;
+        Ok(())
+    }
+
+    fn close(&mut self) {
+        self.open = false;
+    }
+
+    fn is_open(&self) -> bool {
+        self.open
+    }
+
+    fn taken(&self) -> u64 {
+        self.records.len() as u64
+    }
+}

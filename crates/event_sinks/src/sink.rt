@@ -1,0 +1,47 @@
+//! What takes records.
+
+ghost use Rattle.std.specs.Prelude.{◌≡◌, ◌↔◌, ◌++◌, [], ◌∷◌, Bool, true, false, List, Err, length, IsTrue, OnOk, OnErr};
+ghost use Rattle.record_codec.specs.declared.event.Event.{Event};
+ghost use Rattle.event_sinks.specs.declared.fault.SinkFault.TheVariants.{Full};
+
+use crate::fault::SinkFault;
+use record_codec::Event;
+
+/// What takes records, one after another, until it is closed.
+///
+/// A sink that is dropped while it is open closes.
+pub trait Sink: Send + Drop {
+    /// The records that it took, the oldest first.
+    ghost record_list: { Self → List Event };
+
+    /// Whether it is open.
+    ghost live: { Self → Bool };
+
+    /// Whether it takes no more records, though it is open.
+    ghost full: { Self → Bool };
+
+    /// Takes a copy of the record.
+    ///
+    /// # Errors
+    /// The sink's own; `Full` exactly where it takes no more records. It has then taken nothing, and is still open.
+    fn put(&mut self, event: &Event) -> Result<(), SinkFault>
+        requires { live self.old ≡ true }
+        ensures ok { OnOk result (record_list self.new ≡ record_list self.old ++ event.now ∷ []) }
+        ensures err { OnErr result (record_list self.new ≡ record_list self.old) }
+        ensures stays { live self.new ≡ true }
+        ensures full { (result ≡ Err Full) ↔ IsTrue (full self.old) };
+
+    /// Ends it: it takes no more records.
+    fn close(&mut self)
+        requires { live self.old ≡ true }
+        ensures list { record_list self.new ≡ record_list self.old }
+        ensures closed { live self.new ≡ false };
+
+    /// Whether it is open.
+    fn is_open(&self) -> bool
+        ensures { result ≡ live self.now };
+
+    /// How many records it took.
+    fn taken(&self) -> u64
+        ensures { result ≡ length (record_list self.now) };
+}

@@ -1,0 +1,5 @@
+pub mod Pipes
+pub mod Steps
+pub mod Keeping
+pub mod EachEntry
+pub mod Answered

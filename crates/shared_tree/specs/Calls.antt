@@ -1,0 +1,61 @@
+-- What contracts see of a tree behind a lock, and what a call by a seat does to it.
+use Rattle.std.specs.Prelude.{◌≡◌, ◌<◌, ◌≤◌, ◌⊎◌, ℕ, List, [], ◌∷◌, ◌++◌, Option, Some, None, IsTrue, length}
+use Rattle.tree_paths.specs.declared.refusal.Refusal.{Refusal}
+use Rattle.tree_paths.specs.declared.refusal.Refusal.TheVariants.{Enomem, JournalFull, PipeFull}
+use Rattle.instance_table.specs.declared.instance.Instance.{Instance}
+use Rattle.instance_table.specs.Instances.{instance_of}
+use Rattle.tree_core.specs.declared.call.Call.{Call}
+use Rattle.tree_core.specs.declared.call.Call.TheVariants as call
+use Rattle.tree_core.specs.declared.reply.Receipt.{Receipt}
+use Rattle.tree_core.specs.Tree.{Tree, reply_of}
+use Rattle.tree_core.specs.Journal.{Journaled, now, with_entry}
+use Rattle.shared_tree.specs.declared.pipe.Batch.{Batch}
+use Rattle.shared_tree.specs.Seats.{Seated, seated}
+use Rattle.shared_tree.specs.Handed.{handed_all}
+
+-- the tree with its journal, what each pipe was sent in the order in which the pipes were made, and the ledger's total
+pub record Holding : Type 0 where
+  pub state : Journaled
+  pub sent : List (List Batch)
+  pub total : ℕ
+
+abbrev pub holding : Journaled → List (List Batch) → ℕ → Holding
+holding state sent total = record { state = state; sent = sent; total = total }
+
+-- each pipe was sent what the journal hands to its instance
+abbrev pub IsSent : Holding → Type 0
+IsSent h = h.sent ≡ handed_all h.state.limits h.state.entries
+
+-- a call by a seat is one entry more, under the seat's number and with the reply of the tree before it. The seat keeps
+-- this one call more
+pub record Enters (old : Journaled) (seat : Seated) (c : Call) (new : Journaled) (left : Seated) (r : Receipt) : Type 0 where
+  pub entry : new ≡ with_entry old (record { caller = seat.number; call = c; reply = r.reply })
+  pub reply : r.reply ≡ reply_of (now old) c
+  pub place : r.place ≡ length new.entries
+  pub kept : left ≡ seated seat.number (seat.kept ++ record { place = r.place; call = c; reply = r.reply } ∷ [])
+
+abbrev pub HasPipe : Option Instance → Type 0
+HasPipe None = ⊥
+HasPipe (Some i) = IsTrue i.is_piped
+
+-- the call hands something to the pipe of an open instance: it is a pump or a close of one that has a pipe
+abbrev pub IsForPipe : Tree → Call → Type 0
+IsForPipe t (call.Pump id bytes) = HasPipe (instance_of t.instances id)
+IsForPipe t (call.Close id) = HasPipe (instance_of t.instances id)
+IsForPipe t _ = ⊥
+
+-- the journal is full; or it is not, and there is no memory
+abbrev pub IsUnable : Journaled → Refusal → Type 0
+IsUnable old e = ((e ≡ JournalFull) × (old.limits.journal ≤ length old.entries)) ⊎ ((e ≡ Enomem) × (length old.entries < old.limits.journal))
+
+-- why a call is not carried out. A pipe without a free place is looked for first
+abbrev pub IsWhyNot : Journaled → Call → Refusal → Type 0
+IsWhyNot old c e = ((e ≡ PipeFull) × IsForPipe (now old) c) ⊎ IsUnable old e
+
+-- what contracts see of a journal that has ended: its limits and entries, the number of these, the numbers of its pipes,
+-- and what each was sent
+pub record Bound : Type 0 where
+  pub state : Journaled
+  pub entries : ℕ
+  pub pipes : List ℕ
+  pub sent : List (List Batch)

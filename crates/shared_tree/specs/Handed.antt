@@ -1,0 +1,68 @@
+-- What a journal hands to the pipes of its instances.
+use Rattle.std.specs.Prelude.{◌≡◌, ℕ, ◌+◌, true, List, [], ◌∷◌, ◌++◌, Option, Some, None, option_map, map}
+use Rattle.std.specs.List.{AllByRecursion}
+use Rattle.record_codec.specs.declared.event.Event.{Event}
+use Rattle.record_codec.specs.Records.{AreEvents, spelling}
+use Rattle.tree_paths.specs.declared.limits.Limits.{Limits}
+use Rattle.tree_core.specs.declared.call.Call.{Call}
+use Rattle.tree_core.specs.declared.call.Call.TheVariants as call
+use Rattle.tree_core.specs.declared.reply.Entry.{Entry}
+use Rattle.tree_core.specs.declared.reply.Reply.{Reply}
+use Rattle.tree_core.specs.declared.reply.Reply.TheVariants as reply
+use Rattle.tree_core.specs.Tree.{Tree, opening, reply_of, after}
+use Rattle.tree_core.specs.Histories.{pumped, where_same}
+use Rattle.shared_tree.specs.declared.pipe.Batch.{Batch}
+
+abbrev pub batch : ℕ → ℕ → List Event → Batch
+batch instance place records = record { instance = instance; place = place; records = records }
+
+abbrev pub where_done : Reply → Batch → Option Batch
+where_done reply.Done b = Some b
+where_done _ b = None
+
+-- the batch that a call at a place of the journal hands over: the records of a pump, or the end batch, which has none,
+-- of a close. A refused call hands over nothing
+abbrev pub handed_by : Tree → ℕ → Call → Option Batch
+handed_by t place (call.Pump id bytes) = option_map (batch id place) (pumped t id bytes)
+handed_by t place (call.Close id) = where_done (reply_of t (call.Close id)) (batch id place [])
+handed_by t place _ = None
+
+-- that batch, where it is the instance's
+abbrev pub hands : Option Batch → ℕ → List Batch
+hands None id = []
+hands (Some b) id = where_same b.instance id (b ∷ [])
+
+abbrev pub handed_from : Tree → ℕ → List Entry → ℕ → List Batch
+handed_from t place [] id = []
+handed_from t place (e ∷ es) id = hands (handed_by t place e.call) id ++ handed_from (after t e.call) (place + 1) es id
+
+-- what a journal hands to an instance, in order. Places run from 1
+unfoldable pub handed : Limits → List Entry → ℕ → List Batch
+handed limits es id = handed_from (opening limits) 1 es id
+
+-- the number of the instance with a pipe that an entry made
+abbrev pub piped_by : Call → Reply → List ℕ
+piped_by (call.Init limit true) (reply.Instance id) = id ∷ []
+piped_by _ _ = []
+
+-- the numbers of all instances with a pipe that a journal made, in order
+abbrev pub piped_of : List Entry → List ℕ
+piped_of [] = []
+piped_of (e ∷ es) = piped_by e.call e.reply ++ piped_of es
+
+-- what a journal hands to each of these
+abbrev pub handed_all : Limits → List Entry → List (List Batch)
+handed_all limits es = map (handed limits es) (piped_of es)
+
+-- each batch is of events, whose values fit their types
+abbrev pub AreOfEvents : List Batch → Type 0
+AreOfEvents bs = AllByRecursion (λ b. AreEvents b.records) bs
+
+-- the call that handed a batch over answered so: a pump answered the bytes of its records, and a close was done
+abbrev pub IsAnswered : Call → Reply → Batch → Type 0
+IsAnswered (call.Pump id bytes) r b = (b.instance ≡ id) × (r ≡ reply.Records (spelling b.records))
+IsAnswered (call.Close id) r b = (b.instance ≡ id) × (b.records ≡ []) × (r ≡ reply.Done)
+IsAnswered _ r b = ⊥
+
+abbrev pub BatchesAreAnswered : Type 0
+BatchesAreAnswered = (t : Tree) (place : ℕ) (c : Call) (b : Batch) → handed_by t place c ≡ Some b → (b.place ≡ place) × IsAnswered c (reply_of t c) b

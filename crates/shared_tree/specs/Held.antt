@@ -1,0 +1,109 @@
+-- What the value behind the lock keeps, and what its own functions say to one another.
+use Rattle.std.specs.Prelude.{◌≡◌, ◌≢◌, ◌<◌, ◌≤◌, ◌+◌, ◌↔◌, ◌⊎◌, ⊤, ℕ, zero, suc, List, [], ◌∷◌, ◌++◌, Option, Some, None, IsSome, IsTrue, length, map, slice_get}
+use Rattle.record_codec.specs.declared.event.Event.{Event}
+use Rattle.instance_table.specs.declared.instance.Instance.{Instance}
+use Rattle.instance_table.specs.Instances.{instance_of}
+use Rattle.tree_core.specs.declared.call.Call.{Call}
+use Rattle.tree_core.specs.declared.call.Call.TheVariants as call
+use Rattle.tree_core.specs.declared.reply.Reply.{Reply}
+use Rattle.tree_core.specs.Tree.{Tree}
+use Rattle.tree_core.specs.Journal.{IsLawful, Journaled, now}
+use Rattle.shared_tree.specs.declared.pipe.Batch.{Batch}
+use Rattle.shared_tree.specs.Pipes.{Piped}
+use Rattle.shared_tree.specs.Handed.{AreOfEvents, batch, handed, handed_all, hands, piped_of, where_done}
+
+-- ---- numbers that rise
+
+-- the numbers rise from the least on, and are below the next
+abbrev pub Rises : ℕ → List ℕ → ℕ → Type 0
+Rises least [] next = least ≤ next
+Rises least (x ∷ xs) next = (least ≤ x) × Rises (x + 1) xs next
+
+abbrev pub IsRising : List ℕ → Type 0
+IsRising ns = (next : ℕ) × Rises 1 ns next
+
+abbrev pub IsIn : List ℕ → ℕ → Type 0
+IsIn [] id = ⊥
+IsIn (n ∷ ns) id = (n ≡ id) ⊎ IsIn ns id
+
+-- no number is this one
+abbrev pub Lacks : List ℕ → ℕ → Type 0
+Lacks [] id = ⊤
+Lacks (n ∷ ns) id = (n ≢ id) × Lacks ns id
+
+-- where the number stands, if it does
+abbrev pub IsPlaceOf : List ℕ → ℕ → Option ℕ → Type 0
+IsPlaceOf ns id None = Lacks ns id
+IsPlaceOf ns id (Some k) = slice_get ns k ≡ Some id
+
+-- ---- pipes, in the order of their numbers
+
+abbrev pub sents : List Piped → List (List Batch)
+sents ps = map (λ p. p.sent) ps
+
+-- one batch more in the pipe at a place
+abbrev pub pushed_at : List (List Batch) → ℕ → Batch → List (List Batch)
+pushed_at [] k b = []
+pushed_at (xs ∷ xss) zero b = (xs ++ b ∷ []) ∷ xss
+pushed_at (xs ∷ xss) (suc k) b = xs ∷ pushed_at xss k b
+
+-- a batch more in the pipe of its instance, where it has one
+abbrev pub deliver : Option Batch → List ℕ → List (List Batch) → List (List Batch)
+deliver o [] xss = []
+deliver o (n ∷ ns) [] = []
+deliver o (n ∷ ns) (xs ∷ xss) = (xs ++ hands o n) ∷ deliver o ns xss
+
+abbrev pub FreeAt : List Piped → ℕ → Type 0
+FreeAt ps k = (p : Piped) × (slice_get ps k ≡ Some p) × (0 < p.free)
+
+abbrev pub HasRoom : List Piped → Option ℕ → Type 0
+HasRoom ps None = ⊤
+HasRoom ps (Some k) = FreeAt ps k
+
+-- the pipe of an instance was looked for, and has room where the instance is open
+abbrev pub IsLooked : List ℕ → List Piped → Tree → Option ℕ → Option ℕ → Type 0
+IsLooked ns ps t None at = ⊤
+IsLooked ns ps t (Some id) at = IsSome (instance_of t.instances id) → IsPlaceOf ns id at × HasRoom ps at
+
+-- the pipe of an instance that is open is full
+abbrev pub IsFilled : List ℕ → Tree → Option ℕ → Type 0
+IsFilled ns t None = ⊥
+IsFilled ns t (Some id) = (i : Instance) × (instance_of t.instances id ≡ Some i) × IsIn ns id
+
+-- the instance that a call closes
+abbrev pub closed_of : Call → Option ℕ
+closed_of (call.Close id) = Some id
+closed_of _ = None
+
+-- the end batch of that instance, where it is closed
+abbrev pub end_of : Option ℕ → ℕ → Reply → Option Batch
+end_of None place r = None
+end_of (Some id) place r = where_done r (batch id place [])
+
+-- a batch can be handed over at this place
+abbrev pub IsReady : List ℕ → List Piped → Option ℕ → Option Batch → Type 0
+IsReady ns ps at None = ⊤
+IsReady ns ps at (Some b) = IsPlaceOf ns b.instance at × HasRoom ps at
+
+-- ---- the locked value
+
+-- the total is the number of entries; the pipes are those of the instances that were made with one, in order, and each
+-- was sent what the journal hands to its instance; the open instances that have a pipe are those with is_piped; an
+-- instance that is still to be made has no pipe and was handed nothing; what was handed are events
+pub record IsHeld (state : Journaled) (numbers : List ℕ) (sent : List (List Batch)) (total : ℕ) : Type 0 where
+  pub counted : total ≡ length state.entries
+  pub piped : numbers ≡ piped_of state.entries
+  pub pushed : sent ≡ handed_all state.limits state.entries
+  pub rises : Rises 1 numbers (now state).next_id
+  pub below : (id : ℕ) (i : Instance) → instance_of (now state).instances id ≡ Some i → id < (now state).next_id
+  pub unmade : (id : ℕ) → (now state).next_id ≤ id → handed state.limits state.entries id ≡ []
+  pub events : (id : ℕ) → AreOfEvents (handed state.limits state.entries id)
+  pub with_pipe : (id : ℕ) (i : Instance) → instance_of (now state).instances id ≡ Some i → IsTrue i.is_piped ↔ IsIn numbers id
+
+-- the same of a journal that has ended
+pub record IsBound (state : Journaled) (entries : ℕ) (pipes : List ℕ) (sent : List (List Batch)) : Type 0 where
+  pub lawful : IsLawful state.limits state.entries
+  pub counted : entries ≡ length state.entries
+  pub piped : pipes ≡ piped_of state.entries
+  pub pushed : sent ≡ handed_all state.limits state.entries
+  pub events : (id : ℕ) → AreOfEvents (handed state.limits state.entries id)

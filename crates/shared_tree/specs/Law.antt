@@ -1,0 +1,40 @@
+-- What holds of the locked tree whenever the lock is free.
+use Rattle.std.specs.Prelude.{◌≡◌, ℕ, List, [], ◌∷◌, ⊤, All}
+use Rattle.record_codec.specs.Records.{spelling}
+use Rattle.tree_paths.specs.declared.refusal.Refusal.{Refusal}
+use Rattle.event_rules.specs.Raised.{event_bit}
+use Rattle.event_rules.specs.Laws.{cookie_for}
+use Rattle.instance_table.specs.Instances.{instance_of}
+use Rattle.tree_core.specs.declared.call.Call.{Call}
+use Rattle.tree_core.specs.declared.reply.Entry.{Entry}
+use Rattle.tree_core.specs.declared.reply.Reply.TheVariants as reply
+use Rattle.tree_core.specs.Tree.{Tree, opening, reply_of, after}
+use Rattle.tree_core.specs.Journal.{Journaled, now}
+use Rattle.tree_core.specs.Histories.{events, joined, raised_by, raised_in, read_in}
+use Rattle.tree_core.specs.QueueLaws.{AreAccountedFor, IsInOrder, bytes_read}
+use Rattle.tree_core.specs.TurnLaws.{AreInTurn, EndsOnce, cookies_in, cookies_used, only}
+
+-- at each entry of a journal this is true of the tree before it and of its call
+abbrev pub AtEach : (Tree → Call → Type 0) → Tree → List Entry → Type 0
+AtEach P t [] = ⊤
+AtEach P t (e ∷ es) = P t e.call × AtEach P (after t e.call) es
+
+-- both events of a move have its cookie, and all others have none
+abbrev pub TiesMoves : Tree → Call → Type 0
+TiesMoves t c = (id : ℕ) → All (λ e. e.cookie ≡ cookie_for (event_bit e.mask) (only (cookies_used t c))) (events (raised_by t c id))
+
+-- a call that is refused leaves the files, the watches and what waits as they were
+abbrev pub RefusedAddsNothing : Tree → Call → Type 0
+RefusedAddsNothing t c = (refusal : Refusal) → reply_of t c ≡ reply.Refused refusal → after t c ≡ t
+
+-- the records that were read of an instance, followed by those that wait, are the events that the journal raises for it,
+-- in order, each once, but for those merged into an equal unread neighbour and those lost behind a mark
+pub record IsTold (s : Journaled) (id : ℕ) : Type 0 where
+  pub order : IsInOrder (read_in (opening s.limits) s.entries id) (joined (raised_in (opening s.limits) s.entries id)) (instance_of (now s).instances id)
+  pub bytes : bytes_read id s.entries ≡ spelling (read_in (opening s.limits) s.entries id)
+  pub accounted : AreAccountedFor (raised_in (opening s.limits) s.entries id)
+
+-- no two renames share a cookie, and only the events of a rename have one
+pub record HasCookiesInTurn (s : Journaled) : Type 0 where
+  pub turn : AreInTurn 1 (cookies_in (opening s.limits) s.entries)
+  pub ties : AtEach TiesMoves (opening s.limits) s.entries

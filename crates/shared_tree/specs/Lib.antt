@@ -1,0 +1,6 @@
+pub mod Pipes
+pub mod Seats
+pub mod Handed
+pub mod Calls
+pub mod Held
+pub mod Law

@@ -1,0 +1,486 @@
+//! What lies under the lock.
+
+ghost use Rattle.std.specs.Prelude.{◌≡◌, ◌+◌, ◌<◌, ◌≤◌, ℕ, [], ◌∷◌, ◌++◌, length, map, vec_len, vec_capacity, option_map, IfOk, IfErr, IfSome, OnOk, OnErr, IsTrue, true, false};
+ghost use Rattle.record_codec.specs.Records.{AreEvents};
+ghost use Rattle.tree_paths.specs.declared.refusal.Refusal.TheVariants.{Enomem, JournalFull, PipeFull};
+ghost use Rattle.instance_table.specs.Instances.{instance_of};
+ghost use Rattle.tree_core.specs.declared.call.Call.TheVariants.{Init, Pump};
+ghost use Rattle.tree_core.specs.Calls.{is_plain};
+ghost use Rattle.tree_core.specs.Histories.{pumped, raised_in};
+ghost use Rattle.tree_core.specs.Journal.{IsLawful, now};
+ghost use Rattle.tree_core.specs.Tree.{opening};
+ghost use Rattle.tree_core.specs.TurnLaws.{EndsOnce};
+ghost use Rattle.shared_tree.specs.Pipes.{feed_of};
+ghost use Rattle.shared_tree.specs.Seats.{passing};
+ghost use Rattle.shared_tree.specs.Handed.{AreOfEvents, batch, handed, handed_all, piped_by, piped_of};
+ghost use Rattle.shared_tree.specs.Calls.{holding, Enters, IsSent, HasPipe, IsUnable, IsWhyNot};
+ghost use Rattle.shared_tree.specs.Law.{AtEach, HasCookiesInTurn, IsTold, RefusedAddsNothing};
+ghost use Rattle.shared_tree.specs.Held.{sents, pushed_at, deliver, closed_of, end_of, FreeAt, IsFilled, IsLooked, IsPlaceOf, IsReady, IsRising};
+
+use crate::book::Book;
+use crate::pipe::{Batch, Feed, Pipe, open_pipe};
+use crate::seat::{Pass, Seat};
+use record_codec::Events;
+use std::alloc::Global;
+use std::marker::Model;
+use std::sync::ledger::{Blank, Ledger};
+use std::sync::{Mutex, ledger};
+use tree_core::{
+    Call, Kept, Receipt, Reply, State, bytes_are_of_records, cookies_are_in_turn,
+    events_are_accounted_for, reads_are_in_order, replies_tell, watches_end_once,
+};
+use tree_paths::{Limits, Refusal};
+
+/// A tree that threads share. It is made and taken apart by `new` and `into_inner`, and a caller takes its lock to make
+/// the calls of [`Held`].
+pub type Tree<L> = Mutex<Held<L>>;
+
+/// A tree of files with its journal, the pipes of its instances, and the number of its entries in a ledger.
+///
+/// Contracts see the tree, what each pipe was sent, and the ledger's total.
+#[derive(Drop)]
+pub struct Held<L: Ledger> {
+    alloc: Global,
+    core: State,
+    numbers: Vec<u32>,
+    pipes: Vec<Pipe>,
+    book: ledger::Book<L>,
+}
+
+impl<L: Ledger> Model for Held<L> {
+    ghost use Rattle.shared_tree.specs.Calls.{Holding, holding};
+    ghost use Rattle.shared_tree.specs.Held.{IsHeld, sents};
+
+    ghost Value = { Holding };
+
+    ghost view = { λ h. holding h.core (sents h.pipes.items) h.book.total };
+
+    ghost invariant = { λ h. IsHeld h.core h.numbers.items (sents h.pipes.items) h.book.total };
+}
+
+// Whether the journal takes one more entry.
+fn check_room(core: &State) -> Result<(), Refusal>
+    ensures free { OnOk result (length core.now.entries < core.now.limits.journal) }
+    ensures errors { IfErr result (λ e. (e ≡ JournalFull) × (core.now.limits.journal ≤ length core.now.entries)) }
+{
+    if core.free_entries() == 0 {
+        return Err(Refusal::JournalFull);
+    }
+    Ok(())
+}
+
+// Room to keep one more call, where the journal takes one more.
+fn make_room(core: &State, kept: &mut Vec<Kept>) -> Result<(), Refusal>
+    ensures items { kept.new.items ≡ kept.old.items }
+    ensures room { OnOk result (vec_len kept.new < vec_capacity kept.new) }
+    ensures free { OnOk result (length core.now.entries < core.now.limits.journal) }
+    ensures errors { IfErr result (λ e. IsUnable core.now e) }
+{
+    check_room(core)?;
+    kept.reserve(1)?;
+    Ok(())
+}
+
+// Carries a call out, and keeps it in the seat and the ledger.
+fn enter<L: Ledger>(
+    core: &mut State,
+    book: &mut ledger::Book<L>,
+    seat: &mut Seat<L>,
+    call: Call,
+) -> Result<Receipt, Refusal>
+    ensures ok { IfOk result (λ r. Enters core.old seat.old call core.new seat.new r) }
+    ensures total { OnOk result (book.new.total ≡ book.old.total + 1) }
+    ensures room { OnOk result (length core.old.entries < core.old.limits.journal) }
+    ensures err { OnErr result ((core.new ≡ core.old) × (seat.new ≡ seat.old) × (book.new.total ≡ book.old.total)) }
+    ensures errors { IfErr result (λ e. IsUnable core.old e) }
+{
+    let Seat {
+        number,
+        kept,
+        share,
+    } = seat;
+    make_room(core, kept)?;
+    let (receipt, copy) = core.keep(*number, call)?;
+    kept.push_reserved(copy);
+    book.add(share, 1);
+    Ok(receipt)
+}
+
+// Carries a pump out, keeps it in the seat and the ledger, and gives the records.
+fn enter_pump<L: Ledger>(
+    core: &mut State,
+    book: &mut ledger::Book<L>,
+    seat: &mut Seat<L>,
+    instance: u32,
+    bytes: u32,
+) -> Result<(Receipt, Option<Events>), Refusal>
+    ensures ok { IfOk result (λ r. Enters core.old seat.old (Pump instance bytes) core.new seat.new r.0) }
+    ensures records { IfOk result (λ r. r.1 ≡ pumped (now core.old) instance bytes) }
+    ensures events { IfOk result (λ r. IfSome r.1 AreEvents) }
+    ensures total { OnOk result (book.new.total ≡ book.old.total + 1) }
+    ensures room { OnOk result (length core.old.entries < core.old.limits.journal) }
+    ensures err { OnErr result ((core.new ≡ core.old) × (seat.new ≡ seat.old) × (book.new.total ≡ book.old.total)) }
+    ensures errors { IfErr result (λ e. IsUnable core.old e) }
+{
+    let Seat {
+        number,
+        kept,
+        share,
+    } = seat;
+    make_room(core, kept)?;
+    let (receipt, copy, records) = core.pump(*number, instance, bytes)?;
+    kept.push_reserved(copy);
+    book.add(share, 1);
+    Ok((receipt, records))
+}
+
+// Where the pipe of an instance is, by its number.
+fn find(numbers: &[u32], instance: u32) -> Option<usize>
+    requires { IsRising numbers.now }
+    ensures { IsPlaceOf numbers.now instance result }
+{
+    numbers.binary_search(&instance).ok()
+}
+
+// Whether the pipe at a place has no free place.
+fn is_full_at(pipes: &mut Vec<Pipe>, at: usize) -> bool
+    requires { at < length pipes.old.items }
+    ensures sent { sents pipes.new.items ≡ sents pipes.old.items }
+    ensures free { result ≡ false → FreeAt pipes.new.items at }
+{
+    let pipe = &mut pipes[at];
+    pipe.is_full()
+}
+
+// Hands a batch to the pipe at a place.
+fn push_at(pipes: &mut Vec<Pipe>, at: usize, batch: Batch)
+    requires { FreeAt pipes.old.items at }
+    ensures { sents pipes.new.items ≡ pushed_at (sents pipes.old.items) at batch }
+{
+    let pipe = &mut pipes[at];
+    pipe.push(batch);
+}
+
+// Finds the pipe of an instance that is open, and sees that it has a free place.
+fn look(
+    core: &State,
+    numbers: &[u32],
+    pipes: &mut Vec<Pipe>,
+    target: Option<u32>,
+) -> Result<Option<usize>, Refusal>
+    requires rises { IsRising numbers.now }
+    requires len { length numbers.now ≡ length pipes.old.items }
+    ensures sent { sents pipes.new.items ≡ sents pipes.old.items }
+    ensures ok { IfOk result (λ at. IsLooked numbers.now pipes.new.items (now core.now) target at) }
+    ensures err { IfErr result (λ e. (e ≡ PipeFull) × IsFilled numbers.now (now core.now) target) }
+{
+    let Some(instance) = target else {
+        return Ok(None);
+    };
+    if core.waiting(instance).is_none() {
+        return Ok(None);
+    }
+    let Some(at) = find(numbers, instance) else {
+        return Ok(None);
+    };
+    if is_full_at(pipes, at) {
+        return Err(Refusal::PipeFull);
+    }
+    Ok(Some(at))
+}
+
+// Hands a batch over, where there is one and its instance has a pipe.
+fn hand_over(numbers: &[u32], pipes: &mut Vec<Pipe>, at: Option<usize>, batch: Option<Batch>)
+    requires ready { IsReady numbers.now pipes.old.items at batch }
+    requires rises { IsRising numbers.now }
+    requires len { length numbers.now ≡ length pipes.old.items }
+    ensures { sents pipes.new.items ≡ deliver batch numbers.now (sents pipes.old.items) }
+{
+    let Some(batch) = batch else {
+        return;
+    };
+    let Some(at) = at else {
+        return;
+    };
+    push_at(pipes, at, batch);
+}
+
+// The instance that a call closes.
+fn closed_by(call: &Call) -> Option<u32>
+    ensures { result ≡ closed_of call.now }
+{
+    match call {
+        Call::Close { instance } => Some(*instance),
+        _ => None,
+    }
+}
+
+// The end batch of an instance that was closed.
+fn end_batch(alloc: Global, closed: Option<u32>, receipt: &Receipt) -> Option<Batch>
+    ensures { result ≡ end_of closed receipt.now.place receipt.now.reply }
+{
+    let instance = closed?;
+    match &receipt.reply {
+        Reply::Done => Some(Batch {
+            instance,
+            place: receipt.place,
+            records: Events::from_vec(Vec::new(alloc)),
+        }),
+        _ => None,
+    }
+}
+
+// The batch of the records that were pumped.
+fn pumped_batch(instance: u32, place: u64, records: Option<Events>) -> Option<Batch>
+    ensures { result ≡ option_map (batch instance place) records }
+{
+    match records {
+        Some(records) => Some(Batch {
+            instance,
+            place,
+            records,
+        }),
+        None => None,
+    }
+}
+
+// A new pipe, and room for it beside the others, where the journal takes one more entry.
+fn make_pipe(
+    alloc: Global,
+    core: &State,
+    numbers: &mut Vec<u32>,
+    pipes: &mut Vec<Pipe>,
+    slots: usize,
+) -> Result<(Pipe, Feed), Refusal>
+    ensures numbers { numbers.new.items ≡ numbers.old.items }
+    ensures pipes { pipes.new.items ≡ pipes.old.items }
+    ensures room { OnOk result ((vec_len numbers.new < vec_capacity numbers.new) × (vec_len pipes.new < vec_capacity pipes.new)) }
+    ensures empty { IfOk result (λ r. (r.0.sent ≡ []) × (r.1.received ≡ [])) }
+    ensures errors { IfErr result (λ e. IsUnable core.now e) }
+{
+    check_room(core)?;
+    numbers.reserve(1)?;
+    pipes.reserve(1)?;
+    let pair = open_pipe(alloc, slots)?;
+    Ok(pair)
+}
+
+// Puts a new pipe beside the others, where the reply is an instance.
+fn keep_pipe(
+    numbers: &mut Vec<u32>,
+    pipes: &mut Vec<Pipe>,
+    reply: &Reply,
+    pipe: Pipe,
+    feed: Feed,
+) -> Option<Feed>
+    requires empty { (pipe.sent ≡ []) × (feed.received ≡ []) }
+    requires room { (vec_len numbers.old < vec_capacity numbers.old) × (vec_len pipes.old < vec_capacity pipes.old) }
+    ensures numbers { (limit : ℕ) → numbers.new.items ≡ numbers.old.items ++ piped_by (Init limit true) reply.now }
+    ensures pipes { (limit : ℕ) → sents pipes.new.items ≡ sents pipes.old.items ++ map (λ (id : ℕ). []) (piped_by (Init limit true) reply.now) }
+    ensures feed { result ≡ feed_of reply.now }
+{
+    match reply {
+        Reply::Instance(id) => {
+            numbers.push_reserved(*id);
+            pipes.push_reserved(pipe);
+            Some(feed.numbered(*id))
+        }
+        _ => None,
+    }
+}
+
+impl<L: Ledger> Held<L> {
+    /// The root alone, no instance and an empty journal; and the pass that gives its seats.
+    ///
+    /// # Errors
+    /// `ENOMEM`, where there is no memory for it.
+    pub fn new(alloc: Global, blank: Blank, limits: Limits) -> Result<(Held<L>, Pass<L>), Refusal>
+        requires name { blank.name ≡ L.name }
+        requires parts { (blank.parts ≡ L.parts) × (blank.parts ≡ 65537) }
+        ensures held { IfOk result (λ r. r.0 ≡ holding (record { limits = limits; entries = [] }) [] 0) }
+        ensures pass { IfOk result (λ r. r.1 ≡ passing 65537 0 0 limits.seats) }
+        ensures err { IfErr result (λ e. e ≡ Enomem) }
+    {
+        let core = State::new(alloc, limits)?;
+        let (book, share) = blank.open::<L>();
+        let held = Held {
+            alloc,
+            core,
+            numbers: Vec::new(alloc),
+            pipes: Vec::new(alloc),
+            book,
+        };
+        let pass = Pass {
+            alloc,
+            share,
+            given: 0,
+            seats: limits.seats,
+        };
+        Ok((held, pass))
+    }
+
+    /// The tree with its journal.
+    pub fn state(&self) -> &State
+        ensures { result.now ≡ self.now.state }
+    {
+        &self.core
+    }
+
+    /// What holds whenever the lock is free. It does nothing.
+    ///
+    /// Of each instance the records that were read, followed by those that wait, are the events that the journal raises
+    /// for it, in order, each once, but for those that are merged into an equal unread neighbour and those that are lost
+    /// behind a mark. No two renames share a cookie. Nothing of a watch follows its `IN_IGNORED`. A refused call adds
+    /// nothing. Each pipe was sent what the journal hands to its instance, and that are events. The ledger's total is the number of entries.
+    pub fn law(&self)
+        ensures lawful { IsLawful self.now.state.limits self.now.state.entries }
+        ensures told { (id : ℕ) → IsTold self.now.state id }
+        ensures cookies { HasCookiesInTurn self.now.state }
+        ensures ends { (id : ℕ) → EndsOnce (raised_in (opening self.now.state.limits) self.now.state.entries id) }
+        ensures refused { AtEach RefusedAddsNothing (opening self.now.state.limits) self.now.state.entries }
+        ensures sent { IsSent self.now }
+        ensures events { (id : ℕ) → AreOfEvents (handed self.now.state.limits self.now.state.entries id) }
+        ensures counted { self.now.total ≡ length self.now.state.entries }
+    {
+        reads_are_in_order();
+        bytes_are_of_records();
+        events_are_accounted_for();
+        cookies_are_in_turn();
+        watches_end_once();
+        replies_tell();
+        let _ = self.core.journal();
+    }
+
+    /// Carries out a call for a seat, under its number. A close of an instance with a pipe hands the end batch over.
+    ///
+    /// # Errors
+    /// The first that holds; all is then as before, and nothing is journalled.
+    /// - `PipeFull`, where the call is a close of an open instance whose pipe has no free place.
+    /// - `JournalFull`, where the journal has as many entries as its limit.
+    /// - `ENOMEM`, where there is no memory for the call.
+    pub fn call(&mut self, seat: &mut Seat<L>, call: Call) -> Result<Receipt, Refusal>
+        requires plain { IsTrue (is_plain call) }
+        ensures ok { IfOk result (λ r. Enters self.old.state seat.old call self.new.state seat.new r) }
+        ensures sent { OnOk result (IsSent self.new) }
+        ensures room { OnOk result (length self.old.state.entries < self.old.state.limits.journal) }
+        ensures err { OnErr result ((self.new ≡ self.old) × (seat.new ≡ seat.old)) }
+        ensures errors { IfErr result (λ e. IsWhyNot self.old.state call e) }
+    {
+        replies_tell();
+        let Held {
+            alloc,
+            core,
+            numbers,
+            pipes,
+            book,
+        } = self;
+        let closed = closed_by(&call);
+        let at = look(core, numbers.as_slice(), pipes, closed)?;
+        let receipt = enter(core, book, seat, call)?;
+        let batch = end_batch(*alloc, closed, &receipt);
+        hand_over(numbers.as_slice(), pipes, at, batch);
+        Ok(receipt)
+    }
+
+    /// Pumps an instance for a seat: the oldest records that fit in so many bytes are read, and handed over as one batch.
+    /// It looks its pipe up by its number, and moves the records.
+    ///
+    /// # Errors
+    /// The first that holds; all is then as before, and nothing is journalled.
+    /// - `PipeFull`, where the instance is open and its pipe has no free place.
+    /// - `JournalFull`, where the journal has as many entries as its limit.
+    /// - `ENOMEM`, where there is no memory for the call.
+    pub fn pump(
+        &mut self,
+        seat: &mut Seat<L>,
+        instance: u32,
+        bytes: u32,
+    ) -> Result<Receipt, Refusal>
+        ensures ok { IfOk result (λ r. Enters self.old.state seat.old (Pump instance bytes) self.new.state seat.new r) }
+        ensures sent { OnOk result (IsSent self.new) }
+        ensures room { OnOk result (length self.old.state.entries < self.old.state.limits.journal) }
+        ensures err { OnErr result ((self.new ≡ self.old) × (seat.new ≡ seat.old)) }
+        ensures errors { IfErr result (λ e. IsWhyNot self.old.state (Pump instance bytes) e) }
+    {
+        replies_tell();
+        let Held {
+            alloc: _,
+            core,
+            numbers,
+            pipes,
+            book,
+        } = self;
+        let at = look(core, numbers.as_slice(), pipes, Some(instance))?;
+        let (receipt, records) = enter_pump(core, book, seat, instance, bytes)?;
+        let batch = pumped_batch(instance, receipt.place, records);
+        hand_over(numbers.as_slice(), pipes, at, batch);
+        Ok(receipt)
+    }
+
+    /// Makes an instance with a pipe of 1 to 65,536 places, for a seat. The feed is there exactly where the reply is an
+    /// instance, and has its number. `limit` is how many records may wait in the queue, as in [`Call::Init`].
+    ///
+    /// # Errors
+    /// The first that holds; all is then as before, and nothing is journalled.
+    /// - `JournalFull`, where the journal has as many entries as its limit.
+    /// - `ENOMEM`, where there is no memory for the call.
+    pub fn open_piped(
+        &mut self,
+        seat: &mut Seat<L>,
+        limit: u32,
+        slots: usize,
+    ) -> Result<(Receipt, Option<Feed>), Refusal>
+        requires slots { (1 ≤ slots) × (slots ≤ 65536) }
+        ensures ok { IfOk result (λ r. Enters self.old.state seat.old (Init limit true) self.new.state seat.new r.0) }
+        ensures feed { IfOk result (λ r. r.1 ≡ feed_of r.0.reply) }
+        ensures sent { OnOk result (IsSent self.new) }
+        ensures room { OnOk result (length self.old.state.entries < self.old.state.limits.journal) }
+        ensures err { OnErr result ((self.new ≡ self.old) × (seat.new ≡ seat.old)) }
+        ensures errors { IfErr result (λ e. IsUnable self.old.state e) }
+    {
+        replies_tell();
+        let Held {
+            alloc,
+            core,
+            numbers,
+            pipes,
+            book,
+        } = self;
+        let (pipe, feed) = make_pipe(*alloc, core, numbers, pipes, slots)?;
+        let receipt = enter(core, book, seat, Call::Init { limit, piped: true })?;
+        let feed = keep_pipe(numbers, pipes, &receipt.reply, pipe, feed);
+        Ok((receipt, feed))
+    }
+
+    /// What is left once nobody calls any more: the journal, and the ends of all pipes, also of closed instances. It takes
+    /// no memory.
+    pub fn dissolve(self, pass: Pass<L>) -> Book
+        ensures state { result.state ≡ self.state }
+        ensures entries { result.entries ≡ length self.state.entries }
+        ensures shares { pass.parts ≡ L.parts → result.entries ≡ pass.amount }
+        ensures pipes { result.pipes ≡ piped_of self.state.entries }
+        ensures sent { result.sent ≡ handed_all self.state.limits self.state.entries }
+    {
+        let Held {
+            alloc: _,
+            core,
+            numbers,
+            pipes,
+            mut book,
+        } = self;
+        let Pass {
+            alloc: _,
+            mut share,
+            given: _,
+            seats: _,
+        } = pass;
+        book.audit(&mut share);
+        let entries = core.journal().len() as u64;
+        Book {
+            core,
+            numbers,
+            pipes,
+            entries,
+        }
+    }
+}

@@ -1,0 +1,123 @@
+//! The two ends of a pipe, and what goes through it.
+
+ghost use Rattle.std.specs.Prelude.{◌≡◌, ◌<◌, ◌≤◌, ◌↔◌, [], ◌∷◌, ◌++◌, IsTrue, IfOk, IfSome, IfNone, true, false};
+ghost use Rattle.shared_tree.specs.Pipes.{piped, fed};
+
+use record_codec::Events;
+use rtrb::{Consumer, Producer, RingBuffer};
+use std::alloc::{AllocError, Global};
+use std::marker::Model;
+
+/// What one call handed over to the pipe of an instance.
+#[derive(Debug, Drop, PartialEq, Eq)]
+pub struct Batch {
+    /// The number of the instance.
+    pub instance: u32,
+    /// The place of the call's entry in the journal, the first being 1.
+    pub place: u64,
+    /// The records that were pumped, one at least. The end batch, which comes of the close, has none.
+    pub records: Events,
+}
+
+impl Batch {
+    /// Whether it is the end batch, after which none comes.
+    pub fn is_last(&self) -> bool
+        ensures { IsTrue result ↔ (self.now.records ≡ []) }
+    {
+        self.records.as_slice().is_empty()
+    }
+}
+
+// The end that hands over. Contracts see what it has sent, and how many places it knows to be free.
+#[derive(Drop)]
+pub(crate) struct Pipe {
+    producer: Producer<Batch>,
+}
+
+impl Model for Pipe {
+    ghost use Rattle.rtrb.specs.Ring.{sent, known_free};
+    ghost use Rattle.shared_tree.specs.Pipes.{Piped, piped};
+
+    ghost Value = { Piped };
+
+    ghost view = { λ p. piped (sent p.producer) (known_free p.producer) };
+}
+
+impl Pipe {
+    // Whether no place is free. The listener may free one at any time.
+    pub(crate) fn is_full(&mut self) -> bool
+        ensures sent { self.new.sent ≡ self.old.sent }
+        ensures free { result ≡ false → 0 < self.new.free }
+    {
+        self.producer.is_full()
+    }
+
+    // Hands a batch over.
+    pub(crate) fn push(&mut self, batch: Batch)
+        requires { 0 < self.old.free }
+        ensures { self.new.sent ≡ self.old.sent ++ batch ∷ [] }
+    {
+        self.producer.push_reserved(batch);
+    }
+}
+
+/// The end of a pipe that takes. It belongs to a listener, who needs neither the tree nor its lock.
+///
+/// Contracts see the number of its instance, and the batches that it has received.
+#[derive(Drop)]
+pub struct Feed {
+    instance: u32,
+    consumer: Consumer<Batch>,
+}
+
+impl Model for Feed {
+    ghost use Rattle.rtrb.specs.Ring.{received};
+    ghost use Rattle.shared_tree.specs.Pipes.{Fed, fed};
+
+    ghost Value = { Fed };
+
+    ghost view = { λ f. fed f.instance (received f.consumer) };
+}
+
+impl Feed {
+    /// The next batch, if one has come. It does not wait, and takes no memory.
+    pub fn take(&mut self) -> Option<Batch>
+        ensures instance { self.new.instance ≡ self.old.instance }
+        ensures some { IfSome result (λ b. self.new.received ≡ self.old.received ++ b ∷ []) }
+        ensures none { IfNone result (self.new ≡ self.old) }
+    {
+        self.consumer.pop().ok()
+    }
+
+    /// The number of the instance whose batches it takes.
+    pub fn instance(&self) -> u32
+        ensures { result ≡ self.now.instance }
+    {
+        self.instance
+    }
+
+    // The same end, for the instance of a number.
+    pub(crate) fn numbered(self, instance: u32) -> Feed
+        ensures { result ≡ fed instance self.received }
+    {
+        let Feed {
+            instance: _,
+            consumer,
+        } = self;
+        Feed { instance, consumer }
+    }
+}
+
+// A pipe with so many places. Its feed has no number yet.
+pub(crate) fn open_pipe(alloc: Global, slots: usize) -> Result<(Pipe, Feed), AllocError>
+    ensures { IfOk result (λ r. (r.0.sent ≡ []) × (r.1 ≡ fed 0 [])) }
+{
+    let (producer, consumer) = RingBuffer::new(alloc, slots)?;
+    Ok((
+        Pipe { producer },
+        Feed {
+            instance: 0,
+            consumer,
+        },
+    ))
+}
