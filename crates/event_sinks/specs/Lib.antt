@@ -2,3 +2,5 @@ pub mod Sinks
 pub mod Lines
 pub mod Writing
 pub mod Stopping
+pub mod Heard
+pub mod Audited

@@ -1,0 +1,115 @@
+-- When a book, the logs of its seats, and the listeners that ended agree.
+use Rattle.std.specs.Prelude.{◌≡◌, ◌≢◌, ◌<◌, ◌-◌, ◌++◌, ⊤, ℕ, List, [], ◌∷◌, All, AllPairs, length, map, min, slice_get, sum_by, Option, Some, None, ◌⊎◌}
+use Rattle.std.specs.List.{flat_map}
+use Rattle.tree_core.specs.declared.reply.Entry.{Entry}
+use Rattle.tree_core.specs.declared.reply.Kept.{Kept}
+use Rattle.tree_core.specs.Histories.{where_same}
+use Rattle.shared_tree.specs.declared.pipe.Batch.{Batch}
+use Rattle.shared_tree.specs.declared.seat.SeatLog.{SeatLog}
+use Rattle.shared_tree.specs.Calls.{Bound}
+use Rattle.shared_tree.specs.Handed.{handed}
+use Rattle.shared_tree.specs.Held.{IsIn, Lacks}
+use Rattle.event_sinks.specs.declared.audit.SettleFault.{SettleFault}
+use Rattle.event_sinks.specs.declared.audit.SettleFault.TheVariants.{CountDiffers, Stray, NotEnded, HandedDiffers, Memory}
+use Rattle.event_sinks.specs.declared.listener.Cause.{Cause}
+use Rattle.event_sinks.specs.declared.listener.Cause.TheVariants.{Last}
+use Rattle.event_sinks.specs.declared.listener.Ended.{Ended}
+
+-- ---- the calls that the seats kept
+
+-- how many there are
+abbrev pub calls_of : List SeatLog → ℕ
+calls_of logs = sum_by (λ (l : SeatLog). length l.kept) logs
+
+-- the journal's entry at the place of a kept call, the first being 1, is this call of the seat, with this reply
+abbrev pub Stands : List Entry → ℕ → Kept → Type 0
+Stands entries number k = (0 < k.place) × (slice_get entries (k.place - 1) ≡ Some (record { caller = number; call = k.call; reply = k.reply }))
+
+abbrev pub places : SeatLog → List ℕ
+places l = map (λ (k : Kept). k.place) l.kept
+
+-- each kept call stands in the journal, the places of a seat rise, and no place is kept twice
+pub record AreKept (entries : List Entry) (logs : List SeatLog) : Type 0 where
+  pub stand : All (λ l. All (Stands entries l.number) l.kept) logs
+  pub rise : All (λ l. AllPairs (λ j k. j < k) (places l)) logs
+  pub once : AllPairs (λ j k. j ≢ k) (flat_map places logs)
+
+-- the first seat, in the order handed in, with whose log this is no longer so
+abbrev pub IsStray : List Entry → List SeatLog → ℕ → Type 0
+IsStray entries logs n = (before : List SeatLog) × (l : SeatLog) × (rest : List SeatLog) × (logs ≡ before ++ l ∷ rest) × AreKept entries before × (AreKept entries (before ++ l ∷ []) → ⊥) × (n ≡ l.number)
+
+-- ---- the batches that the listeners were handed
+
+-- what is asked of a listener that has ended: whose batches it took, why it ended, and the batches
+pub record Outcome : Type 0 where
+  pub instance : ℕ
+  pub cause : Cause
+  pub handed : List Batch
+
+abbrev pub outcome_of : {S : Type 0} → Ended S → Outcome
+outcome_of e = record { instance = e.feed.instance; cause = e.cause; handed = e.handed.items }
+
+abbrev pub outcomes : {S : Type 0} → List (Ended S) → List Outcome
+outcomes es = map outcome_of es
+
+-- those of one instance, in the order handed in
+abbrev pub of_instance : ℕ → List Outcome → List Outcome
+of_instance n [] = []
+of_instance n (e ∷ es) = where_same e.instance n (e ∷ []) ++ of_instance n es
+
+-- one listener ended for the pipe, by the end batch, and was handed the journal's batches, in order, each once
+abbrev pub IsServed : List Batch → List Outcome → Type 0
+IsServed batches es = (e : Outcome) × (es ≡ e ∷ []) × (e.cause ≡ Last) × (e.handed ≡ batches)
+
+-- what the book hands to an instance
+abbrev pub batches_of : Bound → ℕ → List Batch
+batches_of b n = handed b.state.limits b.state.entries n
+
+-- a number is a pipe of the book, and was served, or it is none, and no listener ended for it
+abbrev pub IsServedAt : Bound → List Outcome → ℕ → Type 0
+IsServedAt b es n = (IsIn b.pipes n × IsServed (batches_of b n) (of_instance n es)) ⊎ (Lacks b.pipes n × (of_instance n es ≡ []))
+
+-- the place of the first batch that is not the one handed at its position, or of the first one handed past the end
+abbrev pub Differs : List Batch → List Batch → ℕ → Type 0
+Differs [] [] p = ⊥
+Differs [] (h ∷ hs) p = p ≡ h.place
+Differs (b ∷ bs) [] p = p ≡ b.place
+Differs (b ∷ bs) (h ∷ hs) p = ((b ≡ h) × Differs bs hs p) ⊎ ((b ≢ h) × (p ≡ b.place))
+
+-- no listener ended for the pipe, or the first one not by the end batch
+abbrev pub IsUnended : List Outcome → Type 0
+IsUnended [] = ⊤
+IsUnended (e ∷ es) = e.cause ≢ Last
+
+-- the first listener that ended for the pipe was handed other batches; or it was handed these, and there is a second one,
+-- which is told as place 0
+abbrev pub IsServedOtherwise : List Batch → List Outcome → ℕ → Type 0
+IsServedOtherwise batches [] p = ⊥
+IsServedOtherwise batches (e ∷ es) p = (e.cause ≡ Last) × (Differs batches e.handed p ⊎ ((e.handed ≡ batches) × (es ≢ []) × (p ≡ 0)))
+
+-- what is wrong with a number. A listener for a number that is no pipe of the book is told as place 0
+abbrev pub IsFaultAt : Bound → List Outcome → ℕ → SettleFault → Type 0
+IsFaultAt b es n (NotEnded m) = (m ≡ n) × IsIn b.pipes n × IsUnended (of_instance n es)
+IsFaultAt b es n (HandedDiffers m p) = (m ≡ n) × ((IsIn b.pipes n × IsServedOtherwise (batches_of b n) (of_instance n es) p) ⊎ (Lacks b.pipes n × (of_instance n es ≢ []) × (p ≡ 0)))
+IsFaultAt b es n _ = ⊥
+
+-- what is wrong with the least number with which anything is
+abbrev pub IsFirstFault : Bound → List Outcome → SettleFault → Type 0
+IsFirstFault b es f = (n : ℕ) × IsFaultAt b es n f × ((m : ℕ) → m < n → IsServedAt b es m)
+
+-- ---- the whole
+
+-- the book, the logs and the listeners agree: the journal has as many entries as the seats kept calls, each kept call is
+-- the entry at its place, a seat's in their order and each place once, and each pipe was served
+pub record IsAudited (b : Bound) (logs : List SeatLog) (es : List Outcome) : Type 0 where
+  pub counted : b.entries ≡ calls_of logs
+  pub kept : AreKept b.state.entries logs
+  pub served : (n : ℕ) → IsServedAt b es n
+
+-- the fault is the first that holds: the counts, then the logs, then the numbers. More calls than a u64 holds are told as
+-- its greatest value
+abbrev pub IsFault : Bound → List SeatLog → List Outcome → SettleFault → Type 0
+IsFault b logs es Memory = ⊤
+IsFault b logs es (CountDiffers entries calls) = (b.entries ≢ calls_of logs) × (entries ≡ b.entries) × (calls ≡ min (calls_of logs) 18446744073709551615)
+IsFault b logs es (Stray n) = (b.entries ≡ calls_of logs) × IsStray b.state.entries logs n
+IsFault b logs es f = (b.entries ≡ calls_of logs) × AreKept b.state.entries logs × IsFirstFault b es f

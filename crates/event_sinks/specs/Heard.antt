@@ -1,0 +1,115 @@
+-- What contracts see of a listener, while it listens and once it has ended.
+use Rattle.std.specs.Prelude.{◌≡◌, ◌≢◌, ℕ, ◌<◌, ◌≤◌, zero, suc, Bool, true, false, List, [], ◌∷◌, ◌++◌, length, take, drop, All, Option, Some, None, is_none, ◌⊎◌, ⊤}
+use Rattle.record_codec.specs.declared.event.Event.{Event}
+use Rattle.shared_tree.specs.declared.pipe.Batch.{Batch}
+use Rattle.shared_tree.specs.Pipes.{Fed}
+use Rattle.event_sinks.specs.declared.fault.SinkFault.{SinkFault}
+use Rattle.event_sinks.specs.declared.listener.Cause.{Cause}
+use Rattle.event_sinks.specs.declared.listener.Cause.TheVariants as cause
+use Rattle.event_sinks.specs.declared.listener.Listening.{Listening}
+use Rattle.event_sinks.specs.declared.listener.Ended.{Ended}
+use Rattle.event_sinks.specs.declared.listener.Step.{Step}
+use Rattle.event_sinks.specs.declared.listener.Step.TheVariants as step
+
+-- its number, what its feed is, the batches that it was handed, how many records its sink had taken before the first of
+-- them, what the sink took in all, whether it is open, and why the listener ended, if it did
+pub record Heard : Type 0 where
+  pub number : ℕ
+  pub feed : Fed
+  pub handed : List Batch
+  pub started : ℕ
+  pub list : List Event
+  pub live : Bool
+  pub cause : Option Cause
+
+abbrev pub heard : ℕ → Fed → List Batch → ℕ → List Event → Bool → Option Cause → Heard
+heard number feed handed started list live cause = record { number = number; feed = feed; handed = handed; started = started; list = list; live = live; cause = cause }
+
+-- the meaning of a listener, and of one that has ended, by what its sink took and whether that is open
+abbrev pub heard_by : {S : Type 0} → (S → List Event) → (S → Bool) → Listening S → Heard
+heard_by record_list live l = heard l.number l.feed l.handed.items l.started (record_list l.sink) (live l.sink) l.cause
+
+abbrev pub ended_of : {S : Type 0} → (S → List Event) → (S → Bool) → Ended S → Heard
+ended_of record_list live e = heard e.number e.feed e.handed.items e.started (record_list e.sink) (live e.sink) (Some e.cause)
+
+-- the records of batches, one batch after another
+abbrev pub joined : List Batch → List Event
+joined [] = []
+joined (b ∷ bs) = b.records ++ joined bs
+
+-- the first of these records, and not all
+abbrev pub IsCutOf : List Event → List Event → Type 0
+IsCutOf all part = (k : ℕ) × (k < length all) × (part ≡ take k all)
+
+-- the sink took the records that were handed, in order; where it refused one, those before it
+abbrev pub IsTook : List Batch → List Event → Option Cause → Type 0
+IsTook handed taken (Some (cause.Sink fault)) = IsCutOf (joined handed) taken
+IsTook handed taken _ = taken ≡ joined handed
+
+abbrev pub HasRecords : Batch → Type 0
+HasRecords b = b.records ≢ []
+
+-- where it ended by the end batch, that came last, and once; else none came
+abbrev pub IsEndedBy : List Batch → Option Cause → Type 0
+IsEndedBy handed (Some cause.Last) = (before : List Batch) × (b : Batch) × (handed ≡ before ++ b ∷ []) × (b.records ≡ []) × All HasRecords before
+IsEndedBy handed _ = All HasRecords handed
+
+-- what holds of every listener: it was handed what its feed has received since the listener was made, its sink took the
+-- records of that, and is open until there is a cause to end
+pub record IsHeard (h : Heard) : Type 0 where
+  pub received : (earlier : List Batch) × (h.feed.received ≡ earlier ++ h.handed)
+  pub took : IsTook h.handed (drop h.started h.list) h.cause
+  pub ended : IsEndedBy h.handed h.cause
+  pub open_until : h.live ≡ is_none h.cause
+  pub within : h.started ≤ length h.list
+
+-- what comes of the records of a batch: the end batch ends it; else all are taken, or those before one that is refused
+abbrev pub Puts : List Event → List Event → List Event → Option Cause → Type 0
+Puts before records after None = (records ≢ []) × (after ≡ before ++ records)
+Puts before records after (Some cause.Last) = (records ≡ []) × (after ≡ before)
+Puts before records after (Some (cause.Sink fault)) = (k : ℕ) × (k < length records) × (after ≡ before ++ take k records)
+Puts before records after (Some _) = ⊥
+
+-- a listener that has no cause to end takes a batch
+pub record Takes (old : Heard) (b : Batch) (new : Heard) : Type 0 where
+  pub on : old.cause ≡ None
+  pub number : new.number ≡ old.number
+  pub started : new.started ≡ old.started
+  pub feed : new.feed ≡ record old.feed { received = old.feed.received ++ b ∷ [] }
+  pub handed : new.handed ≡ old.handed ++ b ∷ []
+  pub puts : Puts old.list b.records new.list new.cause
+  pub open_until : new.live ≡ is_none new.cause
+
+-- what a step does. The step that finds no memory for one more batch ends it
+abbrev pub Steps : Heard → Heard → Step → Type 0
+Steps old new step.Idle = (old.cause ≡ None) × (new ≡ old)
+Steps old new step.Took = (b : Batch) × Takes old b new
+Steps old new step.Over = ((old.cause ≢ None) × (new ≡ old)) ⊎ ((old.cause ≡ None) × (new ≡ record old { live = false; cause = Some cause.Memory }))
+
+-- in a turn there is a step, or the gate lets none through
+abbrev pub IsTurn : Heard → Heard → Type 0
+IsTurn old new = (new ≡ old) ⊎ ((s : Step) × Steps old new s)
+
+-- what so many turns lead to
+abbrev pub Reaches : ℕ → Heard → Heard → Type 0
+Reaches zero old new = new ≡ old
+Reaches (suc n) old new = (mid : Heard) × Reaches n old mid × IsTurn mid new
+
+abbrev pub cause_or : Option Cause → Cause → Cause
+cause_or None other = other
+cause_or (Some first) other = first
+
+-- it was ended from outside: its sink is closed, nothing more was put, and the cause that came first stands
+abbrev pub ended_by : Heard → Cause → Heard
+ended_by h given = record h { live = false; cause = Some (cause_or h.cause given) }
+
+-- a cause that comes from outside
+abbrev pub IsFromOutside : Cause → Type 0
+IsFromOutside cause.Turns = ⊤
+IsFromOutside cause.Given = ⊤
+IsFromOutside _ = ⊥
+
+-- records were put one by one, until one was refused
+abbrev pub PutsAll : List Event → List Event → List Event → Option SinkFault → Type 0
+PutsAll before records after None = after ≡ before ++ records
+PutsAll before records after (Some fault) = (k : ℕ) × (k < length records) × (after ≡ before ++ take k records)

@@ -1,0 +1,233 @@
+//! What puts the records of a feed into a sink.
+
+ghost use Rattle.std.specs.Prelude.{◌≡◌, ◌++◌, [], ◌∷◌, ◌×◌, true, length, Some, None};
+ghost use Rattle.event_sinks.specs.declared.listener.Cause.TheVariants.{Given, Turns};
+ghost use Rattle.event_sinks.specs.Heard.{Heard, IsHeard, IsFromOutside, IsTurn, PutsAll, Reaches, Steps, ended_by, ended_of, heard, heard_by};
+
+use crate::fault::SinkFault;
+use crate::gate::Gate;
+use crate::sink::Sink;
+use record_codec::Event;
+use shared_tree::{Batch, Feed};
+use std::alloc::Global;
+
+/// What a step did.
+#[derive(Clone, Copy, Debug, PartialEq, Eq)]
+pub enum Step {
+    /// No batch has come.
+    Idle,
+    /// A batch was taken: its records were put, or it was the end batch.
+    Took,
+    /// The listener has ended, or ends for want of memory. Nothing was taken.
+    Over,
+}
+
+/// Why a listener ended: what came first.
+#[derive(Clone, Copy, Debug, PartialEq, Eq)]
+pub enum Cause {
+    /// The end batch came.
+    Last,
+    /// Its turns were over.
+    Turns,
+    /// It was finished by its owner.
+    Given,
+    /// Its sink refused a record.
+    Sink(SinkFault),
+    /// There was no memory for one more batch.
+    Memory,
+}
+
+/// Takes the batches of a feed, one at a step, and puts their records into a sink.
+///
+/// The sink is closed after the end batch, after a record that it refused, and where memory is wanting. A listener that
+/// is dropped drops its sink, which closes where it is open.
+#[derive(Drop)]
+pub struct Listening<S> {
+    number: u32,
+    feed: Feed,
+    sink: S,
+    started: u64,
+    handed: Vec<Batch>,
+    cause: Option<Cause>,
+}
+
+/// A listener with any sink, in a box.
+pub type Listener = Listening<Box<dyn Sink>>;
+
+/// A listener that has ended. Its sink is closed. It keeps its feed, and the batches that it was handed.
+#[derive(Drop)]
+pub struct Ended<S> {
+    number: u32,
+    feed: Feed,
+    sink: S,
+    started: u64,
+    handed: Vec<Batch>,
+    cause: Cause,
+}
+
+// Puts records one by one, until one is refused.
+fn put_all<S: Sink>(sink: &mut S, records: &[Event]) -> Option<SinkFault>
+    requires { S.live sink.old ≡ true }
+    ensures live { S.live sink.new ≡ true }
+    ensures list { PutsAll (S.record_list sink.old) records.now (S.record_list sink.new) result }
+{
+    for event in records {
+        if let Err(fault) = sink.put(event) {
+            return Some(fault);
+        }
+    }
+    None
+}
+
+impl<S: Sink> Listening<S> {
+    /// A listener at a feed. It takes no memory yet.
+    pub fn new(alloc: Global, number: u32, feed: Feed, sink: S) -> Listening<S>
+        requires live { S.live sink ≡ true }
+        ensures heard { heard_by S.record_list S.live result ≡ heard number feed [] (length (S.record_list sink)) (S.record_list sink) true None }
+        ensures sound { IsHeard (heard_by S.record_list S.live result) }
+    {
+        let started = sink.taken();
+        Listening {
+            number,
+            feed,
+            sink,
+            started,
+            handed: Vec::new(alloc),
+            cause: None,
+        }
+    }
+
+    /// Makes room for one more batch, takes one where one has come, and puts its records one by one. It never waits.
+    pub fn step(&mut self) -> Step
+        requires { IsHeard (heard_by S.record_list S.live self.old) }
+        ensures sound { IsHeard (heard_by S.record_list S.live self.new) }
+        ensures steps { Steps (heard_by S.record_list S.live self.old) (heard_by S.record_list S.live self.new) result }
+    {
+        if self.cause.is_some() {
+            return Step::Over;
+        }
+        let Ok(()) = self.handed.reserve(1) else {
+            self.sink.close();
+            self.cause = Some(Cause::Memory);
+            return Step::Over;
+        };
+        let Some(batch) = self.feed.take() else {
+            return Step::Idle;
+        };
+        let cause = match put_all(&mut self.sink, batch.records.as_slice()) {
+            Some(fault) => Some(Cause::Sink(fault)),
+            None if batch.is_last() => Some(Cause::Last),
+            None => None,
+        };
+        self.handed.push_reserved(batch);
+        if cause.is_some() {
+            self.sink.close();
+        }
+        self.cause = cause;
+        Step::Took
+    }
+
+    // Steps where the gate lets this turn through. Whether nothing more can come.
+    fn is_over_at<G: Gate>(&mut self, gate: &G, turn: u64) -> bool
+        requires { IsHeard (heard_by S.record_list S.live self.old) }
+        ensures sound { IsHeard (heard_by S.record_list S.live self.new) }
+        ensures turn { IsTurn (heard_by S.record_list S.live self.old) (heard_by S.record_list S.live self.new) }
+    {
+        gate.pass(self.number, turn) && self.step() == Step::Over
+    }
+
+    // Ends it for this cause, where none came before.
+    fn end(self, given: Cause) -> Ended<S>
+        requires sound { IsHeard (heard_by S.record_list S.live self) }
+        requires given { IsFromOutside given }
+        ensures sound { IsHeard (ended_of S.record_list S.live result) }
+        ensures ended { ended_of S.record_list S.live result ≡ ended_by (heard_by S.record_list S.live self) given }
+    {
+        let Listening {
+            number,
+            feed,
+            mut sink,
+            started,
+            handed,
+            cause,
+        } = self;
+        let cause = match cause {
+            Some(cause) => cause,
+            None => {
+                sink.close();
+                given
+            }
+        };
+        Ended {
+            number,
+            feed,
+            sink,
+            started,
+            handed,
+            cause,
+        }
+    }
+
+    /// Steps in each of so many turns that the gate lets through, and ends. It ends before its turns are over where
+    /// nothing more can come.
+    pub fn run<G: Gate>(self, gate: &G, turns: u64) -> Ended<S>
+        requires { IsHeard (heard_by S.record_list S.live self) }
+        ensures sound { IsHeard (ended_of S.record_list S.live result) }
+        ensures turns { (h : Heard) × Reaches turns (heard_by S.record_list S.live self) h × (ended_of S.record_list S.live result ≡ ended_by h Turns) }
+    {
+        let mut listener = self;
+        for turn in 0..turns {
+            if listener.is_over_at(gate, turn) {
+                return listener.end(Cause::Turns);
+            }
+        }
+        listener.end(Cause::Turns)
+    }
+
+    /// Ends it where it stands: a sink that is open is closed.
+    pub fn finish(self) -> Ended<S>
+        requires { IsHeard (heard_by S.record_list S.live self) }
+        ensures sound { IsHeard (ended_of S.record_list S.live result) }
+        ensures ended { ended_of S.record_list S.live result ≡ ended_by (heard_by S.record_list S.live self) Given }
+    {
+        self.end(Cause::Given)
+    }
+}
+
+impl<S: Sink> Ended<S> {
+    /// The number of the listener.
+    pub fn number(&self) -> u32
+        ensures { result ≡ self.now.number }
+    {
+        self.number
+    }
+
+    /// The number of the instance whose batches it took.
+    pub fn instance(&self) -> u32
+        ensures { result ≡ self.now.feed.instance }
+    {
+        self.feed.instance()
+    }
+
+    /// Why it ended: what came first.
+    pub fn cause(&self) -> Cause
+        ensures { result ≡ self.now.cause }
+    {
+        self.cause
+    }
+
+    /// The batches that it was handed, in order, with the end batch where that came.
+    pub fn handed(&self) -> &[Batch]
+        ensures { result.now ≡ self.now.handed.items }
+    {
+        self.handed.as_slice()
+    }
+
+    /// Its sink, which is closed.
+    pub fn sink(&self) -> &S
+        ensures list { S.record_list result.now ≡ S.record_list self.now.sink }
+        ensures live { S.live result.now ≡ S.live self.now.sink }
+    {
+        &self.sink
+    }
+}
