@@ -1,1 +1,4 @@
 mod Fronts
+mod Pairs
+mod Marks
+mod KeptCalls
