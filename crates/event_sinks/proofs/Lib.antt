@@ -1,2 +1,5 @@
 mod Fronts
 pub mod Hearing
+mod Pairs
+mod Marks
+mod KeptCalls

@@ -1,0 +1,19 @@
+-- What the functions that look for a stray say to one another: which places of the journal they have marked.
+use Rattle.std.specs.Prelude.{◌≡◌, ◌<◌, ◌-◌, ⊤, ℕ, Bool, true, false, List, [], ◌∷◌, slice_get, slice_set, Some}
+use Rattle.tree_core.specs.declared.reply.Entry.{Entry}
+use Rattle.tree_core.specs.declared.reply.Kept.{Kept}
+use Rattle.event_sinks.specs.Audited.{Stands}
+
+-- these places are marked too, the first being 1
+abbrev pub marked : List Bool → List ℕ → List Bool
+marked seen [] = seen
+marked seen (p ∷ ps) = marked (slice_set seen (p - 1) true) ps
+
+-- the call can be the next one of a seat: its place is above the last, it stands in the journal, and its place is not marked
+abbrev pub IsNext : List Entry → List Bool → ℕ → ℕ → Kept → Type 0
+IsNext entries seen number last k = (last < k.place) × Stands entries number k × (slice_get seen (k.place - 1) ≡ Some false)
+
+-- each of these calls can be the next one, once those before it are marked
+abbrev pub AreNext : List Entry → List Bool → ℕ → ℕ → List Kept → Type 0
+AreNext entries seen number last [] = ⊤
+AreNext entries seen number last (k ∷ ks) = IsNext entries seen number last k × AreNext entries (slice_set seen (k.place - 1) true) number k.place ks
