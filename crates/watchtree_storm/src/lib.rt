@@ -4,16 +4,16 @@
 //! [`Ran::settle`].
 #![tactic(auto)]
 
-mod begin;
+mod beginning;
+mod course;
 mod fault;
 mod gates;
-mod storm;
 mod writer;
 
-pub use begin::{Begun, begin};
+pub use beginning::{Begun, begin};
+pub use course::{Ran, Stormed, run, storm};
 pub use fault::StormFault;
 pub use gates::OpenGate;
-pub use storm::{Ran, Stormed, run, storm};
 pub use writer::{Writer, close_both};
 
 #[cfg(test)]

@@ -5,7 +5,7 @@ ghost use Rattle.event_sinks.specs.Audited.{calls_of};
 ghost use Rattle.event_sinks.specs.Heard.{IsHeard, ended_of, heard_by};
 ghost use Rattle.watchtree_storm.specs.Storm.{CountsAgree};
 
-use crate::begin::{Begun, begin};
+use crate::beginning::{Begun, begin};
 use crate::fault::StormFault;
 use crate::writer::{Writer, close_both};
 use event_sinks::{Cause, Ended, Gate, SettleFault, Settled, Sink, settle};
