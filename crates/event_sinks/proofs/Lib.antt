@@ -2,3 +2,4 @@ mod Fronts
 mod Pairs
 mod Marks
 mod KeptCalls
+mod Agreeing
