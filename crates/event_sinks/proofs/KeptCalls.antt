@@ -16,18 +16,18 @@ use Rattle.event_sinks.proofs.Marks.{IsUnset, Fits, marked-append, unset_by, uns
 
 -- ---- by recursion
 
-abbrev Stand : List Entry → SeatLog → Type 0
+abbrev pub Stand : List Entry → SeatLog → Type 0
 Stand entries l = AllByRecursion (Stands entries l.number) l.kept
 
-abbrev Rise : SeatLog → Type 0
+abbrev pub Rise : SeatLog → Type 0
 Rise l = PairsByRecursion (λ j k. j < k) (places l)
 
-record ByRecursion (entries : List Entry) (logs : List SeatLog) : Type 0 where
-  stand : AllByRecursion (Stand entries) logs
-  rise : AllByRecursion Rise logs
-  once : PairsByRecursion (λ j k. j ≢ k) (flat_map places logs)
+pub record ByRecursion (entries : List Entry) (logs : List SeatLog) : Type 0 where
+  pub stand : AllByRecursion (Stand entries) logs
+  pub rise : AllByRecursion Rise logs
+  pub once : PairsByRecursion (λ j k. j ≢ k) (flat_map places logs)
 
-by_recursion : (entries : List Entry) (logs : List SeatLog) → AreKept entries logs → ByRecursion entries logs
+pub by_recursion : (entries : List Entry) (logs : List SeatLog) → AreKept entries logs → ByRecursion entries logs
 by_recursion entries logs kept = record {
   stand = all_weaker (λ (l : SeatLog). All (Stands entries l.number) l.kept) (Stand entries) (λ l p. recursion_from_All (Stands entries l.number) l.kept p) logs (recursion_from_All _ logs kept.stand);
   rise = all_weaker (λ (l : SeatLog). AllPairs (λ j k. j < k) (places l)) Rise (λ l p. recursion_from_AllPairs (λ j k. j < k) (places l) p) logs (recursion_from_All _ logs kept.rise);
@@ -54,14 +54,14 @@ kept_front entries xs ys kept =
 -- ---- places
 
 -- the place is in the journal
-abbrev IsPlaceIn : List Entry → ℕ → Type 0
+abbrev pub IsPlaceIn : List Entry → ℕ → Type 0
 IsPlaceIn entries p = (0 < p) × (p - 1 < length entries)
 
 places_of : (entries : List Entry) (number : ℕ) (ks : List Kept) → AllByRecursion (Stands entries number) ks → AllByRecursion (IsPlaceIn entries) (map (λ (k : Kept). k.place) ks)
 places_of entries number [] stand = tt
 places_of entries number (k ∷ ks) stand = ((stand.0.0, slice_get_within entries (k.place - 1) _ stand.0.1), places_of entries number ks stand.1)
 
-places_in : (entries : List Entry) (logs : List SeatLog) → AllByRecursion (Stand entries) logs → AllByRecursion (IsPlaceIn entries) (flat_map places logs)
+pub places_in : (entries : List Entry) (logs : List SeatLog) → AllByRecursion (Stand entries) logs → AllByRecursion (IsPlaceIn entries) (flat_map places logs)
 places_in entries [] stand = tt
 places_in entries (l ∷ logs) stand = all_append (IsPlaceIn entries) (places l) (flat_map places logs) (places_of entries l.number l.kept stand.0) (places_in entries logs stand.1)
 

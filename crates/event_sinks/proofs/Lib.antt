@@ -3,3 +3,4 @@ pub mod Hearing
 mod Pairs
 mod Marks
 mod KeptCalls
+mod Agreeing

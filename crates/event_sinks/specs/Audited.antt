@@ -1,5 +1,5 @@
 -- When a book, the logs of its seats, and the listeners that ended agree.
-use Rattle.std.specs.Prelude.{◌≡◌, ◌≢◌, ◌<◌, ◌-◌, ◌++◌, ⊤, ℕ, List, [], ◌∷◌, All, AllPairs, length, map, min, slice_get, sum_by, Option, Some, None, ◌⊎◌}
+use Rattle.std.specs.Prelude.{◌≡◌, ◌≢◌, ◌<◌, ◌≤◌, ◌-◌, ◌==◌, ◌++◌, ⊤, ℕ, List, [], ◌∷◌, All, AllPairs, count_by, length, map, min, slice_get, sum_by, Option, Some, None, ◌⊎◌}
 use Rattle.std.specs.List.{flat_map}
 use Rattle.tree_core.specs.declared.reply.Entry.{Entry}
 use Rattle.tree_core.specs.declared.reply.Kept.{Kept}
@@ -113,3 +113,13 @@ IsFault b logs es Memory = ⊤
 IsFault b logs es (CountDiffers entries calls) = (b.entries ≢ calls_of logs) × (entries ≡ b.entries) × (calls ≡ min (calls_of logs) 18446744073709551615)
 IsFault b logs es (Stray n) = (b.entries ≡ calls_of logs) × IsStray b.state.entries logs n
 IsFault b logs es f = (b.entries ≡ calls_of logs) × AreKept b.state.entries logs × IsFirstFault b es f
+
+-- ---- laws of the whole
+
+-- where the book, the logs and the listeners agree, no fault holds of them, want of memory aside
+abbrev pub FaultsContradictTheAudit : Type 0
+FaultsContradictTheAudit = (b : Bound) (logs : List SeatLog) (es : List Outcome) (f : SettleFault) → IsFault b logs es f → f ≢ Memory → IsAudited b logs es → ⊥
+
+-- where they agree, each place of the journal was kept by exactly one call
+abbrev pub AuditsAgree : Type 0
+AuditsAgree = (b : Bound) (logs : List SeatLog) (es : List Outcome) → b.entries ≡ length b.state.entries → IsAudited b logs es → (p : ℕ) → 0 < p → p ≤ b.entries → count_by (λ q. q == p) (flat_map places logs) ≡ 1

@@ -1,0 +1,14 @@
+//! Laws of what is settled. Each is a function that does nothing, and its contract is the law.
+
+ghost use Rattle.event_sinks.specs.Audited.{AuditsAgree, FaultsContradictTheAudit};
+
+/// A law: where a book, the logs of its seats and the listeners that ended agree, no fault holds of them but want of
+/// memory. So [`settle`](crate::settle) settles a book exactly where they agree, want of memory aside.
+pub fn faults_contradict_the_audit()
+    ensures { FaultsContradictTheAudit }
+{}
+
+/// A law: where they agree, each entry of the journal was kept by exactly one call of the seats.
+pub fn audits_agree()
+    ensures { AuditsAgree }
+{}
