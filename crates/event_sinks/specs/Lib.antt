@@ -4,3 +4,4 @@ pub mod Writing
 pub mod Stopping
 pub mod Heard
 pub mod Audited
+pub mod Tracks

@@ -1,6 +1,6 @@
 //! Whether a book, the logs of its seats, and the listeners that ended agree.
 
-ghost use Rattle.std.specs.Prelude.{◌≡◌, ◌×◌, IfOk, IfErr};
+ghost use Rattle.std.specs.Prelude.{◌≡◌, IfOk, IfErr};
 ghost use Rattle.event_sinks.specs.declared.audit.SettleFault.TheVariants.{Memory};
 ghost use Rattle.event_sinks.specs.Audited.{IsAudited, IsFault, outcomes};
 

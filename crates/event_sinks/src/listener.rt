@@ -1,6 +1,6 @@
 //! What puts the records of a feed into a sink.
 
-ghost use Rattle.std.specs.Prelude.{◌≡◌, ◌++◌, [], ◌∷◌, ◌×◌, true, length, Some, None};
+ghost use Rattle.std.specs.Prelude.{◌≡◌, ◌++◌, [], ◌∷◌, true, length, Some, None};
 ghost use Rattle.event_sinks.specs.declared.listener.Cause.TheVariants.{Given, Turns};
 ghost use Rattle.event_sinks.specs.Heard.{Heard, IsHeard, IsFromOutside, IsTurn, PutsAll, Reaches, Steps, ended_by, ended_of, heard, heard_by};
 
@@ -194,7 +194,7 @@ impl<S: Sink> Listening<S> {
     }
 }
 
-impl<S: Sink> Ended<S> {
+impl<S> Ended<S> {
     /// The number of the listener.
     pub fn number(&self) -> u32
         ensures { result ≡ self.now.number }
@@ -222,7 +222,9 @@ impl<S: Sink> Ended<S> {
     {
         self.handed.as_slice()
     }
+}
 
+impl<S: Sink> Ended<S> {
     /// Its sink, which is closed.
     pub fn sink(&self) -> &S
         ensures list { S.record_list result.now ≡ S.record_list self.now.sink }
