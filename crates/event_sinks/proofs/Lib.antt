@@ -1,1 +1,4 @@
 mod Fronts
+pub mod Noting
+pub mod Passing
+pub mod Walking

@@ -67,14 +67,14 @@ Follows handed bs old new = (left : List Batch) (o : Option ℕ) → Comes left 
 abbrev pub track_at : BTreeMap ℕ Track → ℕ → Option Track
 track_at m n = tree.get nat_cmp m n
 
--- the batches and the cause of the listener at a place
-abbrev pub handed_by : Option Outcome → List Batch
-handed_by None = []
-handed_by (Some e) = e.handed
+-- the batches of the listener at a place, and whether it ended by the end batch
+abbrev pub handed_of : Option Outcome → List Batch
+handed_of None = []
+handed_of (Some e) = e.handed
 
 abbrev pub handed_at : List Outcome → Option ℕ → List Batch
 handed_at es None = []
-handed_at es (Some i) = handed_by (slice_get es i)
+handed_at es (Some i) = handed_of (slice_get es i)
 
 abbrev pub EndsLast : Option Outcome → Type 0
 EndsLast None = ⊥
