@@ -1,5 +1,5 @@
 use Rattle.std.proofs.Common.{◌≡◌, ap, sym, ◌∙◌, subst, arith}
-use Rattle.std.proofs.lemmas.Bool.{false≢true, OnTrue_at}
+use Rattle.std.proofs.lemmas.Bool.{eqb-true, OnTrue_at}
 use Rattle.std.proofs.lemmas.Bool.Decides.{nat_tests}
 use Rattle.record_codec.specs.Records.{AreEvents, spelling}
 use Rattle.shared_tree.specs.declared.pipe.Batch.{Batch}
@@ -17,5 +17,5 @@ returns-then-one-place c = λ b s.
             λ t. same_batch c.spellings_are_one.ensures b one c.args.instance c.args.place c.args.bytes.now s i p (c.spells.ensures.bytes.0 t ∙ ap spelling c.as_slice.ensures) (subst AreEvents c.as_slice.ensures (OnTrue_at t c.spells.ensures.are_events)),
             λ e. c.spells.ensures.bytes.1 (s.bytes_are ∙ ap (λ (x : Batch). spelling x.records) e ∙ sym (ap spelling c.as_slice.ensures)),
           )
-      | else-one-instance w ↦ absurd (false≢true (sym w.value-is ∙ c.if-one-place.true))
+      | else-one-instance w ↦ absurd (w.if-one-instance.false (eqb-true one.instance c.args.instance (sym w.value-is ∙ c.if-one-place.true)))
     ]
