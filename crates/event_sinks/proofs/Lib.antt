@@ -4,3 +4,8 @@ mod Pairs
 mod Marks
 mod KeptCalls
 mod Agreeing
+pub mod Piped
+pub mod Noting
+pub mod Handing
+pub mod Passing
+pub mod Walking
