@@ -189,7 +189,7 @@ impl<S: Sink> Listening<S> {
     }
 }
 
-impl<S: Sink> Ended<S> {
+impl<S> Ended<S> {
     /// The number of the listener.
     pub fn number(&self) -> u32
         ensures { result ≡ self.now.number }
@@ -217,7 +217,9 @@ impl<S: Sink> Ended<S> {
     {
         self.handed.as_slice()
     }
+}
 
+impl<S: Sink> Ended<S> {
     /// Its sink, which is closed.
     pub fn sink(&self) -> &S
         ensures list { S.record_list result.now ≡ S.record_list self.now.sink }
