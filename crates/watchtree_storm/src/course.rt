@@ -1,9 +1,9 @@
 //! A storm from its beginning to the settled book.
 
 ghost use Rattle.std.specs.Prelude.{◌≡◌, ◌+◌, ◌≤◌, ◌∷◌, [], true, All, IfOk, length};
-ghost use Rattle.event_sinks.specs.Audited.{calls_of};
+ghost use Rattle.event_sinks.specs.Audited.{calls_of, outcome_of};
 ghost use Rattle.event_sinks.specs.Heard.{IsHeard, ended_of, heard_by};
-ghost use Rattle.watchtree_storm.specs.Storm.{CountsAgree};
+ghost use Rattle.watchtree_storm.specs.Storm.{Answers, CountsAgree, told_of};
 
 use crate::beginning::{Begun, begin};
 use crate::fault::StormFault;
@@ -24,8 +24,8 @@ pub struct Ran<S> {
     pub book: Book,
     /// The logs of seats 1, 2 and 3, in this order.
     pub logs: Vec<SeatLog>,
-    /// Listeners 1 and 2, in this order.
-    pub ended: Vec<Ended<S>>,
+    /// Listeners 1 and 2.
+    pub ended: (Ended<S>, Ended<S>),
 }
 
 /// What a storm came to.
@@ -43,23 +43,39 @@ impl<S: Sink> Ran<S> {
     /// Settles the book.
     ///
     /// # Errors
-    /// [`StormFault::Memory`], where there is none to tell of the listeners. Their sinks are closed.
+    /// [`StormFault::Memory`], where there is none to tell of the listeners, whose sinks are closed.
     pub fn settle(self, alloc: Global) -> Result<Stormed, StormFault>
         requires { self.book.entries ≡ calls_of self.logs.items }
-        ensures { IfOk result (λ s. CountsAgree s.settled) }
+        ensures entries { IfOk result (λ s. s.entries ≡ self.book.entries) }
+        ensures listeners { IfOk result (λ s. s.listeners.items ≡ told_of S.record_list self.ended.0 ∷ told_of S.record_list self.ended.1 ∷ []) }
+        ensures settled { IfOk result (λ s. Answers self.book self.logs.items (outcome_of self.ended.0 ∷ outcome_of self.ended.1 ∷ []) s.settled) }
+        ensures counts { IfOk result (λ s. CountsAgree s.settled) }
     {
-        let Ran { book, logs, ended } = self;
+        let Ran {
+            book,
+            logs,
+            ended: (one, other),
+        } = self;
         let entries = book.entries();
-        let mut listeners = Vec::with_capacity(alloc, ended.len())?;
-        for one in &ended {
-            listeners.push((one.number(), one.cause(), one.sink().taken()))?;
-        }
+        let mut listeners = Vec::with_capacity(alloc, 2)?;
+        listeners.push_reserved(told_of(&one));
+        listeners.push_reserved(told_of(&other));
+        let mut ended = Vec::with_capacity(alloc, 2)?;
+        ended.push_reserved(one);
+        ended.push_reserved(other);
         Ok(Stormed {
             entries,
             listeners,
             settled: settle(alloc, book, logs, ended),
         })
     }
+}
+
+// What is told of a listener: its number, why it ended, and how many records its sink took.
+fn told_of<S: Sink>(ended: &Ended<S>) -> (u32, Cause, u64)
+    ensures { result ≡ told_of S.record_list ended.now }
+{
+    (ended.number(), ended.cause(), ended.sink().taken())
 }
 
 /// A storm, up to the book: two writers make so many calls each and pump after each, while two listeners take what comes,
@@ -83,10 +99,9 @@ pub fn run<L: Ledger + Send + Sync, S: Sink, G: Gate, R: Threads + Wait + Sync>(
     requires live { (S.live one ≡ true) × (S.live other ≡ true) }
     requires calls { calls ≤ 1000 }
     ensures counts { IfOk result (λ r. r.book.entries ≡ calls_of r.logs.items) }
-    ensures sinks { IfOk result (λ r. All (λ e. IsHeard (ended_of S.record_list S.live e)) r.ended.items) }
+    ensures sinks { IfOk result (λ r. IsHeard (ended_of S.record_list S.live r.ended.0) × IsHeard (ended_of S.record_list S.live r.ended.1)) }
 {
     let mut logs = Vec::with_capacity(alloc, 3)?;
-    let mut ended = Vec::with_capacity(alloc, 2)?;
     let Begun {
         held,
         mut pass,
@@ -128,10 +143,12 @@ pub fn run<L: Ledger + Send + Sync, S: Sink, G: Gate, R: Threads + Wait + Sync>(
     logs.push_reserved(pass.join(main));
     logs.push_reserved(pass.join(first));
     logs.push_reserved(pass.join(second));
-    ended.push_reserved(one);
-    ended.push_reserved(other);
     let book = tree.into_inner().dissolve(pass);
-    Ok(Ran { book, logs, ended })
+    Ok(Ran {
+        book,
+        logs,
+        ended: (one, other),
+    })
 }
 
 /// A storm of 1 to 1,000 calls of each writer, with two sinks that are open, and the settled book.

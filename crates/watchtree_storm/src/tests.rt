@@ -197,9 +197,7 @@ fn quiet<L: Ledger>(
     logs.push(pass.join(main))?;
     logs.push(pass.join(first))?;
     logs.push(pass.join(second))?;
-    let mut ended = Vec::with_capacity(alloc, 2)?;
-    ended.push(one.run(&OpenGate, 9))?;
-    ended.push(other.run(&OpenGate, 9))?;
+    let ended = (one.run(&OpenGate, 9), other.run(&OpenGate, 9));
     let book = tree.into_inner().dissolve(pass);
     Ok(Ran { book, logs, ended })
 }
@@ -218,8 +216,11 @@ fn another_trees_seat_is_stray(rt: HostRuntime) -> Result<(), Fail> {
     let Ran {
         book,
         mut logs,
-        ended,
+        ended: (one, other),
     } = quiet_storm(&rt, alloc, Writer::second())?;
+    let mut ended = Vec::with_capacity(alloc, 2)?;
+    ended.push(one)?;
+    ended.push(other)?;
     let mut others = quiet_storm(&rt, alloc, ANOTHER)?.logs;
     let _ = logs.pop();
     let Some(stray) = others.pop() else {
