@@ -34,10 +34,9 @@ fn run_storm<W: Write, R: Threads + Wait + Sync>(
 ) -> Result<(), Fault>
     requires { (1 ≤ calls) × (calls ≤ 1000) }
 {
-    let mut sinks: Vec<Box<dyn Sink>> = Vec::with_capacity(alloc, 2)?;
-    sinks.push(Box::new(alloc, CountSink::new(alloc, MOST))?)?;
-    sinks.push(Box::new(alloc, CountSink::new(alloc, MOST))?)?;
-    let stormed = storm(rt, alloc, calls, &OpenGate, sinks)?;
+    let one: Box<dyn Sink> = Box::new(alloc, CountSink::new(alloc, MOST))?;
+    let other: Box<dyn Sink> = Box::new(alloc, CountSink::new(alloc, MOST))?;
+    let stormed = storm(rt, alloc, calls, &OpenGate, one, other)?;
     let text = report(alloc, &stormed)?;
     if output.write_all(&text).is_err() {
         return Err(Fault::Run(RunFault::Write));

@@ -1,6 +1,6 @@
 //! A storm from its beginning to the settled book.
 
-ghost use Rattle.std.specs.Prelude.{◌≡◌, ◌+◌, ◌≤◌, ◌∷◌, [], true, All, IfOk, length};
+ghost use Rattle.std.specs.Prelude.{◌≡◌, ◌+◌, ◌≤◌, ◌∷◌, [], true, IfOk};
 ghost use Rattle.event_sinks.specs.Audited.{calls_of, outcome_of};
 ghost use Rattle.event_sinks.specs.Heard.{IsHeard, ended_of, heard_by};
 ghost use Rattle.watchtree_storm.specs.Storm.{Answers, CountsAgree, told_of};
@@ -163,19 +163,12 @@ pub fn storm<S: Sink, G: Gate, R: Threads + Wait + Sync>(
     alloc: Global,
     calls: u32,
     gate: &G,
-    sinks: Vec<S>,
+    one: S,
+    other: S,
 ) -> Result<Stormed, StormFault>
     requires calls { (1 ≤ calls) × (calls ≤ 1000) }
-    requires two { length sinks.items ≡ 2 }
-    requires live { All (λ s. S.live s ≡ true) sinks.items }
+    requires live { (S.live one ≡ true) × (S.live other ≡ true) }
     ensures { IfOk result (λ s. CountsAgree s.settled) }
 {
-    let mut sinks = sinks;
-    let Some(other) = sinks.pop() else {
-        return Err(StormFault::Memory);
-    };
-    let Some(one) = sinks.pop() else {
-        return Err(StormFault::Memory);
-    };
     run::<Brand, S, G, R>(rt, alloc, Blank::new(65537), calls, gate, one, other)?.settle(alloc)
 }

@@ -1,6 +1,6 @@
 //! Storms: their figures, that the four run at once, and what can go wrong.
 
-ghost use Rattle.std.specs.Prelude.{◌≡◌, ◌≤◌, true};
+ghost use Rattle.std.specs.Prelude.{◌≡◌, ◌≤◌, true, IfOk};
 ghost use Rattle.event_sinks.specs.Writing.{live_of};
 
 use super::*;
@@ -14,6 +14,7 @@ use std::sync::atomic::{AtomicU64, Ordering};
 use std::sync::ledger::{Blank, Ledger};
 use std::sync::{Arc, Mutex, Wait};
 use std::test::Fail;
+use std::thread::Threads;
 
 /// Opens once all four have asked.
 #[derive(Drop)]
@@ -54,12 +55,18 @@ impl Gate for Four {
     }
 }
 
-// Two sinks with room for a million records.
-fn sinks(alloc: Global) -> Result<Vec<Box<dyn Sink>>, Fail> {
-    let mut sinks: Vec<Box<dyn Sink>> = Vec::with_capacity(alloc, 2)?;
-    sinks.push(Box::new(alloc, CountSink::new(alloc, 1_000_000))?)?;
-    sinks.push(Box::new(alloc, CountSink::new(alloc, 1_000_000))?)?;
-    Ok(sinks)
+// A storm with boxed sinks that have room for a million records each.
+fn stormed<G: Gate, R: Threads + Wait + Sync>(
+    rt: &R,
+    alloc: Global,
+    calls: u32,
+    gate: &G,
+) -> Result<Stormed, Fail>
+    requires { (1 ≤ calls) × (calls ≤ 1000) }
+{
+    let one: Box<dyn Sink> = Box::new(alloc, CountSink::new(alloc, 1_000_000))?;
+    let other: Box<dyn Sink> = Box::new(alloc, CountSink::new(alloc, 1_000_000))?;
+    Ok(storm(rt, alloc, calls, gate, one, other)?)
 }
 
 // Whether both listeners ended by the end batch, with so many records each.
@@ -82,24 +89,24 @@ fn is_settled(stormed: &Stormed, entries: u64, taken: u64) -> bool {
 #[test]
 fn a_storm_has_its_figures(rt: HostRuntime) -> Result<(), Fail> {
     let alloc = rt.alloc();
-    let stormed = storm(&rt, alloc, 1, &OpenGate, sinks(alloc)?)?;
-    assert!(rt; is_settled(&stormed, 13, 6));
-    let stormed = storm(&rt, alloc, 2, &OpenGate, sinks(alloc)?)?;
-    assert!(rt; is_settled(&stormed, 17, 12));
-    let stormed = storm(&rt, alloc, 3, &OpenGate, sinks(alloc)?)?;
-    assert!(rt; is_settled(&stormed, 21, 16));
-    let stormed = storm(&rt, alloc, 100, &OpenGate, sinks(alloc)?)?;
-    assert!(rt; is_settled(&stormed, 409, 450));
-    let stormed = storm(&rt, alloc, 1000, &OpenGate, sinks(alloc)?)?;
-    assert!(rt; is_settled(&stormed, 4009, 4500));
+    let calm = stormed(&rt, alloc, 1, &OpenGate)?;
+    assert!(rt; is_settled(&calm, 13, 6));
+    let calm = stormed(&rt, alloc, 2, &OpenGate)?;
+    assert!(rt; is_settled(&calm, 17, 12));
+    let calm = stormed(&rt, alloc, 3, &OpenGate)?;
+    assert!(rt; is_settled(&calm, 21, 16));
+    let calm = stormed(&rt, alloc, 100, &OpenGate)?;
+    assert!(rt; is_settled(&calm, 409, 450));
+    let calm = stormed(&rt, alloc, 1000, &OpenGate)?;
+    assert!(rt; is_settled(&calm, 4009, 4500));
     Ok(())
 }
 
 #[test]
 fn four_run_at_once(rt: HostRuntime) -> Result<(), Fail> {
     let alloc = rt.alloc();
-    let stormed = storm(&rt, alloc, 4, &Four::closed(100_000_000), sinks(alloc)?)?;
-    assert!(rt; is_settled(&stormed, 25, 18));
+    let calm = stormed(&rt, alloc, 4, &Four::closed(100_000_000))?;
+    assert!(rt; is_settled(&calm, 25, 18));
     Ok(())
 }
 
@@ -122,18 +129,12 @@ impl Write for Closings {
     }
 }
 
-// Two sinks that count their closings.
-fn counted_sinks(
-    alloc: Global,
-    count: &Arc<AtomicU64, Global>,
-) -> Result<Vec<Box<dyn Sink>>, Fail> {
-    let mut sinks: Vec<Box<dyn Sink>> = Vec::with_capacity(alloc, 2)?;
-    for _ in 0..2 {
-        let count = Arc::try_clone(count)?;
-        let sink = Box::new(alloc, LineSink::new(alloc, Closings { count }))?;
-        sinks.push(sink)?;
-    }
-    Ok(sinks)
+// A sink that counts its closing.
+fn counted(alloc: Global, count: &Arc<AtomicU64, Global>) -> Result<LineSink<Closings>, Fail>
+    ensures { IfOk result (λ sink. live_of sink ≡ true) }
+{
+    let count = Arc::try_clone(count)?;
+    Ok(LineSink::new(alloc, Closings { count }))
 }
 
 // What a storm may come to where memory is wanting: a fault, a listener that did not end by the end batch, a book that is
@@ -153,8 +154,9 @@ fn is_short_of_memory(stormed: &Result<Stormed, StormFault>, most: u64) -> bool 
 fn a_storm_closes_both_sinks(rt: HostRuntime) -> Result<(), Fail> {
     let alloc = rt.alloc();
     let count = Arc::new(alloc, AtomicU64::new(0))?;
-    let sinks = counted_sinks(alloc, &count)?;
-    let stormed = storm(&rt, alloc, 4, &OpenGate, sinks);
+    let one = counted(alloc, &count)?;
+    let other = counted(alloc, &count)?;
+    let stormed = storm(&rt, alloc, 4, &OpenGate, one, other);
     assert!(rt; is_short_of_memory(&stormed, 25));
     assert_eq!(rt; count.load(Ordering::SeqCst), 2);
     Ok(())
