@@ -2,22 +2,19 @@
 //!
 //! A step that lacks memory is made once more, and must then answer as if nothing had happened.
 
-ghost use Rattle.std.specs.Prelude.{◌≡◌, ◌≤◌, IfOk, IsTrue};
+ghost use Rattle.std.specs.Prelude.{◌≡◌, IfOk, IsTrue};
+ghost use Rattle.std.specs.Result.{ForOk};
 ghost use Rattle.tree_core.specs.Calls.{is_plain};
 
 mod pipes;
 mod seats;
 mod threads;
 
-use crate::{Batch, Book, Feed, Held, Pass, Seat};
+use crate::{Batch, Feed, Held, Pass, Seat};
 use std::alloc::Global;
 use std::marker::Brand;
-use std::process::Abort;
-use std::sync::Wait;
 use std::sync::ledger::{Blank, Ledger};
-use std::test::Fail;
-use std::thread::Threads;
-use tree_core::{Call, Kept, Receipt, Reply};
+use tree_core::{Call, Receipt, Reply};
 use tree_ops::FileCall;
 use tree_paths::{Limits, Path, Refusal};
 
@@ -27,157 +24,276 @@ const ALL: u32 = 4096;
 /// The bit `IN_CREATE`.
 const CREATE: u32 = 0x100;
 
-/// What happens to a tree.
-trait Scene {
-    fn play<L: Ledger + Send + Sync, R: Abort + Threads + Wait + Sync>(
-        rt: &R,
-        alloc: Global,
-        held: Held<L>,
-        pass: Pass<L>,
-    ) -> Result<(), Fail>;
+/// What happens to a tree, with what it comes to.
+#[derive(Clone, Copy)]
+enum Step {
+    /// A new seat, which makes the calls from then on. Its number.
+    Sits(Result<u32, Refusal>),
+    /// The seat is given back. How many calls it kept.
+    Stands(usize),
+    /// An instance with a limit and a pipe of so many places.
+    Opens(u32, usize, Says),
+    /// An instance with no pipe.
+    Inits(Says),
+    /// An instance watches the root for new files.
+    Watches(u32, Says),
+    /// A file is made.
+    Creates(&'static str, Says),
+    Reads(u32, Says),
+    Closes(u32, Says),
+    Pumps(u32, Says),
+    /// A batch that the feed of an instance gives: its place and how many records it has.
+    Gives(u32, u64, usize),
+    /// The feed of an instance is there, and gives nothing.
+    GivesNothing(u32),
+    /// No feed of an instance has come.
+    HasNoFeed(u32),
+    /// The feed of an instance is let go.
+    Goes(u32),
+    /// How many records wait in an instance.
+    Waits(u32, Option<usize>),
+    /// How many entries the journal has.
+    Counts(usize),
 }
 
-// Makes a tree, and plays a scene with it. `Err` is want of memory for the tree.
-fn start<L: Ledger + Send + Sync, S: Scene, R: Abort + Threads + Wait + Sync>(
-    rt: &R,
+/// What a call answers, or why it is not carried out.
+#[derive(Clone, Copy, PartialEq, Eq)]
+enum Says {
+    File,
+    Instance(u32),
+    Wd(i32),
+    Records,
+    Done,
+    Refused(Refusal),
+    Fails(Refusal),
+}
+
+fn said(receipt: Result<Receipt, Refusal>) -> Says {
+    match receipt {
+        Ok(receipt) => answered(&receipt.reply),
+        Err(refusal) => Says::Fails(refusal),
+    }
+}
+
+fn answered(reply: &Reply) -> Says {
+    match reply {
+        Reply::File(_) => Says::File,
+        Reply::Instance(id) => Says::Instance(*id),
+        Reply::Wd(wd) => Says::Wd(*wd),
+        Reply::Records(_) => Says::Records,
+        Reply::Done => Says::Done,
+        Reply::Refused(refusal) => Says::Refused(*refusal),
+    }
+}
+
+/// A tree with one seat, and the feeds of its instances 1 and 2.
+#[derive(Drop)]
+struct Stage<L: Ledger> {
     alloc: Global,
-    blank: Blank,
-    limits: Limits,
-) -> Result<Result<(), Fail>, Refusal>
-    requires name { blank.name ≡ L.name }
-    requires parts { (blank.parts ≡ L.parts) × (blank.parts ≡ 65537) }
-{
-    let (held, pass) = Held::<L>::new(alloc, blank, limits)?;
-    Ok(S::play::<L, R>(rt, alloc, held, pass))
+    held: Held<L>,
+    pass: Pass<L>,
+    seat: Option<Seat<L>>,
+    first: Option<Feed>,
+    second: Option<Feed>,
 }
 
-// Plays a scene.
-fn stage<S: Scene, R: Abort + Threads + Wait + Sync>(
-    rt: &R,
-    alloc: Global,
-    limits: Limits,
-) -> Result<(), Fail> {
-    match start::<Brand, S, R>(rt, alloc, Blank::new(65537), limits) {
-        Ok(played) => played,
-        Err(_) => restage::<S, R>(rt, alloc, limits),
+impl<L: Ledger> Stage<L> {
+    fn new(alloc: Global, blank: Blank, limits: Limits) -> Result<Stage<L>, Refusal>
+        requires name { blank.name ≡ L.name }
+        requires parts { (blank.parts ≡ L.parts) × (blank.parts ≡ 65537) }
+    {
+        let (held, pass) = Held::<L>::new(alloc, blank, limits)?;
+        Ok(Stage {
+            alloc,
+            held,
+            pass,
+            seat: None,
+            first: None,
+            second: None,
+        })
+    }
+
+    fn sits(&mut self) -> Result<u32, Refusal> {
+        let seat = self.pass.seat()?;
+        let number = seat.number;
+        self.seat = Some(seat);
+        Ok(number)
+    }
+
+    fn stands(&mut self) -> Option<usize> {
+        let seat = self.seat.take()?;
+        let log = self.pass.join(seat);
+        Some(log.kept.as_slice().len())
+    }
+
+    fn calls(&mut self, call: Result<Call, Refusal>) -> Says
+        requires { ForOk call (λ c. IsTrue (is_plain c)) }
+    {
+        let Stage { held, seat, .. } = self;
+        let Some(seat) = seat else {
+            return Says::Fails(Refusal::SeatsSpent);
+        };
+        match call {
+            Ok(call) => said(held.call(seat, call)),
+            Err(refusal) => Says::Fails(refusal),
+        }
+    }
+
+    fn pumps(&mut self, instance: u32) -> Says {
+        let Stage { held, seat, .. } = self;
+        match seat {
+            Some(seat) => said(held.pump(seat, instance, ALL)),
+            None => Says::Fails(Refusal::SeatsSpent),
+        }
+    }
+
+    // Keeps the feed, under the number that it has.
+    fn opens(&mut self, limit: u32, slots: usize) -> Says {
+        let Stage { held, seat, .. } = self;
+        let Some(seat) = seat else {
+            return Says::Fails(Refusal::SeatsSpent);
+        };
+        match held.open_piped(seat, limit, slots.clamp(1, 65_536)) {
+            Ok((receipt, feed)) => {
+                self.keeps(feed);
+                said(Ok(receipt))
+            }
+            Err(refusal) => Says::Fails(refusal),
+        }
+    }
+
+    fn keeps(&mut self, feed: Option<Feed>) {
+        let Some(feed) = feed else {
+            return;
+        };
+        match feed.instance() {
+            1 => self.first = Some(feed),
+            2 => self.second = Some(feed),
+            _ => {}
+        }
+    }
+
+    fn takes(&mut self, instance: u32) -> Option<Batch> {
+        match instance {
+            1 => self.first.as_mut()?.take(),
+            _ => self.second.as_mut()?.take(),
+        }
+    }
+
+    fn has_feed(&self, instance: u32) -> bool {
+        match instance {
+            1 => self.first.is_some(),
+            _ => self.second.is_some(),
+        }
+    }
+
+    fn goes(&mut self, instance: u32) -> bool {
+        match instance {
+            1 => self.first.take().is_some(),
+            _ => self.second.take().is_some(),
+        }
+    }
+
+    // What the call of a step comes to, if it is one.
+    fn says(&mut self, step: Step) -> Option<(Says, Says)> {
+        let alloc = self.alloc;
+        Some(match step {
+            Step::Opens(limit, slots, wanted) => (self.opens(limit, slots), wanted),
+            Step::Inits(wanted) => (self.calls(Ok(init())), wanted),
+            Step::Watches(instance, wanted) => (self.calls(watch(alloc, instance)), wanted),
+            Step::Creates(text, wanted) => (self.calls(create(alloc, text)), wanted),
+            Step::Reads(instance, wanted) => (self.calls(Ok(read(instance))), wanted),
+            Step::Closes(instance, wanted) => (self.calls(Ok(close(instance))), wanted),
+            Step::Pumps(instance, wanted) => (self.pumps(instance), wanted),
+            _ => return None,
+        })
+    }
+
+    // Whether a step that is no call comes to what is wanted.
+    fn shows(&mut self, step: Step) -> bool {
+        match step {
+            Step::Sits(wanted) => self.sits() == wanted,
+            Step::Stands(kept) => self.stands() == Some(kept),
+            Step::Gives(instance, place, records) => {
+                is_batch(&self.takes(instance), instance, place, records)
+            }
+            Step::GivesNothing(instance) => {
+                self.has_feed(instance) && self.takes(instance).is_none()
+            }
+            Step::HasNoFeed(instance) => !self.has_feed(instance),
+            Step::Goes(instance) => self.goes(instance),
+            Step::Waits(instance, count) => self.held.state().waiting(instance) == count,
+            Step::Counts(entries) => self.held.state().journal().len() == entries,
+            _ => false,
+        }
+    }
+
+    // Whether a step comes to what is wanted. A call that lacks memory is made once more.
+    fn goes_well(&mut self, step: Step) -> bool {
+        match self.says(step) {
+            Some((Says::Fails(Refusal::Enomem), _)) => match self.says(step) {
+                Some((said, wanted)) => said == wanted,
+                None => false,
+            },
+            Some((said, wanted)) => said == wanted,
+            None => self.shows(step),
+        }
+    }
+
+    // How many steps go well, before one that does not.
+    fn plays(&mut self, steps: &[Step]) -> usize {
+        for (place, step) in steps.iter().enumerate() {
+            if !self.goes_well(*step) {
+                return place;
+            }
+        }
+        steps.len()
     }
 }
 
-// Plays a scene once more.
-fn restage<S: Scene, R: Abort + Threads + Wait + Sync>(
-    rt: &R,
-    alloc: Global,
-    limits: Limits,
-) -> Result<(), Fail> {
-    start::<Brand, S, R>(rt, alloc, Blank::new(65537), limits)?
-}
-
-// Makes a call that pipes are not for.
-fn calls<L: Ledger>(held: &mut Held<L>, seat: &mut Seat<L>, call: &Call) -> Result<Receipt, Refusal>
-    requires { IsTrue (is_plain call.now) }
+fn init() -> Call
+    ensures { IsTrue (is_plain result) }
 {
-    match held.call(seat, copied(call)?) {
-        Err(Refusal::Enomem) => held.call(seat, copied(call)?),
-        receipt => receipt,
+    Call::Init {
+        limit: 16,
+        piped: false,
     }
 }
 
-// The same call once more.
-fn copied(call: &Call) -> Result<Call, Refusal>
-    ensures { IfOk result (λ copy. copy ≡ call.now) }
+fn read(instance: u32) -> Call
+    ensures { IsTrue (is_plain result) }
 {
-    match call.copy() {
-        Err(Refusal::Enomem) => call.copy(),
-        copy => copy,
+    Call::Read {
+        instance,
+        bytes: ALL,
     }
 }
 
-// Pumps all that waits.
-fn pumps<L: Ledger>(
-    held: &mut Held<L>,
-    seat: &mut Seat<L>,
-    instance: u32,
-) -> Result<Receipt, Refusal> {
-    match held.pump(seat, instance, ALL) {
-        Err(Refusal::Enomem) => held.pump(seat, instance, ALL),
-        receipt => receipt,
-    }
+fn close(instance: u32) -> Call
+    ensures { IsTrue (is_plain result) }
+{
+    Call::Close { instance }
 }
 
-// Makes an instance with a pipe.
-fn opens<L: Ledger>(
-    held: &mut Held<L>,
-    seat: &mut Seat<L>,
-    limit: u32,
-    slots: usize,
-) -> Result<(Receipt, Option<Feed>), Refusal>
-    requires { (1 ≤ slots) × (slots ≤ 65536) }
+fn watch(alloc: Global, instance: u32) -> Result<Call, Refusal>
+    ensures { IfOk result (λ c. IsTrue (is_plain c)) }
 {
-    match held.open_piped(seat, limit, slots) {
-        Err(Refusal::Enomem) => held.open_piped(seat, limit, slots),
-        opened => opened,
-    }
-}
-
-// An instance with a pipe that is told of each file that is made in the root.
-fn listens<L: Ledger>(
-    rt: &impl Abort,
-    alloc: Global,
-    held: &mut Held<L>,
-    seat: &mut Seat<L>,
-    instance: u32,
-    slots: usize,
-) -> Result<Feed, Fail>
-    requires { (1 ≤ slots) × (slots ≤ 65536) }
-{
-    let (receipt, feed) = opens(held, seat, 16, slots)?;
-    assert_eq!(rt; receipt.reply, Reply::Instance(instance));
-    let Some(feed) = feed else {
-        return Err(Fail::from(Refusal::Ebadf));
-    };
-    assert_eq!(rt; feed.instance(), instance);
-    let path = path(alloc, "/")?;
-    let watch = Call::AddWatch {
+    let path = Path::parse(alloc, "/".as_bytes())?;
+    Ok(Call::AddWatch {
         instance,
         path,
         mask: CREATE,
-    };
-    assert_eq!(rt; calls(held, seat, &watch)?.reply, Reply::Wd(1));
-    Ok(feed)
+    })
 }
 
-fn path(alloc: Global, text: &str) -> Result<Path, Refusal> {
-    match Path::parse(alloc, text.as_bytes()) {
-        Err(Refusal::Enomem) => Path::parse(alloc, text.as_bytes()),
-        path => path,
-    }
+fn create(alloc: Global, text: &str) -> Result<Call, Refusal>
+    ensures { IfOk result (λ c. IsTrue (is_plain c)) }
+{
+    let path = Path::parse(alloc, text.as_bytes())?;
+    Ok(Call::File(FileCall::Create { path, mode: 0o644 }))
 }
 
-// Makes a regular file, which is not to be refused.
-fn creates<L: Ledger>(
-    alloc: Global,
-    held: &mut Held<L>,
-    seat: &mut Seat<L>,
-    text: &str,
-) -> Result<Receipt, Refusal> {
-    let path = path(alloc, text)?;
-    let receipt = calls(
-        held,
-        seat,
-        &Call::File(FileCall::Create { path, mode: 0o644 }),
-    )?;
-    match receipt.reply {
-        Reply::Refused(refusal) => Err(refusal),
-        _ => Ok(receipt),
-    }
-}
-
-// The feed gives a batch of this instance, of this place and of so many records, and no other.
-fn gives(rt: &impl Abort, feed: &mut Feed, instance: u32, place: u64, records: usize) {
-    let batch = feed.take();
-    assert!(rt; is_batch(&batch, instance, place, records));
-}
-
+// Whether it is a batch of this instance, of this place and of so many records.
 fn is_batch(batch: &Option<Batch>, instance: u32, place: u64, records: usize) -> bool {
     match batch {
         Some(batch) => {
@@ -190,21 +306,28 @@ fn is_batch(batch: &Option<Batch>, instance: u32, place: u64, records: usize) ->
     }
 }
 
-// The feed has nothing to give.
-fn gives_nothing(rt: &impl Abort, feed: &mut Feed) {
-    let batch = feed.take();
-    assert!(rt; batch.is_none());
+// How many steps go well with a new tree, before one that does not.
+fn start<L: Ledger>(
+    alloc: Global,
+    blank: Blank,
+    limits: Limits,
+    steps: &[Step],
+) -> Result<usize, Refusal>
+    requires name { blank.name ≡ L.name }
+    requires parts { (blank.parts ≡ L.parts) × (blank.parts ≡ 65537) }
+{
+    let mut stage = Stage::<L>::new(alloc, blank, limits)?;
+    Ok(stage.plays(steps))
 }
 
-// Whether what was kept of a call is the entry at its place, under the seat's number.
-fn is_entry(book: &Book, caller: u32, kept: &Kept) -> bool {
-    if kept.place == 0 {
-        return false;
-    }
-    match book.journal().get(kept.place as usize - 1) {
-        Some(entry) => {
-            entry.caller == caller && entry.call == kept.call && entry.reply == kept.reply
-        }
-        None => false,
+fn start_branded(alloc: Global, limits: Limits, steps: &[Step]) -> Result<usize, Refusal> {
+    start::<Brand>(alloc, Blank::new(65537), limits, steps)
+}
+
+// How many steps go well with a new tree. A tree that lacks memory is made once more.
+fn plays(alloc: Global, limits: Limits, steps: &[Step]) -> Option<usize> {
+    match start_branded(alloc, limits, steps) {
+        Ok(count) => Some(count),
+        Err(_) => start_branded(alloc, limits, steps).ok(),
     }
 }
