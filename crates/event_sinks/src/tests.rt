@@ -125,7 +125,7 @@ fn takes(rt: HostRuntime) -> Result<(), Fail> {
         three(CountSink::new(alloc, 0), &event)?,
         (full, 0, true, false)
     );
-    let writer = Vec::new(alloc);
+    let writer = Vec::with_capacity(alloc, 99)?;
     assert_eq!(rt;
         three(LineSink::new(alloc, writer), &event)?,
         (all, 3, true, false)
