@@ -11,6 +11,8 @@ impl Sink for Box<dyn Sink> {
 
     ghost full = { λ b. (Sink-box b).full b.value };
 
+    ghost may_answer = { λ b event answer. (Sink-box b).may_answer b.value event answer };
+
     fn put(&mut self, event: &Event) -> Result<(), SinkFault> {
         (**self).put(event)
     }

@@ -49,6 +49,8 @@ impl Sink for CountSink {
 
     ghost full = { λ s. length s.records == s.most };
 
+    ghost may_answer = { λ _ _ answer. answer ≢ Err Write };
+
     fn put(&mut self, event: &Event) -> Result<(), SinkFault>
         requires { self.old.live ≡ true }
         ensures ok { OnOk result (self.new ≡ counting self.old.most (self.old.records ++ event.now ∷ []) true) }

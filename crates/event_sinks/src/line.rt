@@ -1,8 +1,9 @@
 //! A sink that writes lines.
 
-ghost use Rattle.std.specs.Prelude.{◌≡◌, ◌++◌, [], ◌∷◌, true, false, length, OnOk, OnErr};
+ghost use Rattle.std.specs.Prelude.{◌≡◌, ◌≢◌, ◌++◌, [], ◌∷◌, true, false, length, Err, OnOk, OnErr};
 ghost use Rattle.record_codec.specs.Ports.{inner_of, faults_of};
 ghost use Rattle.event_sinks.specs.Lines.{line_of, closing_line, PutsLine, WritesAll, WritesClosing, WritesFront};
+ghost use Rattle.event_sinks.specs.declared.fault.SinkFault.TheVariants.{Full};
 ghost use Rattle.event_sinks.specs.Writing.{live_of, port_of, records_of};
 
 use crate::fault::SinkFault;
@@ -45,6 +46,8 @@ impl<W: Write + Send + Drop> Sink for LineSink<W> {
     ghost live = { λ s. live_of s };
 
     ghost full = { λ _. false };
+
+    ghost may_answer = { λ _ _ answer. answer ≢ Err Full };
 
     fn put(&mut self, event: &Event) -> Result<(), SinkFault>
         requires { live_of self.old ≡ true }

@@ -44,6 +44,8 @@ impl Sink for MemorySink {
 
     ghost full = { λ _. false };
 
+    ghost may_answer = { λ _ _ answer. IfErr answer (λ fault. fault ≡ Memory) };
+
     fn put(&mut self, event: &Event) -> Result<(), SinkFault>
         requires { self.old.live ≡ true }
         ensures ok { OnOk result (self.new ≡ taking (self.old.records ++ event.now ∷ []) true) }

@@ -1,7 +1,8 @@
 //! What takes records.
 
-ghost use Rattle.std.specs.Prelude.{◌≡◌, ◌↔◌, ◌++◌, [], ◌∷◌, Bool, true, false, List, Err, length, IsTrue, OnOk, OnErr};
+ghost use Rattle.std.specs.Prelude.{◌≡◌, ◌↔◌, ◌++◌, [], ◌∷◌, Bool, true, false, List, Result, Err, length, IsTrue, OnOk, OnErr};
 ghost use Rattle.record_codec.specs.declared.event.Event.{Event};
+ghost use Rattle.event_sinks.specs.declared.fault.SinkFault.{SinkFault};
 ghost use Rattle.event_sinks.specs.declared.fault.SinkFault.TheVariants.{Full};
 
 use crate::fault::SinkFault;
@@ -20,6 +21,9 @@ pub trait Sink: Send + Drop {
     /// Whether it takes no more records, though it is open.
     ghost full: { Self → Bool };
 
+    /// What it may answer where it is put this record.
+    ghost may_answer: { Self → Event → Result (Unit {0}) SinkFault → Type 0 };
+
     /// Takes a copy of the record.
     ///
     /// # Errors
@@ -29,7 +33,8 @@ pub trait Sink: Send + Drop {
         ensures ok { OnOk result (record_list self.new ≡ record_list self.old ++ event.now ∷ []) }
         ensures err { OnErr result (record_list self.new ≡ record_list self.old) }
         ensures stays { live self.new ≡ true }
-        ensures full { (result ≡ Err Full) ↔ IsTrue (full self.old) };
+        ensures full { (result ≡ Err Full) ↔ IsTrue (full self.old) }
+        ensures answer { may_answer self.old event.now result };
 
     /// Ends it: it takes no more records.
     fn close(&mut self)

@@ -1,6 +1,6 @@
 //! A sink that takes no more than so many records.
 
-ghost use Rattle.std.specs.Prelude.{◌≡◌, ◌↔◌, ◌++◌, [], ◌∷◌, ◌+◌, ◌==◌, ◌||◌, Err, true, IsTrue, MatchResult, OnOk, OnErr};
+ghost use Rattle.std.specs.Prelude.{◌≡◌, ◌↔◌, ◌++◌, [], ◌∷◌, ◌+◌, ◌==◌, ◌||◌, Err, true, IsTrue, MatchBool, MatchResult, OnOk, OnErr};
 ghost use Rattle.event_sinks.specs.Stopping.{inner_of, left_of};
 ghost use Rattle.event_sinks.specs.declared.fault.SinkFault.TheVariants.{Full};
 
@@ -33,6 +33,9 @@ impl<S: Sink> Sink for StopSink<S> {
 
     ghost full = { λ s. left_of s == 0 || S.full (inner_of s) };
 
+    // Where some are left, what the other sink may answer.
+    ghost may_answer = { λ s event answer. MatchBool (left_of s == 0) (answer ≡ Err Full) (S.may_answer (inner_of s) event answer) };
+
     fn put(&mut self, event: &Event) -> Result<(), SinkFault>
         requires { S.live (inner_of self.old) ≡ true }
         ensures ok { OnOk result (S.record_list (inner_of self.new) ≡ S.record_list (inner_of self.old) ++ event.now ∷ []) }
@@ -43,6 +46,9 @@ impl<S: Sink> Sink for StopSink<S> {
         ensures left { MatchResult result (λ _. left_of self.old ≡ left_of self.new + 1) (λ _. left_of self.new ≡ left_of self.old) }
         ensures stopped { left_of self.old ≡ 0 → (result ≡ Err Full) × (self.new ≡ self.old) }
         ensures full { (result ≡ Err Full) ↔ IsTrue (left_of self.old == 0 || S.full (inner_of self.old)) }
+
+        // Where some are left, the answer is the other sink's.
+        ensures answer { MatchBool (left_of self.old == 0) (result ≡ Err Full) (S.may_answer (inner_of self.old) event.now result) }
     {
         if self.left == 0 {
             return Err(SinkFault::Full);

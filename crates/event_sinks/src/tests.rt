@@ -125,7 +125,7 @@ fn takes(rt: HostRuntime) -> Result<(), Fail> {
         three(CountSink::new(alloc, 0), &event)?,
         (full, 0, true, false)
     );
-    let writer = Vec::new(alloc);
+    let writer = Vec::with_capacity(alloc, 99)?;
     assert_eq!(rt;
         three(LineSink::new(alloc, writer), &event)?,
         (all, 3, true, false)
@@ -244,5 +244,42 @@ fn a_dropped_box_closes(rt: HostRuntime) -> Result<(), Fail> {
     assert_eq!(rt; bytes.load(Ordering::SeqCst), 15);
     drop(sink);
     assert_eq!(rt; bytes.load(Ordering::SeqCst), 24);
+    Ok(())
+}
+
+#[test]
+fn passes_a_refusal_on(rt: HostRuntime) -> Result<(), Fail> {
+    let alloc = rt.alloc();
+    let event = created(alloc)?;
+    let mut text = Vec::with_capacity(alloc, 99)?;
+    let paper = Paper {
+        text: &mut text,
+        step: 99,
+        room: 10,
+        faults: 1,
+    };
+    let mut sink = StopSink::new(LineSink::new(alloc, paper), 1);
+    assert_eq!(rt; put_all(&mut sink, &event, 1)?, Some(SinkFault::Write));
+    // What was refused does not count.
+    assert_eq!(rt; put_all(&mut sink, &event, 2)?, Some(SinkFault::Full));
+    assert_eq!(rt; sink.taken(), 1);
+    drop(sink);
+    assert_eq!(rt;
+        text.as_slice(),
+        b"1 000001001 00000100 0 f\nclosed 1\n".as_slice()
+    );
+    Ok(())
+}
+
+#[test]
+fn says_why(rt: HostRuntime) -> Result<(), Fail> {
+    for (fault, wants) in [
+        (SinkFault::Memory, "out of memory"),
+        (SinkFault::Write, "write fault"),
+        (SinkFault::Full, "full"),
+    ] {
+        let printed = format!(in rt.alloc(); "{fault}")?;
+        assert_eq!(rt; printed.as_str(), wants);
+    }
     Ok(())
 }

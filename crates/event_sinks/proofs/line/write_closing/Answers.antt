@@ -1,8 +1,7 @@
-use Rattle.std.proofs.Common.{◌≡◌, ◌++◌, ◌∙◌, ap, subst, codes, decimal, List, ℕ, take}
+use Rattle.std.proofs.Common.{◌++◌, ◌∙◌, ap, subst, codes, decimal, List, ℕ, take}
 use Rattle.std.specs.Io.KnownBytes.{Appends}
 use Rattle.std.proofs.lemmas.Result.{err_from_is_err_and}
 use Rattle.record_codec.specs.Ports.{inner_of, one_more}
-use Rattle.record_codec.proofs.Appending.{Appends-more}
 use Rattle.event_sinks.proofs.Fronts.{front_of_first, front_of_next, on_err_both}
 use Rattle.event_sinks.proofs.line.write_closing.Goals as goal
 
