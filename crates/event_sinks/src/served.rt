@@ -155,7 +155,14 @@ fn is_batch(one: &Batch, instance: u32, place: u64, bytes: &[u8]) -> bool
     ensures { (b : Batch) → IsSpelled b instance place bytes.now → IsTrue result ↔ (b ≡ one.now) }
 {
     spellings_are_one();
-    one.instance == instance && one.place == place && spells(one.records.as_slice(), bytes)
+    is_at(one, instance, place) && spells(one.records.as_slice(), bytes)
+}
+
+// Whether it is a batch of this instance and place.
+fn is_at(one: &Batch, instance: u32, place: u64) -> bool
+    ensures { IsTrue result ↔ ((one.now.instance ≡ instance) × (one.now.place ≡ place)) }
+{
+    one.instance == instance && one.place == place
 }
 
 // The batches that the listener at a place was handed.
