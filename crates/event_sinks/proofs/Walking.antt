@@ -1,5 +1,5 @@
 -- The tracks, walked over in rising order of their numbers.
-use Rattle.std.proofs.Common.{◌≡◌, ◌≢◌, ℕ, ◌<◌, Bool, false, eqb, List, [], ◌∷◌, length, get_or, Option, Some, None, inl, inr, refl, sym, ap, ◌∙◌, subst}
+use Rattle.std.proofs.Common.{◌≡◌, ℕ, List, [], ◌∷◌, get_or, Some, None, inl, inr, refl, sym, ◌∙◌, subst}
 use Rattle.std.specs.BTreeMap as tree
 use Rattle.std.specs.BTreeMap.{BTreeMap, is_at}
 use Rattle.std.specs.Cmp.{nat_cmp_is, nat_cmp_total, unsigned_tied}
@@ -54,8 +54,12 @@ module _ (b : Bound) (es : List Outcome) where
     }
 
     pub walked_fault : (f : SettleFault) → IsFaultAt b es n f → IsFirstFault b es f
-    walked_fault f is = (n, is, λ m below.
-        h.served m (lookup-none (is_at (nat_cmp m)) ((n, t) ∷ left) (none_below_head nat_cmp_total m (n, t) left h.rise (sym (nat_cmp_is m n Less below)))))
+    walked_fault f is = (
+      n,
+      is,
+      λ m below.
+          h.served m (lookup-none (is_at (nat_cmp m)) ((n, t) ∷ left) (none_below_head nat_cmp_total m (n, t) left h.rise (sym (nat_cmp_is m n Less below)))),
+    )
 
   pub walked_all : IsWalked b es [] → (n : ℕ) → IsServedAt b es n
   walked_all h n = h.served n refl

@@ -1,11 +1,11 @@
 //! Whether the listeners were handed what the journal hands over.
 
-ghost use Rattle.std.specs.Prelude.{◌≡◌, ◌↔◌, ◌==◌, ℕ, true, [], ◌∷◌, List, Option, Some, IfOk, IsTrue, MatchOption, OnOk, if◌then◌else◌, option_map};
+ghost use Rattle.std.specs.Prelude.{◌≡◌, ◌↔◌, ◌==◌, ℕ, true, [], ◌∷◌, Option, Some, IfOk, IsTrue, MatchOption, OnOk, if◌then◌else◌, option_map};
 ghost use Rattle.shared_tree.specs.declared.pipe.Batch.{Batch};
 ghost use Rattle.shared_tree.specs.Calls.{Bound};
+ghost use Rattle.shared_tree.specs.Held.{IsIn, Lacks};
 ghost use Rattle.event_sinks.specs.Audited.{IsFaultAt, IsFirstFault, IsServedAt, batches_of, outcomes};
 ghost use Rattle.event_sinks.specs.Tracks.{Comes, EndsLastAt, Follows, HandsOn, HandsOver, IsSpelled, IsTracked, blank, given_by, handed_at, noted, track_at};
-ghost use Rattle.shared_tree.specs.Held.{IsIn, Lacks};
 
 use crate::audit::SettleFault;
 use crate::listener::{Cause, Ended};
@@ -155,7 +155,14 @@ fn is_batch(one: &Batch, instance: u32, place: u64, bytes: &[u8]) -> bool
     ensures { (b : Batch) → IsSpelled b instance place bytes.now → IsTrue result ↔ (b ≡ one.now) }
 {
     spellings_are_one();
-    one.instance == instance && one.place == place && spells(one.records.as_slice(), bytes)
+    is_at(one, instance, place) && spells(one.records.as_slice(), bytes)
+}
+
+// Whether it is a batch of this instance and place.
+fn is_at(one: &Batch, instance: u32, place: u64) -> bool
+    ensures { IsTrue result ↔ ((one.now.instance ≡ instance) × (one.now.place ≡ place)) }
+{
+    one.instance == instance && one.place == place
 }
 
 // The batches that the listener at a place was handed.

@@ -1,12 +1,7 @@
 -- Each number that has no track among those to come was served.
-use Rattle.std.proofs.Common.{◌≡◌, ℕ, [], Some, None}
-use Rattle.std.specs.Map.{lookup}
-use Rattle.std.specs.Ordering.{nat_cmp}
-use Rattle.std.specs.BTreeMap.{is_at}
-use Rattle.std.specs.List.Sorted.{IsStrictlySortedBy}
-use Rattle.std.specs.Map.{keys_of}
+use Rattle.std.proofs.Common.{ℕ, []}
 use Rattle.shared_tree.specs.Calls.{Bound}
-use Rattle.event_sinks.specs.Audited.{IsServedAt, outcomes}
+use Rattle.event_sinks.specs.Audited.{outcomes}
 use Rattle.event_sinks.specs.Tracks.{IsTracked, track_at}
 use Rattle.event_sinks.proofs.Walking.{IsWalked}
 use Rattle.event_sinks.proofs.served.first_fault.Given as goal

@@ -1,5 +1,5 @@
 -- What is known of each number, while the batches of the entries from here on are still to be handed to it.
-use Rattle.std.proofs.Common.{◌≡◌, ℕ, ◌+◌, drop}
+use Rattle.std.proofs.Common.{drop}
 use Rattle.tree_core.specs.Tree.{Tree}
 use Rattle.event_sinks.specs.Audited.{outcomes}
 use Rattle.event_sinks.specs.Tracks.{track_at}

@@ -1,7 +1,5 @@
-use Rattle.std.proofs.Common.{◌≡◌, ℕ, List, Option, Bor, Some, None, sym, ap, ◌∙◌}
-use Rattle.std.specs.Prelude.{option_map}
+use Rattle.std.proofs.Common.{sym}
 use Rattle.event_sinks.specs.Audited.{outcomes}
-use Rattle.event_sinks.specs.Tracks.{given_by}
 use Rattle.event_sinks.proofs.Handing.{entry_none, entry_some}
 use Rattle.event_sinks.proofs.served.hand_entry.Goals as goal
 

@@ -1,5 +1,5 @@
-use Rattle.std.proofs.Common.{◌≡◌, ap, ◌∙◌, refl, arith}
-use Rattle.std.specs.Prelude.{option_map, slice_get, Some}
+use Rattle.std.proofs.Common.{ap, ◌∙◌, refl, arith}
+use Rattle.std.specs.Prelude.{option_map}
 use Rattle.std.proofs.lemmas.Option.{slice_get-map, slice_get_read}
 use Rattle.event_sinks.specs.Audited.{outcome_of, outcomes}
 use Rattle.event_sinks.specs.Tracks.{track_at}

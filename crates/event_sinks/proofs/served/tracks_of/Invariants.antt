@@ -1,5 +1,5 @@
 -- What is known of each number, where the listeners so far were noted.
-use Rattle.std.proofs.Common.{◌≡◌, ℕ, take}
+use Rattle.std.proofs.Common.{ℕ, take}
 use Rattle.event_sinks.specs.Audited.{of_instance, outcomes}
 use Rattle.event_sinks.specs.Tracks.{IsNoted, track_at}
 use Rattle.event_sinks.proofs.Noting.{IsFresh}
