@@ -1,5 +1,5 @@
 -- What agrees has no fault, and each of its places is kept once.
-use Rattle.std.proofs.Common.{◌≡◌, ◌≢◌, ◌∙◌, sym, subst, refl, inl, inr, ⊎_elim, ℕ, ◌+◌, ◌-◌, ◌<◌, ◌≤◌, true, false, cond, eqb, List, [], ◌∷◌, ◌++◌, length, arith, append_assoc, length-append}
+use Rattle.std.proofs.Common.{◌≡◌, ◌≢◌, ◌∙◌, sym, ap, subst, refl, inl, inr, ⊎_elim, ℕ, ◌+◌, ◌-◌, ◌<◌, ◌≤◌, true, false, cond, eqb, List, [], ◌∷◌, ◌++◌, length, arith, append-nil, append_assoc, length-append}
 use Rattle.std.proofs.lemmas.List.{length-map}
 use Rattle.std.specs.Prelude.{◌==◌, count_by}
 use Rattle.std.specs.List.{AllByRecursion, IsDistinct, flat_map, list_any}
@@ -11,10 +11,12 @@ use Rattle.tree_core.specs.declared.reply.Kept.{Kept}
 use Rattle.shared_tree.specs.declared.pipe.Batch.{Batch}
 use Rattle.shared_tree.specs.declared.seat.SeatLog.{SeatLog}
 use Rattle.shared_tree.specs.Calls.{Bound}
+use Rattle.shared_tree.specs.Handed.{EndBatchesComeLast}
 use Rattle.shared_tree.specs.Held.{IsIn, Lacks}
+use Rattle.shared_tree.proofs.Ends.{front-is-all}
 use Rattle.event_sinks.specs.declared.audit.SettleFault.{SettleFault}
 use Rattle.event_sinks.specs.declared.audit.SettleFault.TheVariants.{CountDiffers, Stray, NotEnded, HandedDiffers, Memory}
-use Rattle.event_sinks.specs.Audited.{AreKept, AuditsAgree, Differs, FaultsContradictTheAudit, IsFaultAt, IsServed, IsServedAt, IsServedOtherwise, IsStray, IsUnended, Outcome, batches_of, calls_of, of_instance, places}
+use Rattle.event_sinks.specs.Audited.{AreKept, AuditsAgree, Differs, FaultsContradictTheAudit, FrontsAreWhole, IsFaultAt, IsServed, IsServedAt, IsServedOtherwise, IsStray, IsUnended, Outcome, batches_of, calls_of, of_instance, places}
 use Rattle.event_sinks.proofs.Pairs.{PairsByRecursion, all_weaker}
 use Rattle.event_sinks.proofs.KeptCalls.{by_recursion, kept_front, places_in}
 
@@ -124,3 +126,20 @@ audits-agree b logs es counted audited p positive within =
     let k = by_recursion b.state.entries logs audited.kept in
     let len : length (flat_map places logs) ≡ length b.state.entries = length-places logs ∙ (sym audited.counted ∙ counted) in
     count_one (flat_map places logs) p k.once (none_missing (length b.state.entries) (flat_map places logs) p len k.once (places_in b.state.entries logs k.stand) positive (omega arith))
+
+-- ---- fronts
+
+-- a front that ends with an end batch is all
+all_of_it : EndBatchesComeLast → (b : Bound) (n : ℕ) (handed before rest : List Batch) (last : Batch) → handed ≡ before ++ last ∷ [] → last.records ≡ [] → batches_of b n ≡ handed ++ rest → batches_of b n ≡ handed
+all_of_it come_last b n handed before rest last is none more =
+    let none_left : rest ≡ [] = front-is-all come_last b.state.limits b.state.entries n before rest last (more ∙ ap (λ (xs : List Batch). xs ++ rest) is) none in
+    more ∙ ap (λ (xs : List Batch). handed ++ xs) none_left ∙ append-nil handed
+
+not_different : (batches : List Batch) (e : Outcome) (more : List Outcome) (p : ℕ) → batches ≡ e.handed → IsServedOtherwise batches (e ∷ more) p → p ≡ 0
+not_different batches e more p same (why, inl differs) = absurd (differs_from_itself e.handed p (subst (λ (bs : List Batch). Differs bs e.handed p) same differs))
+not_different batches e more p same (why, inr second) = second.2
+
+pub fronts-are-whole : EndBatchesComeLast → FrontsAreWhole
+fronts-are-whole come_last b es more e n p before rest last first is_in is none front (same, inl other) =
+    not_different (batches_of b n) e more p (all_of_it come_last b n e.handed before rest last is none front) (subst (λ (xs : List Outcome). IsServedOtherwise (batches_of b n) xs p) first other.1)
+fronts-are-whole come_last b es more e n p before rest last first is_in is none front (same, inr none_there) = none_there.2

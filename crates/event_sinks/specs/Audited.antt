@@ -123,3 +123,8 @@ FaultsContradictTheAudit = (b : Bound) (logs : List SeatLog) (es : List Outcome)
 -- where they agree, each place of the journal was kept by exactly one call
 abbrev pub AuditsAgree : Type 0
 AuditsAgree = (b : Bound) (logs : List SeatLog) (es : List Outcome) → b.entries ≡ length b.state.entries → IsAudited b logs es → (p : ℕ) → 0 < p → p ≤ b.entries → count_by (λ q. q == p) (flat_map places logs) ≡ 1
+
+-- where the first listener that ended for a pipe was handed a front of the journal's batches that ends with an end batch,
+-- it was handed all of them: it never differs at a place above 0
+abbrev pub FrontsAreWhole : Type 0
+FrontsAreWhole = (b : Bound) (es more : List Outcome) (e : Outcome) (n p : ℕ) (before rest : List Batch) (last : Batch) → of_instance n es ≡ e ∷ more → IsIn b.pipes n → e.handed ≡ before ++ last ∷ [] → last.records ≡ [] → batches_of b n ≡ e.handed ++ rest → IsFaultAt b es n (HandedDiffers n p) → p ≡ 0

@@ -108,8 +108,3 @@ abbrev pub IsFromOutside : Cause → Type 0
 IsFromOutside cause.Turns = ⊤
 IsFromOutside cause.Given = ⊤
 IsFromOutside _ = ⊥
-
--- records were put one by one, until one was refused
-abbrev pub PutsAll : List Event → List Event → List Event → Option SinkFault → Type 0
-PutsAll before records after None = after ≡ before ++ records
-PutsAll before records after (Some fault) = (k : ℕ) × (k < length records) × (after ≡ before ++ take k records)

@@ -5,3 +5,4 @@ pub mod Stopping
 pub mod Heard
 pub mod Audited
 pub mod Marked
+pub mod Tracks

@@ -1,6 +1,8 @@
 //! Laws of what is settled. Each is a function that does nothing, and its contract is the law.
 
-ghost use Rattle.event_sinks.specs.Audited.{AuditsAgree, FaultsContradictTheAudit};
+ghost use Rattle.event_sinks.specs.Audited.{AuditsAgree, FaultsContradictTheAudit, FrontsAreWhole};
+
+use shared_tree::end_batches_come_last;
 
 /// A law: where a book, the logs of its seats and the listeners that ended agree, no fault holds of them but want of
 /// memory. So [`settle`](crate::settle) settles a book exactly where they agree, want of memory aside.
@@ -12,3 +14,11 @@ pub fn faults_contradict_the_audit()
 pub fn audits_agree()
     ensures { AuditsAgree }
 {}
+
+/// A law: a listener that was handed a front of what the journal hands over, up to an end batch, was handed all of it. So
+/// [`settle`](crate::settle) never says of it that it was handed other batches, at a place above 0.
+pub fn fronts_are_whole()
+    ensures { FrontsAreWhole }
+{
+    end_batches_come_last();
+}

@@ -1,8 +1,8 @@
 //! What puts the records of a feed into a sink.
 
-ghost use Rattle.std.specs.Prelude.{◌≡◌, ◌++◌, [], ◌∷◌, true, length, Some, None};
+ghost use Rattle.std.specs.Prelude.{◌≡◌, ◌++◌, [], true, length, is_none, None};
 ghost use Rattle.event_sinks.specs.declared.listener.Cause.TheVariants.{Given, Turns};
-ghost use Rattle.event_sinks.specs.Heard.{Heard, IsHeard, IsFromOutside, IsTurn, PutsAll, Reaches, Steps, ended_by, ended_of, heard, heard_by};
+ghost use Rattle.event_sinks.specs.Heard.{Heard, IsHeard, IsFromOutside, IsTurn, Puts, Reaches, Steps, ended_by, ended_of, heard, heard_by};
 
 use crate::fault::SinkFault;
 use crate::gate::Gate;
@@ -65,18 +65,18 @@ pub struct Ended<S> {
     cause: Cause,
 }
 
-// Puts records one by one, until one is refused.
-fn put_all<S: Sink>(sink: &mut S, records: &[Event]) -> Option<SinkFault>
+// Puts the records of a batch one by one, until one is refused. Why the listener ends with this batch, if it does.
+fn put_batch<S: Sink>(sink: &mut S, batch: &Batch) -> Option<Cause>
     requires { S.live sink.old ≡ true }
     ensures live { S.live sink.new ≡ true }
-    ensures list { PutsAll (S.record_list sink.old) records.now (S.record_list sink.new) result }
+    ensures puts { Puts (S.record_list sink.old) batch.now.records (S.record_list sink.new) result }
 {
-    for event in records {
+    for event in batch.records.as_slice() {
         if let Err(fault) = sink.put(event) {
-            return Some(fault);
+            return Some(Cause::Sink(fault));
         }
     }
-    None
+    batch.is_last().then_some(Cause::Last)
 }
 
 impl<S: Sink> Listening<S> {
@@ -114,16 +114,11 @@ impl<S: Sink> Listening<S> {
         let Some(batch) = self.feed.take() else {
             return Step::Idle;
         };
-        let cause = match put_all(&mut self.sink, batch.records.as_slice()) {
-            Some(fault) => Some(Cause::Sink(fault)),
-            None if batch.is_last() => Some(Cause::Last),
-            None => None,
-        };
+        self.cause = put_batch(&mut self.sink, &batch);
         self.handed.push_reserved(batch);
-        if cause.is_some() {
+        if self.cause.is_some() {
             self.sink.close();
         }
-        self.cause = cause;
         Step::Took
     }
 
@@ -194,7 +189,7 @@ impl<S: Sink> Listening<S> {
     }
 }
 
-impl<S: Sink> Ended<S> {
+impl<S> Ended<S> {
     /// The number of the listener.
     pub fn number(&self) -> u32
         ensures { result ≡ self.now.number }
@@ -222,7 +217,9 @@ impl<S: Sink> Ended<S> {
     {
         self.handed.as_slice()
     }
+}
 
+impl<S: Sink> Ended<S> {
     /// Its sink, which is closed.
     pub fn sink(&self) -> &S
         ensures list { S.record_list result.now ≡ S.record_list self.now.sink }

@@ -1,12 +1,41 @@
 //! Whether the listeners were handed what the journal hands over.
 
-ghost use Rattle.std.specs.Prelude.{ℕ, IfOk, MatchOption};
-ghost use Rattle.event_sinks.specs.Audited.{IsFirstFault, IsServedAt, outcomes};
+ghost use Rattle.std.specs.Prelude.{◌≡◌, ◌↔◌, ◌==◌, ℕ, true, [], ◌∷◌, List, Option, Some, IfOk, IsTrue, MatchOption, OnOk, if◌then◌else◌, option_map};
+ghost use Rattle.shared_tree.specs.declared.pipe.Batch.{Batch};
+ghost use Rattle.shared_tree.specs.Calls.{Bound};
+ghost use Rattle.event_sinks.specs.Audited.{IsFaultAt, IsFirstFault, IsServedAt, batches_of, outcomes};
+ghost use Rattle.event_sinks.specs.Tracks.{Comes, EndsLastAt, Follows, HandsOn, HandsOver, IsSpelled, IsTracked, blank, given_by, handed_at, noted, track_at};
+ghost use Rattle.shared_tree.specs.Held.{IsIn, Lacks};
 
 use crate::audit::SettleFault;
-use crate::listener::Ended;
-use shared_tree::Book;
+use crate::listener::{Cause, Ended};
+use record_codec::{spellings_are_one, spells};
+use shared_tree::{Batch, Book, batches_are_answered};
 use std::alloc::{AllocError, Global};
+use std::collections::BTreeMap;
+use tree_core::{Call, Entry, Reply};
+
+// How far the batches of a listener were compared with those that the journal hands over.
+#[derive(Clone, Copy)]
+struct Progress {
+    // How many are the same.
+    taken: usize,
+    // The place of the first one that is not.
+    differs: Option<u64>,
+}
+
+// What is known of the instance of a number.
+#[derive(Clone, Copy)]
+struct Track {
+    // Whether the book has a pipe of that number.
+    is_piped: bool,
+    // Where the first listener that ended for it stands, among all that ended.
+    first: Option<usize>,
+    // Whether another one ended for it.
+    is_again: bool,
+    // How far the batches of the first one were compared.
+    progress: Progress,
+}
 
 /// What is wrong with the least instance with which anything is.
 pub(crate) fn first_unserved<S>(
@@ -16,6 +45,237 @@ pub(crate) fn first_unserved<S>(
 ) -> Result<Option<SettleFault>, AllocError>
     ensures { IfOk result (λ o. MatchOption o ((n : ℕ) → IsServedAt book.now (outcomes ended.now) n) (λ f. IsFirstFault book.now (outcomes ended.now) f)) }
 {
-    let _ = (alloc, book, ended);
-    Ok(None)
+    let mut tracks = tracks_of(alloc, book, ended)?;
+    hand_all(&mut tracks, book, ended);
+    Ok(first_fault(&tracks, ended))
+}
+
+// What is known of each pipe of a book, and of each instance for which a listener ended. Nothing is compared yet.
+fn tracks_of<S>(
+    alloc: Global,
+    book: &Book,
+    ended: &[Ended<S>],
+) -> Result<BTreeMap<u32, Track>, AllocError>
+    ensures { IfOk result (λ m. (n : ℕ) → IsTracked book.now (outcomes ended.now) (batches_of book.now n) n (track_at m n)) }
+{
+    let mut tracks = piped_tracks(alloc, book.pipes())?;
+    for at in 0..ended.len() {
+        note(&mut tracks, ended[at].instance(), at)?;
+    }
+    Ok(tracks)
+}
+
+// A blank track of each of these numbers.
+fn piped_tracks(alloc: Global, pipes: &[u32]) -> Result<BTreeMap<u32, Track>, AllocError>
+    ensures { IfOk result (λ m. (n : ℕ) → MatchOption (track_at m n) (Lacks pipes.now n) (λ t. IsIn pipes.now n × (t ≡ blank true))) }
+{
+    let mut tracks = BTreeMap::new(alloc);
+    for number in pipes {
+        put(&mut tracks, *number, Track::blank(true))?;
+    }
+    Ok(tracks)
+}
+
+// Puts the track of a number.
+fn put(tracks: &mut BTreeMap<u32, Track>, number: u32, track: Track) -> Result<(), AllocError>
+    ensures { OnOk result ((n : ℕ) → track_at tracks.new n ≡ if n == number then Some track else track_at tracks.old n) }
+{
+    tracks.insert(number, track)?;
+    Ok(())
+}
+
+// Notes that a listener, which stands at this place, ended for an instance.
+fn note(tracks: &mut BTreeMap<u32, Track>, number: u32, at: usize) -> Result<(), AllocError>
+    ensures { OnOk result ((n : ℕ) → track_at tracks.new n ≡ if n == number then Some (noted at (track_at tracks.old number)) else track_at tracks.old n) }
+{
+    let track = match tracks.get(&number) {
+        Some(track) => *track,
+        None => Track::blank(false),
+    };
+    put(tracks, number, track.noting(at))
+}
+
+// Compares what each entry hands over with the next batch of the listener of its instance.
+fn hand_all<S>(tracks: &mut BTreeMap<u32, Track>, book: &Book, ended: &[Ended<S>])
+    requires { (n : ℕ) → IsTracked book.now (outcomes ended.now) (batches_of book.now n) n (track_at tracks.old n) }
+    ensures { (n : ℕ) → IsTracked book.now (outcomes ended.now) [] n (track_at tracks.new n) }
+{
+    book.law();
+    batches_are_answered();
+    let journal = book.journal();
+    for at in 0..journal.len() {
+        hand_entry(tracks, ended, &journal[at], at as u64 + 1);
+    }
+}
+
+// Compares what an entry hands over with the next batch of the listener of its instance.
+fn hand_entry<S>(tracks: &mut BTreeMap<u32, Track>, ended: &[Ended<S>], entry: &Entry, place: u64)
+    ensures { (o : Option Batch) → HandsOver entry.now place o → HandsOn (outcomes ended.now) o tracks.old tracks.new }
+{
+    if let Some((number, bytes)) = given(entry) {
+        hand(tracks, ended, number, place, bytes);
+    }
+}
+
+// Compares a batch with the next one of the listener of its instance.
+fn hand<S>(
+    tracks: &mut BTreeMap<u32, Track>,
+    ended: &[Ended<S>],
+    number: u32,
+    place: u64,
+    bytes: &[u8],
+)
+    ensures { (b : Batch) → IsSpelled b number place bytes.now → HandsOn (outcomes ended.now) (Some b) tracks.old tracks.new }
+{
+    if let Some(track) = tracks.get_mut(&number) {
+        let handed = handed_at(ended, track.first);
+        track.progress = track.progress.after(handed, number, place, bytes);
+    }
+}
+
+// The number of the instance to which an entry hands a batch, and the bytes of its records.
+fn given(entry: &Entry) -> Option<(u32, &[u8])>
+    ensures { option_map (λ g. (g.0, g.1.now)) result ≡ given_by entry.now.call entry.now.reply }
+{
+    match &entry.call {
+        Call::Pump { instance, .. } => match &entry.reply {
+            Reply::Records(bytes) => Some((*instance, bytes.as_slice())),
+            _ => None,
+        },
+        Call::Close { instance } => match &entry.reply {
+            Reply::Done => Some((*instance, &[])),
+            _ => None,
+        },
+        _ => None,
+    }
+}
+
+// Whether it is the batch of this instance and place whose records these bytes spell.
+fn is_batch(one: &Batch, instance: u32, place: u64, bytes: &[u8]) -> bool
+    ensures { (b : Batch) → IsSpelled b instance place bytes.now → IsTrue result ↔ (b ≡ one.now) }
+{
+    spellings_are_one();
+    one.instance == instance && one.place == place && spells(one.records.as_slice(), bytes)
+}
+
+// The batches that the listener at a place was handed.
+fn handed_at<S>(ended: &[Ended<S>], at: Option<usize>) -> &[Batch]
+    ensures { result.now ≡ handed_at (outcomes ended.now) at }
+{
+    match at {
+        Some(at) if at < ended.len() => ended[at].handed(),
+        _ => &[],
+    }
+}
+
+// Whether the listener at a place ended by the end batch.
+fn is_ended_at<S>(ended: &[Ended<S>], at: Option<usize>) -> bool
+    ensures { IsTrue result ↔ EndsLastAt (outcomes ended.now) at }
+{
+    match at {
+        Some(at) if at < ended.len() => matches!(ended[at].cause(), Cause::Last),
+        _ => false,
+    }
+}
+
+// What is wrong with the least number with which anything is.
+fn first_fault<S>(tracks: &BTreeMap<u32, Track>, ended: &[Ended<S>]) -> Option<SettleFault>
+    ensures { (b : Bound) → ((n : ℕ) → IsTracked b (outcomes ended.now) [] n (track_at tracks.now n)) → MatchOption result ((n : ℕ) → IsServedAt b (outcomes ended.now) n) (λ f. IsFirstFault b (outcomes ended.now) f) }
+{
+    for (number, track) in tracks {
+        if let Some(fault) = fault_of(*number, track, ended) {
+            return Some(fault);
+        }
+    }
+    None
+}
+
+// What is wrong with an instance, once all batches were compared.
+fn fault_of<S>(number: u32, track: &Track, ended: &[Ended<S>]) -> Option<SettleFault>
+    ensures { (b : Bound) → IsTracked b (outcomes ended.now) [] number (Some track.now) → MatchOption result (IsServedAt b (outcomes ended.now) number) (λ f. IsFaultAt b (outcomes ended.now) number f) }
+{
+    let differing = |place| SettleFault::HandedDiffers {
+        instance: number,
+        place,
+    };
+    if !track.is_piped {
+        return Some(differing(0));
+    }
+    if !is_ended_at(ended, track.first) {
+        return Some(SettleFault::NotEnded(number));
+    }
+    match track.progress.difference(handed_at(ended, track.first)) {
+        Some(place) => Some(differing(place)),
+        None if track.is_again => Some(differing(0)),
+        None => None,
+    }
+}
+
+impl Track {
+    // Of an instance for which no listener is known yet.
+    fn blank(is_piped: bool) -> Track
+        ensures { result ≡ blank is_piped }
+    {
+        Track {
+            is_piped,
+            first: None,
+            is_again: false,
+            progress: Progress {
+                taken: 0,
+                differs: None,
+            },
+        }
+    }
+
+    // The same, where one more listener ended, which stands at this place.
+    fn noting(self, at: usize) -> Track
+        ensures { result ≡ noted at (Some self) }
+    {
+        if self.first.is_some() {
+            Track {
+                is_again: true,
+                ..self
+            }
+        } else {
+            Track {
+                first: Some(at),
+                ..self
+            }
+        }
+    }
+}
+
+impl Progress {
+    // What it becomes by a batch that the journal hands over, where these were handed to the listener.
+    fn after(self, handed: &[Batch], instance: u32, place: u64, bytes: &[u8]) -> Progress
+        ensures { (b : Batch) → IsSpelled b instance place bytes.now → Follows handed.now (b ∷ []) self result }
+    {
+        if self.differs.is_some() {
+            return self;
+        }
+        if self.taken < handed.len() && is_batch(&handed[self.taken], instance, place, bytes) {
+            Progress {
+                taken: self.taken + 1,
+                differs: None,
+            }
+        } else {
+            Progress {
+                taken: self.taken,
+                differs: Some(place),
+            }
+        }
+    }
+
+    // The place of the first batch that is not the journal's, where no more is handed over.
+    fn difference(self, handed: &[Batch]) -> Option<u64>
+        ensures { Comes [] handed.now self result }
+    {
+        if self.differs.is_some() {
+            self.differs
+        } else if self.taken < handed.len() {
+            Some(handed[self.taken].place)
+        } else {
+            None
+        }
+    }
 }

@@ -3,3 +3,5 @@ pub mod Steps
 pub mod Keeping
 pub mod EachEntry
 pub mod Answered
+pub mod Ends
+pub mod Sent

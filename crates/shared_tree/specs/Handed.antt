@@ -1,5 +1,5 @@
 -- What a journal hands to the pipes of its instances.
-use Rattle.std.specs.Prelude.{◌≡◌, ℕ, ◌+◌, true, List, [], ◌∷◌, ◌++◌, Option, Some, None, option_map, map}
+use Rattle.std.specs.Prelude.{◌≡◌, ℕ, ◌+◌, true, List, [], ◌∷◌, ◌++◌, Option, Some, None, option_map, map, flat_map}
 use Rattle.std.specs.List.{AllByRecursion}
 use Rattle.record_codec.specs.declared.event.Event.{Event}
 use Rattle.record_codec.specs.Records.{AreEvents, spelling}
@@ -10,7 +10,8 @@ use Rattle.tree_core.specs.declared.reply.Entry.{Entry}
 use Rattle.tree_core.specs.declared.reply.Reply.{Reply}
 use Rattle.tree_core.specs.declared.reply.Reply.TheVariants as reply
 use Rattle.tree_core.specs.Tree.{Tree, opening, reply_of, after}
-use Rattle.tree_core.specs.Histories.{pumped, where_same}
+use Rattle.tree_core.specs.Histories.{pumped, read_in, where_same}
+use Rattle.tree_core.specs.Journal.{IsLawful}
 use Rattle.shared_tree.specs.declared.pipe.Batch.{Batch}
 
 abbrev pub batch : ℕ → ℕ → List Event → Batch
@@ -66,3 +67,18 @@ IsAnswered _ r b = ⊥
 
 abbrev pub BatchesAreAnswered : Type 0
 BatchesAreAnswered = (t : Tree) (place : ℕ) (c : Call) (b : Batch) → handed_by t place c ≡ Some b → (b.place ≡ place) × IsAnswered c (reply_of t c) b
+
+-- nothing follows the end batch: a batch without records is the last
+abbrev pub NothingFollowsTheEnd : List Batch → Type 0
+NothingFollowsTheEnd bs = (before rest : List Batch) (b : Batch) → bs ≡ before ++ b ∷ rest → b.records ≡ [] → rest ≡ []
+
+abbrev pub EndBatchesComeLast : Type 0
+EndBatchesComeLast = (limits : Limits) (es : List Entry) (id : ℕ) → NothingFollowsTheEnd (handed limits es id)
+
+-- the records of batches, one batch after another
+abbrev pub records_of : List Batch → List Event
+records_of bs = flat_map (λ b. b.records) bs
+
+-- what a lawful journal hands to an instance with a pipe is what it reads of that instance
+abbrev pub SentIsRead : Type 0
+SentIsRead = (limits : Limits) (es : List Entry) → IsLawful limits es → AllByRecursion (λ id. records_of (handed limits es id) ≡ read_in (opening limits) es id) (piped_of es)

@@ -1,9 +1,26 @@
 //! Laws of what a journal hands over. Each is a function that does nothing, and its contract is the law.
 
-ghost use Rattle.shared_tree.specs.Handed.{BatchesAreAnswered};
+ghost use Rattle.shared_tree.specs.Handed.{BatchesAreAnswered, EndBatchesComeLast, SentIsRead};
+
+use tree_core::replies_tell;
 
 /// A law: a pump that hands a batch over answers the bytes of its records, and a close that hands the end batch over is
 /// done.
 pub fn batches_are_answered()
     ensures { BatchesAreAnswered }
 {}
+
+/// A law: nothing follows the end batch. Of what an instance is handed, every batch but the last has records.
+pub fn end_batches_come_last()
+    ensures { EndBatchesComeLast }
+{
+    replies_tell();
+}
+
+/// A law: the records that a lawful journal hands to an instance with a pipe, one batch after another, are those that it
+/// reads of that instance.
+pub fn sent_is_read()
+    ensures { SentIsRead }
+{
+    replies_tell();
+}

@@ -1,11 +1,11 @@
-//! The command line: `watchtree run [--queue N]`.
+//! The command line: `watchtree run [--queue N]`, `watchtree storm [--calls N]`.
 
-ghost use Rattle.std.specs.Prelude.{◌≡◌, ◌<◌, ◌^◌, IfOk, IfSome, length, true};
+ghost use Rattle.std.specs.Prelude.{◌≡◌, ◌<◌, ◌≤◌, ◌^◌, IfOk, IfSome, length, true};
 ghost use Rattle.std.specs.Char.{is_ascii_digit};
 ghost use Rattle.std.specs.List.{list_all};
 ghost use Rattle.std.specs.Option.{SomeIff};
 ghost use Rattle.std.specs.Str.Parse.{digits_value};
-ghost use Rattle.watchtree.specs.CommandLine.{queue_of, IsQueueLimit};
+ghost use Rattle.watchtree.specs.CommandLine.{number_of, IsAsked};
 
 use crate::fault::Fault;
 use clap::error::ErrorKind;
@@ -19,16 +19,39 @@ const QUEUE_MIN: u32 = 1;
 
 const QUEUE_MAX: u32 = 65_535;
 
-const QUEUE_DIGITS: usize = 5;
+/// How many digits a number may have.
+const DIGITS: usize = 5;
 
-/// The limit that `run` is to use.
+/// How many calls each writer of a storm makes, unless the command line gives another number.
+const CALLS: u32 = 100;
+
+const CALLS_MIN: u32 = 1;
+
+const CALLS_MAX: u32 = 1_000;
+
+/// What the command line asks for.
+#[derive(Clone, Copy, Debug, PartialEq, Eq)]
+pub enum Asked {
+    /// `run`, with the limit of an instance that names none.
+    Run {
+        /// From 1 to 65,535.
+        queue: u32,
+    },
+    /// `storm`, with the number of calls that each writer makes.
+    Storm {
+        /// From 1 to 1,000.
+        calls: u32,
+    },
+}
+
+/// What the words ask for.
 ///
 /// The first word is the program's name. There is no help and no version; options are not shortened and not repeated.
 ///
 /// # Errors
-/// [`Fault::CommandLine`], where the words are no `run`, or [`Fault::Memory`].
-pub fn asked_queue(alloc: Global, words: &[String]) -> Result<u32, Fault>
-    ensures { IfOk result IsQueueLimit }
+/// [`Fault::CommandLine`], where the words are no `run` and no `storm`, or [`Fault::Memory`].
+pub fn asked_by(alloc: Global, words: &[String]) -> Result<Asked, Fault>
+    ensures { IfOk result IsAsked }
 {
     // To clap this word ends the options.
     if words.iter().any(|word| word.as_str() == "--") {
@@ -44,45 +67,67 @@ pub fn asked_queue(alloc: Global, words: &[String]) -> Result<u32, Fault>
             });
         }
     };
-    let Some(run) = matches.subcommand_matches("run") else {
-        return Err(Fault::CommandLine);
-    };
-    let Some(number) = run.get_str("queue") else {
-        return Ok(QUEUE);
-    };
-    match queue_of(number) {
-        Some(queue) => Ok(queue),
-        None => Err(Fault::CommandLine),
+    if let Some(run) = matches.subcommand_matches("run") {
+        let queue = number_or(run.get_str("queue"), QUEUE, QUEUE_MIN, QUEUE_MAX)?;
+        return Ok(Asked::Run { queue });
     }
+    if let Some(storm) = matches.subcommand_matches("storm") {
+        let calls = number_or(storm.get_str("calls"), CALLS, CALLS_MIN, CALLS_MAX)?;
+        return Ok(Asked::Storm { calls });
+    }
+    Err(Fault::CommandLine)
 }
 
 fn command<'a>(alloc: Global) -> Result<Command<'a>, AllocError> {
-    let queue = Arg::new(alloc, "queue")
-        .long("queue")
-        .action(ArgAction::Set);
-    let run = Command::new(alloc, "run")
-        .disable_help_flag(true)
-        .disable_version_flag(true)
-        .arg(queue)?;
+    let run = subcommand(alloc, "run", "queue")?;
+    let storm = subcommand(alloc, "storm", "calls")?;
     Command::new(alloc, "watchtree")
         .disable_help_flag(true)
         .disable_help_subcommand(true)
         .disable_version_flag(true)
         .subcommand_required(true)
-        .subcommand(run)
+        .subcommand(run)?
+        .subcommand(storm)
 }
 
-/// A limit: 1 to 5 decimal digits, from 1 to 65,535.
-#[tactic(auto, unfolding(crate::specs::CommandLine::queue_of))]
-fn queue_of(number: &str) -> Option<u32>
-    ensures value { result ≡ queue_of number.now }
-    ensures limit { IfSome result IsQueueLimit }
+// A subcommand with an option that has a value.
+fn subcommand<'a>(
+    alloc: Global,
+    name: &'a str,
+    option: &'a str,
+) -> Result<Command<'a>, AllocError> {
+    let option = Arg::new(alloc, option).long(option).action(ArgAction::Set);
+    Command::new(alloc, name)
+        .disable_help_flag(true)
+        .disable_version_flag(true)
+        .arg(option)
+}
+
+// The number that was given, or the usual one.
+fn number_or(given: Option<&str>, usual: u32, least: u32, most: u32) -> Result<u32, Fault>
+    requires { (least ≤ usual) × (usual ≤ most) }
+    ensures { IfOk result (λ n. (least ≤ n) × (n ≤ most)) }
 {
-    if QUEUE_DIGITS < number.len() || !are_digits(number) {
+    let Some(number) = given else {
+        return Ok(usual);
+    };
+    match number_of(number, least, most) {
+        Some(number) => Ok(number),
+        None => Err(Fault::CommandLine),
+    }
+}
+
+/// A number in a range, of 1 to 5 decimal digits.
+#[tactic(auto, unfolding(crate::specs::CommandLine::number_of))]
+fn number_of(number: &str, least: u32, most: u32) -> Option<u32>
+    ensures value { result ≡ number_of least most number.now }
+    ensures range { IfSome result (λ n. (least ≤ n) × (n ≤ most)) }
+{
+    if DIGITS < number.len() || !are_digits(number) {
         return None;
     }
     match value_of(number) {
-        Some(limit) if QUEUE_MIN <= limit && limit <= QUEUE_MAX => Some(limit),
+        Some(value) if least <= value && value <= most => Some(value),
         _ => None,
     }
 }

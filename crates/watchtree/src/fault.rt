@@ -3,10 +3,12 @@
 ghost use Rattle.std.specs.Prelude.{◌≡◌, ◌≢◌};
 ghost use Rattle.watchtree.specs.Statuses.{status_of};
 
-use std::alloc::AllocError;
+use event_sinks::SettleFault;
+use std::alloc::{AllocError, AllocFailed};
 use std::io::ErrorKind;
 use thiserror::Error;
 use watchtree_script::RunFault;
+use watchtree_storm::StormFault;
 
 /// Why the program ends before its work is done.
 #[derive(Clone, Copy, Debug, PartialEq, Eq, Error)]
@@ -20,16 +22,22 @@ pub enum Fault {
     /// The run of a script ended early.
     #[error("{0}")]
     Run(RunFault),
+    /// The book of a storm was not settled.
+    #[error("settle: {0}")]
+    Settle(SettleFault),
 }
 
 impl Fault {
-    /// The exit status: 2 where the input is wrong, 3 for a failed read or write and for want of memory.
+    /// The exit status: 1 for a book that was not settled, 2 where the input is wrong, 3 for a failed read or write and for
+    /// want of memory.
     pub fn status(self) -> u8
         ensures { result ≡ status_of self }
     {
         match self {
             Fault::CommandLine | Fault::Run(RunFault::Script { .. } | RunFault::TooLong) => 2,
             Fault::Memory | Fault::Run(RunFault::Read | RunFault::Write | RunFault::Memory) => 3,
+            Fault::Settle(SettleFault::Memory) => 3,
+            Fault::Settle(_) => 1,
         }
     }
 
@@ -54,5 +62,26 @@ impl From<AllocError> for Fault {
 impl From<RunFault> for Fault {
     fn from(fault: RunFault) -> Fault {
         Fault::Run(fault)
+    }
+}
+
+impl<T: Drop> From<AllocFailed<T>> for Fault {
+    fn from(_error: AllocFailed<T>) -> Fault {
+        Fault::Memory
+    }
+}
+
+impl From<StormFault> for Fault {
+    fn from(_fault: StormFault) -> Fault {
+        Fault::Memory
+    }
+}
+
+impl From<SettleFault> for Fault {
+    fn from(fault: SettleFault) -> Fault {
+        match fault {
+            SettleFault::Memory => Fault::Memory,
+            _ => Fault::Settle(fault),
+        }
     }
 }

@@ -1,31 +1,67 @@
-//! The program `watchtree`: runs a script of calls on a tree of files, and prints their replies.
+//! The program `watchtree`: runs a script of calls on a tree of files and prints their replies, or lets two writers and two
+//! listeners work on one tree at once and settles its book.
 #![tactic(auto)]
+
+ghost use Rattle.std.specs.Prelude.{◌≤◌};
 
 mod command_line;
 mod fault;
+mod report;
 
-use command_line::asked_queue;
+use command_line::{Asked, asked_by};
+use event_sinks::{CountSink, Sink};
 use fault::Fault;
 use record_codec::Port;
+use report::report;
+use std::alloc::Global;
+use std::io::Write;
 use std::process::ExitCode;
+use std::sync::Wait;
+use std::thread::Threads;
 use std::{env, io};
-use watchtree_script::run_script;
+use watchtree_script::{RunFault, run_script};
+use watchtree_storm::{OpenGate, storm};
+
+/// How many records each sink of a storm takes at most.
+const MOST: u64 = 1_000_000;
+
+// A storm, and what is printed of it.
+fn run_storm<W: Write, R: Threads + Wait + Sync>(
+    rt: &R,
+    alloc: Global,
+    calls: u32,
+    output: &mut Port<W>,
+) -> Result<(), Fault>
+    requires { (1 ≤ calls) × (calls ≤ 1000) }
+{
+    let mut sinks: Vec<Box<dyn Sink>> = Vec::with_capacity(alloc, 2)?;
+    sinks.push(Box::new(alloc, CountSink::new(alloc, MOST))?)?;
+    sinks.push(Box::new(alloc, CountSink::new(alloc, MOST))?)?;
+    let stormed = storm(rt, alloc, calls, &OpenGate, sinks)?;
+    let text = report(alloc, &stormed)?;
+    if output.write_all(&text).is_err() {
+        return Err(Fault::Run(RunFault::Write));
+    }
+    let _ = stormed.settled?;
+    Ok(())
+}
 
 fn main(rt: HostRuntime) -> ExitCode {
     let alloc = rt.alloc();
-    let queue = match env::args(&rt) {
+    let asked = match env::args(&rt) {
         Ok(args) => match args.collect::<Vec<String>>(alloc) {
-            Ok(words) => asked_queue(alloc, &words),
+            Ok(words) => asked_by(alloc, &words),
             Err(_) => Err(Fault::Memory),
         },
         Err(error) => Err(Fault::of_words(error.kind())),
     };
-    let ended = match queue {
-        Ok(queue) => {
+    let mut output = Port::new(io::writer(&rt));
+    let ended = match asked {
+        Ok(Asked::Run { queue }) => {
             let mut input = Port::new(rt.reader());
-            let mut output = Port::new(io::writer(&rt));
             run_script(alloc, &mut input, &mut output, queue).map_err(Fault::Run)
         }
+        Ok(Asked::Storm { calls }) => run_storm(&rt, alloc, calls, &mut output),
         Err(fault) => Err(fault),
     };
     match ended {

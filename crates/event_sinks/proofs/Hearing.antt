@@ -1,0 +1,120 @@
+-- What a listener keeps from step to step.
+use Rattle.std.proofs.Common.{◌≡◌, subst, ◌≢◌, ◌∙◌, sym, ap, refl, ℕ, zero, suc, ◌+◌, ◌-◌, ◌<◌, ◌≤◌, ◌⊎◌, inl, inr, List, [], ◌∷◌, ◌++◌, length, take, drop, arith, append-nil, append_assoc, length-append, add-one, true, false, Bool}
+use Rattle.std.specs.Prelude.{All, Some, None, Option, is_none}
+use Rattle.std.proofs.lemmas.List.Elements.{All-push}
+use Rattle.record_codec.specs.declared.event.Event.{Event}
+use Rattle.shared_tree.specs.declared.pipe.Batch.{Batch}
+use Rattle.event_sinks.specs.declared.fault.SinkFault.{SinkFault}
+use Rattle.event_sinks.specs.declared.listener.Cause.{Cause}
+use Rattle.event_sinks.specs.declared.listener.Cause.TheVariants as cause
+use Rattle.event_sinks.specs.declared.listener.Step.{Step}
+use Rattle.event_sinks.specs.declared.listener.Step.TheVariants as step
+use Rattle.event_sinks.specs.Heard.{Heard, HasRecords, IsCutOf, IsEndedBy, IsHeard, IsTook, IsTurn, Puts, Reaches, Steps, Takes, joined}
+
+joined-snoc : (bs : List Batch) (b : Batch) → joined (bs ++ b ∷ []) ≡ joined bs ++ b.records
+joined-snoc [] b = append-nil b.records
+joined-snoc (x ∷ xs) b = ap (λ (r : List Event). x.records ++ r) (joined-snoc xs b) ∙ sym (append_assoc x.records (joined xs) b.records)
+
+drop-within : (n : ℕ) (xs ys : List Event) → n ≤ length xs → drop n (xs ++ ys) ≡ drop n xs ++ ys
+drop-within zero xs ys within = refl
+drop-within (suc n) [] ys within = absurd (omega arith)
+drop-within (suc n) (x ∷ xs) ys within = drop-within n xs ys (omega arith)
+
+take-past : (xs ys : List Event) (k : ℕ) → take (length xs + k) (xs ++ ys) ≡ xs ++ take k ys
+take-past [] ys k = let e : 0 + k ≡ k = omega arith in rw e refl
+take-past (x ∷ xs) ys k = let e : length (x ∷ xs) + k ≡ suc (length xs + k) = omega arith in rw e (ap (λ (t : List Event). x ∷ t) (take-past xs ys k))
+
+-- all that it took is what was joined before, and this
+took_more : (handed : List Batch) (started : ℕ) (list list' more : List Event) → started ≤ length list → drop started list ≡ joined handed → list' ≡ list ++ more → drop started list' ≡ joined handed ++ more
+took_more handed started list list' more within took e = rw (e, drop-within started list more within, took) refl
+
+within_more : (started : ℕ) (list list' more : List Event) → started ≤ length list → list' ≡ list ++ more → started ≤ length list'
+within_more started list list' more within e = omega (arith, length-append list more, ap length e)
+
+took_after : (handed : List Batch) (b : Batch) (started : ℕ) (list list' : List Event) (why : Option Cause) → started ≤ length list → drop started list ≡ joined handed → Puts list b.records list' why → IsTook (handed ++ b ∷ []) (drop started list') why
+took_after handed b started list list' None within took puts =
+    took_more handed started list list' b.records within took puts.1 ∙ sym (joined-snoc handed b)
+took_after handed b started list list' (Some cause.Last) within took puts =
+    took_more handed started list list' b.records within took (puts.1 ∙ (sym (append-nil list) ∙ ap (λ (r : List Event). list ++ r) (sym puts.0))) ∙ sym (joined-snoc handed b)
+took_after handed b started list list' (Some (cause.Sink fault)) within took puts =
+    (
+      length (joined handed) + puts.0,
+      omega (arith, ap length (joined-snoc handed b), length-append (joined handed) b.records, puts.1),
+      took_more handed started list list' (take puts.0 b.records) within took puts.2 ∙ (sym (take-past (joined handed) b.records puts.0) ∙ ap (take (length (joined handed) + puts.0)) (sym (joined-snoc handed b))),
+    )
+took_after handed b started list list' (Some cause.Turns) within took puts = absurd puts
+took_after handed b started list list' (Some cause.Given) within took puts = absurd puts
+took_after handed b started list list' (Some cause.Memory) within took puts = absurd puts
+
+within_after : (started : ℕ) (list records list' : List Event) (why : Option Cause) → started ≤ length list → Puts list records list' why → started ≤ length list'
+within_after started list records list' None within puts = within_more started list list' records within puts.1
+within_after started list records list' (Some cause.Last) within puts = rw puts.1 within
+within_after started list records list' (Some (cause.Sink fault)) within puts = within_more started list list' (take puts.0 records) within puts.2
+within_after started list records list' (Some cause.Turns) within puts = absurd puts
+within_after started list records list' (Some cause.Given) within puts = absurd puts
+within_after started list records list' (Some cause.Memory) within puts = absurd puts
+
+-- where one of the records was refused, there are some
+has_one : (b : Batch) (k : ℕ) → k < length b.records → HasRecords b
+has_one b k below none = absurd (omega (arith, below, ap length none))
+
+ended_after : (handed : List Batch) (b : Batch) (list list' : List Event) (why : Option Cause) → All HasRecords handed → Puts list b.records list' why → IsEndedBy (handed ++ b ∷ []) why
+ended_after handed b list list' None had puts = All-push HasRecords handed b had puts.0
+ended_after handed b list list' (Some cause.Last) had puts = (handed, b, refl, puts.0, had)
+ended_after handed b list list' (Some (cause.Sink fault)) had puts = All-push HasRecords handed b had (has_one b puts.0 puts.1)
+ended_after handed b list list' (Some cause.Turns) had puts = absurd puts
+ended_after handed b list list' (Some cause.Given) had puts = absurd puts
+ended_after handed b list list' (Some cause.Memory) had puts = absurd puts
+
+-- a batch was taken
+takes_sound : (old : Heard) (b : Batch) (new : Heard) → IsHeard old → Takes old b new → IsHeard new
+takes_sound old b new h t =
+    let Took : Option Cause → Type 0 = λ o. IsTook old.handed (drop old.started old.list) o in
+    let Ended : Option Cause → Type 0 = λ o. IsEndedBy old.handed o in
+    let TookNow : List Batch → Type 0 = λ bs. IsTook bs (drop new.started new.list) new.cause in
+    let TookFrom : ℕ → Type 0 = λ n. IsTook (old.handed ++ b ∷ []) (drop n new.list) new.cause in
+    let EndedNow : List Batch → Type 0 = λ bs. IsEndedBy bs new.cause in
+    let WithinFrom : ℕ → Type 0 = λ n. n ≤ length new.list in
+    let took : drop old.started old.list ≡ joined old.handed = subst Took t.on h.took in
+    let had : All HasRecords old.handed = subst Ended t.on h.ended in
+    record {
+      received = (
+        h.received.0,
+        ap (λ f. f.received) t.feed ∙ (ap (λ bs. bs ++ b ∷ []) h.received.1 ∙ (append_assoc h.received.0 old.handed (b ∷ []) ∙ ap (λ bs. h.received.0 ++ bs) (sym t.handed))),
+      );
+      took = subst TookNow (sym t.handed) (subst TookFrom (sym t.started) (took_after old.handed b old.started old.list new.list new.cause h.within took t.puts));
+      ended = subst EndedNow (sym t.handed) (ended_after old.handed b old.list new.list new.cause had t.puts);
+      open_until = t.open_until;
+      within = subst WithinFrom (sym t.started) (within_after old.started old.list b.records new.list new.cause h.within t.puts);
+    }
+
+-- there was no memory for one more batch
+stays_sound : (old : Heard) → IsHeard old → old.cause ≡ None → IsHeard (record old { live = false; cause = Some cause.Memory })
+stays_sound old h on =
+    let Took : Option Cause → Type 0 = λ o. IsTook old.handed (drop old.started old.list) o in
+    let Ended : Option Cause → Type 0 = λ o. IsEndedBy old.handed o in
+    record {
+      received = h.received;
+      took = subst Took on h.took;
+      ended = subst Ended on h.ended;
+      open_until = refl;
+      within = h.within;
+    }
+
+pub steps_sound : (old new : Heard) (s : Step) → IsHeard old → Steps old new s → IsHeard new
+steps_sound old new step.Idle h steps = subst IsHeard (sym steps.1) h
+steps_sound old new step.Took h steps = takes_sound old steps.0 new h steps.1
+steps_sound old new step.Over h (inl p) = subst IsHeard (sym p.1) h
+steps_sound old new step.Over h (inr p) = subst IsHeard (sym p.1) (stays_sound old h p.0)
+
+-- one turn more
+pub reaches_next : (n : ℕ) (a b c : Heard) → Reaches n a b → IsTurn b c → Reaches (n + 1) a c
+reaches_next n a b c r t = let P : ℕ → Type 0 = λ k. Reaches k a c in subst P (sym (add-one n)) (b, r, t)
+
+reaches_idly : (n k : ℕ) (a b : Heard) → Reaches n a b → Reaches (n + k) a b
+reaches_idly n zero a b r = let P : ℕ → Type 0 = λ m. Reaches m a b in let e : n ≡ n + 0 = omega arith in subst P e r
+reaches_idly n (suc k) a b r = let P : ℕ → Type 0 = λ m. Reaches m a b in let e : suc (n + k) ≡ n + suc k = omega arith in subst P e (b, reaches_idly n k a b r, inl refl)
+
+-- turns more in which nothing happens
+pub reaches_more : (n m : ℕ) (a b : Heard) → n ≤ m → Reaches n a b → Reaches m a b
+reaches_more n m a b within r = let P : ℕ → Type 0 = λ k. Reaches k a b in let e : n + (m - n) ≡ m = omega arith in subst P e (reaches_idly n (m - n) a b r)

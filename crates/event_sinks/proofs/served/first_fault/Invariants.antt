@@ -1,0 +1,15 @@
+-- Each number that has no track among those to come was served.
+use Rattle.std.proofs.Common.{◌≡◌, ℕ, [], Some, None}
+use Rattle.std.specs.Map.{lookup}
+use Rattle.std.specs.Ordering.{nat_cmp}
+use Rattle.std.specs.BTreeMap.{is_at}
+use Rattle.std.specs.List.Sorted.{IsStrictlySortedBy}
+use Rattle.std.specs.Map.{keys_of}
+use Rattle.shared_tree.specs.Calls.{Bound}
+use Rattle.event_sinks.specs.Audited.{IsServedAt, outcomes}
+use Rattle.event_sinks.specs.Tracks.{IsTracked, track_at}
+use Rattle.event_sinks.proofs.Walking.{IsWalked}
+use Rattle.event_sinks.proofs.served.first_fault.Given as goal
+
+abbrev pub invariant-loop-number : goal.invariant-loop-number
+invariant-loop-number g l = (b : Bound) → ((n : ℕ) → IsTracked b (outcomes l.ended) [] n (track_at l.tracks n)) → IsWalked b (outcomes l.ended) l.number-iterator

@@ -1,0 +1,106 @@
+//! What stands before a storm begins.
+
+ghost use Rattle.std.specs.Prelude.{◌≡◌, ◌+◌, ◌≤◌, [], true, IfOk};
+ghost use Rattle.event_sinks.specs.Heard.{IsHeard, heard_by};
+
+use crate::fault::StormFault;
+use event_sinks::{Listening, Sink};
+use record_codec::bits::IN_ALL_EVENTS;
+use shared_tree::{Held, Pass, Seat};
+use std::alloc::Global;
+use std::sync::ledger::{Blank, Ledger};
+use tree_core::Call;
+use tree_ops::FileCall;
+use tree_paths::{Limits, Path};
+
+/// The directory in which all happens.
+const DIRECTORY: &str = "/s";
+
+/// How many records may wait in each queue.
+const QUEUE: u32 = 16_384;
+
+/// A tree with a directory that two instances watch, each with a pipe; its seats; and a listener at each pipe.
+#[derive(Drop)]
+pub struct Begun<L: Ledger, S> {
+    /// The tree.
+    pub held: Held<L>,
+    /// What is left of the seats.
+    pub pass: Pass<L>,
+    /// The seat that begins and ends.
+    pub main: Seat<L>,
+    /// The seat of the first writer.
+    pub first: Seat<L>,
+    /// The seat of the second writer.
+    pub second: Seat<L>,
+    /// The listener at the pipe of the first instance.
+    pub one: Listening<S>,
+    /// The listener at the pipe of the second instance.
+    pub other: Listening<S>,
+}
+
+// Makes an instance with a pipe that is told of all in the directory, and a listener at its other end.
+fn listen<L: Ledger, S: Sink>(
+    alloc: Global,
+    held: &mut Held<L>,
+    seat: &mut Seat<L>,
+    number: u32,
+    slots: usize,
+    sink: S,
+) -> Result<Listening<S>, StormFault>
+    requires slots { (1 ≤ slots) × (slots ≤ 65536) }
+    requires live { S.live sink ≡ true }
+    ensures { IfOk result (λ l. IsHeard (heard_by S.record_list S.live l)) }
+{
+    let (_, feed) = held.open_piped(seat, QUEUE, slots)?;
+    let Some(feed) = feed else {
+        return Err(StormFault::Memory);
+    };
+    let path = Path::parse(alloc, DIRECTORY.as_bytes())?;
+    let _ = held.call(
+        seat,
+        Call::AddWatch {
+            instance: feed.instance(),
+            path,
+            mask: IN_ALL_EVENTS,
+        },
+    )?;
+    Ok(Listening::new(alloc, number, feed, sink))
+}
+
+/// Makes the tree, its seats 1 to 3, its directory, and both instances with a pipe of `calls + 2` places and a listener.
+///
+/// # Errors
+/// [`StormFault::Memory`]; both sinks are then closed.
+pub fn begin<L: Ledger, S: Sink>(
+    alloc: Global,
+    blank: Blank,
+    calls: u32,
+    one: S,
+    other: S,
+) -> Result<Begun<L, S>, StormFault>
+    requires name { blank.name ≡ L.name }
+    requires parts { (blank.parts ≡ L.parts) × (blank.parts ≡ 65537) }
+    requires live { (S.live one ≡ true) × (S.live other ≡ true) }
+    requires calls { calls ≤ 1000 }
+    ensures shares { IfOk result (λ b. (b.pass.parts + 3 ≡ L.parts) × (b.pass.amount ≡ 0)) }
+    ensures sound { IfOk result (λ b. IsHeard (heard_by S.record_list S.live b.one) × IsHeard (heard_by S.record_list S.live b.other)) }
+{
+    let (mut held, mut pass) = Held::<L>::new(alloc, blank, Limits::full())?;
+    let mut main = pass.seat()?;
+    let first = pass.seat()?;
+    let second = pass.seat()?;
+    let path = Path::parse(alloc, DIRECTORY.as_bytes())?;
+    let _ = held.call(&mut main, Call::File(FileCall::Mkdir { path, mode: 0o755 }))?;
+    let slots = calls as usize + 2;
+    let one = listen(alloc, &mut held, &mut main, 1, slots, one)?;
+    let other = listen(alloc, &mut held, &mut main, 2, slots, other)?;
+    Ok(Begun {
+        held,
+        pass,
+        main,
+        first,
+        second,
+        one,
+        other,
+    })
+}

@@ -1,0 +1,181 @@
+//! A storm from its beginning to the settled book.
+
+ghost use Rattle.std.specs.Prelude.{◌≡◌, ◌+◌, ◌≤◌, ◌∷◌, [], true, All, IfOk, length};
+ghost use Rattle.event_sinks.specs.Audited.{calls_of, outcome_of};
+ghost use Rattle.event_sinks.specs.Heard.{IsHeard, ended_of, heard_by};
+ghost use Rattle.watchtree_storm.specs.Storm.{Answers, CountsAgree, told_of};
+
+use crate::beginning::{Begun, begin};
+use crate::fault::StormFault;
+use crate::writer::{Writer, close_both};
+use event_sinks::{Cause, Ended, Gate, SettleFault, Settled, Sink, settle};
+use shared_tree::{Book, SeatLog, Tree};
+use std::alloc::Global;
+use std::marker::Brand;
+use std::sync::ledger::{Blank, Ledger};
+use std::sync::{Mutex, Wait};
+use std::thread;
+use std::thread::Threads;
+
+/// What is left when all have ended: the book of the tree, the logs of its three seats, and both listeners.
+#[derive(Drop)]
+pub struct Ran<S> {
+    /// The book of the tree.
+    pub book: Book,
+    /// The logs of seats 1, 2 and 3, in this order.
+    pub logs: Vec<SeatLog>,
+    /// Listeners 1 and 2.
+    pub ended: (Ended<S>, Ended<S>),
+}
+
+/// What a storm came to.
+#[derive(Drop)]
+pub struct Stormed {
+    /// How many entries the journal has.
+    pub entries: u64,
+    /// Of each listener its number, why it ended, and how many records its sink took.
+    pub listeners: Vec<(u32, Cause, u64)>,
+    /// What settling the book answered.
+    pub settled: Result<Settled, SettleFault>,
+}
+
+impl<S: Sink> Ran<S> {
+    /// Settles the book.
+    ///
+    /// # Errors
+    /// [`StormFault::Memory`], where there is none to tell of the listeners, whose sinks are closed.
+    pub fn settle(self, alloc: Global) -> Result<Stormed, StormFault>
+        requires { self.book.entries ≡ calls_of self.logs.items }
+        ensures entries { IfOk result (λ s. s.entries ≡ self.book.entries) }
+        ensures listeners { IfOk result (λ s. s.listeners.items ≡ told_of S.record_list self.ended.0 ∷ told_of S.record_list self.ended.1 ∷ []) }
+        ensures settled { IfOk result (λ s. Answers self.book self.logs.items (outcome_of self.ended.0 ∷ outcome_of self.ended.1 ∷ []) s.settled) }
+        ensures counts { IfOk result (λ s. CountsAgree s.settled) }
+    {
+        let Ran {
+            book,
+            logs,
+            ended: (one, other),
+        } = self;
+        let entries = book.entries();
+        let mut listeners = Vec::with_capacity(alloc, 2)?;
+        listeners.push_reserved(told_of(&one));
+        listeners.push_reserved(told_of(&other));
+        let mut ended = Vec::with_capacity(alloc, 2)?;
+        ended.push_reserved(one);
+        ended.push_reserved(other);
+        Ok(Stormed {
+            entries,
+            listeners,
+            settled: settle(alloc, book, logs, ended),
+        })
+    }
+}
+
+// What is told of a listener: its number, why it ended, and how many records its sink took.
+fn told_of<S: Sink>(ended: &Ended<S>) -> (u32, Cause, u64)
+    ensures { result ≡ told_of S.record_list ended.now }
+{
+    (ended.number(), ended.cause(), ended.sink().taken())
+}
+
+/// A storm, up to the book: two writers make so many calls each and pump after each, while two listeners take what comes,
+/// each in a thread of its own. Then both instances are pumped once more and closed. It waits for the writers and for the
+/// listeners, who end at the last by the turns of the gate. Where no thread can be made, the writers run one after the
+/// other, and then the listeners.
+///
+/// # Errors
+/// [`StormFault::Memory`], before any of them begins; both sinks are then closed.
+pub fn run<L: Ledger + Send + Sync, S: Sink, G: Gate, R: Threads + Wait + Sync>(
+    rt: &R,
+    alloc: Global,
+    blank: Blank,
+    calls: u32,
+    gate: &G,
+    one: S,
+    other: S,
+) -> Result<Ran<S>, StormFault>
+    requires name { blank.name ≡ L.name }
+    requires parts { (blank.parts ≡ L.parts) × (blank.parts ≡ 65537) }
+    requires live { (S.live one ≡ true) × (S.live other ≡ true) }
+    requires calls { calls ≤ 1000 }
+    ensures counts { IfOk result (λ r. r.book.entries ≡ calls_of r.logs.items) }
+    ensures sinks { IfOk result (λ r. IsHeard (ended_of S.record_list S.live r.ended.0) × IsHeard (ended_of S.record_list S.live r.ended.1)) }
+{
+    let mut logs = Vec::with_capacity(alloc, 3)?;
+    let Begun {
+        held,
+        mut pass,
+        main,
+        first,
+        second,
+        one,
+        other,
+    } = begin::<L, S>(alloc, blank, calls, one, other)?;
+    let tree: Tree<L> = Mutex::new(held);
+    let shared = &tree;
+    let ((one, other), (main, (first, second))) = thread::join(
+        rt,
+        move || -> (Ended<S>, Ended<S>)
+            requires { IsHeard (heard_by S.record_list S.live one) × IsHeard (heard_by S.record_list S.live other) }
+            ensures { IsHeard (ended_of S.record_list S.live result.0) × IsHeard (ended_of S.record_list S.live result.1) }
+        {
+            thread::join(
+                rt,
+                move || -> Ended<S>
+                    requires { IsHeard (heard_by S.record_list S.live one) }
+                    ensures { IsHeard (ended_of S.record_list S.live result) }
+                { one.run(gate, gate.turns()) },
+                move || -> Ended<S>
+                    requires { IsHeard (heard_by S.record_list S.live other) }
+                    ensures { IsHeard (ended_of S.record_list S.live result) }
+                { other.run(gate, gate.turns()) },
+            )
+        },
+        move || {
+            let both = thread::join(
+                rt,
+                move || Writer::first().write(rt, alloc, shared, first, gate, calls),
+                move || Writer::second().write(rt, alloc, shared, second, gate, calls),
+            );
+            (close_both(rt, shared, main), both)
+        },
+    );
+    logs.push_reserved(pass.join(main));
+    logs.push_reserved(pass.join(first));
+    logs.push_reserved(pass.join(second));
+    let book = tree.into_inner().dissolve(pass);
+    Ok(Ran {
+        book,
+        logs,
+        ended: (one, other),
+    })
+}
+
+/// A storm of 1 to 1,000 calls of each writer, with two sinks that are open, and the settled book.
+///
+/// The count of entries can't differ from the count of kept calls. That writers and listeners run at once is shown by a
+/// test alone.
+///
+/// # Errors
+/// [`StormFault::Memory`]; both sinks are then closed.
+pub fn storm<S: Sink, G: Gate, R: Threads + Wait + Sync>(
+    rt: &R,
+    alloc: Global,
+    calls: u32,
+    gate: &G,
+    sinks: Vec<S>,
+) -> Result<Stormed, StormFault>
+    requires calls { (1 ≤ calls) × (calls ≤ 1000) }
+    requires two { length sinks.items ≡ 2 }
+    requires live { All (λ s. S.live s ≡ true) sinks.items }
+    ensures { IfOk result (λ s. CountsAgree s.settled) }
+{
+    let mut sinks = sinks;
+    let Some(other) = sinks.pop() else {
+        return Err(StormFault::Memory);
+    };
+    let Some(one) = sinks.pop() else {
+        return Err(StormFault::Memory);
+    };
+    run::<Brand, S, G, R>(rt, alloc, Blank::new(65537), calls, gate, one, other)?.settle(alloc)
+}

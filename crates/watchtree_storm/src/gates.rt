@@ -1,0 +1,23 @@
+//! A gate that holds nobody up.
+
+ghost use Rattle.std.specs.Prelude.{◌≡◌, true};
+
+use event_sinks::Gate;
+
+/// A gate that is always open, for 4,294,967,296 turns.
+#[derive(Clone, Copy, Debug, Drop)]
+pub struct OpenGate;
+
+impl Gate for OpenGate {
+    fn pass(&self, _who: u32, _turn: u64) -> bool
+        ensures { result ≡ true }
+    {
+        true
+    }
+
+    fn turns(&self) -> u64
+        ensures { result ≡ 4294967296 }
+    {
+        1 << 32
+    }
+}
