@@ -1,7 +1,7 @@
 -- What agrees has no fault, and each of its places is kept once.
-use Rattle.std.proofs.Common.{◌≡◌, ◌≢◌, ◌∙◌, sym, ap, subst, refl, inl, inr, ⊎_elim, ℕ, ◌+◌, ◌-◌, ◌<◌, ◌≤◌, Bool, true, false, cond, eqb, List, [], ◌∷◌, ◌++◌, length, map, arith, append-nil, append_assoc, length-append}
+use Rattle.std.proofs.Common.{◌≡◌, ◌≢◌, ◌∙◌, sym, ap, subst, refl, inl, inr, ⊎_elim, ℕ, ◌+◌, ◌-◌, ◌<◌, ◌≤◌, true, false, cond, eqb, List, [], ◌∷◌, ◌++◌, length, arith, append-nil, append_assoc, length-append}
 use Rattle.std.proofs.lemmas.List.{length-map}
-use Rattle.std.specs.Prelude.{◌⊎◌, ◌==◌, count_by, sum_by}
+use Rattle.std.specs.Prelude.{◌==◌, count_by}
 use Rattle.std.specs.List.{AllByRecursion, IsDistinct, flat_map, list_any}
 use Rattle.std.proofs.lemmas.Bool.{false≢true, cases_eq, ne_eqb, eq-eqb, eqb-true, or_cases}
 use Rattle.std.proofs.lemmas.List.Sums.{sum_by-cons}
@@ -16,10 +16,9 @@ use Rattle.shared_tree.specs.Held.{IsIn, Lacks}
 use Rattle.shared_tree.proofs.Ends.{front-is-all}
 use Rattle.event_sinks.specs.declared.audit.SettleFault.{SettleFault}
 use Rattle.event_sinks.specs.declared.audit.SettleFault.TheVariants.{CountDiffers, Stray, NotEnded, HandedDiffers, Memory}
-use Rattle.event_sinks.specs.declared.listener.Cause.TheVariants.{Last}
-use Rattle.event_sinks.specs.Audited.{AreKept, AuditsAgree, Differs, FaultsContradictTheAudit, FrontsAreWhole, IsAudited, IsFault, IsFaultAt, IsServed, IsServedAt, IsServedOtherwise, IsStray, IsUnended, Outcome, batches_of, calls_of, of_instance, places}
+use Rattle.event_sinks.specs.Audited.{AreKept, AuditsAgree, Differs, FaultsContradictTheAudit, FrontsAreWhole, IsFaultAt, IsServed, IsServedAt, IsServedOtherwise, IsStray, IsUnended, Outcome, batches_of, calls_of, of_instance, places}
 use Rattle.event_sinks.proofs.Pairs.{PairsByRecursion, all_weaker}
-use Rattle.event_sinks.proofs.KeptCalls.{ByRecursion, by_recursion, kept_front, places_in}
+use Rattle.event_sinks.proofs.KeptCalls.{by_recursion, kept_front, places_in}
 
 -- ---- faults
 
@@ -40,9 +39,9 @@ served_ended batches es served unended = subst IsUnended served.1 unended served
 served_so : (batches : List Batch) (es : List Outcome) (p : ℕ) → IsServed batches es → IsServedOtherwise batches es p → ⊥
 served_so batches es p served otherwise =
     ⊎_elim
-      (λ differs. differs_from_itself batches p (subst (λ (bs : List Batch). Differs batches bs p) served.3 differs))
-      (λ second. second.1 refl)
-      (subst (λ (xs : List Outcome). IsServedOtherwise batches xs p) served.1 otherwise).1
+    (λ differs. differs_from_itself batches p (subst (λ (bs : List Batch). Differs batches bs p) served.3 differs))
+    (λ second. second.1 refl)
+    (subst (λ (xs : List Outcome). IsServedOtherwise batches xs p) served.1 otherwise).1
 
 not_ended : (b : Bound) (es : List Outcome) (n : ℕ) → IsServedAt b es n → IsIn b.pipes n → IsUnended (of_instance n es) → ⊥
 not_ended b es n (inl served) is_in unended = served_ended (batches_of b n) (of_instance n es) served.1 unended
@@ -88,9 +87,9 @@ count_one : (ps : List ℕ) (p : ℕ) → PairsByRecursion (λ j k. j ≢ k) ps 
 count_one [] p once some = absurd (some tt)
 count_one (q ∷ ps) p once some =
     ⊎_elim
-      (λ (same : q ≡ p). count_first q p ps ∙ rw (eq-eqb q p same, count_none ps p (all_weaker (λ r. q ≢ r) (λ r. r ≢ p) (λ r apart e. apart (same ∙ sym e)) ps once.0)) refl)
-      (λ (other : q ≡ p → ⊥). count_first q p ps ∙ rw (ne_eqb q p other, count_one ps p once.1 (λ others. some (other, others))) refl)
-      (cases_eq q p)
+    (λ (same : q ≡ p). count_first q p ps ∙ rw (eq-eqb q p same, count_none ps p (all_weaker (λ r. q ≢ r) (λ r. r ≢ p) (λ r apart e. apart (same ∙ sym e)) ps once.0)) refl)
+    (λ (other : q ≡ p → ⊥). count_first q p ps ∙ rw (ne_eqb q p other, count_one ps p once.1 (λ others. some (other, others))) refl)
+    (cases_eq q p)
 
 distinct : (ps : List ℕ) → PairsByRecursion (λ j k. j ≢ k) ps → IsDistinct eqb ps
 unfolding IsDistinct
@@ -101,9 +100,9 @@ any_below : (n : ℕ) (ps : List ℕ) → AllByRecursion (λ p. p < n) ps → (q
 any_below n [] below q any = absurd (false≢true any)
 any_below n (p ∷ ps) below q any =
     ⊎_elim
-      (λ (here : eqb q p ≡ true). let same = eqb-true q p here in omega (arith, below.0))
-      (any_below n ps below.1 q)
-      (or_cases (eqb q p) (list_any (eqb q) ps) any)
+    (λ (here : eqb q p ≡ true). let same = eqb-true q p here in omega (arith, below.0))
+    (any_below n ps below.1 q)
+    (or_cases (eqb q p) (list_any (eqb q) ps) any)
 
 -- of n numbers from 1 to n, no two of them equal, none of these is missing
 none_missing : (n : ℕ) (ps : List ℕ) (p : ℕ) → length ps ≡ n → PairsByRecursion (λ j k. j ≢ k) ps → AllByRecursion (λ q. (0 < q) × (q - 1 < n)) ps → 0 < p → p ≤ n → AllByRecursion (λ q. q ≢ p) ps → ⊥

@@ -1,17 +1,17 @@
 -- When the calls that the seats kept are the journal's, seat by seat.
-use Rattle.std.proofs.Common.{◌≡◌, ◌≢◌, ◌∙◌, sym, ap, subst, refl, ℕ, ◌+◌, ◌-◌, ◌<◌, Bool, true, false, List, [], ◌∷◌, ◌++◌, length, get_or, map, take, drop, replicate, arith, append-nil}
+use Rattle.std.proofs.Common.{◌≡◌, ◌≢◌, ◌∙◌, sym, ap, subst, refl, ℕ, ◌+◌, ◌-◌, ◌<◌, Bool, false, List, [], ◌∷◌, ◌++◌, length, get_or, map, take, drop, replicate, arith, append-nil}
 use Rattle.std.specs.Prelude.{All, AllPairs}
 use Rattle.std.specs.List.{AllByRecursion, flat_map}
 use Rattle.std.proofs.lemmas.List.{take-append-drop, take_more, drop_more}
 use Rattle.std.proofs.lemmas.List.Concat.{flat_map-append}
-use Rattle.std.proofs.lemmas.List.Elements.{All-from_recursion, recursion_from_All, All-weaker}
+use Rattle.std.proofs.lemmas.List.Elements.{All-from_recursion, recursion_from_All}
 use Rattle.std.proofs.lemmas.Option.{slice_get_within}
 use Rattle.tree_core.specs.declared.reply.Entry.{Entry}
 use Rattle.tree_core.specs.declared.reply.Kept.{Kept}
 use Rattle.shared_tree.specs.declared.seat.SeatLog.{SeatLog}
-use Rattle.event_sinks.specs.Audited.{Stands, places, AreKept}
+use Rattle.event_sinks.specs.Audited.{Stands, places, AreKept, IsStray}
 use Rattle.event_sinks.specs.Marked.{marked, AreNext}
-use Rattle.event_sinks.proofs.Pairs.{PairsByRecursion, Across, AllPairs-from_recursion, recursion_from_AllPairs, all_weaker, all_both, all_append, all_front, all_back, across_swap, pairs_weaker, pairs_append, pairs_front, pairs_across}
+use Rattle.event_sinks.proofs.Pairs.{PairsByRecursion, AllPairs-from_recursion, recursion_from_AllPairs, all_weaker, all_both, all_append, all_front, all_back, across_swap, pairs_weaker, pairs_append, pairs_front, pairs_across}
 use Rattle.event_sinks.proofs.Marks.{IsUnset, Fits, marked-append, unset_by, unset_after, unset_at_first, fits_from_next, next_from_fits}
 
 -- ---- by recursion
@@ -108,22 +108,34 @@ fits entries before l kept =
     }
 
 -- where all are kept so far, one log more is kept exactly where each of its calls can be the next one
-pub kept_more : (entries : List Entry) (before : List SeatLog) (l : SeatLog) → AreKept entries before → AreNext entries (marks_of entries before) l.number 0 l.kept → AreKept entries (before ++ l ∷ [])
+kept_more : (entries : List Entry) (before : List SeatLog) (l : SeatLog) → AreKept entries before → AreNext entries (marks_of entries before) l.number 0 l.kept → AreKept entries (before ++ l ∷ [])
 kept_more entries before l kept next = from_recursion entries _ (more entries before l (by_recursion entries before kept) (fits_from_next entries _ l.number 0 l.kept next))
 
-pub next_of_kept : (entries : List Entry) (before : List SeatLog) (l : SeatLog) → AreKept entries (before ++ l ∷ []) → AreNext entries (marks_of entries before) l.number 0 l.kept
+next_of_kept : (entries : List Entry) (before : List SeatLog) (l : SeatLog) → AreKept entries (before ++ l ∷ []) → AreNext entries (marks_of entries before) l.number 0 l.kept
 next_of_kept entries before l kept = next_from_fits entries _ l.number 0 l.kept (fits entries before l (by_recursion entries _ kept))
 
-pub marks_more : (entries : List Entry) (before : List SeatLog) (l : SeatLog) → marked (marks_of entries before) (places l) ≡ marks_of entries (before ++ l ∷ [])
+marks_more : (entries : List Entry) (before : List SeatLog) (l : SeatLog) → marked (marks_of entries before) (places l) ≡ marks_of entries (before ++ l ∷ [])
 marks_more entries before l = sym (marked-append (replicate (length entries) false) (flat_map places before) (places l)) ∙ ap (marked (replicate (length entries) false)) (sym (places_push before l))
 
 pub kept_none : (entries : List Entry) → AreKept entries []
 kept_none entries = from_recursion entries [] (record { stand = tt; rise = tt; once = tt })
 
 -- the logs up to one that was read, and from it on
-pub logs_split : (logs : List SeatLog) (i : ℕ) (l : SeatLog) → i < length logs → l ≡ get_or logs i l → logs ≡ take i logs ++ l ∷ drop (i + 1) logs
+logs_split : (logs : List SeatLog) (i : ℕ) (l : SeatLog) → i < length logs → l ≡ get_or logs i l → logs ≡ take i logs ++ l ∷ drop (i + 1) logs
 logs_split logs i l within is =
     sym (take-append-drop i logs) ∙ ap (λ rest. take i logs ++ rest) (drop_more logs i l within ∙ ap (λ (k : SeatLog). k ∷ drop (i + 1) logs) (sym is))
 
-pub logs_more : (logs : List SeatLog) (i : ℕ) (l : SeatLog) → i < length logs → l ≡ get_or logs i l → take (i + 1) logs ≡ take i logs ++ l ∷ []
+logs_more : (logs : List SeatLog) (i : ℕ) (l : SeatLog) → i < length logs → l ≡ get_or logs i l → take (i + 1) logs ≡ take i logs ++ l ∷ []
 logs_more logs i l within is = take_more logs i l within ∙ ap (λ (k : SeatLog). take i logs ++ k ∷ []) (sym is)
+
+-- the log that was read is the first stray, where one of its calls can not be the next one
+pub stray_at : (entries : List Entry) (logs : List SeatLog) (i : ℕ) (l : SeatLog) → i < length logs → l ≡ get_or logs i l → AreKept entries (take i logs) → (AreNext entries (marks_of entries (take i logs)) l.number 0 l.kept → ⊥) → IsStray entries logs l.number
+stray_at entries logs i l within is kept stray =
+    (take i logs, l, drop (i + 1) logs, logs_split logs i l within is, kept, λ more. stray (next_of_kept entries (take i logs) l more), refl)
+
+-- and where each can, all logs up to it are kept
+pub kept_upto : (entries : List Entry) (logs : List SeatLog) (i : ℕ) (l : SeatLog) → i < length logs → l ≡ get_or logs i l → AreKept entries (take i logs) → AreNext entries (marks_of entries (take i logs)) l.number 0 l.kept → AreKept entries (take (i + 1) logs)
+kept_upto entries logs i l within is kept next = subst (AreKept entries) (sym (logs_more logs i l within is)) (kept_more entries (take i logs) l kept next)
+
+pub marks_upto : (entries : List Entry) (logs : List SeatLog) (i : ℕ) (l : SeatLog) → i < length logs → l ≡ get_or logs i l → marked (marks_of entries (take i logs)) (places l) ≡ marks_of entries (take (i + 1) logs)
+marks_upto entries logs i l within is = marks_more entries (take i logs) l ∙ ap (marks_of entries) (sym (logs_more logs i l within is))

@@ -1,6 +1,6 @@
 -- Which places are marked, and what it says of a seat's calls that each can be the next one.
-use Rattle.std.proofs.Common.{◌≡◌, ◌≢◌, ◌∙◌, sym, ap, subst, refl, ℕ, zero, suc, ◌+◌, ◌-◌, ◌<◌, Bool, true, false, List, [], ◌∷◌, ◌++◌, length, map, take, drop, replicate, arith, append-nil}
-use Rattle.std.specs.Prelude.{Some, None, Option, slice_get, slice_set, unwrap_or}
+use Rattle.std.proofs.Common.{◌≡◌, ◌≢◌, ◌∙◌, refl, ℕ, zero, suc, ◌-◌, ◌<◌, Bool, true, false, List, [], ◌∷◌, ◌++◌, length, map, take, drop, replicate, arith, append-nil}
+use Rattle.std.specs.Prelude.{Some, slice_get, slice_set}
 use Rattle.std.specs.List.{AllByRecursion}
 use Rattle.std.proofs.lemmas.Bool.{true≢false}
 use Rattle.std.proofs.lemmas.List.{length-set, drop_all, take_all}
@@ -86,10 +86,12 @@ pub next_from_fits : (entries : List Entry) (seen : List Bool) (number last : �
 next_from_fits entries seen number last [] fits = tt
 next_from_fits entries seen number last (k ∷ ks) fits =
     let ps = map (λ (j : Kept). j.place) ks in
-    let positive : 0 < k.place = fits.stand.0.0 in
-    ((fits.above.0, fits.stand.0, fits.unset.0), next_from_fits entries (slice_set seen (k.place - 1) true) number k.place ks (record {
-      stand = fits.stand.1;
-      above = fits.rise.0;
-      rise = fits.rise.1;
-      unset = all_both (λ p. k.place < p) (λ p. IsUnset seen (p - 1)) (λ p. IsUnset (slice_set seen (k.place - 1) true) (p - 1)) (λ p higher u. still_unset seen (k.place - 1) (p - 1) (λ e. omega arith) u) ps fits.rise.0 fits.unset.1;
-    }))
+    let positive : 0 < k.place = fits.stand.0.0 in (
+      (fits.above.0, fits.stand.0, fits.unset.0),
+      next_from_fits entries (slice_set seen (k.place - 1) true) number k.place ks (record {
+        stand = fits.stand.1;
+        above = fits.rise.0;
+        rise = fits.rise.1;
+        unset = all_both (λ p. k.place < p) (λ p. IsUnset seen (p - 1)) (λ p. IsUnset (slice_set seen (k.place - 1) true) (p - 1)) (λ p higher u. still_unset seen (k.place - 1) (p - 1) (λ e. omega arith) u) ps fits.rise.0 fits.unset.1;
+      }),
+    )

@@ -1,5 +1,5 @@
 -- When a book, the logs of its seats, and the listeners that ended agree.
-use Rattle.std.specs.Prelude.{◌≡◌, ◌≢◌, ◌<◌, ◌≤◌, ◌-◌, ◌==◌, ◌++◌, ⊤, ℕ, List, [], ◌∷◌, All, AllPairs, count_by, length, map, min, slice_get, sum_by, Option, Some, None, ◌⊎◌}
+use Rattle.std.specs.Prelude.{◌≡◌, ◌≢◌, ◌<◌, ◌≤◌, ◌-◌, ◌==◌, ◌++◌, ⊤, ℕ, List, [], ◌∷◌, All, AllPairs, count_by, length, map, min, slice_get, sum_by, Some, ◌⊎◌}
 use Rattle.std.specs.List.{flat_map}
 use Rattle.tree_core.specs.declared.reply.Entry.{Entry}
 use Rattle.tree_core.specs.declared.reply.Kept.{Kept}

@@ -1,19 +1,17 @@
-use Rattle.std.proofs.Common.{◌≡◌, ◌∙◌, sym, ap, subst, refl, ◌+◌, ◌<◌, length, take, drop, List, Bool, [], ◌∷◌, ◌++◌}
-use Rattle.event_sinks.specs.Audited.{AreKept, places}
+use Rattle.std.proofs.Common.{◌≡◌, ◌∙◌, ap, subst, length, take, List, Bool}
+use Rattle.event_sinks.specs.Audited.{places}
 use Rattle.event_sinks.specs.Marked.{marked, AreNext}
 use Rattle.event_sinks.proofs.Marks.{length-marked, written_over}
-use Rattle.event_sinks.proofs.KeptCalls.{kept_more, next_of_kept, marks_more, marks_of, logs_split, logs_more}
+use Rattle.event_sinks.proofs.KeptCalls.{kept_upto, marks_of, marks_upto, stray_at}
 use Rattle.event_sinks.proofs.strays.first_stray.Goals as goal
 
 pub returns-then-not-is_clean : goal.returns-then-not-is_clean
 returns-then-not-is_clean c =
     let journal = c.args.journal.now in
-    let logs = c.args.logs.now in
-    let i = c.loop-log.log-index in
     let log = c.log-item.result in
     let marks = c.deref_mut.ensures.value ∙ c.loop-log.invariant.marks in
-    (take i logs, log, drop (i + 1) logs, logs_split logs i log c.loop-log-test.true c.log-item.is, c.loop-log.invariant.kept, λ more.
-      c.if-not-is_clean.ensures.stray (subst (λ (s : List Bool). AreNext journal s log.number 0 log.kept) (sym marks) (next_of_kept journal (take i logs) log more)), refl)
+    let stray = subst (λ (s : List Bool). AreNext journal s log.number 0 log.kept → ⊥) marks c.if-not-is_clean.ensures.stray in
+    stray_at journal c.args.logs.now c.loop-log.log-index log c.loop-log-test.true c.log-item.is c.loop-log.invariant.kept stray
 
 pub loop-log-preserved : goal.loop-log-preserved
 loop-log-preserved c =
@@ -25,10 +23,9 @@ loop-log-preserved c =
     let new = c.is_clean.new.seen in
     let marks : old ≡ marks_of journal (take i logs) = c.deref_mut.ensures.value ∙ c.loop-log.invariant.marks in
     let next = subst (λ (s : List Bool). AreNext journal s log.number 0 log.kept) marks c.if-not-is_clean.ensures.clean in
-    let front = logs_more logs i log c.loop-log-test.true c.log-item.is in
     let set = c.if-not-is_clean.ensures.marks in
     let len : length new ≡ length c.loop-log.seen.items = ap length set ∙ (length-marked old (places log) ∙ ap length c.deref_mut.ensures.value) in
     record {
-      kept = subst (AreKept journal) (sym front) (kept_more journal (take i logs) log c.loop-log.invariant.kept next);
-      marks = written_over new c.loop-log.seen.items c.loop-log.seen.len c.loop-log.seen.ok.0 len ∙ (set ∙ (ap (λ (s : List Bool). marked s (places log)) marks ∙ (marks_more journal (take i logs) log ∙ ap (marks_of journal) (sym front))));
+      kept = kept_upto journal logs i log c.loop-log-test.true c.log-item.is c.loop-log.invariant.kept next;
+      marks = written_over new c.loop-log.seen.items c.loop-log.seen.len c.loop-log.seen.ok.0 len ∙ (set ∙ (ap (λ (s : List Bool). marked s (places log)) marks ∙ marks_upto journal logs i log c.loop-log-test.true c.log-item.is));
     }
