@@ -1,6 +1,9 @@
 ghost use Rattle.std.specs.Prelude.{◌≡◌, true};
 ghost use Rattle.event_sinks.specs.Writing.{live_of};
 
+mod feeds;
+mod listeners;
+
 use super::*;
 use record_codec::bits::{IN_CREATE, IN_Q_OVERFLOW};
 use record_codec::{Event, Name};
