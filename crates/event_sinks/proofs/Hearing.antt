@@ -9,11 +9,12 @@ use Rattle.event_sinks.specs.declared.listener.Cause.{Cause}
 use Rattle.event_sinks.specs.declared.listener.Cause.TheVariants as cause
 use Rattle.event_sinks.specs.declared.listener.Step.{Step}
 use Rattle.event_sinks.specs.declared.listener.Step.TheVariants as step
-use Rattle.event_sinks.specs.Heard.{Heard, HasRecords, IsCutOf, IsEndedBy, IsHeard, IsTook, IsTurn, Puts, Reaches, Steps, Takes, joined}
+use Rattle.event_sinks.specs.Heard.{Heard, HasRecords, IsCutOf, IsEndedBy, IsHeard, IsTook, IsTurn, Puts, Reaches, Steps, Takes}
+use Rattle.shared_tree.specs.Handed.{records_of}
 
-joined-snoc : (bs : List Batch) (b : Batch) → joined (bs ++ b ∷ []) ≡ joined bs ++ b.records
-joined-snoc [] b = append-nil b.records
-joined-snoc (x ∷ xs) b = ap (λ (r : List Event). x.records ++ r) (joined-snoc xs b) ∙ sym (append_assoc x.records (joined xs) b.records)
+records_of-snoc : (bs : List Batch) (b : Batch) → records_of (bs ++ b ∷ []) ≡ records_of bs ++ b.records
+records_of-snoc [] b = append-nil b.records
+records_of-snoc (x ∷ xs) b = ap (λ (r : List Event). x.records ++ r) (records_of-snoc xs b) ∙ sym (append_assoc x.records (records_of xs) b.records)
 
 drop-within : (n : ℕ) (xs ys : List Event) → n ≤ length xs → drop n (xs ++ ys) ≡ drop n xs ++ ys
 drop-within zero xs ys within = refl
@@ -24,23 +25,23 @@ take-past : (xs ys : List Event) (k : ℕ) → take (length xs + k) (xs ++ ys) �
 take-past [] ys k = let e : 0 + k ≡ k = omega arith in rw e refl
 take-past (x ∷ xs) ys k = let e : length (x ∷ xs) + k ≡ suc (length xs + k) = omega arith in rw e (ap (λ (t : List Event). x ∷ t) (take-past xs ys k))
 
--- all that it took is what was joined before, and this
-took_more : (handed : List Batch) (started : ℕ) (list list' more : List Event) → started ≤ length list → drop started list ≡ joined handed → list' ≡ list ++ more → drop started list' ≡ joined handed ++ more
+-- all that it took is what was records_of before, and this
+took_more : (handed : List Batch) (started : ℕ) (list list' more : List Event) → started ≤ length list → drop started list ≡ records_of handed → list' ≡ list ++ more → drop started list' ≡ records_of handed ++ more
 took_more handed started list list' more within took e = rw (e, drop-within started list more within, took) refl
 
 within_more : (started : ℕ) (list list' more : List Event) → started ≤ length list → list' ≡ list ++ more → started ≤ length list'
 within_more started list list' more within e = omega (arith, length-append list more, ap length e)
 
-took_after : (handed : List Batch) (b : Batch) (started : ℕ) (list list' : List Event) (why : Option Cause) → started ≤ length list → drop started list ≡ joined handed → Puts list b.records list' why → IsTook (handed ++ b ∷ []) (drop started list') why
+took_after : (handed : List Batch) (b : Batch) (started : ℕ) (list list' : List Event) (why : Option Cause) → started ≤ length list → drop started list ≡ records_of handed → Puts list b.records list' why → IsTook (handed ++ b ∷ []) (drop started list') why
 took_after handed b started list list' None within took puts =
-    took_more handed started list list' b.records within took puts.1 ∙ sym (joined-snoc handed b)
+    took_more handed started list list' b.records within took puts.1 ∙ sym (records_of-snoc handed b)
 took_after handed b started list list' (Some cause.Last) within took puts =
-    took_more handed started list list' b.records within took (puts.1 ∙ (sym (append-nil list) ∙ ap (λ (r : List Event). list ++ r) (sym puts.0))) ∙ sym (joined-snoc handed b)
+    took_more handed started list list' b.records within took (puts.1 ∙ (sym (append-nil list) ∙ ap (λ (r : List Event). list ++ r) (sym puts.0))) ∙ sym (records_of-snoc handed b)
 took_after handed b started list list' (Some (cause.Sink fault)) within took puts =
     (
-      length (joined handed) + puts.0,
-      omega (arith, ap length (joined-snoc handed b), length-append (joined handed) b.records, puts.1),
-      took_more handed started list list' (take puts.0 b.records) within took puts.2 ∙ (sym (take-past (joined handed) b.records puts.0) ∙ ap (take (length (joined handed) + puts.0)) (sym (joined-snoc handed b))),
+      length (records_of handed) + puts.0,
+      omega (arith, ap length (records_of-snoc handed b), length-append (records_of handed) b.records, puts.1),
+      took_more handed started list list' (take puts.0 b.records) within took puts.2 ∙ (sym (take-past (records_of handed) b.records puts.0) ∙ ap (take (length (records_of handed) + puts.0)) (sym (records_of-snoc handed b))),
     )
 took_after handed b started list list' (Some cause.Turns) within took puts = absurd puts
 took_after handed b started list list' (Some cause.Given) within took puts = absurd puts
@@ -75,7 +76,7 @@ takes_sound old b new h t =
     let TookFrom : ℕ → Type 0 = λ n. IsTook (old.handed ++ b ∷ []) (drop n new.list) new.cause in
     let EndedNow : List Batch → Type 0 = λ bs. IsEndedBy bs new.cause in
     let WithinFrom : ℕ → Type 0 = λ n. n ≤ length new.list in
-    let took : drop old.started old.list ≡ joined old.handed = subst Took t.on h.took in
+    let took : drop old.started old.list ≡ records_of old.handed = subst Took t.on h.took in
     let had : All HasRecords old.handed = subst Ended t.on h.ended in
     record {
       received = (

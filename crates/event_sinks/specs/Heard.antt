@@ -2,6 +2,7 @@
 use Rattle.std.specs.Prelude.{◌≡◌, ◌≢◌, ℕ, ◌<◌, ◌≤◌, zero, suc, Bool, true, false, List, [], ◌∷◌, ◌++◌, length, take, drop, All, Option, Some, None, is_none, ◌⊎◌, ⊤}
 use Rattle.record_codec.specs.declared.event.Event.{Event}
 use Rattle.shared_tree.specs.declared.pipe.Batch.{Batch}
+use Rattle.shared_tree.specs.Handed.{records_of}
 use Rattle.shared_tree.specs.Pipes.{Fed}
 use Rattle.event_sinks.specs.declared.fault.SinkFault.{SinkFault}
 use Rattle.event_sinks.specs.declared.listener.Cause.{Cause}
@@ -32,19 +33,14 @@ heard_by record_list live l = heard l.number l.feed l.handed.items l.started (re
 abbrev pub ended_of : {S : Type 0} → (S → List Event) → (S → Bool) → Ended S → Heard
 ended_of record_list live e = heard e.number e.feed e.handed.items e.started (record_list e.sink) (live e.sink) (Some e.cause)
 
--- the records of batches, one batch after another
-abbrev pub joined : List Batch → List Event
-joined [] = []
-joined (b ∷ bs) = b.records ++ joined bs
-
--- the first of these records, and not all
+-- the first of some records, and not all
 abbrev pub IsCutOf : List Event → List Event → Type 0
 IsCutOf all part = (k : ℕ) × (k < length all) × (part ≡ take k all)
 
 -- the sink took the records that were handed, in order; where it refused one, those before it
 abbrev pub IsTook : List Batch → List Event → Option Cause → Type 0
-IsTook handed taken (Some (cause.Sink fault)) = IsCutOf (joined handed) taken
-IsTook handed taken _ = taken ≡ joined handed
+IsTook handed taken (Some (cause.Sink fault)) = IsCutOf (records_of handed) taken
+IsTook handed taken _ = taken ≡ records_of handed
 
 abbrev pub HasRecords : Batch → Type 0
 HasRecords b = b.records ≢ []

@@ -1,9 +1,10 @@
 -- What holds of the locked tree whenever the lock is free.
-use Rattle.std.specs.Prelude.{◌≡◌, ℕ, List, [], ◌∷◌, ⊤, All}
+use Rattle.std.specs.Prelude.{◌≡◌, ◌↔◌, ℕ, List, [], ◌∷◌, ⊤, Some, All, IsTrue}
 use Rattle.record_codec.specs.Records.{spelling}
 use Rattle.tree_paths.specs.declared.refusal.Refusal.{Refusal}
 use Rattle.event_rules.specs.Raised.{event_bit}
 use Rattle.event_rules.specs.Laws.{cookie_for}
+use Rattle.instance_table.specs.declared.instance.Instance.{Instance}
 use Rattle.instance_table.specs.Instances.{instance_of}
 use Rattle.tree_core.specs.declared.call.Call.{Call}
 use Rattle.tree_core.specs.declared.reply.Entry.{Entry}
@@ -13,6 +14,8 @@ use Rattle.tree_core.specs.Journal.{Journaled, now}
 use Rattle.tree_core.specs.Histories.{events, joined, raised_by, raised_in, read_in}
 use Rattle.tree_core.specs.QueueLaws.{AreAccountedFor, IsInOrder, bytes_read}
 use Rattle.tree_core.specs.TurnLaws.{AreInTurn, EndsOnce, cookies_in, cookies_used, only}
+use Rattle.shared_tree.specs.Handed.{piped_of}
+use Rattle.shared_tree.specs.Held.{IsIn}
 
 -- at each entry of a journal this is true of the tree before it and of its call
 abbrev pub AtEach : (Tree → Call → Type 0) → Tree → List Entry → Type 0
@@ -38,3 +41,7 @@ pub record IsTold (s : Journaled) (id : ℕ) : Type 0 where
 pub record HasCookiesInTurn (s : Journaled) : Type 0 where
   pub turn : AreInTurn 1 (cookies_in (opening s.limits) s.entries)
   pub ties : AtEach TiesMoves (opening s.limits) s.entries
+
+-- an open instance has a pipe exactly where it was made with one
+abbrev pub HasPipesOfPiped : Journaled → Type 0
+HasPipesOfPiped s = (id : ℕ) (i : Instance) → instance_of (now s).instances id ≡ Some i → IsTrue i.is_piped ↔ IsIn (piped_of s.entries) id

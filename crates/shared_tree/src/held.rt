@@ -14,7 +14,7 @@ ghost use Rattle.shared_tree.specs.Pipes.{feed_of};
 ghost use Rattle.shared_tree.specs.Seats.{passing};
 ghost use Rattle.shared_tree.specs.Handed.{AreOfEvents, batch, handed, handed_all, piped_by, piped_of};
 ghost use Rattle.shared_tree.specs.Calls.{holding, Enters, IsSent, HasPipe, IsUnable, IsWhyNot};
-ghost use Rattle.shared_tree.specs.Law.{AtEach, HasCookiesInTurn, IsTold, RefusedAddsNothing};
+ghost use Rattle.shared_tree.specs.Law.{AtEach, HasCookiesInTurn, HasPipesOfPiped, IsTold, RefusedAddsNothing};
 ghost use Rattle.shared_tree.specs.Held.{sents, pushed_at, deliver, closed_of, end_of, FreeAt, IsFilled, IsLooked, IsPlaceOf, IsReady, IsRising};
 
 use crate::book::Book;
@@ -331,13 +331,15 @@ impl<L: Ledger> Held<L> {
     /// Of each instance the records that were read, followed by those that wait, are the events that the journal raises
     /// for it, in order, each once, but for those that are merged into an equal unread neighbour and those that are lost
     /// behind a mark. No two renames share a cookie. Nothing of a watch follows its `IN_IGNORED`. A refused call adds
-    /// nothing. Each pipe was sent what the journal hands to its instance, and that are events. The ledger's total is the number of entries.
+    /// nothing. An open instance has a pipe exactly where it was made with one. Each pipe was sent what the journal hands
+    /// to its instance, and that are events. The ledger's total is the number of entries.
     pub fn law(&self)
         ensures lawful { IsLawful self.now.state.limits self.now.state.entries }
         ensures told { (id : ℕ) → IsTold self.now.state id }
         ensures cookies { HasCookiesInTurn self.now.state }
         ensures ends { (id : ℕ) → EndsOnce (raised_in (opening self.now.state.limits) self.now.state.entries id) }
         ensures refused { AtEach RefusedAddsNothing (opening self.now.state.limits) self.now.state.entries }
+        ensures with_pipe { HasPipesOfPiped self.now.state }
         ensures sent { IsSent self.now }
         ensures events { (id : ℕ) → AreOfEvents (handed self.now.state.limits self.now.state.entries id) }
         ensures counted { self.now.total ≡ length self.now.state.entries }

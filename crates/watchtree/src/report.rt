@@ -31,7 +31,7 @@ pub fn report(alloc: Global, stormed: &Stormed) -> Result<Vec<u8>, AllocError>
 
 // Adds the line of a listener.
 fn add_listener(text: &mut Vec<u8>, number: u32, cause: Cause, taken: u64) -> Result<(), AllocError>
-    ensures { OnOk result (text.new.items ≡ text.old.items ++ listener_line (number, (cause, taken))) }
+    ensures { OnOk result (text.new.items ≡ text.old.items ++ listener_line (number, cause, taken)) }
 {
     let mut digits = Buffer::new();
     text.extend_from_slice(b"listener ")?;
