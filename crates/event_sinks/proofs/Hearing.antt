@@ -37,12 +37,11 @@ took_after handed b started list list' None within took puts =
     took_more handed started list list' b.records within took puts.1 ∙ sym (records_of-snoc handed b)
 took_after handed b started list list' (Some cause.Last) within took puts =
     took_more handed started list list' b.records within took (puts.1 ∙ (sym (append-nil list) ∙ ap (λ (r : List Event). list ++ r) (sym puts.0))) ∙ sym (records_of-snoc handed b)
-took_after handed b started list list' (Some (cause.Sink fault)) within took puts =
-    (
-      length (records_of handed) + puts.0,
-      omega (arith, ap length (records_of-snoc handed b), length-append (records_of handed) b.records, puts.1),
-      took_more handed started list list' (take puts.0 b.records) within took puts.2 ∙ (sym (take-past (records_of handed) b.records puts.0) ∙ ap (take (length (records_of handed) + puts.0)) (sym (records_of-snoc handed b))),
-    )
+took_after handed b started list list' (Some (cause.Sink fault)) within took puts = (
+  length (records_of handed) + puts.0,
+  omega (arith, ap length (records_of-snoc handed b), length-append (records_of handed) b.records, puts.1),
+  took_more handed started list list' (take puts.0 b.records) within took puts.2 ∙ (sym (take-past (records_of handed) b.records puts.0) ∙ ap (take (length (records_of handed) + puts.0)) (sym (records_of-snoc handed b))),
+)
 took_after handed b started list list' (Some cause.Turns) within took puts = absurd puts
 took_after handed b started list list' (Some cause.Given) within took puts = absurd puts
 took_after handed b started list list' (Some cause.Memory) within took puts = absurd puts
