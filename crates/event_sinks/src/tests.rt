@@ -1,6 +1,7 @@
 ghost use Rattle.std.specs.Prelude.{◌≡◌, true};
 ghost use Rattle.event_sinks.specs.Writing.{live_of};
 
+mod audits;
 mod feeds;
 mod listeners;
 

@@ -24,15 +24,29 @@ pub(super) fn opens<L: Ledger>(
 {
     let (mut held, mut pass) = Held::<L>::new(alloc, blank, Limits::full())?;
     let mut seat = pass.seat()?;
-    let (_, feed) = held.open_piped(&mut seat, 16, slots)?;
+    let feed = watches(alloc, &mut held, &mut seat, 16, slots)?;
+    Ok((held, seat, feed))
+}
+
+/// Makes the instance of a tree, with such a queue and a pipe of so many places.
+pub(super) fn watches<L: Ledger>(
+    alloc: Global,
+    held: &mut Held<L>,
+    seat: &mut Seat<L>,
+    limit: u32,
+    slots: usize,
+) -> Result<Feed, Refusal>
+    requires { (1 ≤ slots) × (slots ≤ 65536) }
+{
+    let (_, feed) = held.open_piped(seat, limit, slots)?;
     let feed = feed.ok_or(Refusal::Ebadf)?;
     let watch = Call::AddWatch {
         instance: 1,
         path: Path::parse(alloc, b"/")?,
         mask: IN_CREATE,
     };
-    held.call(&mut seat, watch)?;
-    Ok((held, seat, feed))
+    held.call(seat, watch)?;
+    Ok(feed)
 }
 
 // What a letter of a story calls for.

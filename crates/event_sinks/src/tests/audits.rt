@@ -1,0 +1,352 @@
+//! Books that are settled, and books that are not.
+
+ghost use Rattle.std.specs.Prelude.{◌≡◌, ◌≤◌, IfOk, IsTrue};
+ghost use Rattle.tree_core.specs.Calls.{is_plain};
+
+use super::feeds::{tells, watches};
+use super::*;
+use record_codec::Bytes;
+use shared_tree::{Book, Feed, Held, KeptCalls, Seat, SeatLog, Tree};
+use std::marker::Brand;
+use std::sync::ledger::{Blank, Ledger};
+use std::sync::{Mutex, Wait};
+use std::thread;
+use std::thread::Threads;
+use tree_core::Call;
+use tree_ops::FileCall;
+use tree_paths::{Limits, Path, Refusal};
+
+type End = Ended<MemorySink>;
+
+/// What `settle` answers.
+type Answer = Result<Settled, SettleFault>;
+
+// A book with these logs and listeners, settled.
+fn settles(
+    alloc: Global,
+    book: Book,
+    logs: [Option<SeatLog>; 2],
+    ends: [Option<End>; 2],
+) -> Result<Answer, Fail> {
+    let mut given = Vec::with_capacity(alloc, 2)?;
+    for log in logs {
+        given.extend(log)?;
+    }
+    let mut ended = Vec::with_capacity(alloc, 2)?;
+    for end in ends {
+        ended.extend(end)?;
+    }
+    Ok(settle(alloc, book, given, ended))
+}
+
+fn mkdir(alloc: Global, path: &str) -> Result<Call, Refusal>
+    ensures { IfOk result (λ call. IsTrue (is_plain call)) }
+{
+    let path = Path::parse(alloc, path.as_bytes())?;
+    Ok(Call::File(FileCall::Mkdir { path, mode: 0o755 }))
+}
+
+// The book of a tree in which two seats made a directory each, and their logs.
+fn two_seats<L: Ledger>(
+    alloc: Global,
+    blank: Blank,
+    one: &str,
+    other: &str,
+) -> Result<(Book, SeatLog, SeatLog), Refusal>
+    requires name { blank.name ≡ L.name }
+    requires parts { (blank.parts ≡ L.parts) × (blank.parts ≡ 65537) }
+{
+    let (mut held, mut pass) = Held::<L>::new(alloc, blank, Limits::full())?;
+    let mut first = pass.seat()?;
+    let mut second = pass.seat()?;
+    held.call(&mut first, mkdir(alloc, one)?)?;
+    held.call(&mut second, mkdir(alloc, other)?)?;
+    let first = pass.join(first);
+    let second = pass.join(second);
+    Ok((held.dissolve(pass), first, second))
+}
+
+fn two(alloc: Global, one: &str, other: &str) -> Result<(Book, SeatLog, SeatLog), Refusal> {
+    two_seats::<Brand>(alloc, Blank::new(65537), one, other)
+}
+
+#[test]
+fn books_of_two_seats(rt: HostRuntime) -> Result<(), Fail> {
+    let alloc = rt.alloc();
+    let (book, first, second) = two(alloc, "/a", "/b")?;
+    let whole = settles(alloc, book, [Some(first), Some(second)], [None, None])?;
+    assert_eq!(rt;
+        whole,
+        Ok(Settled {
+            entries: 2,
+            calls: 2
+        })
+    );
+    let (book, first, _) = two(alloc, "/a", "/b")?;
+    let alone = settles(alloc, book, [Some(first), None], [None, None])?;
+    assert_eq!(rt;
+        alone,
+        Err(SettleFault::CountDiffers {
+            entries: 2,
+            calls: 1
+        })
+    );
+    let (book, first, _) = two(alloc, "/a", "/b")?;
+    let (_, _, another) = two(alloc, "/a", "/c")?;
+    let stray = settles(alloc, book, [Some(first), Some(another)], [None, None])?;
+    assert_eq!(rt; stray, Err(SettleFault::Stray(2)));
+    Ok(())
+}
+
+// The book of a tree in which a story was told, the log of its seat, and the feed of its instance.
+fn story_told<L: Ledger>(
+    alloc: Global,
+    blank: Blank,
+    story: &str,
+) -> Result<(Book, SeatLog, Feed), Refusal>
+    requires name { blank.name ≡ L.name }
+    requires parts { (blank.parts ≡ L.parts) × (blank.parts ≡ 65537) }
+{
+    let (mut held, mut pass) = Held::<L>::new(alloc, blank, Limits::full())?;
+    let mut seat = pass.seat()?;
+    let feed = watches(alloc, &mut held, &mut seat, 16, 8)?;
+    tells(alloc, &mut held, &mut seat, story.as_bytes())?;
+    let log = pass.join(seat);
+    Ok((held.dissolve(pass), log, feed))
+}
+
+// The same, with a listener that took so many steps and was then ended.
+fn heard_out(alloc: Global, story: &str, steps: u32) -> Result<(Book, SeatLog, End), Refusal> {
+    let (book, log, feed) = story_told::<Brand>(alloc, Blank::new(65537), story)?;
+    let mut listener = Listening::new(alloc, 7, feed, MemorySink::new(alloc));
+    for _ in 0..steps {
+        let _ = listener.step();
+    }
+    Ok((book, log, listener.finish()))
+}
+
+#[test]
+fn a_log_out_of_order_is_stray(rt: HostRuntime) -> Result<(), Fail> {
+    let alloc = rt.alloc();
+    let (book, log, end) = heard_out(alloc, "f!.", 2)?;
+    let SeatLog { number, kept } = log;
+    let mut kept = kept.into_vec();
+    kept.swap(0, 1);
+    let log = SeatLog {
+        number,
+        kept: KeptCalls::from_vec(kept),
+    };
+    let stray = settles(alloc, book, [Some(log), None], [Some(end), None])?;
+    assert_eq!(rt; stray, Err(SettleFault::Stray(1)));
+    Ok(())
+}
+
+#[test]
+fn books_of_listeners(rt: HostRuntime) -> Result<(), Fail> {
+    let alloc = rt.alloc();
+    let (book, log, end) = heard_out(alloc, "f!.", 2)?;
+    let whole = settles(alloc, book, [Some(log), None], [Some(end), None])?;
+    assert_eq!(rt;
+        whole,
+        Ok(Settled {
+            entries: 5,
+            calls: 5
+        })
+    );
+    let (book, log, _) = heard_out(alloc, "f!.", 2)?;
+    let none = settles(alloc, book, [Some(log), None], [None, None])?;
+    assert_eq!(rt; none, Err(SettleFault::NotEnded(1)));
+    let (book, log, end) = heard_out(alloc, "f!.", 1)?;
+    let given_up = settles(alloc, book, [Some(log), None], [Some(end), None])?;
+    assert_eq!(rt; given_up, Err(SettleFault::NotEnded(1)));
+    Ok(())
+}
+
+#[test]
+fn books_of_other_listeners(rt: HostRuntime) -> Result<(), Fail> {
+    let alloc = rt.alloc();
+    let (book, log, _) = heard_out(alloc, "f!.", 2)?;
+    let (_, _, another) = heard_out(alloc, "g!.", 2)?;
+    let differs = settles(alloc, book, [Some(log), None], [Some(another), None])?;
+    assert_eq!(rt;
+        differs,
+        Err(SettleFault::HandedDiffers {
+            instance: 1,
+            place: 4
+        })
+    );
+    let (book, log, end) = heard_out(alloc, "f!.", 2)?;
+    let (_, _, another) = heard_out(alloc, "g!.", 2)?;
+    let second = settles(alloc, book, [Some(log), None], [Some(end), Some(another)])?;
+    assert_eq!(rt;
+        second,
+        Err(SettleFault::HandedDiffers {
+            instance: 1,
+            place: 0
+        })
+    );
+    let (book, first, second) = two(alloc, "/a", "/b")?;
+    let (_, _, end) = heard_out(alloc, "f!.", 2)?;
+    let stranger = settles(alloc, book, [Some(first), Some(second)], [Some(end), None])?;
+    assert_eq!(rt;
+        stranger,
+        Err(SettleFault::HandedDiffers {
+            instance: 1,
+            place: 0
+        })
+    );
+    Ok(())
+}
+
+// Makes a hundred files with a pump after each. How many pumps found the pipe full.
+fn crowds<L: Ledger>(
+    alloc: Global,
+    held: &mut Held<L>,
+    seat: &mut Seat<L>,
+) -> Result<u32, Refusal> {
+    let mut full = 0u32;
+    for number in 0..100u8 {
+        let path = Path::parse(alloc, &[b'/', b'a' + number / 10, b'a' + number % 10])?;
+        held.call(seat, Call::File(FileCall::Create { path, mode: 0o644 }))?;
+        match held.pump(seat, 1, 1_048_576) {
+            Ok(_) => {}
+            Err(Refusal::PipeFull) => full = full.saturating_add(1),
+            Err(refusal) => return Err(refusal),
+        }
+    }
+    Ok(full)
+}
+
+// The book of a tree whose pipe has one place, the log, the listener, and how many pumps found the pipe full.
+fn crowded<L: Ledger>(alloc: Global, blank: Blank) -> Result<(Book, SeatLog, End, u32), Refusal>
+    requires name { blank.name ≡ L.name }
+    requires parts { (blank.parts ≡ L.parts) × (blank.parts ≡ 65537) }
+{
+    let (mut held, mut pass) = Held::<L>::new(alloc, blank, Limits::full())?;
+    let mut seat = pass.seat()?;
+    let feed = watches(alloc, &mut held, &mut seat, 99, 1)?;
+    let full = crowds(alloc, &mut held, &mut seat)?;
+    let mut listener = Listening::new(alloc, 7, feed, MemorySink::new(alloc));
+    let _ = listener.step();
+    held.pump(&mut seat, 1, 1_048_576)?;
+    let _ = listener.step();
+    held.call(&mut seat, Call::Close { instance: 1 })?;
+    let _ = listener.step();
+    let log = pass.join(seat);
+    Ok((held.dissolve(pass), log, listener.finish(), full))
+}
+
+#[test]
+fn a_full_pipe_loses_nothing(rt: HostRuntime) -> Result<(), Fail> {
+    let alloc = rt.alloc();
+    let (book, log, end, full) = crowded::<Brand>(alloc, Blank::new(65537))?;
+    assert_eq!(rt; full, 99);
+    assert_eq!(rt; end.cause(), Cause::Last);
+    assert_eq!(rt; end.sink().taken(), 100);
+    assert_eq!(rt; sizes(&end), Some((1, 99, 0)));
+    let whole = settles(alloc, book, [Some(log), None], [Some(end), None])?;
+    assert_eq!(rt;
+        whole,
+        Ok(Settled {
+            entries: 105,
+            calls: 105
+        })
+    );
+    Ok(())
+}
+
+// How many records each of three batches has.
+fn sizes(end: &End) -> Option<(usize, usize, usize)> {
+    match end.handed() {
+        [one, two, last] => Some((
+            one.records.as_slice().len(),
+            two.records.as_slice().len(),
+            last.records.as_slice().len(),
+        )),
+        _ => None,
+    }
+}
+
+// A call of a writer, by its number: it makes a file, writes a byte, moves the file, and takes it away, in turn.
+fn call_of(alloc: Global, letter: u8, number: u32) -> Result<Call, Refusal>
+    ensures { IfOk result (λ call. IsTrue (is_plain call)) }
+{
+    let file = Path::parse(alloc, &[b'/', b's', b'/', b'a', letter])?;
+    let moved = Path::parse(alloc, &[b'/', b's', b'/', b'b', letter])?;
+    Ok(Call::File(match number % 4 {
+        0 => FileCall::Create {
+            path: file,
+            mode: 0o644,
+        },
+        1 => FileCall::Write {
+            path: file,
+            offset: 0,
+            bytes: Bytes::from_vec(vec![in alloc; b'x'; 1]?),
+        },
+        2 => FileCall::Rename {
+            old: file,
+            new: moved,
+        },
+        _ => FileCall::Unlink { path: moved },
+    }))
+}
+
+// Makes a hundred calls.
+fn writes<L: Ledger>(
+    rt: &impl Wait,
+    alloc: Global,
+    tree: &Tree<L>,
+    seat: Seat<L>,
+    letter: u8,
+) -> Seat<L> {
+    let mut seat = seat;
+    for number in 0..100 {
+        if let Ok(call) = call_of(alloc, letter, number) {
+            let _ = tree.lock(rt).call(&mut seat, call);
+        }
+    }
+    seat
+}
+
+// The answer for a tree on which two threads wrote.
+fn two_writers<L: Ledger + Send + Sync, R: Threads + Wait + Sync>(
+    rt: &R,
+    alloc: Global,
+    blank: Blank,
+) -> Result<Answer, Fail>
+    requires name { blank.name ≡ L.name }
+    requires parts { (blank.parts ≡ L.parts) × (blank.parts ≡ 65537) }
+{
+    let (mut held, mut pass) = Held::<L>::new(alloc, blank, Limits::full())?;
+    let mut main = pass.seat()?;
+    let first = pass.seat()?;
+    let second = pass.seat()?;
+    held.call(&mut main, mkdir(alloc, "/s")?)?;
+    let tree: Tree<L> = Mutex::new(held);
+    let shared = &tree;
+    let (first, second) = thread::join(
+        rt,
+        move || writes(rt, alloc, shared, first, b'1'),
+        move || writes(rt, alloc, shared, second, b'2'),
+    );
+    let mut logs = Vec::with_capacity(alloc, 3)?;
+    logs.push(pass.join(main))?;
+    logs.push(pass.join(first))?;
+    logs.push(pass.join(second))?;
+    let book = tree.into_inner().dissolve(pass);
+    let nobody: Vec<End> = Vec::new(alloc);
+    Ok(settle(alloc, book, logs, nobody))
+}
+
+#[test]
+fn a_book_of_two_threads(rt: HostRuntime) -> Result<(), Fail> {
+    let answer = two_writers::<Brand, HostRuntime>(&rt, rt.alloc(), Blank::new(65537))?;
+    assert_eq!(rt;
+        answer,
+        Ok(Settled {
+            entries: 201,
+            calls: 201
+        })
+    );
+    Ok(())
+}
