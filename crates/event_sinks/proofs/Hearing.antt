@@ -1,15 +1,14 @@
 -- What a listener keeps from step to step.
-use Rattle.std.proofs.Common.{◌≡◌, subst, ◌≢◌, ◌∙◌, sym, ap, refl, ℕ, zero, suc, ◌+◌, ◌-◌, ◌<◌, ◌≤◌, ◌⊎◌, inl, inr, List, [], ◌∷◌, ◌++◌, length, take, drop, arith, append-nil, append_assoc, length-append, add-one, true, false, Bool}
-use Rattle.std.specs.Prelude.{All, Some, None, Option, is_none}
+use Rattle.std.proofs.Common.{◌≡◌, subst, ◌∙◌, sym, ap, refl, ℕ, zero, suc, ◌+◌, ◌-◌, ◌<◌, ◌≤◌, inl, inr, List, [], ◌∷◌, ◌++◌, length, take, drop, arith, append-nil, append_assoc, length-append, add-one, false}
+use Rattle.std.specs.Prelude.{All, Some, None, Option}
 use Rattle.std.proofs.lemmas.List.Elements.{All-push}
 use Rattle.record_codec.specs.declared.event.Event.{Event}
 use Rattle.shared_tree.specs.declared.pipe.Batch.{Batch}
-use Rattle.event_sinks.specs.declared.fault.SinkFault.{SinkFault}
 use Rattle.event_sinks.specs.declared.listener.Cause.{Cause}
 use Rattle.event_sinks.specs.declared.listener.Cause.TheVariants as cause
 use Rattle.event_sinks.specs.declared.listener.Step.{Step}
 use Rattle.event_sinks.specs.declared.listener.Step.TheVariants as step
-use Rattle.event_sinks.specs.Heard.{Heard, HasRecords, IsCutOf, IsEndedBy, IsHeard, IsTook, IsTurn, Puts, Reaches, Steps, Takes, joined}
+use Rattle.event_sinks.specs.Heard.{Heard, HasRecords, IsEndedBy, IsHeard, IsTook, IsTurn, Puts, Reaches, Steps, Takes, joined}
 
 joined-snoc : (bs : List Batch) (b : Batch) → joined (bs ++ b ∷ []) ≡ joined bs ++ b.records
 joined-snoc [] b = append-nil b.records
@@ -36,12 +35,11 @@ took_after handed b started list list' None within took puts =
     took_more handed started list list' b.records within took puts.1 ∙ sym (joined-snoc handed b)
 took_after handed b started list list' (Some cause.Last) within took puts =
     took_more handed started list list' b.records within took (puts.1 ∙ (sym (append-nil list) ∙ ap (λ (r : List Event). list ++ r) (sym puts.0))) ∙ sym (joined-snoc handed b)
-took_after handed b started list list' (Some (cause.Sink fault)) within took puts =
-    (
-      length (joined handed) + puts.0,
-      omega (arith, ap length (joined-snoc handed b), length-append (joined handed) b.records, puts.1),
-      took_more handed started list list' (take puts.0 b.records) within took puts.2 ∙ (sym (take-past (joined handed) b.records puts.0) ∙ ap (take (length (joined handed) + puts.0)) (sym (joined-snoc handed b))),
-    )
+took_after handed b started list list' (Some (cause.Sink fault)) within took puts = (
+  length (joined handed) + puts.0,
+  omega (arith, ap length (joined-snoc handed b), length-append (joined handed) b.records, puts.1),
+  took_more handed started list list' (take puts.0 b.records) within took puts.2 ∙ (sym (take-past (joined handed) b.records puts.0) ∙ ap (take (length (joined handed) + puts.0)) (sym (joined-snoc handed b))),
+)
 took_after handed b started list list' (Some cause.Turns) within took puts = absurd puts
 took_after handed b started list list' (Some cause.Given) within took puts = absurd puts
 took_after handed b started list list' (Some cause.Memory) within took puts = absurd puts

@@ -1,4 +1,4 @@
-//! Listeners at feeds of a tree. Want of memory ends a test.
+//! Listeners at feeds of a tree. Want of memory for a sink, or for a text, ends a test.
 
 ghost use Rattle.std.specs.Prelude.{◌≡◌, [], true, length, None};
 ghost use Rattle.event_sinks.specs.Heard.{IsHeard, heard, heard_by};
@@ -94,12 +94,42 @@ fn steps_say_what_they_did(rt: HostRuntime) -> Result<(), Fail> {
     let alloc = rt.alloc();
     let full = Cause::Sink(SinkFault::Full);
     for (story, most, wanted, ends) in [
-        ("", 9, [Step::Idle, Step::Idle, Step::Idle], (Cause::Given, 0, 0, false)),
-        ("fg!h", 9, [Step::Took, Step::Idle, Step::Idle], (Cause::Given, 1, 2, false)),
-        ("fg!h!", 9, [Step::Took, Step::Took, Step::Idle], (Cause::Given, 2, 3, false)),
-        ("fg!.", 9, [Step::Took, Step::Took, Step::Over], (Cause::Last, 2, 2, false)),
-        (".", 9, [Step::Took, Step::Over, Step::Over], (Cause::Last, 1, 0, false)),
-        ("fgh!i!.", 1, [Step::Took, Step::Over, Step::Over], (full, 1, 1, false)),
+        (
+            "",
+            9,
+            [Step::Idle, Step::Idle, Step::Idle],
+            (Cause::Given, 0, 0, false),
+        ),
+        (
+            "fg!h",
+            9,
+            [Step::Took, Step::Idle, Step::Idle],
+            (Cause::Given, 1, 2, false),
+        ),
+        (
+            "fg!h!",
+            9,
+            [Step::Took, Step::Took, Step::Idle],
+            (Cause::Given, 2, 3, false),
+        ),
+        (
+            "fg!.",
+            9,
+            [Step::Took, Step::Took, Step::Over],
+            (Cause::Last, 2, 2, false),
+        ),
+        (
+            ".",
+            9,
+            [Step::Took, Step::Over, Step::Over],
+            (Cause::Last, 1, 0, false),
+        ),
+        (
+            "fgh!i!.",
+            1,
+            [Step::Took, Step::Over, Step::Over],
+            (full, 1, 1, false),
+        ),
     ] {
         let (as_wanted, told) = stepped(alloc, story, CountSink::new(alloc, most), &wanted)?;
         assert!(rt; as_wanted, "{story}");
@@ -115,10 +145,17 @@ fn stopped_sinks_take_the_first_records(rt: HostRuntime) -> Result<(), Fail> {
         let sink = StopSink::new(MemorySink::new(alloc), most);
         let told = ran(alloc, "fg!hij!", sink, &EACH, 9)?;
         let handed = if most < 2 { 1 } else { 2 };
-        assert_eq!(rt; told, (Cause::Sink(SinkFault::Full), handed, most, false), "at {most}");
+        assert_eq!(rt;
+            told,
+            (Cause::Sink(SinkFault::Full), handed, most, false),
+            "at {most}"
+        );
     }
     let sink = StopSink::new(MemorySink::new(alloc), 5);
-    assert_eq!(rt; ran(alloc, "fg!hij!", sink, &EACH, 9)?, (Cause::Turns, 2, 5, false));
+    assert_eq!(rt;
+        ran(alloc, "fg!hij!", sink, &EACH, 9)?,
+        (Cause::Turns, 2, 5, false)
+    );
     Ok(())
 }
 
@@ -225,15 +262,42 @@ fn a_dropped_listener_closes_once(rt: HostRuntime) -> Result<(), Fail> {
     for wants in &WRITTEN {
         let mut text = Vec::with_capacity(alloc, 99)?;
         let sink = LineSink::new(alloc, &mut text);
-        drops(Listening::new(alloc, 7, feed_of(alloc, "f!g!.")?, sink), count);
+        drops(
+            Listening::new(alloc, 7, feed_of(alloc, "f!g!.")?, sink),
+            count,
+        );
         assert_eq!(rt; text.as_slice(), *wants, "at {count}");
 
         let mut text = Vec::with_capacity(alloc, 99)?;
         let sink = LineSink::new(alloc, &mut text);
-        drops_elsewhere(&rt, Listening::new(alloc, 7, feed_of(alloc, "f!g!.")?, sink), count);
+        drops_elsewhere(
+            &rt,
+            Listening::new(alloc, 7, feed_of(alloc, "f!g!.")?, sink),
+            count,
+        );
         assert_eq!(rt; text.as_slice(), *wants, "elsewhere at {count}");
         count = count.saturating_add(1);
     }
+    Ok(())
+}
+
+/// Whether this may be told of a listener at five batches of a record each and the end batch, with memory or without.
+fn may_be_told(told: Told) -> bool {
+    let (cause, handed, taken, is_open) = told;
+    let as_caused = match cause {
+        Cause::Last => handed == 6 && taken == 5,
+        Cause::Memory => taken < 6 && handed as u64 == taken,
+        Cause::Sink(SinkFault::Memory) => taken < 5 && handed as u64 == taken + 1,
+        _ => false,
+    };
+    as_caused && !is_open
+}
+
+#[test]
+fn want_of_memory_ends_a_listener(rt: HostRuntime) -> Result<(), Fail> {
+    let alloc = rt.alloc();
+    let told = ran(alloc, "f!g!h!i!j!.", MemorySink::new(alloc), &EACH, 9)?;
+    assert!(rt; may_be_told(told), "{told:?}");
     Ok(())
 }
 
