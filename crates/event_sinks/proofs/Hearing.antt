@@ -1,15 +1,14 @@
 -- What a listener keeps from step to step.
-use Rattle.std.proofs.Common.{◌≡◌, subst, ◌≢◌, ◌∙◌, sym, ap, refl, ℕ, zero, suc, ◌+◌, ◌-◌, ◌<◌, ◌≤◌, ◌⊎◌, inl, inr, List, [], ◌∷◌, ◌++◌, length, take, drop, arith, append-nil, append_assoc, length-append, add-one, true, false, Bool}
-use Rattle.std.specs.Prelude.{All, Some, None, Option, is_none}
+use Rattle.std.proofs.Common.{◌≡◌, subst, ◌∙◌, sym, ap, refl, ℕ, zero, suc, ◌+◌, ◌-◌, ◌<◌, ◌≤◌, inl, inr, List, [], ◌∷◌, ◌++◌, length, take, drop, arith, append-nil, append_assoc, length-append, add-one, false}
+use Rattle.std.specs.Prelude.{All, Some, None, Option}
 use Rattle.std.proofs.lemmas.List.Elements.{All-push}
 use Rattle.record_codec.specs.declared.event.Event.{Event}
 use Rattle.shared_tree.specs.declared.pipe.Batch.{Batch}
-use Rattle.event_sinks.specs.declared.fault.SinkFault.{SinkFault}
 use Rattle.event_sinks.specs.declared.listener.Cause.{Cause}
 use Rattle.event_sinks.specs.declared.listener.Cause.TheVariants as cause
 use Rattle.event_sinks.specs.declared.listener.Step.{Step}
 use Rattle.event_sinks.specs.declared.listener.Step.TheVariants as step
-use Rattle.event_sinks.specs.Heard.{Heard, HasRecords, IsCutOf, IsEndedBy, IsHeard, IsTook, IsTurn, Puts, Reaches, Steps, Takes}
+use Rattle.event_sinks.specs.Heard.{Heard, HasRecords, IsEndedBy, IsHeard, IsTook, IsTurn, Puts, Reaches, Steps, Takes}
 use Rattle.shared_tree.specs.Handed.{records_of}
 
 records_of-snoc : (bs : List Batch) (b : Batch) → records_of (bs ++ b ∷ []) ≡ records_of bs ++ b.records

@@ -1,10 +1,9 @@
 -- What contracts see of a listener, while it listens and once it has ended.
-use Rattle.std.specs.Prelude.{◌≡◌, ◌≢◌, ℕ, ◌<◌, ◌≤◌, zero, suc, Bool, true, false, List, [], ◌∷◌, ◌++◌, length, take, drop, All, Option, Some, None, is_none, ◌⊎◌, ⊤}
+use Rattle.std.specs.Prelude.{◌≡◌, ◌≢◌, ℕ, ◌<◌, ◌≤◌, zero, suc, Bool, false, List, [], ◌∷◌, ◌++◌, length, take, drop, All, Option, Some, None, is_none, ◌⊎◌, ⊤}
 use Rattle.record_codec.specs.declared.event.Event.{Event}
 use Rattle.shared_tree.specs.declared.pipe.Batch.{Batch}
 use Rattle.shared_tree.specs.Handed.{records_of}
 use Rattle.shared_tree.specs.Pipes.{Fed}
-use Rattle.event_sinks.specs.declared.fault.SinkFault.{SinkFault}
 use Rattle.event_sinks.specs.declared.listener.Cause.{Cause}
 use Rattle.event_sinks.specs.declared.listener.Cause.TheVariants as cause
 use Rattle.event_sinks.specs.declared.listener.Listening.{Listening}

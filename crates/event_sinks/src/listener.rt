@@ -1,6 +1,6 @@
 //! What puts the records of a feed into a sink.
 
-ghost use Rattle.std.specs.Prelude.{◌≡◌, ◌++◌, [], true, length, is_none, None};
+ghost use Rattle.std.specs.Prelude.{◌≡◌, [], true, length, None};
 ghost use Rattle.event_sinks.specs.declared.listener.Cause.TheVariants.{Given, Turns};
 ghost use Rattle.event_sinks.specs.Heard.{Heard, IsHeard, IsFromOutside, IsTurn, Puts, Reaches, Steps, ended_by, ended_of, heard, heard_by};
 

@@ -88,7 +88,10 @@ fn fills<L: Ledger>(alloc: Global, blank: Blank, story: &[u8]) -> Result<Feed, R
     Ok(feed)
 }
 
-/// A feed with the batches of a story.
+/// A feed with the batches of a story. Where that lacks memory, it is made once more.
 pub(super) fn feed_of(alloc: Global, story: &str) -> Result<Feed, Refusal> {
-    fills::<Brand>(alloc, Blank::new(65537), story.as_bytes())
+    match fills::<Brand>(alloc, Blank::new(65537), story.as_bytes()) {
+        Err(Refusal::Enomem) => fills::<Brand>(alloc, Blank::new(65537), story.as_bytes()),
+        feed => feed,
+    }
 }

@@ -1,4 +1,4 @@
-//! Listeners at feeds of a tree. Want of memory ends a test.
+//! Listeners at feeds of a tree. Want of memory for a sink, or for a text, ends a test.
 
 ghost use Rattle.std.specs.Prelude.{◌≡◌, [], true, length, None};
 ghost use Rattle.event_sinks.specs.Heard.{IsHeard, heard, heard_by};
@@ -278,6 +278,26 @@ fn a_dropped_listener_closes_once(rt: HostRuntime) -> Result<(), Fail> {
         assert_eq!(rt; text.as_slice(), *wants, "elsewhere at {count}");
         count = count.saturating_add(1);
     }
+    Ok(())
+}
+
+/// Whether this may be told of a listener at five batches of a record each and the end batch, with memory or without.
+fn may_be_told(told: Told) -> bool {
+    let (cause, handed, taken, is_open) = told;
+    let as_caused = match cause {
+        Cause::Last => handed == 6 && taken == 5,
+        Cause::Memory => taken < 6 && handed as u64 == taken,
+        Cause::Sink(SinkFault::Memory) => taken < 5 && handed as u64 == taken + 1,
+        _ => false,
+    };
+    as_caused && !is_open
+}
+
+#[test]
+fn want_of_memory_ends_a_listener(rt: HostRuntime) -> Result<(), Fail> {
+    let alloc = rt.alloc();
+    let told = ran(alloc, "f!g!h!i!j!.", MemorySink::new(alloc), &EACH, 9)?;
+    assert!(rt; may_be_told(told), "{told:?}");
     Ok(())
 }
 

@@ -4,5 +4,5 @@ use Rattle.event_sinks.proofs.listener.Listening.run.Given as goal
 abbrev pub invariant-loop-turn : goal.invariant-loop-turn
 invariant-loop-turn g l = record {
   sound : IsHeard (heard_by g.S.Sink.record_list g.S.Sink.live l.listener);
-  reaches : Reaches l.turn (heard_by g.S.Sink.record_list g.S.Sink.live l.initial.listener) (heard_by g.S.Sink.record_list g.S.Sink.live l.listener);
+  reaches : Reaches l.turn (heard_by g.S.Sink.record_list g.S.Sink.live l.fn.self) (heard_by g.S.Sink.record_list g.S.Sink.live l.listener);
 }
