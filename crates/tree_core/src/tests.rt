@@ -68,6 +68,12 @@ fn answered(state: &mut State, call: Result<Call, Refusal>) -> Result<(Reply, bo
     Ok((receipt.reply, is_journaled))
 }
 
+// The reply is the one that is wanted.
+fn is_wanted(rt: &impl Abort, reply: Reply, wanted: Result<Reply, Refusal>) {
+    let wanted = wanted.expect(rt, "a reply");
+    assert_eq!(rt; reply, wanted);
+}
+
 // The call answers what is wanted, and so the journal has it.
 fn tells(
     rt: &impl Abort,
@@ -75,13 +81,9 @@ fn tells(
     call: Result<Call, Refusal>,
     wanted: Result<Reply, Refusal>,
 ) {
-    match answered(state, call) {
-        Ok((reply, is_journaled)) => {
-            assert_eq!(rt; Ok(reply), wanted);
-            assert!(rt; is_journaled);
-        }
-        Err(refusal) => assert!(rt; false, "{refusal:?}"),
-    }
+    let (reply, is_journaled) = answered(state, call).expect(rt, "a receipt");
+    is_wanted(rt, reply, wanted);
+    assert!(rt; is_journaled);
 }
 
 // The call is not refused.
@@ -103,6 +105,21 @@ fn refuses(rt: &impl Abort, state: &mut State, call: Result<Call, Refusal>, refu
 // So many records wait for the instance.
 fn waits(rt: &impl Abort, state: &State, instance: u32, count: usize) {
     assert_eq!(rt; state.waiting(instance), Some(count));
+}
+
+// There is no such instance.
+fn is_not_open(rt: &impl Abort, state: &State, instance: u32) {
+    assert_eq!(rt; state.waiting(instance), None);
+}
+
+// The journal has so many entries.
+fn journals(rt: &impl Abort, state: &State, count: usize) {
+    assert_eq!(rt; state.journal().len(), count);
+}
+
+// The journal takes so many more entries.
+fn has_room_for(rt: &impl Abort, state: &State, count: u64) {
+    assert_eq!(rt; state.free_entries(), count);
 }
 
 // The instance has just these records to read.

@@ -112,7 +112,7 @@ fn five_calls(rt: HostRuntime) -> Result<(), Fail> {
     tells(&rt, tree, watch(alloc, 1, "/d", 0x100), wd(1));
     tells(&rt, tree, create(alloc, "/d/f"), number(3));
     tells(&rt, tree, read(1, ALL), first_record(alloc));
-    assert_eq!(rt; tree.journal().len(), 5);
+    journals(&rt, tree, 5);
     Ok(())
 }
 
@@ -120,28 +120,26 @@ fn five_calls(rt: HostRuntime) -> Result<(), Fail> {
 fn what_a_tree_says_of_itself(rt: HostRuntime) -> Result<(), Fail> {
     let alloc = rt.alloc();
     let tree = &mut opened(alloc, Limits::full())?;
-    assert!(rt; tree.journal().is_empty());
+    journals(&rt, tree, 0);
     does(&rt, tree, create(alloc, "/f"));
     does(&rt, tree, init(10));
     does(&rt, tree, watch(alloc, 1, "/f", 0x2));
     does(&rt, tree, truncate(alloc, "/f", 0));
     waits(&rt, tree, 1, 1);
-    assert_eq!(rt; tree.waiting(0), None);
-    assert_eq!(rt; tree.waiting(2), None);
+    is_not_open(&rt, tree, 0);
+    is_not_open(&rt, tree, 2);
     watch_it(&rt, tree, 2, &[1]);
     watch_it(&rt, tree, 1, &[]);
     watch_it(&rt, tree, 3, &[]);
-    assert_eq!(rt; tree.free_entries(), 999_996);
-    assert_eq!(rt; tree.journal().len(), 4);
+    has_room_for(&rt, tree, 999_996);
+    journals(&rt, tree, 4);
     Ok(())
 }
 
 // The call is plain, or one that pipes are for, as wanted.
 fn is_plain(rt: &impl Abort, call: Result<Call, Refusal>, wanted: bool) {
-    match call {
-        Ok(call) => assert_eq!(rt; call.is_plain(), wanted),
-        Err(refusal) => assert!(rt; false, "{refusal:?}"),
-    }
+    let call = call.expect(rt, "a call");
+    assert_eq!(rt; call.is_plain(), wanted);
 }
 
 #[test]

@@ -46,7 +46,7 @@ fn numbers_of_closed_instances_stay_taken(rt: HostRuntime) -> Result<(), Fail> {
     does(&rt, tree, truncate(alloc, "/f", 3));
     tells(&rt, tree, close(1), done());
     watch_it(&rt, tree, 2, &[MOST]);
-    assert_eq!(rt; tree.waiting(1), None);
+    is_not_open(&rt, tree, 1);
     tells(&rt, tree, init(10), instance(129));
     refuses(&rt, tree, init(10), Refusal::Emfile);
     refuses(&rt, tree, read(1, ALL), Refusal::Ebadf);

@@ -14,25 +14,43 @@ fn kept(state: &mut State, call: &Call) -> Result<(Receipt, Kept), Refusal> {
     }
 }
 
+// Whether the receipt and what is kept name the place of the journal's last entry.
+fn is_at_the_end(state: &State, receipt: &Receipt, kept: &Kept) -> bool {
+    receipt.place == state.journal().len() as u64 && kept.place == receipt.place
+}
+
 // Whether what is kept of the call is the last entry of the journal, at the receipt's place.
 fn is_as_journaled(state: &State, receipt: &Receipt, kept: &Kept) -> bool {
-    receipt.place == state.journal().len() as u64
-        && kept.place == receipt.place
+    is_at_the_end(state, receipt, kept)
         && kept.reply == receipt.reply
         && is_last(state, &kept.call, &kept.reply)
 }
 
+// Whether what is kept is of this call, and is its entry.
+fn is_of(state: &State, call: &Call, receipt: &Receipt, kept: &Kept) -> bool {
+    kept.call == *call && is_as_journaled(state, receipt, kept)
+}
+
+// Whether the call, whose copy is kept, gives this receipt, and what is kept of it is its entry.
+fn gives(state: &mut State, call: &Call, wanted: &Receipt) -> bool {
+    match kept(state, call) {
+        Ok((receipt, kept)) => receipt == *wanted && is_of(state, call, wanted, &kept),
+        Err(_) => false,
+    }
+}
+
 // Whether the call gives the same in both trees, and what is kept of it is its entry.
-fn is_kept(trees: &mut (State, State), call: Result<Call, Refusal>) -> Result<bool, Refusal> {
-    let call = call?;
-    let receipt = made(&mut trees.0, &call)?;
-    let (given, kept) = kept(&mut trees.1, &call)?;
-    Ok(given == receipt && kept.call == call && is_as_journaled(&trees.1, &given, &kept))
+fn is_kept(trees: &mut (State, State), call: &Call) -> bool {
+    match made(&mut trees.0, call) {
+        Ok(receipt) => gives(&mut trees.1, call, &receipt),
+        Err(_) => false,
+    }
 }
 
 // The call gives the same in both trees, what is kept of it is its entry, and as many records wait.
 fn keeps(rt: &impl Abort, trees: &mut (State, State), call: Result<Call, Refusal>) {
-    assert_eq!(rt; is_kept(trees, call), Ok(true));
+    let call = call.expect(rt, "a call");
+    assert!(rt; is_kept(trees, &call));
     assert_eq!(rt; trees.0.waiting(1), trees.1.waiting(1));
 }
 
@@ -95,55 +113,51 @@ fn pumped(
     }
 }
 
-// The reply that spells these events, or none where there are none.
-fn spelled_by(alloc: Global, events: &Option<Events>) -> Result<Option<Reply>, Refusal> {
-    let Some(events) = events else {
-        return Ok(None);
-    };
-    let bytes = encode(alloc, events.as_slice());
-    let bytes = if bytes.is_ok() {
-        bytes?
-    } else {
-        encode(alloc, events.as_slice())?
-    };
-    Ok(Some(Reply::Records(Bytes::from_vec(bytes))))
+// The reply that spells these events.
+fn spelled_by(alloc: Global, events: &Events) -> Result<Reply, Refusal> {
+    let bytes = encode(alloc, events.as_slice())?;
+    Ok(Reply::Records(Bytes::from_vec(bytes)))
 }
 
-// What the pump answers, where the journal has it so, and the reply that spells its records.
+// The reply that spells these events, or none where there are none.
+fn spelled_reply(alloc: Global, events: &Option<Events>) -> Result<Reply, Refusal> {
+    let Some(events) = events else {
+        return Err(Refusal::Eagain);
+    };
+    match spelled_by(alloc, events) {
+        Err(Refusal::Enomem) => spelled_by(alloc, events),
+        reply => reply,
+    }
+}
+
+// The pump answers what is wanted, and so the journal and what is kept of it have it. Gives its records.
 fn pumping(
+    rt: &impl Abort,
     state: &mut State,
-    alloc: Global,
-    id: u32,
-    bytes: u32,
-) -> Result<(Reply, Option<Reply>, bool), Refusal> {
-    let (receipt, kept, events) = pumped(state, id, bytes)?;
-    let is_journaled = is_as_journaled(state, &receipt, &kept) && kept.call == pump(id, bytes)?;
-    let spelled = spelled_by(alloc, &events)?;
-    Ok((receipt.reply, spelled, is_journaled))
+    room: (u32, u32),
+    wanted: Result<Reply, Refusal>,
+) -> Option<Events> {
+    let (receipt, kept, events) = pumped(state, room.0, room.1).expect(rt, "a pump");
+    let call = Call::Pump {
+        instance: room.0,
+        bytes: room.1,
+    };
+    assert!(rt; is_of(state, &call, &receipt, &kept));
+    is_wanted(rt, receipt.reply, wanted);
+    events
 }
 
 // The pump answers what is wanted, with the records that the answer spells.
 fn pumps(rt: &impl Abort, state: &mut State, alloc: Global, room: (u32, u32), lines: &[Record]) {
-    match pumping(state, alloc, room.0, room.1) {
-        Ok((reply, spelled, is_journaled)) => {
-            assert_eq!(rt; spelled, Some(reply));
-            assert_eq!(rt; spelled.ok_or(Refusal::Eagain), records(alloc, lines));
-            assert!(rt; is_journaled);
-        }
-        Err(refusal) => assert!(rt; false, "{refusal:?}"),
-    }
+    let events = pumping(rt, state, room, records(alloc, lines));
+    let spelled = spelled_reply(alloc, &events).expect(rt, "records");
+    is_wanted(rt, spelled, records(alloc, lines));
 }
 
 // The pump is refused so, and gives no records.
-fn refuses_to_pump(
-    rt: &impl Abort,
-    state: &mut State,
-    alloc: Global,
-    room: (u32, u32),
-    refusal: Refusal,
-) {
-    let told = pumping(state, alloc, room.0, room.1);
-    assert_eq!(rt; told, Ok((Reply::Refused(refusal), None, true)));
+fn refuses_to_pump(rt: &impl Abort, state: &mut State, room: (u32, u32), refusal: Refusal) {
+    let events = pumping(rt, state, room, Ok(Reply::Refused(refusal)));
+    assert!(rt; events.is_none());
 }
 
 #[test]
@@ -159,7 +173,7 @@ fn pumps_move_records(rt: HostRuntime) -> Result<(), Fail> {
     waits(&rt, tree, 1, 1);
     pumps(&rt, tree, alloc, (1, ALL), &[(1, 0x4000_0004, 0, "")]);
     waits(&rt, tree, 1, 0);
-    assert_eq!(rt; tree.journal().len(), 6);
+    journals(&rt, tree, 6);
     Ok(())
 }
 
@@ -170,30 +184,35 @@ fn refused_pumps_move_nothing(rt: HostRuntime) -> Result<(), Fail> {
     does(&rt, tree, init_piped(10));
     does(&rt, tree, init(10));
     does(&rt, tree, watch(alloc, 1, "/", 0x100));
-    refuses_to_pump(&rt, tree, alloc, (1, ALL), Refusal::Eagain);
-    refuses_to_pump(&rt, tree, alloc, (2, ALL), Refusal::NotPiped);
-    refuses_to_pump(&rt, tree, alloc, (3, ALL), Refusal::Ebadf);
+    refuses_to_pump(&rt, tree, (1, ALL), Refusal::Eagain);
+    refuses_to_pump(&rt, tree, (2, ALL), Refusal::NotPiped);
+    refuses_to_pump(&rt, tree, (3, ALL), Refusal::Ebadf);
     does(&rt, tree, create(alloc, "/f"));
-    refuses_to_pump(&rt, tree, alloc, (1, 31), Refusal::Einval);
+    refuses_to_pump(&rt, tree, (1, 31), Refusal::Einval);
     waits(&rt, tree, 1, 1);
     pumps(&rt, tree, alloc, (1, 32), &[(1, 0x100, 0, "f")]);
-    refuses_to_pump(&rt, tree, alloc, (1, 32), Refusal::Eagain);
+    refuses_to_pump(&rt, tree, (1, 32), Refusal::Eagain);
     Ok(())
 }
 
-// Whether the call and its copy are equal.
-fn is_copied(call: Result<Call, Refusal>) -> Result<bool, Refusal> {
-    let call = call?;
-    Ok(copied(&call)? == call)
+// Whether the call is equal to its copy.
+fn is_copied(call: &Call) -> bool {
+    match copied(call) {
+        Ok(copy) => copy == *call,
+        Err(_) => false,
+    }
 }
 
 // The call and its copy are equal.
 fn copies(rt: &impl Abort, call: Result<Call, Refusal>) {
-    assert_eq!(rt; is_copied(call), Ok(true));
+    let call = call.expect(rt, "a call");
+    assert!(rt; is_copied(&call));
 }
 
 // The calls are not equal.
 fn differ(rt: &impl Abort, first: Result<Call, Refusal>, second: Result<Call, Refusal>) {
+    let first = first.expect(rt, "a call");
+    let second = second.expect(rt, "a call");
     assert!(rt; first != second);
 }
 
@@ -214,19 +233,24 @@ fn copies_of_calls(rt: HostRuntime) -> Result<(), Fail> {
     Ok(())
 }
 
-// Whether the reply and its copy are equal.
-fn is_copied_reply(reply: Result<Reply, Refusal>) -> Result<bool, Refusal> {
-    let reply = reply?;
-    let copy = match reply.copy() {
+// The same reply once more.
+fn copied_reply(reply: &Reply) -> Result<Reply, Refusal> {
+    match reply.copy() {
         Err(Refusal::Enomem) => reply.copy(),
         copy => copy,
-    };
-    Ok(copy? == reply)
+    }
 }
 
 // The reply and its copy are equal.
 fn copies_reply(rt: &impl Abort, reply: Result<Reply, Refusal>) {
-    assert_eq!(rt; is_copied_reply(reply), Ok(true));
+    let reply = reply.expect(rt, "a reply");
+    let copy = copied_reply(&reply);
+    is_wanted(rt, reply, copy);
+}
+
+// The replies are not equal.
+fn replies_differ(rt: &impl Abort, first: &Reply, second: &Reply) {
+    assert!(rt; first != second);
 }
 
 #[test]
@@ -243,6 +267,7 @@ fn copies_of_replies(rt: HostRuntime) -> Result<(), Fail> {
     copies_reply(&rt, records(alloc, &[(1, 0x100, 0, "f")]));
     copies_reply(&rt, done());
     copies_reply(&rt, Ok(Reply::Refused(Refusal::Eagain)));
-    assert!(rt; number(2) != count(2));
+    let number = Reply::File(Answer::Number(2));
+    replies_differ(&rt, &number, &Reply::File(Answer::Count(2)));
     Ok(())
 }

@@ -95,7 +95,7 @@ fn the_last_instance_number(rt: HostRuntime) -> Result<(), Fail> {
     refuses(&rt, tree, init(1), Refusal::Emfile);
     tells(&rt, tree, close(1), done());
     refuses(&rt, tree, init(1), Refusal::Emfile);
-    assert_eq!(rt; tree.waiting(2), None);
+    is_not_open(&rt, tree, 2);
     Ok(())
 }
 
@@ -170,22 +170,43 @@ fn the_queue_of_full_limits(rt: HostRuntime) -> Result<(), Fail> {
     Ok(())
 }
 
+// Whether there is no entry left for the call.
+fn has_no_entry_for(tree: &mut State, call: Call) -> bool {
+    let made = tree.apply(CALLER, call);
+    matches!(made, Err(Refusal::JournalFull))
+}
+
+// Whether there is no entry left for the call, whose copy would be kept.
+fn has_no_entry_to_keep(tree: &mut State, call: Call) -> bool {
+    let kept = tree.keep(CALLER, call);
+    matches!(kept, Err(Refusal::JournalFull))
+}
+
+// Whether there is no entry left for a pump of the instance.
+fn has_no_entry_to_pump(tree: &mut State, instance: u32) -> bool {
+    let pumped = tree.pump(CALLER, instance, ALL);
+    matches!(pumped, Err(Refusal::JournalFull))
+}
+
+// No entry is left, by whichever way a call is made.
+fn has_no_entry(rt: &impl Abort, tree: &mut State, alloc: Global) {
+    let create = create(alloc, "/f").expect(rt, "a call");
+    assert!(rt; has_no_entry_for(tree, create));
+    assert!(rt; has_no_entry_to_keep(tree, Call::Close { instance: 1 }));
+    assert!(rt; has_no_entry_to_pump(tree, 1));
+}
+
 #[test]
 fn the_last_entry(rt: HostRuntime) -> Result<(), Fail> {
     let alloc = rt.alloc();
     let tree = &mut opened(alloc, Limits::full().with_journal(2))?;
-    assert_eq!(rt; tree.free_entries(), 2);
+    has_room_for(&rt, tree, 2);
     tells(&rt, tree, init_piped(1), instance(1));
     tells(&rt, tree, watch(alloc, 1, "/", 0x100), wd(1));
-    assert_eq!(rt; tree.free_entries(), 0);
-    let made = tree.apply(CALLER, create(alloc, "/f")?);
-    assert_eq!(rt; made, Err(Refusal::JournalFull));
-    let kept = tree.keep(CALLER, close(1)?);
-    assert!(rt; matches!(kept, Err(Refusal::JournalFull)));
-    let pumped = tree.pump(CALLER, 1, ALL);
-    assert!(rt; matches!(pumped, Err(Refusal::JournalFull)));
-    assert_eq!(rt; tree.free_entries(), 0);
-    assert_eq!(rt; tree.journal().len(), 2);
+    has_room_for(&rt, tree, 0);
+    has_no_entry(&rt, tree, alloc);
+    has_room_for(&rt, tree, 0);
+    journals(&rt, tree, 2);
     waits(&rt, tree, 1, 0);
     Ok(())
 }
