@@ -1,6 +1,6 @@
 //! What is printed of a storm.
 
-ghost use Rattle.std.specs.Prelude.{◌≡◌, ◌++◌, OnOk};
+ghost use Rattle.std.specs.Prelude.{◌≡◌, ◌++◌, IfOk, OnOk};
 ghost use Rattle.watchtree.specs.Report.{cause_word, listener_line, report_of};
 
 use event_sinks::Cause;
