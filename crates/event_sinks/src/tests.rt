@@ -37,14 +37,14 @@ fn overflow() -> Event {
 
 /// Takes `step` bytes a call at most. With `room` bytes taken it fails `faults` times, and then goes on.
 #[derive(Drop)]
-struct Paper<'a> {
+struct Sheet<'a> {
     text: &'a mut Vec<u8>,
     step: usize,
     room: usize,
     faults: usize,
 }
 
-impl Write for Paper<'_> {
+impl Write for Sheet<'_> {
     fn write(&mut self, buf: &[u8]) -> io::Result<usize> {
         let mut count = buf.len().min(self.step);
         if self.faults > 0 {
@@ -162,7 +162,7 @@ fn stops(rt: HostRuntime) -> Result<(), Fail> {
     Ok(())
 }
 
-/// The text that a sink wrote on such a paper. It is put the record once, and once more where that was taken.
+/// The text that a sink wrote on such a sheet. It is put the record once, and once more where that was taken.
 fn written(
     alloc: Global,
     step: usize,
@@ -171,13 +171,13 @@ fn written(
     text: &mut Vec<u8>,
 ) -> Result<(Option<SinkFault>, u64), Fail> {
     let event = created(alloc)?;
-    let paper = Paper {
+    let sheet = Sheet {
         text,
         step,
         room,
         faults,
     };
-    let mut sink = LineSink::new(alloc, paper);
+    let mut sink = LineSink::new(alloc, sheet);
     let fault = put_all(&mut sink, &event, 1)?;
     let taken = sink.taken();
     sink.close();
@@ -256,13 +256,13 @@ fn passes_a_refusal_on(rt: HostRuntime) -> Result<(), Fail> {
     let alloc = rt.alloc();
     let event = created(alloc)?;
     let mut text = Vec::with_capacity(alloc, 99)?;
-    let paper = Paper {
+    let sheet = Sheet {
         text: &mut text,
         step: 99,
         room: 10,
         faults: 1,
     };
-    let mut sink = StopSink::new(LineSink::new(alloc, paper), 1);
+    let mut sink = StopSink::new(LineSink::new(alloc, sheet), 1);
     assert_eq!(rt; put_all(&mut sink, &event, 1)?, Some(SinkFault::Write));
     // What was refused does not count.
     assert_eq!(rt; put_all(&mut sink, &event, 2)?, Some(SinkFault::Full));

@@ -198,9 +198,9 @@ fn a_listener_that_ended_takes_no_batch(rt: HostRuntime) -> Result<(), Fail> {
     Ok(())
 }
 
-/// A paper of which each write takes all, up to so many bytes, where it fails so many times.
-fn paper(text: &mut Vec<u8>, room: usize, faults: usize) -> Paper<'_> {
-    Paper {
+/// A sheet of which each write takes all, up to so many bytes, where it fails so many times.
+fn sheet(text: &mut Vec<u8>, room: usize, faults: usize) -> Sheet<'_> {
+    Sheet {
         text,
         step: usize::MAX,
         room,
@@ -216,7 +216,7 @@ fn a_failed_write_ends_a_listener(rt: HostRuntime) -> Result<(), Fail> {
         (usize::MAX, b"1 00000100".as_slice()),
     ] {
         let mut text = Vec::with_capacity(alloc, 99)?;
-        let sink = LineSink::new(alloc, paper(&mut text, 10, faults));
+        let sink = LineSink::new(alloc, sheet(&mut text, 10, faults));
         let told = ran(alloc, "f!g!", sink, &EACH, 9)?;
         assert_eq!(rt; told, (Cause::Sink(SinkFault::Write), 1, 0, false));
         assert_eq!(rt; text.as_slice(), wants);
