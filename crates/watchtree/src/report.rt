@@ -1,6 +1,7 @@
 //! What is printed of a storm.
 
 ghost use Rattle.std.specs.Prelude.{◌≡◌, ◌++◌, IfOk, OnOk};
+ghost use Rattle.std.specs.List.{flat_map};
 ghost use Rattle.watchtree.specs.Report.{cause_word, listener_line, report_of};
 
 use event_sinks::Cause;
@@ -20,19 +21,28 @@ pub fn report(alloc: Global, stormed: &Stormed) -> Result<Vec<u8>, AllocError>
     text.extend_from_slice(b"entries ")?;
     text.extend_from_slice(digits.format(stormed.entries).as_bytes())?;
     text.extend_from_slice(b"\n")?;
-    for (number, cause, taken) in &stormed.listeners {
-        add_listener(&mut text, *number, *cause, *taken)?;
-    }
+    add_listeners(&mut text, &stormed.listeners)?;
     if stormed.settled.is_ok() {
         text.extend_from_slice(b"settled\n")?;
     }
     Ok(text)
 }
 
-// Adds the line of a listener.
-fn add_listener(text: &mut Vec<u8>, number: u32, cause: Cause, taken: u64) -> Result<(), AllocError>
-    ensures { OnOk result (text.new.items ≡ text.old.items ++ listener_line (number, cause, taken)) }
+// Adds the lines of listeners.
+fn add_listeners(text: &mut Vec<u8>, listeners: &[(u32, Cause, u64)]) -> Result<(), AllocError>
+    ensures { OnOk result (text.new.items ≡ text.old.items ++ flat_map listener_line listeners.now) }
 {
+    for listener in listeners {
+        add_listener(text, listener)?;
+    }
+    Ok(())
+}
+
+// Adds the line of a listener.
+fn add_listener(text: &mut Vec<u8>, listener: &(u32, Cause, u64)) -> Result<(), AllocError>
+    ensures { OnOk result (text.new.items ≡ text.old.items ++ listener_line listener.now) }
+{
+    let (number, cause, taken) = *listener;
     let mut digits = Buffer::new();
     text.extend_from_slice(b"listener ")?;
     text.extend_from_slice(digits.format(number).as_bytes())?;
