@@ -18,6 +18,20 @@ use tree_paths::{Limits, Path, Refusal};
 
 type End = Ended<MemorySink>;
 
+/// Lets each turn through.
+#[derive(Drop)]
+struct Open;
+
+impl Gate for Open {
+    fn pass(&self, _who: u32, _turn: u64) -> bool {
+        true
+    }
+
+    fn turns(&self) -> u64 {
+        9
+    }
+}
+
 /// What `settle` answers.
 type Answer = Result<Settled, SettleFault>;
 
@@ -39,10 +53,10 @@ fn settles(
     Ok(settle(alloc, book, given, ended))
 }
 
-fn mkdir(alloc: Global, path: &str) -> Result<Call, Refusal>
+fn mkdir(alloc: Global, path: &[u8]) -> Result<Call, Refusal>
     ensures { IfOk result (λ call. IsTrue (is_plain call)) }
 {
-    let path = Path::parse(alloc, path.as_bytes())?;
+    let path = Path::parse(alloc, path)?;
     Ok(Call::File(FileCall::Mkdir { path, mode: 0o755 }))
 }
 
@@ -50,8 +64,8 @@ fn mkdir(alloc: Global, path: &str) -> Result<Call, Refusal>
 fn two_seats<L: Ledger>(
     alloc: Global,
     blank: Blank,
-    one: &str,
-    other: &str,
+    one: &[u8],
+    other: &[u8],
 ) -> Result<(Book, SeatLog, SeatLog), Refusal>
     requires name { blank.name ≡ L.name }
     requires parts { (blank.parts ≡ L.parts) × (blank.parts ≡ 65537) }
@@ -67,7 +81,7 @@ fn two_seats<L: Ledger>(
 }
 
 fn two(alloc: Global, one: &str, other: &str) -> Result<(Book, SeatLog, SeatLog), Refusal> {
-    two_seats::<Brand>(alloc, Blank::new(65537), one, other)
+    two_seats::<Brand>(alloc, Blank::new(65537), one.as_bytes(), other.as_bytes())
 }
 
 #[test]
@@ -102,7 +116,7 @@ fn books_of_two_seats(rt: HostRuntime) -> Result<(), Fail> {
 fn story_told<L: Ledger>(
     alloc: Global,
     blank: Blank,
-    story: &str,
+    story: &[u8],
 ) -> Result<(Book, SeatLog, Feed), Refusal>
     requires name { blank.name ≡ L.name }
     requires parts { (blank.parts ≡ L.parts) × (blank.parts ≡ 65537) }
@@ -110,19 +124,16 @@ fn story_told<L: Ledger>(
     let (mut held, mut pass) = Held::<L>::new(alloc, blank, Limits::full())?;
     let mut seat = pass.seat()?;
     let feed = watches(alloc, &mut held, &mut seat, 16, 8)?;
-    tells(alloc, &mut held, &mut seat, story.as_bytes())?;
+    tells(alloc, &mut held, &mut seat, story)?;
     let log = pass.join(seat);
     Ok((held.dissolve(pass), log, feed))
 }
 
-// The same, with a listener that took so many steps and was then ended.
-fn heard_out(alloc: Global, story: &str, steps: u32) -> Result<(Book, SeatLog, End), Refusal> {
-    let (book, log, feed) = story_told::<Brand>(alloc, Blank::new(65537), story)?;
-    let mut listener = Listening::new(alloc, 7, feed, MemorySink::new(alloc));
-    for _ in 0..steps {
-        let _ = listener.step();
-    }
-    Ok((book, log, listener.finish()))
+// The same, with a listener that had so many turns.
+fn heard_out(alloc: Global, story: &str, steps: u64) -> Result<(Book, SeatLog, End), Refusal> {
+    let (book, log, feed) = story_told::<Brand>(alloc, Blank::new(65537), story.as_bytes())?;
+    let listener = Listening::new(alloc, 7, feed, MemorySink::new(alloc));
+    Ok((book, log, listener.run(&Open, steps)))
 }
 
 #[test]
@@ -131,6 +142,9 @@ fn a_log_out_of_order_is_stray(rt: HostRuntime) -> Result<(), Fail> {
     let (book, log, end) = heard_out(alloc, "f!.", 2)?;
     let SeatLog { number, kept } = log;
     let mut kept = kept.into_vec();
+    if kept.len() < 2 {
+        return Err(Fail::from(Refusal::Ebadf));
+    }
     kept.swap(0, 1);
     let log = SeatLog {
         number,
@@ -321,7 +335,7 @@ fn two_writers<L: Ledger + Send + Sync, R: Threads + Wait + Sync>(
     let mut main = pass.seat()?;
     let first = pass.seat()?;
     let second = pass.seat()?;
-    held.call(&mut main, mkdir(alloc, "/s")?)?;
+    held.call(&mut main, mkdir(alloc, b"/s")?)?;
     let tree: Tree<L> = Mutex::new(held);
     let shared = &tree;
     let (first, second) = thread::join(
