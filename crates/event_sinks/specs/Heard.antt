@@ -1,9 +1,11 @@
 -- What contracts see of a listener, while it listens and once it has ended.
-use Rattle.std.specs.Prelude.{◌≡◌, ◌≢◌, ℕ, ◌<◌, ◌≤◌, zero, suc, Bool, false, List, [], ◌∷◌, ◌++◌, length, take, drop, All, Option, Some, None, is_none, ◌⊎◌, ⊤}
+use Rattle.std.specs.Prelude.{◌≡◌, ◌≢◌, ℕ, ◌<◌, ◌≤◌, zero, suc, Bool, true, false, List, [], ◌∷◌, ◌++◌, length, take, drop, All, Option, Some, None, is_none, ◌⊎◌, ◌↔◌, ⊤, IsTrue, Result, Err}
 use Rattle.record_codec.specs.declared.event.Event.{Event}
 use Rattle.shared_tree.specs.declared.pipe.Batch.{Batch}
 use Rattle.shared_tree.specs.Handed.{records_of}
 use Rattle.shared_tree.specs.Pipes.{Fed}
+use Rattle.event_sinks.specs.declared.fault.SinkFault.{SinkFault}
+use Rattle.event_sinks.specs.declared.fault.SinkFault.TheVariants.{Full}
 use Rattle.event_sinks.specs.declared.listener.Cause.{Cause}
 use Rattle.event_sinks.specs.declared.listener.Cause.TheVariants as cause
 use Rattle.event_sinks.specs.declared.listener.Listening.{Listening}
@@ -103,3 +105,12 @@ abbrev pub IsFromOutside : Cause → Type 0
 IsFromOutside cause.Turns = ⊤
 IsFromOutside cause.Given = ⊤
 IsFromOutside _ = ⊥
+
+-- a sink that had taken these records, and was open, may refuse one more so. It says `Full` exactly where it takes no more
+abbrev pub IsRefusal : {S : Type 0} → (S → List Event) → (S → Bool) → (S → Bool) → (S → Event → Result (Unit {0}) SinkFault → Type 0) → List Event → SinkFault → Type 0
+IsRefusal {S} record_list live full may_answer taken fault = (s : S) × (e : Event) × (record_list s ≡ taken) × (live s ≡ true) × may_answer s e (Err fault) × ((fault ≡ Full) ↔ IsTrue (full s))
+
+-- where the listener ends by a record that was refused, the fault is that of its sink, which took these records
+abbrev pub IsItsFault : {S : Type 0} → (S → List Event) → (S → Bool) → (S → Bool) → (S → Event → Result (Unit {0}) SinkFault → Type 0) → List Event → Option Cause → Type 0
+IsItsFault record_list live full may_answer taken (Some (cause.Sink fault)) = IsRefusal record_list live full may_answer taken fault
+IsItsFault record_list live full may_answer taken _ = ⊤
