@@ -50,7 +50,23 @@ fn settles(
     for end in ends {
         ended.extend(end)?;
     }
-    Ok(settle(alloc, book, given, ended))
+    answered(settle(alloc, book, given, ended))
+}
+
+// An answer, unless it is want of memory, which ends a test.
+fn answered(answer: Answer) -> Result<Answer, Fail> {
+    match answer {
+        Err(SettleFault::Memory) => Err(Fail::from(SettleFault::Memory)),
+        answer => Ok(answer),
+    }
+}
+
+// A listener that has ended, unless it did for want of memory, which ends a test.
+fn ended(end: End) -> Result<End, Refusal> {
+    match end.cause() {
+        Cause::Memory | Cause::Sink(SinkFault::Memory) => Err(Refusal::Enomem),
+        _ => Ok(end),
+    }
 }
 
 fn mkdir(alloc: Global, path: &[u8]) -> Result<Call, Refusal>
@@ -133,7 +149,7 @@ fn story_told<L: Ledger>(
 fn heard_out(alloc: Global, story: &str, steps: u64) -> Result<(Book, SeatLog, End), Refusal> {
     let (book, log, feed) = story_told::<Brand>(alloc, Blank::new(65537), story.as_bytes())?;
     let listener = Listening::new(alloc, 7, feed, MemorySink::new(alloc));
-    Ok((book, log, listener.run(&Open, steps)))
+    Ok((book, log, ended(listener.run(&Open, steps))?))
 }
 
 #[test]
@@ -247,7 +263,7 @@ fn crowded<L: Ledger>(alloc: Global, blank: Blank) -> Result<(Book, SeatLog, End
     held.call(&mut seat, Call::Close { instance: 1 })?;
     let _ = listener.step();
     let log = pass.join(seat);
-    Ok((held.dissolve(pass), log, listener.finish(), full))
+    Ok((held.dissolve(pass), log, ended(listener.finish())?, full))
 }
 
 #[test]
@@ -305,7 +321,22 @@ fn call_of(alloc: Global, letter: u8, number: u32) -> Result<Call, Refusal>
     }))
 }
 
-// Makes a hundred calls.
+// Makes a call. Whether there was memory for it.
+fn makes<L: Ledger>(
+    rt: &impl Wait,
+    alloc: Global,
+    tree: &Tree<L>,
+    seat: &mut Seat<L>,
+    letter: u8,
+    number: u32,
+) -> bool {
+    match call_of(alloc, letter, number) {
+        Ok(call) => tree.lock(rt).call(seat, call).is_ok(),
+        Err(_) => false,
+    }
+}
+
+// Makes a hundred calls, each once more where there was no memory for it.
 fn writes<L: Ledger>(
     rt: &impl Wait,
     alloc: Global,
@@ -315,8 +346,8 @@ fn writes<L: Ledger>(
 ) -> Seat<L> {
     let mut seat = seat;
     for number in 0..100 {
-        if let Ok(call) = call_of(alloc, letter, number) {
-            let _ = tree.lock(rt).call(&mut seat, call);
+        if !makes(rt, alloc, tree, &mut seat, letter, number) {
+            makes(rt, alloc, tree, &mut seat, letter, number);
         }
     }
     seat
@@ -349,7 +380,7 @@ fn two_writers<L: Ledger + Send + Sync, R: Threads + Wait + Sync>(
     logs.push(pass.join(second))?;
     let book = tree.into_inner().dissolve(pass);
     let nobody: Vec<End> = Vec::new(alloc);
-    Ok(settle(alloc, book, logs, nobody))
+    answered(settle(alloc, book, logs, nobody))
 }
 
 #[test]
