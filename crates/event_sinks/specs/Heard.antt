@@ -110,7 +110,8 @@ IsFromOutside _ = ⊥
 abbrev pub IsRefusal : {S : Type 0} → (S → List Event) → (S → Bool) → (S → Bool) → (S → Event → Result (Unit {0}) SinkFault → Type 0) → List Event → SinkFault → Type 0
 IsRefusal {S} record_list live full may_answer taken fault = (s : S) × (e : Event) × (record_list s ≡ taken) × (live s ≡ true) × may_answer s e (Err fault) × ((fault ≡ Full) ↔ IsTrue (full s))
 
--- where the listener ends by a record that was refused, the fault is that of its sink, which took these records
+-- where the listener ends by a record that was refused, the fault is one that a sink of its type may give, with these
+-- records taken. Which sink, no member of a sink can say
 abbrev pub IsItsFault : {S : Type 0} → (S → List Event) → (S → Bool) → (S → Bool) → (S → Event → Result (Unit {0}) SinkFault → Type 0) → List Event → Option Cause → Type 0
 IsItsFault record_list live full may_answer taken (Some (cause.Sink fault)) = IsRefusal record_list live full may_answer taken fault
 IsItsFault record_list live full may_answer taken _ = ⊤
