@@ -30,8 +30,9 @@ pub record IsAnswered (old : Journaled) (call : Call) (reply : Reply) (new : Jou
   pub answer : reply ≡ reply_of (now old) call
   pub entry : new ≡ with_entry old (record { caller = caller; call = call; reply = reply })
 
--- want of memory leaves the journal as it is
+-- want of memory leaves the journal as it is, and is answered only where the journal has room
 pub record IsOutOfMemory (old : Journaled) (reply : Reply) (new : Journaled) : Type 0 where
+  pub room : length old.entries < old.limits.journal
   pub answer : reply ≡ replies.Refused Enomem
   pub same : new ≡ old
 
