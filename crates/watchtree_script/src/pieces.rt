@@ -79,16 +79,23 @@ impl<'a> Runs<'a> {
         None
     }
 
-    /// Whether so many are left.
-    pub fn has(&self, count: usize) -> bool
-        ensures { result ≡ (length self.now == count) }
+    /// The same once more, to be taken from by itself.
+    pub fn copied(&self) -> Runs<'a>
+        ensures { result ≡ self.now }
     {
-        let mut others = Runs {
+        Runs {
             pieces: Pieces {
                 separator: self.pieces.separator,
                 rest: self.pieces.rest,
             },
-        };
+        }
+    }
+
+    /// Whether so many are left.
+    pub fn has(&self, count: usize) -> bool
+        ensures { result ≡ (length self.now == count) }
+    {
+        let mut others = self.copied();
         for _ in 0..count {
             if others.next_run().is_none() {
                 return false;

@@ -35,8 +35,8 @@ impl<'a> Parser<'a> {
     }
 
     /// What a command asks for with the words behind it: its row in the table.
-    pub fn row(&mut self, command: Command) -> Result<Line, LineError>
-        ensures { Gives result (row_of self.old.queue command self.old.words) }
+    pub fn row(&self, command: Command) -> Result<Line, LineError>
+        ensures { Gives result (row_of self.now.queue command self.now.words) }
     {
         match command {
             Command::Mkdir => self.mkdir(),
@@ -60,23 +60,23 @@ impl<'a> Parser<'a> {
         }
     }
 
-    fn mkdir(&mut self) -> Result<Line, LineError>
-        ensures { Gives result (row_of self.old.queue Command.Mkdir self.old.words) }
+    fn mkdir(&self) -> Result<Line, LineError>
+        ensures { Gives result (row_of self.now.queue Command.Mkdir self.now.words) }
     {
         let (path, mode) = self.path_and_mode()?;
         Ok(plain(Call::File(FileCall::Mkdir { path, mode })))
     }
 
-    fn create(&mut self) -> Result<Line, LineError>
-        ensures { Gives result (row_of self.old.queue Command.Create self.old.words) }
+    fn create(&self) -> Result<Line, LineError>
+        ensures { Gives result (row_of self.now.queue Command.Create self.now.words) }
     {
         let (path, mode) = self.path_and_mode()?;
         Ok(plain(Call::File(FileCall::Create { path, mode })))
     }
 
     #[tactic(auto, unfolding(crate::specs::Commands::write_call))]
-    fn write(&mut self) -> Result<Line, LineError>
-        ensures { Gives result (row_of self.old.queue Command.Write self.old.words) }
+    fn write(&self) -> Result<Line, LineError>
+        ensures { Gives result (row_of self.now.queue Command.Write self.now.words) }
     {
         let (path, offset, bytes) = self.three()?;
         let text = path_word(self.alloc, path)?;
@@ -91,8 +91,8 @@ impl<'a> Parser<'a> {
     }
 
     #[tactic(auto, unfolding(crate::specs::Commands::cat_call))]
-    fn cat(&mut self) -> Result<Line, LineError>
-        ensures { Gives result (row_of self.old.queue Command.Cat self.old.words) }
+    fn cat(&self) -> Result<Line, LineError>
+        ensures { Gives result (row_of self.now.queue Command.Cat self.now.words) }
     {
         let (path, offset, count) = self.three()?;
         let text = path_word(self.alloc, path)?;
@@ -107,8 +107,8 @@ impl<'a> Parser<'a> {
     }
 
     #[tactic(auto, unfolding(crate::specs::Commands::truncate_call))]
-    fn truncate(&mut self) -> Result<Line, LineError>
-        ensures { Gives result (row_of self.old.queue Command.Truncate self.old.words) }
+    fn truncate(&self) -> Result<Line, LineError>
+        ensures { Gives result (row_of self.now.queue Command.Truncate self.now.words) }
     {
         let (path, len) = self.two()?;
         let text = path_word(self.alloc, path)?;
@@ -117,57 +117,57 @@ impl<'a> Parser<'a> {
         Ok(plain(Call::File(FileCall::Truncate { path, len })))
     }
 
-    fn chmod(&mut self) -> Result<Line, LineError>
-        ensures { Gives result (row_of self.old.queue Command.Chmod self.old.words) }
+    fn chmod(&self) -> Result<Line, LineError>
+        ensures { Gives result (row_of self.now.queue Command.Chmod self.now.words) }
     {
         let (path, mode) = self.path_and_mode()?;
         Ok(plain(Call::File(FileCall::Chmod { path, mode })))
     }
 
-    fn link(&mut self) -> Result<Line, LineError>
-        ensures { Gives result (row_of self.old.queue Command.Link self.old.words) }
+    fn link(&self) -> Result<Line, LineError>
+        ensures { Gives result (row_of self.now.queue Command.Link self.now.words) }
     {
         let (old, new) = self.old_and_new()?;
         Ok(plain(Call::File(FileCall::Link { old, new })))
     }
 
-    fn unlink(&mut self) -> Result<Line, LineError>
-        ensures { Gives result (row_of self.old.queue Command.Unlink self.old.words) }
+    fn unlink(&self) -> Result<Line, LineError>
+        ensures { Gives result (row_of self.now.queue Command.Unlink self.now.words) }
     {
         let path = self.a_path()?;
         Ok(plain(Call::File(FileCall::Unlink { path })))
     }
 
-    fn rmdir(&mut self) -> Result<Line, LineError>
-        ensures { Gives result (row_of self.old.queue Command.Rmdir self.old.words) }
+    fn rmdir(&self) -> Result<Line, LineError>
+        ensures { Gives result (row_of self.now.queue Command.Rmdir self.now.words) }
     {
         let path = self.a_path()?;
         Ok(plain(Call::File(FileCall::Rmdir { path })))
     }
 
-    fn rename(&mut self) -> Result<Line, LineError>
-        ensures { Gives result (row_of self.old.queue Command.Rename self.old.words) }
+    fn rename(&self) -> Result<Line, LineError>
+        ensures { Gives result (row_of self.now.queue Command.Rename self.now.words) }
     {
         let (old, new) = self.old_and_new()?;
         Ok(plain(Call::File(FileCall::Rename { old, new })))
     }
 
-    fn stat(&mut self) -> Result<Line, LineError>
-        ensures { Gives result (row_of self.old.queue Command.Stat self.old.words) }
+    fn stat(&self) -> Result<Line, LineError>
+        ensures { Gives result (row_of self.now.queue Command.Stat self.now.words) }
     {
         let path = self.a_path()?;
         Ok(plain(Call::File(FileCall::Stat { path })))
     }
 
-    fn list(&mut self) -> Result<Line, LineError>
-        ensures { Gives result (row_of self.old.queue Command.List self.old.words) }
+    fn list(&self) -> Result<Line, LineError>
+        ensures { Gives result (row_of self.now.queue Command.List self.now.words) }
     {
         let path = self.a_path()?;
         Ok(plain(Call::File(FileCall::List { path })))
     }
 
-    fn init(&mut self) -> Result<Line, LineError>
-        ensures { Gives result (row_of self.old.queue Command.Init self.old.words) }
+    fn init(&self) -> Result<Line, LineError>
+        ensures { Gives result (row_of self.now.queue Command.Init self.now.words) }
     {
         let limit = if self.words.has(0) {
             self.queue
@@ -181,8 +181,8 @@ impl<'a> Parser<'a> {
     }
 
     #[tactic(auto, unfolding(crate::specs::Commands::watch_call))]
-    fn watch(&mut self) -> Result<Line, LineError>
-        ensures { Gives result (row_of self.old.queue Command.Watch self.old.words) }
+    fn watch(&self) -> Result<Line, LineError>
+        ensures { Gives result (row_of self.now.queue Command.Watch self.now.words) }
     {
         let (id, path, mask) = self.three()?;
         let instance = u32_word(id)?;
@@ -197,8 +197,8 @@ impl<'a> Parser<'a> {
     }
 
     #[tactic(auto, unfolding(crate::specs::Commands::unwatch_call))]
-    fn unwatch(&mut self) -> Result<Line, LineError>
-        ensures { Gives result (row_of self.old.queue Command.Unwatch self.old.words) }
+    fn unwatch(&self) -> Result<Line, LineError>
+        ensures { Gives result (row_of self.now.queue Command.Unwatch self.now.words) }
     {
         let (id, wd) = self.two()?;
         let instance = u32_word(id)?;
@@ -208,8 +208,8 @@ impl<'a> Parser<'a> {
 
     /// `read` and `hex`, which show the records so.
     #[tactic(auto, unfolding(crate::specs::Commands::id_and_bytes))]
-    fn read(&mut self, shown: Shown) -> Result<Line, LineError>
-        ensures { Gives result (asking shown (λ w. call.Read w.0 w.1) (two self.old.words id_and_bytes)) }
+    fn read(&self, shown: Shown) -> Result<Line, LineError>
+        ensures { Gives result (asking shown (λ w. call.Read w.0 w.1) (two self.now.words id_and_bytes)) }
     {
         let (id, bytes) = self.two()?;
         let instance = u32_word(id)?;
@@ -220,8 +220,8 @@ impl<'a> Parser<'a> {
         })
     }
 
-    fn close(&mut self) -> Result<Line, LineError>
-        ensures { Gives result (row_of self.old.queue Command.Close self.old.words) }
+    fn close(&self) -> Result<Line, LineError>
+        ensures { Gives result (row_of self.now.queue Command.Close self.now.words) }
     {
         let instance = u32_word(self.one()?)?;
         Ok(plain(Call::Close { instance }))
@@ -229,8 +229,8 @@ impl<'a> Parser<'a> {
 
     /// PATH
     #[tactic(auto, unfolding(crate::specs::Commands::a_path))]
-    fn a_path(&mut self) -> Result<Path, LineError>
-        ensures { Gives result (one self.old.words a_path) }
+    fn a_path(&self) -> Result<Path, LineError>
+        ensures { Gives result (one self.now.words a_path) }
     {
         let text = path_word(self.alloc, self.one()?)?;
         path_of(self.alloc, text.as_slice())
@@ -238,8 +238,8 @@ impl<'a> Parser<'a> {
 
     /// PATH MODE
     #[tactic(auto, unfolding(crate::specs::Commands::path_and_mode))]
-    fn path_and_mode(&mut self) -> Result<(Path, u32), LineError>
-        ensures { Gives result (two self.old.words path_and_mode) }
+    fn path_and_mode(&self) -> Result<(Path, u32), LineError>
+        ensures { Gives result (two self.now.words path_and_mode) }
     {
         let (path, mode) = self.two()?;
         let text = path_word(self.alloc, path)?;
@@ -250,8 +250,8 @@ impl<'a> Parser<'a> {
 
     /// OLD NEW
     #[tactic(auto, unfolding(crate::specs::Commands::old_and_new))]
-    fn old_and_new(&mut self) -> Result<(Path, Path), LineError>
-        ensures { Gives result (two self.old.words old_and_new) }
+    fn old_and_new(&self) -> Result<(Path, Path), LineError>
+        ensures { Gives result (two self.now.words old_and_new) }
     {
         let (old, new) = self.two()?;
         let old = path_word(self.alloc, old)?;
@@ -262,37 +262,36 @@ impl<'a> Parser<'a> {
     }
 
     /// The only word.
-    fn one(&mut self) -> Result<&'a [u8], LineError>
-        ensures { MatchResult result (λ word. self.old.words ≡ word.now ∷ []) (λ error. (error ≡ LineError.Fault ScriptFault.WrongNumber) × ((length self.old.words == 1) ≡ false)) }
+    fn one(&self) -> Result<&'a [u8], LineError>
+        ensures { MatchResult result (λ word. self.now.words ≡ word.now ∷ []) (λ error. (error ≡ LineError.Fault ScriptFault.WrongNumber) × ((length self.now.words == 1) ≡ false)) }
     {
         if !self.words.has(1) {
             return Err(LineError::Fault(ScriptFault::WrongNumber));
         }
-        Ok(self.words.take_run())
+        let mut words = self.words.copied();
+        Ok(words.take_run())
     }
 
     /// The only two words.
-    fn two(&mut self) -> Result<(&'a [u8], &'a [u8]), LineError>
-        ensures { MatchResult result (λ words. self.old.words ≡ words.0.now ∷ words.1.now ∷ []) (λ error. (error ≡ LineError.Fault ScriptFault.WrongNumber) × ((length self.old.words == 2) ≡ false)) }
+    fn two(&self) -> Result<(&'a [u8], &'a [u8]), LineError>
+        ensures { MatchResult result (λ words. self.now.words ≡ words.0.now ∷ words.1.now ∷ []) (λ error. (error ≡ LineError.Fault ScriptFault.WrongNumber) × ((length self.now.words == 2) ≡ false)) }
     {
         if !self.words.has(2) {
             return Err(LineError::Fault(ScriptFault::WrongNumber));
         }
-        Ok((self.words.take_run(), self.words.take_run()))
+        let mut words = self.words.copied();
+        Ok((words.take_run(), words.take_run()))
     }
 
     /// The only three words.
-    fn three(&mut self) -> Result<(&'a [u8], &'a [u8], &'a [u8]), LineError>
-        ensures { MatchResult result (λ words. self.old.words ≡ words.0.now ∷ words.1.now ∷ words.2.now ∷ []) (λ error. (error ≡ LineError.Fault ScriptFault.WrongNumber) × ((length self.old.words == 3) ≡ false)) }
+    fn three(&self) -> Result<(&'a [u8], &'a [u8], &'a [u8]), LineError>
+        ensures { MatchResult result (λ words. self.now.words ≡ words.0.now ∷ words.1.now ∷ words.2.now ∷ []) (λ error. (error ≡ LineError.Fault ScriptFault.WrongNumber) × ((length self.now.words == 3) ≡ false)) }
     {
         if !self.words.has(3) {
             return Err(LineError::Fault(ScriptFault::WrongNumber));
         }
-        Ok((
-            self.words.take_run(),
-            self.words.take_run(),
-            self.words.take_run(),
-        ))
+        let mut words = self.words.copied();
+        Ok((words.take_run(), words.take_run(), words.take_run()))
     }
 }
 
