@@ -3,7 +3,7 @@
 ghost use Rattle.std.specs.Prelude.{◌≡◌};
 ghost use Rattle.std.specs.List.{list_all};
 ghost use Rattle.watchtree_script.specs.Lines.{is_silent, is_line_byte};
-ghost use Rattle.watchtree_script.specs.Commands.{Gives, command_of, words_line, line_of};
+ghost use Rattle.watchtree_script.specs.Commands.{Gives, command_of, file_command_of, path_command_of, instance_command_of, words_line, line_of};
 
 use crate::fault::ScriptFault;
 use crate::pieces::Runs;
@@ -127,9 +127,24 @@ fn read_words(alloc: Global, queue: u32, mut words: Runs<'_>) -> Result<Line, Li
     Parser::new(alloc, queue, words).row(command)
 }
 
+/// The command that a word names.
 #[tactic(auto, unfolding(crate::specs::Commands::command_of))]
 fn command_named(word: &[u8]) -> Option<Command>
     ensures { result ≡ command_of word.now }
+{
+    if let Some(command) = file_command(word) {
+        return Some(command);
+    }
+    if let Some(command) = path_command(word) {
+        return Some(command);
+    }
+    instance_command(word)
+}
+
+/// A command that makes or changes a file.
+#[tactic(auto, unfolding(crate::specs::Commands::file_command_of))]
+fn file_command(word: &[u8]) -> Option<Command>
+    ensures { result ≡ file_command_of word.now }
 {
     if word == b"mkdir".as_slice() {
         Some(Command::Mkdir)
@@ -143,7 +158,17 @@ fn command_named(word: &[u8]) -> Option<Command>
         Some(Command::Truncate)
     } else if word == b"chmod".as_slice() {
         Some(Command::Chmod)
-    } else if word == b"link".as_slice() {
+    } else {
+        None
+    }
+}
+
+/// A command on paths.
+#[tactic(auto, unfolding(crate::specs::Commands::path_command_of))]
+fn path_command(word: &[u8]) -> Option<Command>
+    ensures { result ≡ path_command_of word.now }
+{
+    if word == b"link".as_slice() {
         Some(Command::Link)
     } else if word == b"unlink".as_slice() {
         Some(Command::Unlink)
@@ -155,7 +180,17 @@ fn command_named(word: &[u8]) -> Option<Command>
         Some(Command::Stat)
     } else if word == b"list".as_slice() {
         Some(Command::List)
-    } else if word == b"init".as_slice() {
+    } else {
+        None
+    }
+}
+
+/// A command on an instance.
+#[tactic(auto, unfolding(crate::specs::Commands::instance_command_of))]
+fn instance_command(word: &[u8]) -> Option<Command>
+    ensures { result ≡ instance_command_of word.now }
+{
+    if word == b"init".as_slice() {
         Some(Command::Init)
     } else if word == b"watch".as_slice() {
         Some(Command::Watch)

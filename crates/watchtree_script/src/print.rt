@@ -1,8 +1,8 @@
 //! Replies as text.
 
-ghost use Rattle.std.specs.Prelude.{◌≡◌, ◌≢◌, ◌++◌, ◌⊎◌, ℕ, List, [], IfOk, OnOk, decimal, length};
+ghost use Rattle.std.specs.Prelude.{◌≡◌, ◌≢◌, ◌++◌, ◌⊎◌, ℕ, List, [], IfOk, OnOk, codes, decimal, length};
 ghost use Rattle.std.specs.List.{flat_map};
-ghost use Rattle.watchtree_script.specs.Replies.{ok_line, done_line, hexadecimal, name_line, event_line, mode_text, octal_digit, refusal_text, answer_text, AreEventsIn, IsReadText, IsReplyText};
+ghost use Rattle.watchtree_script.specs.Replies.{ok_line, done_line, hexadecimal, name_line, event_line, kind_letter, mode_text, octal_digit, refusal_text, answer_text, AreEventsIn, IsReadText, IsReplyText};
 
 use crate::line::Shown;
 use inode_table::Kind;
@@ -108,19 +108,33 @@ fn push_stat(
 ) -> Result<(), AllocError>
     ensures { OnOk result (text.new.items ≡ text.old.items ++ answer_text (Answer.Stat number kind mode links size)) }
 {
+    push_kind(text, number, kind)?;
+    text.extend_from_slice(&mode_digits(mode))?;
+    push_field(text, links)?;
+    push_field(text, size)?;
+    text.extend_from_slice(b"\n")
+}
+
+// The number and the kind of a file, before its mode.
+fn push_kind(text: &mut Vec<u8>, number: u32, kind: Kind) -> Result<(), AllocError>
+    ensures { OnOk result (text.new.items ≡ text.old.items ++ codes "ok " ++ decimal number ++ codes " " ++ kind_letter kind ++ codes " ") }
+{
     let mut buffer = Buffer::new();
     text.extend_from_slice(b"ok ")?;
     text.extend_from_slice(buffer.format(number).as_bytes())?;
     text.extend_from_slice(match kind {
         Kind::Regular => b" f ",
         Kind::Directory => b" d ",
-    })?;
-    text.extend_from_slice(&mode_digits(mode))?;
+    })
+}
+
+// A number behind a space.
+fn push_field(text: &mut Vec<u8>, number: u64) -> Result<(), AllocError>
+    ensures { OnOk result (text.new.items ≡ text.old.items ++ codes " " ++ decimal number) }
+{
+    let mut buffer = Buffer::new();
     text.extend_from_slice(b" ")?;
-    text.extend_from_slice(buffer.format(links).as_bytes())?;
-    text.extend_from_slice(b" ")?;
-    text.extend_from_slice(buffer.format(size).as_bytes())?;
-    text.extend_from_slice(b"\n")
+    text.extend_from_slice(buffer.format(number).as_bytes())
 }
 
 // A mode as four octal digits.
