@@ -1,5 +1,5 @@
 -- What a listener keeps from step to step.
-use Rattle.std.proofs.Common.{◌≡◌, subst, ◌∙◌, sym, ap, refl, ℕ, zero, suc, ◌+◌, ◌-◌, ◌<◌, ◌≤◌, inl, inr, List, [], ◌∷◌, ◌++◌, length, take, drop, arith, append-nil, append_assoc, length-append, add-one, false}
+use Rattle.std.proofs.Common.{◌≡◌, ◌≢◌, Bool, subst, ◌∙◌, sym, ap, refl, ℕ, zero, suc, ◌+◌, ◌-◌, ◌<◌, ◌≤◌, inl, inr, List, [], ◌∷◌, ◌++◌, length, take, drop, arith, append-nil, append_assoc, length-append, add-one, false}
 use Rattle.std.specs.Prelude.{All, Some, None, Option}
 use Rattle.std.proofs.lemmas.List.Elements.{All-push}
 use Rattle.record_codec.specs.declared.event.Event.{Event}
@@ -106,14 +106,15 @@ steps_sound old new step.Took h steps = takes_sound old steps.0 new h steps.1
 steps_sound old new step.Over h (inl p) = subst IsHeard (sym p.1) h
 steps_sound old new step.Over h (inr p) = subst IsHeard (sym p.1) (stays_sound old h p.0)
 
--- one turn more
-pub reaches_next : (n : ℕ) (a b c : Heard) → Reaches n a b → IsTurn b c → Reaches (n + 1) a c
-reaches_next n a b c r t = let P : ℕ → Type 0 = λ k. Reaches k a c in subst P (sym (add-one n)) (b, r, t)
+module _ (passes : ℕ → ℕ → Bool → Type 0) where
+  -- one turn more
+  pub reaches_next : (n : ℕ) (a b c : Heard) → Reaches passes n a b → IsTurn passes n b c → Reaches passes (n + 1) a c
+  reaches_next n a b c r t = let P : ℕ → Type 0 = λ k. Reaches passes k a c in subst P (sym (add-one n)) (b, r, t)
 
-reaches_idly : (n k : ℕ) (a b : Heard) → Reaches n a b → Reaches (n + k) a b
-reaches_idly n zero a b r = let P : ℕ → Type 0 = λ m. Reaches m a b in let e : n ≡ n + 0 = omega arith in subst P e r
-reaches_idly n (suc k) a b r = let P : ℕ → Type 0 = λ m. Reaches m a b in let e : suc (n + k) ≡ n + suc k = omega arith in subst P e (b, reaches_idly n k a b r, inl refl)
+  reaches_idly : (n k : ℕ) (a b : Heard) → b.cause ≢ None → Reaches passes n a b → Reaches passes (n + k) a b
+  reaches_idly n zero a b over r = let P : ℕ → Type 0 = λ m. Reaches passes m a b in let e : n ≡ n + 0 = omega arith in subst P e r
+  reaches_idly n (suc k) a b over r = let P : ℕ → Type 0 = λ m. Reaches passes m a b in let e : suc (n + k) ≡ n + suc k = omega arith in subst P e (b, reaches_idly n k a b over r, inr (inr over, refl))
 
--- turns more in which nothing happens
-pub reaches_more : (n m : ℕ) (a b : Heard) → n ≤ m → Reaches n a b → Reaches m a b
-reaches_more n m a b within r = let P : ℕ → Type 0 = λ k. Reaches k a b in let e : n + (m - n) ≡ m = omega arith in subst P e (reaches_idly n (m - n) a b r)
+  -- turns more of one that has ended
+  pub reaches_more : (n m : ℕ) (a b : Heard) → n ≤ m → b.cause ≢ None → Reaches passes n a b → Reaches passes m a b
+  reaches_more n m a b within over r = let P : ℕ → Type 0 = λ k. Reaches passes k a b in let e : n + (m - n) ≡ m = omega arith in subst P e (reaches_idly n (m - n) a b over r)

@@ -1,3 +1,4 @@
+pub mod Answering
 mod Fronts
 pub mod Hearing
 mod Pairs

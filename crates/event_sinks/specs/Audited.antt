@@ -1,5 +1,5 @@
 -- When a book, the logs of its seats, and the listeners that ended agree.
-use Rattle.std.specs.Prelude.{◌≡◌, ◌≢◌, ◌<◌, ◌≤◌, ◌-◌, ◌==◌, ◌++◌, ⊤, ℕ, List, [], ◌∷◌, All, AllPairs, count_by, length, map, min, slice_get, sum_by, Some, ◌⊎◌}
+use Rattle.std.specs.Prelude.{◌≡◌, ◌≢◌, ◌<◌, ◌≤◌, ◌-◌, ◌==◌, ◌++◌, ⊤, ℕ, List, [], ◌∷◌, All, AllPairs, count_by, length, map, min, slice_get, sum_by, Some, Result, Ok, Err, ◌⊎◌}
 use Rattle.std.specs.List.{flat_map}
 use Rattle.tree_core.specs.declared.reply.Entry.{Entry}
 use Rattle.tree_core.specs.declared.reply.Kept.{Kept}
@@ -9,6 +9,7 @@ use Rattle.shared_tree.specs.declared.seat.SeatLog.{SeatLog}
 use Rattle.shared_tree.specs.Calls.{Bound}
 use Rattle.shared_tree.specs.Handed.{handed}
 use Rattle.shared_tree.specs.Held.{IsIn, Lacks}
+use Rattle.event_sinks.specs.declared.audit.Settled.{Settled}
 use Rattle.event_sinks.specs.declared.audit.SettleFault.{SettleFault}
 use Rattle.event_sinks.specs.declared.audit.SettleFault.TheVariants.{CountDiffers, Stray, NotEnded, HandedDiffers, Memory}
 use Rattle.event_sinks.specs.declared.listener.Cause.{Cause}
@@ -113,6 +114,11 @@ IsFault b logs es Memory = ⊤
 IsFault b logs es (CountDiffers entries calls) = (b.entries ≢ calls_of logs) × (entries ≡ b.entries) × (calls ≡ min (calls_of logs) 18446744073709551615)
 IsFault b logs es (Stray n) = (b.entries ≡ calls_of logs) × IsStray b.state.entries logs n
 IsFault b logs es f = (b.entries ≡ calls_of logs) × AreKept b.state.entries logs × IsFirstFault b es f
+
+-- what settling answers: all agree, and as many entries and calls are told; or this is the first fault that holds
+abbrev pub Settles : Bound → List SeatLog → List Outcome → Result Settled SettleFault → Type 0
+Settles b logs es (Ok s) = IsAudited b logs es × (s.entries ≡ b.entries) × (s.calls ≡ b.entries)
+Settles b logs es (Err f) = IsFault b logs es f
 
 -- ---- laws of the whole
 

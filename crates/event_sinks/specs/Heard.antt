@@ -1,11 +1,10 @@
 -- What contracts see of a listener, while it listens and once it has ended.
-use Rattle.std.specs.Prelude.{◌≡◌, ◌≢◌, ℕ, ◌<◌, ◌≤◌, zero, suc, Bool, true, false, List, [], ◌∷◌, ◌++◌, length, take, drop, All, Option, Some, None, is_none, ◌⊎◌, ◌↔◌, ⊤, IsTrue, Result, Err}
+use Rattle.std.specs.Prelude.{◌≡◌, ◌≢◌, ℕ, ◌<◌, ◌≤◌, zero, suc, Bool, true, false, List, [], ◌∷◌, ◌++◌, length, take, drop, All, Option, Some, None, is_none, ◌⊎◌, ⊤, Err}
 use Rattle.record_codec.specs.declared.event.Event.{Event}
 use Rattle.shared_tree.specs.declared.pipe.Batch.{Batch}
 use Rattle.shared_tree.specs.Handed.{records_of}
 use Rattle.shared_tree.specs.Pipes.{Fed}
-use Rattle.event_sinks.specs.declared.fault.SinkFault.{SinkFault}
-use Rattle.event_sinks.specs.declared.fault.SinkFault.TheVariants.{Full}
+use Rattle.event_sinks.specs.Sinks.{Foretells, MayAnswer}
 use Rattle.event_sinks.specs.declared.listener.Cause.{Cause}
 use Rattle.event_sinks.specs.declared.listener.Cause.TheVariants as cause
 use Rattle.event_sinks.specs.declared.listener.Listening.{Listening}
@@ -83,14 +82,15 @@ Steps old new step.Idle = (old.cause ≡ None) × (new ≡ old)
 Steps old new step.Took = (b : Batch) × Takes old b new
 Steps old new step.Over = ((old.cause ≢ None) × (new ≡ old)) ⊎ ((old.cause ≡ None) × (new ≡ record old { live = false; cause = Some cause.Memory }))
 
--- in a turn there is a step, or the gate lets none through
-abbrev pub IsTurn : Heard → Heard → Type 0
-IsTurn old new = (new ≡ old) ⊎ ((s : Step) × Steps old new s)
+-- in a turn that the gate lets through there is a step, and in no other. Once a listener has ended its gate is not asked
+-- any more. `passes` says what the gate may answer to a number at a turn
+abbrev pub IsTurn : (ℕ → ℕ → Bool → Type 0) → ℕ → Heard → Heard → Type 0
+IsTurn passes turn old new = (passes old.number turn true × ((s : Step) × Steps old new s)) ⊎ ((passes old.number turn false ⊎ (old.cause ≢ None)) × (new ≡ old))
 
--- what so many turns lead to
-abbrev pub Reaches : ℕ → Heard → Heard → Type 0
-Reaches zero old new = new ≡ old
-Reaches (suc n) old new = (mid : Heard) × Reaches n old mid × IsTurn mid new
+-- what so many turns lead to, of which the first is 0
+abbrev pub Reaches : (ℕ → ℕ → Bool → Type 0) → ℕ → Heard → Heard → Type 0
+Reaches passes zero old new = new ≡ old
+Reaches passes (suc n) old new = (mid : Heard) × Reaches passes n old mid × IsTurn passes n mid new
 
 abbrev pub cause_or : Option Cause → Cause → Cause
 cause_or None other = other
@@ -106,12 +106,13 @@ IsFromOutside cause.Turns = ⊤
 IsFromOutside cause.Given = ⊤
 IsFromOutside _ = ⊥
 
--- a sink that had taken these records, and was open, may refuse one more so. It says `Full` exactly where it takes no more
-abbrev pub IsRefusal : {S : Type 0} → (S → List Event) → (S → Bool) → (S → Bool) → (S → Event → Result (Unit {0}) SinkFault → Type 0) → List Event → SinkFault → Type 0
-IsRefusal {S} record_list live full may_answer taken fault = (s : S) × (e : Event) × (record_list s ≡ taken) × (live s ≡ true) × may_answer s e (Err fault) × ((fault ≡ Full) ↔ IsTrue (full s))
+-- what becomes of records that are put into a sink one by one: it takes them all, or those before the one that it refuses
+-- with this fault, which it may answer to that one after them
+abbrev pub Answers : {S : Type 0} → (S → List Event) → (S → MayAnswer) → S → List Event → S → Option Cause → Type 0
+Answers record_list may_answer old records new None = (record_list new ≡ record_list old ++ records) × Foretells (may_answer old) records (may_answer new)
+Answers record_list may_answer old records new (Some (cause.Sink fault)) = (taken : List Event) × (next : Event) × (rest : List Event) × (records ≡ taken ++ next ∷ rest) × (record_list new ≡ record_list old ++ taken) × may_answer old taken next (Err fault)
+Answers record_list may_answer old records new (Some _) = ⊤
 
--- where the listener ends by a record that was refused, the fault is one that a sink of its type may give, with these
--- records taken. Which sink, no member of a sink can say
-abbrev pub IsItsFault : {S : Type 0} → (S → List Event) → (S → Bool) → (S → Bool) → (S → Event → Result (Unit {0}) SinkFault → Type 0) → List Event → Option Cause → Type 0
-IsItsFault record_list live full may_answer taken (Some (cause.Sink fault)) = IsRefusal record_list live full may_answer taken fault
-IsItsFault record_list live full may_answer taken _ = ⊤
+-- the same of the records of the batches that a listener was handed meanwhile
+abbrev pub AnswersBatches : {S : Type 0} → (S → List Event) → (S → MayAnswer) → S → List Batch → S → List Batch → Option Cause → Type 0
+AnswersBatches record_list may_answer old handed new handed' why = (batches : List Batch) × (handed' ≡ handed ++ batches) × Answers record_list may_answer old (records_of batches) new why

@@ -1,6 +1,15 @@
--- What contracts see of the sinks that keep records.
-use Rattle.std.specs.Prelude.{ℕ, Bool, List}
+-- What contracts see of the sinks that keep records, and of what any sink may answer.
+use Rattle.std.specs.Prelude.{ℕ, Bool, List, ◌++◌, Result}
 use Rattle.record_codec.specs.declared.event.Event.{Event}
+use Rattle.event_sinks.specs.declared.fault.SinkFault.{SinkFault}
+
+-- what a sink may answer where it is put a record, once it has taken those before it
+abbrev pub MayAnswer : Type 1
+MayAnswer = List Event → Event → Result (Unit {0}) SinkFault → Type 0
+
+-- what it may answer once it took these records is what it might have answered, before, after them
+abbrev pub Foretells : MayAnswer → List Event → MayAnswer → Type 0
+Foretells before taken after = (more : List Event) (next : Event) (answer : Result (Unit {0}) SinkFault) → after more next answer → before (taken ++ more) next answer
 
 -- the records that a sink took, the oldest first, and whether it is open
 pub record Taking : Type 0 where

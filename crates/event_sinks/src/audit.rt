@@ -1,8 +1,8 @@
 //! Whether a book, the logs of its seats, and the listeners that ended agree.
 
-ghost use Rattle.std.specs.Prelude.{◌≡◌, IfOk, IfErr};
+ghost use Rattle.std.specs.Prelude.{◌≡◌};
 ghost use Rattle.event_sinks.specs.declared.audit.SettleFault.TheVariants.{Memory};
-ghost use Rattle.event_sinks.specs.Audited.{IsAudited, IsFault, outcomes};
+ghost use Rattle.event_sinks.specs.Audited.{Settles, outcomes};
 
 use crate::listener::Ended;
 use crate::served::first_unserved;
@@ -73,8 +73,7 @@ pub fn settle<S: Drop>(
     logs: Vec<SeatLog>,
     ended: Vec<Ended<S>>,
 ) -> Result<Settled, SettleFault>
-    ensures ok { IfOk result (λ s. IsAudited book logs.items (outcomes ended.items) × (s.entries ≡ book.entries) × (s.calls ≡ book.entries)) }
-    ensures err { IfErr result (λ e. IsFault book logs.items (outcomes ended.items) e) }
+    ensures { Settles book logs.items (outcomes ended.items) result }
 {
     let entries = book.entries();
     let calls = count_calls(logs.as_slice());

@@ -9,9 +9,7 @@ impl Sink for Box<dyn Sink> {
 
     ghost live = { λ b. (Sink-box b).live b.value };
 
-    ghost full = { λ b. (Sink-box b).full b.value };
-
-    ghost may_answer = { λ b event answer. (Sink-box b).may_answer b.value event answer };
+    ghost may_answer = { λ b before event answer. (Sink-box b).may_answer b.value before event answer };
 
     fn put(&mut self, event: &Event) -> Result<(), SinkFault> {
         (**self).put(event)

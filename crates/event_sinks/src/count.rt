@@ -1,6 +1,6 @@
 //! A sink that keeps the records that it took, up to a count of them.
 
-ghost use Rattle.std.specs.Prelude.{◌≡◌, ◌≢◌, ◌↔◌, ◌++◌, [], ◌∷◌, ◌==◌, Err, true, false, length, OnOk, OnErr};
+ghost use Rattle.std.specs.Prelude.{◌≡◌, ◌≢◌, ◌↔◌, ◌++◌, [], ◌∷◌, ◌+◌, Err, true, false, length, OnOk, OnErr};
 ghost use Rattle.event_sinks.specs.Sinks.{counting};
 ghost use Rattle.event_sinks.specs.declared.fault.SinkFault.TheVariants.{Full, Write};
 
@@ -47,9 +47,7 @@ impl Sink for CountSink {
 
     ghost live = { λ s. s.live };
 
-    ghost full = { λ s. length s.records == s.most };
-
-    ghost may_answer = { λ _ _ answer. answer ≢ Err Write };
+    ghost may_answer = { λ s before _ answer. ((answer ≡ Err Full) ↔ (length s.records + length before ≡ s.most)) × (answer ≢ Err Write) };
 
     fn put(&mut self, event: &Event) -> Result<(), SinkFault>
         requires { self.old.live ≡ true }

@@ -45,9 +45,7 @@ impl<W: Write + Send + Drop> Sink for LineSink<W> {
 
     ghost live = { λ s. live_of s };
 
-    ghost full = { λ _. false };
-
-    ghost may_answer = { λ _ _ answer. answer ≢ Err Full };
+    ghost may_answer = { λ _ _ _ answer. answer ≢ Err Full };
 
     fn put(&mut self, event: &Event) -> Result<(), SinkFault>
         requires { live_of self.old ≡ true }

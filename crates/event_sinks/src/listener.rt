@@ -1,8 +1,8 @@
 //! What puts the records of a feed into a sink.
 
-ghost use Rattle.std.specs.Prelude.{◌≡◌, [], true, length, None};
+ghost use Rattle.std.specs.Prelude.{◌≡◌, ◌≢◌, [], true, length, None};
 ghost use Rattle.event_sinks.specs.declared.listener.Cause.TheVariants.{Given, Turns};
-ghost use Rattle.event_sinks.specs.Heard.{Heard, IsHeard, IsItsFault, IsFromOutside, IsTurn, Puts, Reaches, Steps, ended_by, ended_of, heard, heard_by};
+ghost use Rattle.event_sinks.specs.Heard.{Answers, AnswersBatches, Heard, IsHeard, IsFromOutside, IsTurn, Puts, Reaches, Steps, ended_by, ended_of, heard, heard_by};
 
 use crate::fault::SinkFault;
 use crate::gate::Gate;
@@ -70,7 +70,7 @@ fn put_batch<S: Sink>(sink: &mut S, batch: &Batch) -> Option<Cause>
     requires { S.live sink.old ≡ true }
     ensures live { S.live sink.new ≡ true }
     ensures puts { Puts (S.record_list sink.old) batch.now.records (S.record_list sink.new) result }
-    ensures fault { IsItsFault S.record_list S.live S.full S.may_answer (S.record_list sink.new) result }
+    ensures answers { Answers S.record_list S.may_answer sink.old batch.now.records sink.new result }
 {
     for event in batch.records.as_slice() {
         if let Err(fault) = sink.put(event) {
@@ -103,7 +103,7 @@ impl<S: Sink> Listening<S> {
         requires { IsHeard (heard_by S.record_list S.live self.old) }
         ensures sound { IsHeard (heard_by S.record_list S.live self.new) }
         ensures steps { Steps (heard_by S.record_list S.live self.old) (heard_by S.record_list S.live self.new) result }
-        ensures fault { IsItsFault S.record_list S.live S.full S.may_answer (S.record_list self.old.sink) self.old.cause → IsItsFault S.record_list S.live S.full S.may_answer (S.record_list self.new.sink) self.new.cause }
+        ensures answers { self.old.cause ≡ None → AnswersBatches S.record_list S.may_answer self.old.sink self.old.handed.items self.new.sink self.new.handed.items self.new.cause }
     {
         if self.cause.is_some() {
             return Step::Over;
@@ -128,8 +128,9 @@ impl<S: Sink> Listening<S> {
     fn is_over_at<G: Gate>(&mut self, gate: &G, turn: u64) -> bool
         requires { IsHeard (heard_by S.record_list S.live self.old) }
         ensures sound { IsHeard (heard_by S.record_list S.live self.new) }
-        ensures turn { IsTurn (heard_by S.record_list S.live self.old) (heard_by S.record_list S.live self.new) }
-        ensures fault { IsItsFault S.record_list S.live S.full S.may_answer (S.record_list self.old.sink) self.old.cause → IsItsFault S.record_list S.live S.full S.may_answer (S.record_list self.new.sink) self.new.cause }
+        ensures turn { IsTurn (G.may_pass gate.now) turn (heard_by S.record_list S.live self.old) (heard_by S.record_list S.live self.new) }
+        ensures over { result ≡ true → self.new.cause ≢ None }
+        ensures answers { self.old.cause ≡ None → AnswersBatches S.record_list S.may_answer self.old.sink self.old.handed.items self.new.sink self.new.handed.items self.new.cause }
     {
         gate.pass(self.number, turn) && self.step() == Step::Over
     }
@@ -140,7 +141,6 @@ impl<S: Sink> Listening<S> {
         requires given { IsFromOutside given }
         ensures sound { IsHeard (ended_of S.record_list S.live result) }
         ensures ended { ended_of S.record_list S.live result ≡ ended_by (heard_by S.record_list S.live self) given }
-        ensures fault { IsItsFault S.record_list S.live S.full S.may_answer (S.record_list self.sink) self.cause → IsItsFault S.record_list S.live S.full S.may_answer (S.record_list result.sink) (Some result.cause) }
     {
         let Listening {
             number,
@@ -172,8 +172,8 @@ impl<S: Sink> Listening<S> {
     pub fn run<G: Gate>(self, gate: &G, turns: u64) -> Ended<S>
         requires { IsHeard (heard_by S.record_list S.live self) }
         ensures sound { IsHeard (ended_of S.record_list S.live result) }
-        ensures turns { (h : Heard) × Reaches turns (heard_by S.record_list S.live self) h × (ended_of S.record_list S.live result ≡ ended_by h Turns) }
-        ensures fault { IsItsFault S.record_list S.live S.full S.may_answer (S.record_list self.sink) self.cause → IsItsFault S.record_list S.live S.full S.may_answer (S.record_list result.sink) (Some result.cause) }
+        ensures turns { (h : Heard) × Reaches (G.may_pass gate.now) turns (heard_by S.record_list S.live self) h × (ended_of S.record_list S.live result ≡ ended_by h Turns) }
+        ensures answers { self.cause ≡ None → AnswersBatches S.record_list S.may_answer self.sink self.handed.items result.sink result.handed.items (Some result.cause) }
     {
         let mut listener = self;
         for turn in 0..turns {
@@ -189,7 +189,6 @@ impl<S: Sink> Listening<S> {
         requires { IsHeard (heard_by S.record_list S.live self) }
         ensures sound { IsHeard (ended_of S.record_list S.live result) }
         ensures ended { ended_of S.record_list S.live result ≡ ended_by (heard_by S.record_list S.live self) Given }
-        ensures fault { IsItsFault S.record_list S.live S.full S.may_answer (S.record_list self.sink) self.cause → IsItsFault S.record_list S.live S.full S.may_answer (S.record_list result.sink) (Some result.cause) }
     {
         self.end(Cause::Given)
     }

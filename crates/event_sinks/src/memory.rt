@@ -42,9 +42,7 @@ impl Sink for MemorySink {
 
     ghost live = { λ s. s.live };
 
-    ghost full = { λ _. false };
-
-    ghost may_answer = { λ _ _ answer. IfErr answer (λ fault. fault ≡ Memory) };
+    ghost may_answer = { λ _ _ _ answer. IfErr answer (λ fault. fault ≡ Memory) };
 
     fn put(&mut self, event: &Event) -> Result<(), SinkFault>
         requires { self.old.live ≡ true }

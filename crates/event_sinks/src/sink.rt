@@ -1,9 +1,9 @@
 //! What takes records.
 
-ghost use Rattle.std.specs.Prelude.{◌≡◌, ◌↔◌, ◌++◌, [], ◌∷◌, Bool, true, false, List, Result, Err, length, IsTrue, OnOk, OnErr};
+ghost use Rattle.std.specs.Prelude.{◌≡◌, ◌++◌, [], ◌∷◌, Bool, true, false, List, Result, length, OnOk, OnErr};
 ghost use Rattle.record_codec.specs.declared.event.Event.{Event};
 ghost use Rattle.event_sinks.specs.declared.fault.SinkFault.{SinkFault};
-ghost use Rattle.event_sinks.specs.declared.fault.SinkFault.TheVariants.{Full};
+ghost use Rattle.event_sinks.specs.Sinks.{Foretells};
 
 use crate::fault::SinkFault;
 use record_codec::Event;
@@ -18,23 +18,22 @@ pub trait Sink: Send + Drop {
     /// Whether it is open.
     ghost live: { Self → Bool };
 
-    /// Whether it takes no more records, though it is open.
-    ghost full: { Self → Bool };
-
-    /// What it may answer where it is put this record.
-    ghost may_answer: { Self → Event → Result (Unit {0}) SinkFault → Type 0 };
+    /// What it may answer where it is put this record, once it has taken those before it.
+    ghost may_answer: { Self → List Event → Event → Result (Unit {0}) SinkFault → Type 0 };
 
     /// Takes a copy of the record.
     ///
     /// # Errors
-    /// The sink's own; `Full` exactly where it takes no more records. It has then taken nothing, and is still open.
+    /// The sink's own; `Full` where it takes no more records. It has then taken nothing, and is still open.
     fn put(&mut self, event: &Event) -> Result<(), SinkFault>
         requires { live self.old ≡ true }
         ensures ok { OnOk result (record_list self.new ≡ record_list self.old ++ event.now ∷ []) }
         ensures err { OnErr result (record_list self.new ≡ record_list self.old) }
         ensures stays { live self.new ≡ true }
-        ensures full { (result ≡ Err Full) ↔ IsTrue (full self.old) }
-        ensures answer { may_answer self.old event.now result };
+        ensures answer { may_answer self.old [] event.now result }
+
+        // What it may answer from now on could be told before.
+        ensures later { OnOk result (Foretells (may_answer self.old) (event.now ∷ []) (may_answer self.new)) };
 
     /// Ends it: it takes no more records.
     fn close(&mut self)

@@ -1,7 +1,8 @@
 //! A sink that takes no more than so many records.
 
-ghost use Rattle.std.specs.Prelude.{◌≡◌, ◌↔◌, ◌++◌, [], ◌∷◌, ◌+◌, ◌==◌, ◌||◌, Err, true, IsTrue, MatchBool, MatchResult, OnOk, OnErr};
-ghost use Rattle.event_sinks.specs.Stopping.{inner_of, left_of};
+ghost use Rattle.std.specs.Prelude.{◌≡◌, ◌++◌, [], ◌∷◌, ◌+◌, Err, true, MatchResult, OnOk, OnErr};
+ghost use Rattle.event_sinks.specs.Sinks.{Foretells};
+ghost use Rattle.event_sinks.specs.Stopping.{StopsAt, inner_of, left_of};
 ghost use Rattle.event_sinks.specs.declared.fault.SinkFault.TheVariants.{Full};
 
 use crate::fault::SinkFault;
@@ -31,10 +32,7 @@ impl<S: Sink> Sink for StopSink<S> {
 
     ghost live = { λ s. S.live (inner_of s) };
 
-    ghost full = { λ s. left_of s == 0 || S.full (inner_of s) };
-
-    // Where some are left, what the other sink may answer.
-    ghost may_answer = { λ s event answer. MatchBool (left_of s == 0) (answer ≡ Err Full) (S.may_answer (inner_of s) event answer) };
+    ghost may_answer = { λ s. StopsAt (left_of s) (S.may_answer (inner_of s)) };
 
     fn put(&mut self, event: &Event) -> Result<(), SinkFault>
         requires { S.live (inner_of self.old) ≡ true }
@@ -45,10 +43,10 @@ impl<S: Sink> Sink for StopSink<S> {
         // What was passed on counts, and nothing is where none is left.
         ensures left { MatchResult result (λ _. left_of self.old ≡ left_of self.new + 1) (λ _. left_of self.new ≡ left_of self.old) }
         ensures stopped { left_of self.old ≡ 0 → (result ≡ Err Full) × (self.new ≡ self.old) }
-        ensures full { (result ≡ Err Full) ↔ IsTrue (left_of self.old == 0 || S.full (inner_of self.old)) }
 
         // Where some are left, the answer is the other sink's.
-        ensures answer { MatchBool (left_of self.old == 0) (result ≡ Err Full) (S.may_answer (inner_of self.old) event.now result) }
+        ensures answer { StopsAt (left_of self.old) (S.may_answer (inner_of self.old)) [] event.now result }
+        ensures later { OnOk result (Foretells (StopsAt (left_of self.old) (S.may_answer (inner_of self.old))) (event.now ∷ []) (StopsAt (left_of self.new) (S.may_answer (inner_of self.new)))) }
     {
         if self.left == 0 {
             return Err(SinkFault::Full);

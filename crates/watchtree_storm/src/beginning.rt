@@ -1,6 +1,6 @@
 //! What stands before a storm begins.
 
-ghost use Rattle.std.specs.Prelude.{◌≡◌, ◌+◌, ◌≤◌, [], true, IfOk};
+ghost use Rattle.std.specs.Prelude.{◌≡◌, ◌+◌, ◌≤◌, [], true, IfOk, OnOk};
 ghost use Rattle.event_sinks.specs.Heard.{IsHeard, heard_by};
 
 use crate::fault::StormFault;
@@ -49,7 +49,8 @@ fn listen<L: Ledger, S: Sink>(
 ) -> Result<Listening<S>, StormFault>
     requires slots { (1 ≤ slots) × (slots ≤ 65536) }
     requires live { S.live sink ≡ true }
-    ensures { IfOk result (λ l. IsHeard (heard_by S.record_list S.live l)) }
+    ensures number { OnOk result (seat.new.number ≡ seat.old.number) }
+    ensures sound { IfOk result (λ l. IsHeard (heard_by S.record_list S.live l)) }
 {
     let (_, feed) = held.open_piped(seat, QUEUE, slots)?;
     let Some(feed) = feed else {
@@ -83,6 +84,7 @@ pub fn begin<L: Ledger, S: Sink>(
     requires live { (S.live one ≡ true) × (S.live other ≡ true) }
     requires calls { calls ≤ 1000 }
     ensures shares { IfOk result (λ b. (b.pass.parts + 3 ≡ L.parts) × (b.pass.amount ≡ 0)) }
+    ensures seats { IfOk result (λ b. (b.main.number ≡ 1) × (b.first.number ≡ 2) × (b.second.number ≡ 3)) }
     ensures sound { IfOk result (λ b. IsHeard (heard_by S.record_list S.live b.one) × IsHeard (heard_by S.record_list S.live b.other)) }
 {
     let (mut held, mut pass) = Held::<L>::new(alloc, blank, Limits::full())?;

@@ -1,9 +1,9 @@
 //! A storm from its beginning to the settled book.
 
 ghost use Rattle.std.specs.Prelude.{◌≡◌, ◌+◌, ◌≤◌, ◌∷◌, [], true, IfOk};
-ghost use Rattle.event_sinks.specs.Audited.{calls_of, outcome_of};
+ghost use Rattle.event_sinks.specs.Audited.{Settles, calls_of, outcome_of};
 ghost use Rattle.event_sinks.specs.Heard.{IsHeard, ended_of, heard_by};
-ghost use Rattle.watchtree_storm.specs.Storm.{Answers, CountsAgree, told_of};
+ghost use Rattle.watchtree_storm.specs.Storm.{CountsAgree, told_of};
 
 use crate::beginning::{Begun, begin};
 use crate::fault::StormFault;
@@ -48,7 +48,7 @@ impl<S: Sink> Ran<S> {
         requires { self.book.entries ≡ calls_of self.logs.items }
         ensures entries { IfOk result (λ s. s.entries ≡ self.book.entries) }
         ensures listeners { IfOk result (λ s. s.listeners.items ≡ told_of S.record_list self.ended.0 ∷ told_of S.record_list self.ended.1 ∷ []) }
-        ensures settled { IfOk result (λ s. Answers self.book self.logs.items (outcome_of self.ended.0 ∷ outcome_of self.ended.1 ∷ []) s.settled) }
+        ensures settled { IfOk result (λ s. Settles self.book self.logs.items (outcome_of self.ended.0 ∷ outcome_of self.ended.1 ∷ []) s.settled) }
         ensures counts { IfOk result (λ s. CountsAgree s.settled) }
     {
         let Ran {

@@ -1,6 +1,6 @@
 //! Storms: their figures, that the four run at once, and what can go wrong.
 
-ghost use Rattle.std.specs.Prelude.{◌≡◌, ◌≤◌, true, IfOk};
+ghost use Rattle.std.specs.Prelude.{◌≡◌, ◌≤◌, true, IfOk, ⊤};
 ghost use Rattle.event_sinks.specs.Writing.{live_of};
 
 use super::*;
@@ -38,6 +38,8 @@ impl Four {
 }
 
 impl Gate for Four {
+    ghost may_pass = { λ _ _ _ _. ⊤ };
+
     fn pass(&self, who: u32, _turn: u64) -> bool {
         if 0 < who && who < 5 {
             self.asked[who as usize - 1].store(1, Ordering::SeqCst);

@@ -1,6 +1,6 @@
 //! Listeners at feeds of a tree. Want of memory for a sink, or for a text, ends a test.
 
-ghost use Rattle.std.specs.Prelude.{◌≡◌, [], true, length, None};
+ghost use Rattle.std.specs.Prelude.{◌≡◌, [], true, length, None, ⊤};
 ghost use Rattle.event_sinks.specs.Heard.{IsHeard, heard, heard_by};
 
 use super::feeds::{feed_of, opens, tells};
@@ -20,6 +20,8 @@ struct Lets {
 }
 
 impl Gate for Lets {
+    ghost may_pass = { λ _ _ _ _. ⊤ };
+
     fn pass(&self, who: u32, turn: u64) -> bool {
         who == self.who && turn >= self.from
     }

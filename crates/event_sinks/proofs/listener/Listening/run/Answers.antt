@@ -1,18 +1,54 @@
-use Rattle.std.proofs.Common.{◌+◌, arith, rules}
-use Rattle.event_sinks.specs.Heard.{heard_by}
+use Rattle.std.proofs.Common.{◌+◌, ap, arith, refl, rules}
+use Rattle.event_sinks.specs.declared.listener.Cause.TheVariants.{Turns}
+use Rattle.event_sinks.specs.Heard.{Heard, heard_by}
+use Rattle.event_sinks.proofs.Answering.{end_answers, turn_answers}
 use Rattle.event_sinks.proofs.Hearing.{reaches_more, reaches_next}
 use Rattle.event_sinks.proofs.listener.Listening.run.Goals as goal
 
 pub returns-then-is_over_at-clause-turns : goal.returns-then-is_over_at-clause-turns
 returns-then-is_over_at-clause-turns g c =
+    let passes = g.G.Gate.may_pass c.args.gate.now in
     let old = heard_by g.S.Sink.record_list g.S.Sink.live c.args.self in
     let mid = heard_by g.S.Sink.record_list g.S.Sink.live c.loop-turn.listener in
     let new = heard_by g.S.Sink.record_list g.S.Sink.live c.is_over_at.new.self in
-    let next = reaches_next c.loop-turn.turn old mid new c.loop-turn.invariant.reaches c.is_over_at.ensures.turn in
-    (new, reaches_more (c.loop-turn.turn + 1) c.args.turns old new (omega arith) next, search rules)
+    let next = reaches_next passes c.loop-turn.turn old mid new c.loop-turn.invariant.reaches c.is_over_at.ensures.turn in
+    (new, reaches_more passes (c.loop-turn.turn + 1) c.args.turns old new (omega arith) (c.is_over_at.ensures.over (search rules)) next, search rules)
 
 pub returns-clause-turns : goal.returns-clause-turns
 returns-clause-turns g c =
-    let old = heard_by g.S.Sink.record_list g.S.Sink.live c.args.self in
     let new = heard_by g.S.Sink.record_list g.S.Sink.live c.loop-turn.listener in
-    (new, reaches_more c.loop-turn.turn c.args.turns old new (omega arith) c.loop-turn.invariant.reaches, search rules)
+    (new, search rules, search rules)
+
+pub returns-then-is_over_at-clause-answers : goal.returns-then-is_over_at-clause-answers
+returns-then-is_over_at-clause-answers g c on =
+    let list = g.S.Sink.record_list in
+    let may = g.S.Sink.may_answer in
+    let old = c.loop-turn.listener in
+    let new = c.is_over_at.new.self in
+    let last = c.end.result in
+    let ended = c.end.ensures.ended in
+    let turned = turn_answers list may c.args.self.sink c.args.self.handed.items old.sink new.sink old.handed.items new.handed.items (g.G.Gate.may_pass c.args.gate.now) c.loop-turn.turn old.cause new.cause (heard_by list g.S.Sink.live old) (heard_by list g.S.Sink.live new) refl refl refl refl refl refl c.is_over_at.ensures.turn (c.loop-turn.invariant.answers on) c.is_over_at.ensures.answers in
+    end_answers list may c.args.self.sink c.args.self.handed.items new.sink last.sink new.handed.items last.handed.items new.cause last.cause Turns (ap (λ (h : Heard). h.handed) ended) (ap (λ (h : Heard). h.list) ended) (ap (λ (h : Heard). h.cause) ended) (λ records. tt) turned
+
+pub returns-clause-answers : goal.returns-clause-answers
+returns-clause-answers g c on =
+    let list = g.S.Sink.record_list in
+    let new = c.loop-turn.listener in
+    let last = c.end-2.result in
+    let ended = c.end-2.ensures.ended in
+    end_answers list g.S.Sink.may_answer c.args.self.sink c.args.self.handed.items new.sink last.sink new.handed.items last.handed.items new.cause last.cause Turns (ap (λ (h : Heard). h.handed) ended) (ap (λ (h : Heard). h.list) ended) (ap (λ (h : Heard). h.cause) ended) (λ records. tt) (c.loop-turn.invariant.answers on)
+
+pub loop-turn-preserved : goal.loop-turn-preserved
+loop-turn-preserved g c =
+    let list = g.S.Sink.record_list in
+    let first = c.args.self in
+    let old = c.loop-turn.listener in
+    let new = c.is_over_at.new.self in
+    let before = heard_by list g.S.Sink.live old in
+    let after = heard_by list g.S.Sink.live new in
+    let passes = g.G.Gate.may_pass c.args.gate.now in
+    record {
+      sound = c.is_over_at.ensures.sound;
+      reaches = reaches_next passes c.loop-turn.turn (heard_by list g.S.Sink.live first) before after c.loop-turn.invariant.reaches c.is_over_at.ensures.turn;
+      answers = λ on. turn_answers list g.S.Sink.may_answer first.sink first.handed.items old.sink new.sink old.handed.items new.handed.items passes c.loop-turn.turn old.cause new.cause before after refl refl refl refl refl refl c.is_over_at.ensures.turn (c.loop-turn.invariant.answers on) c.is_over_at.ensures.answers;
+    }

@@ -1,9 +1,10 @@
-use Rattle.event_sinks.specs.Heard.{heard_by, IsHeard, IsItsFault, Reaches}
+use Rattle.std.proofs.Common.{◌≡◌, None}
+use Rattle.event_sinks.specs.Heard.{heard_by, AnswersBatches, IsHeard, Reaches}
 use Rattle.event_sinks.proofs.listener.Listening.run.Given as goal
 
 abbrev pub invariant-loop-turn : goal.invariant-loop-turn
 invariant-loop-turn g l = record {
   sound : IsHeard (heard_by g.S.Sink.record_list g.S.Sink.live l.listener);
-  reaches : Reaches l.turn (heard_by g.S.Sink.record_list g.S.Sink.live l.fn.self) (heard_by g.S.Sink.record_list g.S.Sink.live l.listener);
-  fault : IsItsFault g.S.Sink.record_list g.S.Sink.live g.S.Sink.full g.S.Sink.may_answer (g.S.Sink.record_list l.fn.self.sink) l.fn.self.cause → IsItsFault g.S.Sink.record_list g.S.Sink.live g.S.Sink.full g.S.Sink.may_answer (g.S.Sink.record_list l.listener.sink) l.listener.cause;
+  reaches : Reaches (g.G.Gate.may_pass l.fn.gate) l.turn (heard_by g.S.Sink.record_list g.S.Sink.live l.fn.self) (heard_by g.S.Sink.record_list g.S.Sink.live l.listener);
+  answers : l.fn.self.cause ≡ None → AnswersBatches g.S.Sink.record_list g.S.Sink.may_answer l.fn.self.sink l.fn.self.handed.items l.listener.sink l.listener.handed.items l.listener.cause;
 }
