@@ -1,16 +1,15 @@
 -- What a sink answers to records that are put into it one after another.
-use Rattle.std.proofs.Common.{◌≡◌, ◌≢◌, ℕ, Bool, subst, ◌∙◌, sym, ap, refl, ◌+◌, ◌<◌, inl, inr, List, [], ◌∷◌, ◌++◌, length, take, drop, get_or, append-nil, append_assoc, take-append-drop, Result, Err, ◌⊎◌, arith}
+use Rattle.std.proofs.Common.{◌≡◌, ℕ, Bool, subst, ◌∙◌, sym, ap, refl, ◌+◌, ◌<◌, inl, inr, List, [], ◌∷◌, ◌++◌, length, take, drop, get_or, append_assoc, take-append-drop, Err}
 use Rattle.std.specs.Prelude.{Some, None, Option}
 use Rattle.std.proofs.lemmas.List.{drop_more}
 use Rattle.record_codec.specs.declared.event.Event.{Event}
 use Rattle.shared_tree.specs.declared.pipe.Batch.{Batch}
 use Rattle.shared_tree.specs.Handed.{records_of}
-use Rattle.event_sinks.specs.declared.fault.SinkFault.{SinkFault}
 use Rattle.event_sinks.specs.declared.listener.Cause.{Cause}
 use Rattle.event_sinks.specs.declared.listener.Cause.TheVariants as cause
 use Rattle.event_sinks.specs.declared.listener.Step.{Step}
 use Rattle.event_sinks.specs.declared.listener.Step.TheVariants as step
-use Rattle.event_sinks.specs.Heard.{Answers, AnswersBatches, Heard, IsTurn, Steps, cause_or, ended_by}
+use Rattle.event_sinks.specs.Heard.{Answers, AnswersBatches, Heard, IsTurn, Steps, cause_or}
 use Rattle.event_sinks.specs.Sinks.{Foretells, MayAnswer}
 
 pub foretells_on : (a b c : MayAnswer) (xs ys : List Event) → Foretells a xs b → Foretells b ys c → Foretells a (xs ++ ys) c
