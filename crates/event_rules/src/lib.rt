@@ -14,6 +14,3 @@ pub use laws::{
 pub use notice::{NO_COOKIE, Notice, Notices};
 pub use staging::{Staged, ignored, stage};
 pub use telling::notices;
-
-#[cfg(test)]
-mod tests;

@@ -25,6 +25,3 @@ pub use listener::{Cause, Ended, Listener, Listening, Step};
 pub use memory::MemorySink;
 pub use sink::Sink;
 pub use stop::StopSink;
-
-#[cfg(test)]
-mod tests;

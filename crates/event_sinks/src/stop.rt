@@ -44,7 +44,7 @@ impl<S: Sink> Sink for StopSink<S> {
         ensures left { MatchResult result (λ _. left_of self.old ≡ left_of self.new + 1) (λ _. left_of self.new ≡ left_of self.old) }
         ensures stopped { left_of self.old ≡ 0 → (result ≡ Err Full) × (self.new ≡ self.old) }
 
-        // Where some are left, the answer is the other sink's.
+        // Where some are left, it is an answer that the other sink may give.
         ensures answer { StopsAt (left_of self.old) (S.may_answer (inner_of self.old)) [] event.now result }
         ensures later { OnOk result (Foretells (StopsAt (left_of self.old) (S.may_answer (inner_of self.old))) (event.now ∷ []) (StopsAt (left_of self.new) (S.may_answer (inner_of self.new)))) }
     {

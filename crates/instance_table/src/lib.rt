@@ -10,6 +10,3 @@ mod staging;
 pub use instance::Instance;
 pub use instances::Instances;
 pub use staging::Staging;
-
-#[cfg(test)]
-mod tests;

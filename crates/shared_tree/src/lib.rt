@@ -15,6 +15,3 @@ pub use held::{Held, Tree};
 pub use laws::{batches_are_answered, end_batches_come_last, sent_is_read};
 pub use pipe::{Batch, Feed};
 pub use seat::{KeptCalls, Pass, Seat, SeatLog};
-
-#[cfg(test)]
-mod tests;

@@ -18,6 +18,3 @@ pub use state::State;
 pub use turn_laws::{
     cookies_are_in_turn, numbers_are_in_turn, replies_tell, trees_are_sound, watches_end_once,
 };
-
-#[cfg(test)]
-mod tests;

@@ -10,8 +10,6 @@ mod carrying;
 mod checking;
 mod laws;
 mod opening;
-#[cfg(test)]
-mod tests;
 
 pub use answer::Answer;
 pub use call::{Counts, FileCall, MAX_MODE};

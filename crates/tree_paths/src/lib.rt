@@ -13,6 +13,3 @@ pub use limits::Limits;
 pub use names::Names;
 pub use path::Path;
 pub use refusal::Refusal;
-
-#[cfg(test)]
-mod tests;

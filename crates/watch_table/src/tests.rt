@@ -1,8 +1,19 @@
 use crate::{Mask, Watches};
 use bitflags::Flags;
 use record_codec::bits;
+use std::fmt::Debug;
 use std::process::Abort;
 use tree_paths::{Limits, Refusal};
+
+/// What was got is what is wanted. Tests assert in these two functions: the macros in a long body take minutes to prove.
+fn equal<T: PartialEq + Debug + Drop>(rt: &impl Abort, got: T, wanted: T) {
+    assert_eq!(rt; got, wanted);
+}
+
+/// It is so.
+fn holds(rt: &impl Abort, what: &str, is_so: bool) {
+    assert!(rt; is_so, "{what}");
+}
 
 /// Watches a file. A call that lacks memory has changed nothing, and is made once more.
 fn watch(
@@ -41,66 +52,84 @@ fn masks(rt: HostRuntime) {
         (0x0600_0002, 0x0600_0002, 0x002, None),
     ] {
         let mask = Mask::of(bits);
-        assert_eq!(rt; mask.bits(), known);
-        assert_eq!(rt; mask.stored(), stored);
-        assert_eq!(rt; mask.fault(), fault);
+        equal(&rt, mask.bits(), known);
+        equal(&rt, mask.stored(), stored);
+        equal(&rt, mask.fault(), fault);
     }
-    assert!(rt; (Mask::CREATE | Mask::DELETE).contains(Mask::CREATE));
-    assert!(rt; Mask::from_name("ONESHOT") == Some(Mask::ONESHOT));
+    holds(
+        &rt,
+        "(Mask::CREATE | Mask::DELETE).contains(Mask::CREATE)",
+        (Mask::CREATE | Mask::DELETE).contains(Mask::CREATE),
+    );
+    holds(
+        &rt,
+        "Mask::from_name('ONESHOT') == Some(Mask::ONESHOT)",
+        Mask::from_name("ONESHOT") == Some(Mask::ONESHOT),
+    );
 }
 
 #[test]
 fn joins_and_replaces(rt: HostRuntime) {
     let mut watches = Watches::new(rt.alloc(), &Limits::full());
-    assert_eq!(rt; watches.of(7), None);
-    assert!(rt; watches.is_empty());
-    assert_eq!(rt; watch(&rt, &mut watches, 7, bits::IN_CREATE, true), Ok(1));
-    assert_eq!(rt; watches.of(7), Some((1, 0x100)));
-    assert_eq!(rt; watch(&rt, &mut watches, 7, 0xa000_0200, true), Ok(1));
-    assert_eq!(rt; watches.of(7), Some((1, 0x8000_0300)));
-    assert_eq!(rt; watch(&rt, &mut watches, 7, 0x2000_0001, true), Ok(1));
-    assert_eq!(rt; watches.of(7), Some((1, 0x8000_0301)));
-    assert_eq!(rt; watch(&rt, &mut watches, 7, 0x0100_0200, true), Ok(1));
-    assert_eq!(rt; watches.of(7), Some((1, 0x200)));
+    equal(&rt, watches.of(7), None);
+    holds(&rt, "watches.is_empty()", watches.is_empty());
+    equal(
+        &rt,
+        watch(&rt, &mut watches, 7, bits::IN_CREATE, true),
+        Ok(1),
+    );
+    equal(&rt, watches.of(7), Some((1, 0x100)));
+    equal(&rt, watch(&rt, &mut watches, 7, 0xa000_0200, true), Ok(1));
+    equal(&rt, watches.of(7), Some((1, 0x8000_0300)));
+    equal(&rt, watch(&rt, &mut watches, 7, 0x2000_0001, true), Ok(1));
+    equal(&rt, watches.of(7), Some((1, 0x8000_0301)));
+    equal(&rt, watch(&rt, &mut watches, 7, 0x0100_0200, true), Ok(1));
+    equal(&rt, watches.of(7), Some((1, 0x200)));
 
     // A file that is not watched yet gets the bits of the call, also to be joined.
-    assert_eq!(rt; watch(&rt, &mut watches, 3, 0x2600_4002, false), Ok(2));
-    assert_eq!(rt; watches.of(3), Some((2, 0x2)));
-    assert_eq!(rt;
+    equal(&rt, watch(&rt, &mut watches, 3, 0x2600_4002, false), Ok(2));
+    equal(&rt, watches.of(3), Some((2, 0x2)));
+    equal(
+        &rt,
         watch(&rt, &mut watches, 3, 0x0100_0fff, false),
-        Err(Refusal::Enotdir)
+        Err(Refusal::Enotdir),
     );
-    assert_eq!(rt; watches.of(3), Some((2, 0x2)));
-    assert_eq!(rt; watches.len(), 2);
-    assert!(rt; !watches.is_empty());
-    assert_eq!(rt; watches.next_wd(), 3);
+    equal(&rt, watches.of(3), Some((2, 0x2)));
+    equal(&rt, watches.len(), 2);
+    holds(&rt, "!watches.is_empty()", !watches.is_empty());
+    equal(&rt, watches.next_wd(), 3);
 }
 
 #[test]
 fn ends(rt: HostRuntime) {
     let mut watches = Watches::new(rt.alloc(), &Limits::full());
     for number in [9, 4, 6] {
-        assert!(rt; watch(&rt, &mut watches, number, bits::IN_ALL_EVENTS, false).is_ok());
+        holds(
+            &rt,
+            "watch(&rt, &mut watches, number, bits::IN_ALL_EVENTS, false).is_ok()",
+            watch(&rt, &mut watches, number, bits::IN_ALL_EVENTS, false).is_ok(),
+        );
     }
-    assert_eq!(rt; watches.number_of(1), Some(9));
-    assert_eq!(rt; watches.number_of(-1), None);
+    equal(&rt, watches.number_of(1), Some(9));
+    equal(&rt, watches.number_of(-1), None);
     let mut sum = 0;
     for number in watches.numbers() {
-        assert!(rt; *number > sum);
+        holds(&rt, "*number > sum", *number > sum);
         sum = *number;
     }
-    assert_eq!(rt; sum, 9);
-    assert_eq!(rt; watches.remove(1), Ok(()));
-    assert_eq!(rt; watches.remove(1), Err(Refusal::Einval));
-    assert_eq!(rt; watches.of(9), None);
-    assert_eq!(rt; watches.drop_file(6), Some(3));
-    assert_eq!(rt; watches.drop_file(6), None);
-    assert_eq!(rt; watches.remove(3), Err(Refusal::Einval));
-    assert_eq!(rt;
+    equal(&rt, sum, 9);
+    equal(&rt, watches.remove(1), Ok(()));
+    equal(&rt, watches.remove(1), Err(Refusal::Einval));
+    equal(&rt, watches.of(9), None);
+    equal(&rt, watches.drop_file(6), Some(3));
+    equal(&rt, watches.drop_file(6), None);
+    equal(&rt, watches.remove(3), Err(Refusal::Einval));
+    equal(
+        &rt,
         watch(&rt, &mut watches, 9, bits::IN_ALL_EVENTS, false),
-        Ok(4)
+        Ok(4),
     );
-    assert_eq!(rt; watches.len(), 2);
+    equal(&rt, watches.len(), 2);
 }
 
 #[test]
@@ -108,32 +137,60 @@ fn limits(rt: HostRuntime) {
     let mut limits = Limits::full();
     limits.watches = 1;
     let mut watches = Watches::new(rt.alloc(), &limits);
-    assert_eq!(rt; watch(&rt, &mut watches, 5, bits::IN_MODIFY, false), Ok(1));
-    assert_eq!(rt;
+    equal(
+        &rt,
+        watch(&rt, &mut watches, 5, bits::IN_MODIFY, false),
+        Ok(1),
+    );
+    equal(
+        &rt,
         watch(&rt, &mut watches, 6, bits::IN_MODIFY, false),
-        Err(Refusal::Enospc)
+        Err(Refusal::Enospc),
     );
-    assert_eq!(rt;
+    equal(
+        &rt,
         watch(&rt, &mut watches, 6, 0x0100_0002, false),
-        Err(Refusal::Enotdir)
+        Err(Refusal::Enotdir),
     );
-    assert_eq!(rt; watch(&rt, &mut watches, 5, bits::IN_ATTRIB, false), Ok(1));
-    assert_eq!(rt; watches.drop_file(5), Some(1));
-    assert_eq!(rt; watch(&rt, &mut watches, 6, bits::IN_MODIFY, false), Ok(2));
+    equal(
+        &rt,
+        watch(&rt, &mut watches, 5, bits::IN_ATTRIB, false),
+        Ok(1),
+    );
+    equal(&rt, watches.drop_file(5), Some(1));
+    equal(
+        &rt,
+        watch(&rt, &mut watches, 6, bits::IN_MODIFY, false),
+        Ok(2),
+    );
 
     let mut limits = Limits::full();
     limits.wds = 2;
     let mut watches = Watches::new(rt.alloc(), &limits);
-    assert_eq!(rt; watch(&rt, &mut watches, 5, bits::IN_MODIFY, false), Ok(1));
-    assert_eq!(rt; watch(&rt, &mut watches, 6, bits::IN_MODIFY, false), Ok(2));
-    assert_eq!(rt;
-        watch(&rt, &mut watches, 7, bits::IN_MODIFY, false),
-        Err(Refusal::Enospc)
+    equal(
+        &rt,
+        watch(&rt, &mut watches, 5, bits::IN_MODIFY, false),
+        Ok(1),
     );
-    assert_eq!(rt; watches.remove(1), Ok(()));
-    assert_eq!(rt;
-        watch(&rt, &mut watches, 7, bits::IN_MODIFY, false),
-        Err(Refusal::Enospc)
+    equal(
+        &rt,
+        watch(&rt, &mut watches, 6, bits::IN_MODIFY, false),
+        Ok(2),
     );
-    assert_eq!(rt; watch(&rt, &mut watches, 6, bits::IN_ATTRIB, false), Ok(2));
+    equal(
+        &rt,
+        watch(&rt, &mut watches, 7, bits::IN_MODIFY, false),
+        Err(Refusal::Enospc),
+    );
+    equal(&rt, watches.remove(1), Ok(()));
+    equal(
+        &rt,
+        watch(&rt, &mut watches, 7, bits::IN_MODIFY, false),
+        Err(Refusal::Enospc),
+    );
+    equal(
+        &rt,
+        watch(&rt, &mut watches, 6, bits::IN_ATTRIB, false),
+        Ok(2),
+    );
 }

@@ -17,6 +17,3 @@ mod words;
 pub use fault::{RunFault, ScriptFault};
 pub use laws::{journals_are_lawful, texts_are_one};
 pub use run::{SCRIPT_MAX, run_script};
-
-#[cfg(test)]
-mod tests;

@@ -15,6 +15,3 @@ pub use course::{Ran, Stormed, run, storm};
 pub use fault::StormFault;
 pub use gates::OpenGate;
 pub use writer::{Writer, close_both};
-
-#[cfg(test)]
-mod tests;

@@ -1,7 +1,19 @@
 use super::*;
 use record_codec::Name;
 use std::alloc::AllocError;
+use std::fmt::Debug;
+use std::process::Abort;
 use tree_paths::Limits;
+
+/// What was got is what is wanted. Tests assert in these two functions: the macros in a long body take minutes to prove.
+fn equal<T: PartialEq + Debug + Drop>(rt: &impl Abort, got: T, wanted: T) {
+    assert_eq!(rt; got, wanted);
+}
+
+/// It is so.
+fn holds(rt: &impl Abort, what: &str, is_so: bool) {
+    assert!(rt; is_so, "{what}");
+}
 
 /// A file of this name was made in the directory of watch 1.
 fn made(alloc: Global, name: &[u8]) -> Result<Event, AllocError> {
@@ -28,28 +40,28 @@ fn limit_two(rt: HostRuntime) -> Result<(), Refusal> {
     let again = made(alloc, b"g".as_slice())?;
     let (first, second, last) = (a.copy()?, b.copy()?, g.copy()?);
     let mut queue = Queue::with_limit(alloc, 2)?;
-    assert_eq!(rt; queue.offer(a), Offered::Kept);
-    assert_eq!(rt; queue.offer(b), Offered::Kept);
-    assert_eq!(rt; queue.offer(c), Offered::Marked);
-    assert_eq!(rt; queue.offer(d), Offered::Lost);
-    assert_eq!(rt; queue.take(), Some(first));
-    assert_eq!(rt; queue.offer(e), Offered::Lost);
-    assert_eq!(rt; queue.take(), Some(second));
-    assert_eq!(rt; queue.offer(g), Offered::Kept);
-    assert_eq!(rt; queue.offer(again), Offered::Merged);
-    assert_eq!(rt; queue.len(), 2);
-    assert_eq!(rt; queue.limit(), 2);
-    assert!(rt; !queue.is_empty());
+    equal(&rt, queue.offer(a), Offered::Kept);
+    equal(&rt, queue.offer(b), Offered::Kept);
+    equal(&rt, queue.offer(c), Offered::Marked);
+    equal(&rt, queue.offer(d), Offered::Lost);
+    equal(&rt, queue.take(), Some(first));
+    equal(&rt, queue.offer(e), Offered::Lost);
+    equal(&rt, queue.take(), Some(second));
+    equal(&rt, queue.offer(g), Offered::Kept);
+    equal(&rt, queue.offer(again), Offered::Merged);
+    equal(&rt, queue.len(), 2);
+    equal(&rt, queue.limit(), 2);
+    holds(&rt, "!queue.is_empty()", !queue.is_empty());
     // The mark takes 16 bytes, and a record with a short name 32.
     let fits = [15, 16, 47, 48, 1000].map(|bytes| queue.fit(bytes));
-    assert_eq!(rt; fits, [0, 1, 1, 2, 2]);
-    assert_eq!(rt; queue.peek(0), Some(&overflow_mark()));
-    assert_eq!(rt; queue.peek(1), Some(&last));
-    assert_eq!(rt; queue.peek(2), None);
-    assert_eq!(rt; queue.take(), Some(overflow_mark()));
-    assert_eq!(rt; queue.take(), Some(last));
-    assert_eq!(rt; queue.take(), None);
-    assert!(rt; queue.is_empty());
+    equal(&rt, fits, [0, 1, 1, 2, 2]);
+    equal(&rt, queue.peek(0), Some(&overflow_mark()));
+    equal(&rt, queue.peek(1), Some(&last));
+    equal(&rt, queue.peek(2), None);
+    equal(&rt, queue.take(), Some(overflow_mark()));
+    equal(&rt, queue.take(), Some(last));
+    equal(&rt, queue.take(), None);
+    holds(&rt, "queue.is_empty()", queue.is_empty());
     Ok(())
 }
 
@@ -66,16 +78,16 @@ fn touched(cookie: u32) -> Event {
 #[test]
 fn least_limit(rt: HostRuntime) -> Result<(), Refusal> {
     let mut queue = Queue::with_limit(rt.alloc(), 1)?;
-    assert_eq!(rt; queue.offer(touched(1)), Offered::Kept);
-    assert_eq!(rt; queue.offer(touched(1)), Offered::Merged);
-    assert_eq!(rt; queue.offer(touched(2)), Offered::Marked);
-    assert_eq!(rt; queue.offer(touched(1)), Offered::Lost);
-    assert_eq!(rt; queue.len(), 2);
-    assert_eq!(rt; queue.take(), Some(touched(1)));
-    assert_eq!(rt; queue.offer(touched(1)), Offered::Lost);
-    assert_eq!(rt; queue.take(), Some(overflow_mark()));
-    assert_eq!(rt; queue.offer(touched(1)), Offered::Kept);
-    assert_eq!(rt; queue.len(), 1);
+    equal(&rt, queue.offer(touched(1)), Offered::Kept);
+    equal(&rt, queue.offer(touched(1)), Offered::Merged);
+    equal(&rt, queue.offer(touched(2)), Offered::Marked);
+    equal(&rt, queue.offer(touched(1)), Offered::Lost);
+    equal(&rt, queue.len(), 2);
+    equal(&rt, queue.take(), Some(touched(1)));
+    equal(&rt, queue.offer(touched(1)), Offered::Lost);
+    equal(&rt, queue.take(), Some(overflow_mark()));
+    equal(&rt, queue.offer(touched(1)), Offered::Kept);
+    equal(&rt, queue.len(), 1);
     Ok(())
 }
 
@@ -84,16 +96,16 @@ fn greatest_limit(rt: HostRuntime) -> Result<(), Refusal> {
     let limit = Limits::full().queue;
     let mut queue = Queue::with_limit(rt.alloc(), limit)?;
     for cookie in 0..limit {
-        assert_eq!(rt; queue.offer(touched(cookie)), Offered::Kept);
+        equal(&rt, queue.offer(touched(cookie)), Offered::Kept);
     }
-    assert_eq!(rt; queue.offer(touched(0)), Offered::Marked);
-    assert_eq!(rt; queue.offer(touched(1)), Offered::Lost);
-    assert_eq!(rt; queue.len(), 65_536);
-    assert_eq!(rt; queue.fit(16 * 65_535), 65_535);
+    equal(&rt, queue.offer(touched(0)), Offered::Marked);
+    equal(&rt, queue.offer(touched(1)), Offered::Lost);
+    equal(&rt, queue.len(), 65_536);
+    equal(&rt, queue.fit(16 * 65_535), 65_535);
     for cookie in 0..limit {
-        assert_eq!(rt; queue.take(), Some(touched(cookie)));
+        equal(&rt, queue.take(), Some(touched(cookie)));
     }
-    assert_eq!(rt; queue.take(), Some(overflow_mark()));
-    assert!(rt; queue.is_empty());
+    equal(&rt, queue.take(), Some(overflow_mark()));
+    holds(&rt, "queue.is_empty()", queue.is_empty());
     Ok(())
 }

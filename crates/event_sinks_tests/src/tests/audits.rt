@@ -1,0 +1,292 @@
+//! Books that are settled, and books that are not.
+
+ghost use Rattle.std.specs.Prelude.{◌≡◌, ◌≤◌, IfOk, IsTrue, true};
+ghost use Rattle.tree_core.specs.Calls.{is_plain};
+
+use super::feeds::{tells, watches};
+use super::*;
+use shared_tree::{Book, Feed, Held, KeptCalls, Seat, SeatLog};
+use std::marker::Brand;
+use std::sync::ledger::{Blank, Ledger};
+use tree_core::Call;
+use tree_ops::FileCall;
+use tree_paths::{Limits, Path, Refusal};
+
+type End = Ended<MemorySink>;
+
+/// Lets each turn through.
+#[derive(Drop)]
+struct Open;
+
+impl Gate for Open {
+    ghost may_pass = { λ _ _ _ answer. answer ≡ true };
+
+    fn pass(&self, _who: u32, _turn: u64) -> bool {
+        true
+    }
+
+    fn turns(&self) -> u64 {
+        9
+    }
+}
+
+/// What `settle` answers.
+type Answer = Result<Settled, SettleFault>;
+
+// A book with these logs and listeners, settled.
+fn settles(
+    alloc: Global,
+    book: Book,
+    logs: [Option<SeatLog>; 2],
+    ends: [Option<End>; 2],
+) -> Result<Answer, Fail> {
+    let mut given = Vec::with_capacity(alloc, 2)?;
+    for log in logs {
+        given.extend(log)?;
+    }
+    let mut ended = Vec::with_capacity(alloc, 2)?;
+    for end in ends {
+        ended.extend(end)?;
+    }
+    answered(settle(alloc, book, given, ended))
+}
+
+// An answer, unless it is want of memory, which ends a test.
+fn answered(answer: Answer) -> Result<Answer, Fail> {
+    match answer {
+        Err(SettleFault::Memory) => Err(Fail::from(SettleFault::Memory)),
+        answer => Ok(answer),
+    }
+}
+
+// A listener that has ended, unless it did for want of memory, which ends a test.
+fn ended(end: End) -> Result<End, Refusal> {
+    match end.cause() {
+        Cause::Memory | Cause::Sink(SinkFault::Memory) => Err(Refusal::Enomem),
+        _ => Ok(end),
+    }
+}
+
+fn mkdir(alloc: Global, path: &[u8]) -> Result<Call, Refusal>
+    ensures { IfOk result (λ call. IsTrue (is_plain call)) }
+{
+    let path = Path::parse(alloc, path)?;
+    Ok(Call::File(FileCall::Mkdir { path, mode: 0o755 }))
+}
+
+// The book of a tree in which two seats made a directory each, and their logs.
+fn two_seats<L: Ledger>(
+    alloc: Global,
+    blank: Blank,
+    one: &[u8],
+    other: &[u8],
+) -> Result<(Book, SeatLog, SeatLog), Refusal>
+    requires name { blank.name ≡ L.name }
+    requires parts { (blank.parts ≡ L.parts) × (blank.parts ≡ 65537) }
+{
+    let (mut held, mut pass) = Held::<L>::new(alloc, blank, Limits::full())?;
+    let mut first = pass.seat()?;
+    let mut second = pass.seat()?;
+    held.call(&mut first, mkdir(alloc, one)?)?;
+    held.call(&mut second, mkdir(alloc, other)?)?;
+    let first = pass.join(first);
+    let second = pass.join(second);
+    Ok((held.dissolve(pass), first, second))
+}
+
+fn two(alloc: Global, one: &str, other: &str) -> Result<(Book, SeatLog, SeatLog), Refusal> {
+    two_seats::<Brand>(alloc, Blank::new(65537), one.as_bytes(), other.as_bytes())
+}
+
+#[test]
+fn books_of_two_seats(rt: HostRuntime) -> Result<(), Fail> {
+    let alloc = rt.alloc();
+    let (book, first, second) = two(alloc, "/a", "/b")?;
+    let whole = settles(alloc, book, [Some(first), Some(second)], [None, None])?;
+    equal(
+        &rt,
+        whole,
+        Ok(Settled {
+            entries: 2,
+            calls: 2,
+        }),
+    );
+    let (book, first, _) = two(alloc, "/a", "/b")?;
+    let alone = settles(alloc, book, [Some(first), None], [None, None])?;
+    equal(
+        &rt,
+        alone,
+        Err(SettleFault::CountDiffers {
+            entries: 2,
+            calls: 1,
+        }),
+    );
+    let (book, first, _) = two(alloc, "/a", "/b")?;
+    let (_, _, another) = two(alloc, "/a", "/c")?;
+    let stray = settles(alloc, book, [Some(first), Some(another)], [None, None])?;
+    equal(&rt, stray, Err(SettleFault::Stray(2)));
+    Ok(())
+}
+
+// The book of a tree in which a story was told, the log of its seat, and the feed of its instance.
+fn story_told<L: Ledger>(
+    alloc: Global,
+    blank: Blank,
+    story: &[u8],
+) -> Result<(Book, SeatLog, Feed), Refusal>
+    requires name { blank.name ≡ L.name }
+    requires parts { (blank.parts ≡ L.parts) × (blank.parts ≡ 65537) }
+{
+    let (mut held, mut pass) = Held::<L>::new(alloc, blank, Limits::full())?;
+    let mut seat = pass.seat()?;
+    let feed = watches(alloc, &mut held, &mut seat, 16, 8)?;
+    tells(alloc, &mut held, &mut seat, story)?;
+    let log = pass.join(seat);
+    Ok((held.dissolve(pass), log, feed))
+}
+
+// The same, with a listener that had so many turns.
+fn heard_out(alloc: Global, story: &str, steps: u64) -> Result<(Book, SeatLog, End), Refusal> {
+    let (book, log, feed) = story_told::<Brand>(alloc, Blank::new(65537), story.as_bytes())?;
+    let listener = Listening::new(alloc, 7, feed, MemorySink::new(alloc));
+    Ok((book, log, ended(listener.run(&Open, steps))?))
+}
+
+#[test]
+fn a_log_out_of_order_is_stray(rt: HostRuntime) -> Result<(), Fail> {
+    let alloc = rt.alloc();
+    let (book, log, end) = heard_out(alloc, "f!.", 2)?;
+    let SeatLog { number, kept } = log;
+    let mut kept = kept.into_vec();
+    if kept.len() < 2 {
+        return Err(Fail::from(Refusal::Ebadf));
+    }
+    kept.swap(0, 1);
+    let log = SeatLog {
+        number,
+        kept: KeptCalls::from_vec(kept),
+    };
+    let stray = settles(alloc, book, [Some(log), None], [Some(end), None])?;
+    assert_eq!(rt; stray, Err(SettleFault::Stray(1)));
+    Ok(())
+}
+
+#[test]
+fn books_of_listeners(rt: HostRuntime) -> Result<(), Fail> {
+    let alloc = rt.alloc();
+    let (book, log, end) = heard_out(alloc, "f!.", 2)?;
+    let whole = settles(alloc, book, [Some(log), None], [Some(end), None])?;
+    equal(
+        &rt,
+        whole,
+        Ok(Settled {
+            entries: 5,
+            calls: 5,
+        }),
+    );
+    let (book, log, _) = heard_out(alloc, "f!.", 2)?;
+    let none = settles(alloc, book, [Some(log), None], [None, None])?;
+    equal(&rt, none, Err(SettleFault::NotEnded(1)));
+    let (book, log, end) = heard_out(alloc, "f!.", 1)?;
+    let given_up = settles(alloc, book, [Some(log), None], [Some(end), None])?;
+    equal(&rt, given_up, Err(SettleFault::NotEnded(1)));
+    Ok(())
+}
+
+#[test]
+fn books_of_other_listeners(rt: HostRuntime) -> Result<(), Fail> {
+    let alloc = rt.alloc();
+    let (book, log, _) = heard_out(alloc, "f!.", 2)?;
+    let (_, _, another) = heard_out(alloc, "g!.", 2)?;
+    let differs = settles(alloc, book, [Some(log), None], [Some(another), None])?;
+    equal(
+        &rt,
+        differs,
+        Err(SettleFault::HandedDiffers {
+            instance: 1,
+            place: 4,
+        }),
+    );
+    let (book, log, end) = heard_out(alloc, "f!.", 2)?;
+    let (_, _, another) = heard_out(alloc, "g!.", 2)?;
+    let second = settles(alloc, book, [Some(log), None], [Some(end), Some(another)])?;
+    equal(
+        &rt,
+        second,
+        Err(SettleFault::HandedDiffers {
+            instance: 1,
+            place: 0,
+        }),
+    );
+    Ok(())
+}
+
+// Makes a hundred files with a pump after each. How many pumps found the pipe full.
+fn crowds<L: Ledger>(
+    alloc: Global,
+    held: &mut Held<L>,
+    seat: &mut Seat<L>,
+) -> Result<u32, Refusal> {
+    let mut full = 0u32;
+    for number in 0..100u8 {
+        let path = Path::parse(alloc, &[b'/', b'a' + number / 10, b'a' + number % 10])?;
+        held.call(seat, Call::File(FileCall::Create { path, mode: 0o644 }))?;
+        match held.pump(seat, 1, 1_048_576) {
+            Ok(_) => {}
+            Err(Refusal::PipeFull) => full = full.saturating_add(1),
+            Err(refusal) => return Err(refusal),
+        }
+    }
+    Ok(full)
+}
+
+// The book of a tree whose pipe has one place, the log, the listener, and how many pumps found the pipe full.
+fn crowded<L: Ledger>(alloc: Global, blank: Blank) -> Result<(Book, SeatLog, End, u32), Refusal>
+    requires name { blank.name ≡ L.name }
+    requires parts { (blank.parts ≡ L.parts) × (blank.parts ≡ 65537) }
+{
+    let (mut held, mut pass) = Held::<L>::new(alloc, blank, Limits::full())?;
+    let mut seat = pass.seat()?;
+    let feed = watches(alloc, &mut held, &mut seat, 99, 1)?;
+    let full = crowds(alloc, &mut held, &mut seat)?;
+    let mut listener = Listening::new(alloc, 7, feed, MemorySink::new(alloc));
+    let _ = listener.step();
+    held.pump(&mut seat, 1, 1_048_576)?;
+    let _ = listener.step();
+    held.call(&mut seat, Call::Close { instance: 1 })?;
+    let _ = listener.step();
+    let log = pass.join(seat);
+    Ok((held.dissolve(pass), log, ended(listener.finish())?, full))
+}
+
+#[test]
+fn a_full_pipe_loses_nothing(rt: HostRuntime) -> Result<(), Fail> {
+    let alloc = rt.alloc();
+    let (book, log, end, full) = crowded::<Brand>(alloc, Blank::new(65537))?;
+    equal(&rt, full, 99);
+    equal(&rt, end.cause(), Cause::Last);
+    equal(&rt, end.sink().taken(), 100);
+    equal(&rt, sizes(&end), Some((1, 99, 0)));
+    let whole = settles(alloc, book, [Some(log), None], [Some(end), None])?;
+    equal(
+        &rt,
+        whole,
+        Ok(Settled {
+            entries: 105,
+            calls: 105,
+        }),
+    );
+    Ok(())
+}
+
+// How many records each of three batches has.
+fn sizes(end: &End) -> Option<(usize, usize, usize)> {
+    match end.handed() {
+        [one, two, last] => Some((
+            one.records.as_slice().len(),
+            two.records.as_slice().len(),
+            last.records.as_slice().len(),
+        )),
+        _ => None,
+    }
+}

@@ -1,0 +1,333 @@
+//! Listeners at feeds of a tree. Want of memory for a sink, or for a text, ends a test.
+
+ghost use Rattle.std.specs.Prelude.{◌≡◌, [], true, length, None, ⊤};
+ghost use Rattle.event_sinks.specs.Heard.{IsHeard, heard, heard_by};
+
+use super::feeds::{feed_of, opens, tells};
+use super::*;
+use shared_tree::Feed;
+use std::marker::Brand;
+use std::sync::ledger::{Blank, Ledger};
+use std::thread;
+use std::thread::Threads;
+use tree_paths::Refusal;
+
+/// Lets the turns of one worker through, from a turn on.
+#[derive(Drop)]
+struct Lets {
+    who: u32,
+    from: u64,
+}
+
+impl Gate for Lets {
+    ghost may_pass = { λ _ _ _ _. ⊤ };
+
+    fn pass(&self, who: u32, turn: u64) -> bool {
+        who == self.who && turn >= self.from
+    }
+
+    fn turns(&self) -> u64 {
+        9
+    }
+}
+
+/// A gate that lets each turn of the listeners of these tests through.
+const EACH: Lets = Lets { who: 7, from: 0 };
+
+/// What is told of a listener that has ended: its cause, how many batches it was handed, how many records its sink took,
+/// and whether that is open.
+type Told = (Cause, usize, u64, bool);
+
+fn told<S: Sink>(ended: &Ended<S>) -> Told {
+    let sink = ended.sink();
+    (
+        ended.cause(),
+        ended.handed().len(),
+        sink.taken(),
+        sink.is_open(),
+    )
+}
+
+/// Runs a listener through so many turns.
+fn ran<S: Sink>(
+    alloc: Global,
+    story: &str,
+    sink: S,
+    gate: &Lets,
+    turns: u64,
+) -> Result<Told, Refusal>
+    requires { S.live sink ≡ true }
+{
+    let feed = feed_of(alloc, story)?;
+    let ended = Listening::new(alloc, 7, feed, sink).run(gate, turns);
+    Ok(told(&ended))
+}
+
+/// Whether the next steps of a listener are these.
+fn steps<S: Sink>(listener: &mut Listening<S>, wanted: &[Step]) -> bool
+    requires { IsHeard (heard_by S.record_list S.live listener.old) }
+    ensures { IsHeard (heard_by S.record_list S.live listener.new) }
+{
+    for step in wanted {
+        if listener.step() != *step {
+            return false;
+        }
+    }
+    true
+}
+
+/// Whether the steps of a listener are these, and what is told of it when it is finished then.
+fn stepped<S: Sink>(
+    alloc: Global,
+    story: &str,
+    sink: S,
+    wanted: &[Step],
+) -> Result<(bool, Told), Refusal>
+    requires { S.live sink ≡ true }
+{
+    let feed = feed_of(alloc, story)?;
+    let mut listener = Listening::new(alloc, 7, feed, sink);
+    let as_wanted = steps(&mut listener, wanted);
+    Ok((as_wanted, told(&listener.finish())))
+}
+
+#[test]
+fn steps_say_what_they_did(rt: HostRuntime) -> Result<(), Fail> {
+    let alloc = rt.alloc();
+    let full = Cause::Sink(SinkFault::Full);
+    for (story, most, wanted, ends) in [
+        (
+            "",
+            9,
+            [Step::Idle, Step::Idle, Step::Idle],
+            (Cause::Given, 0, 0, false),
+        ),
+        (
+            "fg!h",
+            9,
+            [Step::Took, Step::Idle, Step::Idle],
+            (Cause::Given, 1, 2, false),
+        ),
+        (
+            "fg!h!",
+            9,
+            [Step::Took, Step::Took, Step::Idle],
+            (Cause::Given, 2, 3, false),
+        ),
+        (
+            "fg!.",
+            9,
+            [Step::Took, Step::Took, Step::Over],
+            (Cause::Last, 2, 2, false),
+        ),
+        (
+            ".",
+            9,
+            [Step::Took, Step::Over, Step::Over],
+            (Cause::Last, 1, 0, false),
+        ),
+        (
+            "fgh!i!.",
+            1,
+            [Step::Took, Step::Over, Step::Over],
+            (full, 1, 1, false),
+        ),
+    ] {
+        let (as_wanted, told) = stepped(alloc, story, CountSink::new(alloc, most), &wanted)?;
+        equal(&rt, (story, as_wanted), (story, true));
+        equal(&rt, (story, told), (story, ends));
+    }
+    Ok(())
+}
+
+#[test]
+fn stopped_sinks_take_the_first_records(rt: HostRuntime) -> Result<(), Fail> {
+    let alloc = rt.alloc();
+    for most in 0..5 {
+        let sink = StopSink::new(MemorySink::new(alloc), most);
+        let told = ran(alloc, "fg!hij!", sink, &EACH, 9)?;
+        let handed = if most < 2 { 1 } else { 2 };
+        equal(
+            &rt,
+            (most, told),
+            (most, (Cause::Sink(SinkFault::Full), handed, most, false)),
+        );
+    }
+    let sink = StopSink::new(MemorySink::new(alloc), 5);
+    equal(
+        &rt,
+        ran(alloc, "fg!hij!", sink, &EACH, 9)?,
+        (Cause::Turns, 2, 5, false),
+    );
+    Ok(())
+}
+
+#[test]
+fn gates_hold_turns_back(rt: HostRuntime) -> Result<(), Fail> {
+    let alloc = rt.alloc();
+    for (who, from, turns, ends) in [
+        (7, 9, 9, (Cause::Turns, 0, 0, false)),
+        (7, 8, 9, (Cause::Turns, 1, 1, false)),
+        (7, 0, 2, (Cause::Turns, 2, 2, false)),
+        (7, 0, 3, (Cause::Last, 3, 2, false)),
+        (7, 0, u64::MAX, (Cause::Last, 3, 2, false)),
+        (8, 0, 9, (Cause::Turns, 0, 0, false)),
+    ] {
+        let gate = Lets { who, from };
+        let told = ran(alloc, "f!g!.", MemorySink::new(alloc), &gate, turns)?;
+        assert_eq!(rt; told, ends, "{who} {from} {turns}");
+    }
+    Ok(())
+}
+
+/// Whether the batch behind one with a refused record stays in a pipe of two places: there is room for one more, once.
+fn keeps_the_next<L: Ledger>(alloc: Global, blank: Blank) -> Result<bool, Refusal>
+    requires name { blank.name ≡ L.name }
+    requires parts { (blank.parts ≡ L.parts) × (blank.parts ≡ 65537) }
+{
+    let (mut held, mut seat, feed) = opens::<L>(alloc, blank, 2)?;
+    tells(alloc, &mut held, &mut seat, b"fgh!i!")?;
+    let mut listener = Listening::new(alloc, 7, feed, CountSink::new(alloc, 1));
+    let as_wanted = steps(&mut listener, &[Step::Took, Step::Over, Step::Over]);
+    tells(alloc, &mut held, &mut seat, b"j!k")?;
+    let more = tells(alloc, &mut held, &mut seat, b"!");
+    Ok(as_wanted && more == Err(Refusal::PipeFull))
+}
+
+#[test]
+fn a_listener_that_ended_takes_no_batch(rt: HostRuntime) -> Result<(), Fail> {
+    let kept = keeps_the_next::<Brand>(rt.alloc(), Blank::new(65537))?;
+    assert!(rt; kept);
+    Ok(())
+}
+
+/// A sheet of which each write takes all, up to so many bytes, where it fails so many times.
+fn sheet(text: &mut Vec<u8>, room: usize, faults: usize) -> Sheet<'_> {
+    Sheet {
+        text,
+        step: usize::MAX,
+        room,
+        faults,
+    }
+}
+
+#[test]
+fn a_failed_write_ends_a_listener(rt: HostRuntime) -> Result<(), Fail> {
+    let alloc = rt.alloc();
+    for (faults, wants) in [
+        (1, b"1 00000100closed 0\n".as_slice()),
+        (usize::MAX, b"1 00000100".as_slice()),
+    ] {
+        let mut text = Vec::with_capacity(alloc, 99)?;
+        let sink = LineSink::new(alloc, sheet(&mut text, 10, faults));
+        let told = ran(alloc, "f!g!", sink, &EACH, 9)?;
+        equal(&rt, told, (Cause::Sink(SinkFault::Write), 1, 0, false));
+        equal(&rt, text.as_slice(), wants);
+    }
+    Ok(())
+}
+
+/// Drops a listener after so many steps.
+fn drops<S: Sink>(mut listener: Listening<S>, count: u32)
+    requires { IsHeard (heard_by S.record_list S.live listener) }
+{
+    for _ in 0..count {
+        let _ = listener.step();
+    }
+}
+
+/// The same in another thread.
+fn drops_elsewhere<S: Sink, R: Threads>(rt: &R, listener: Listening<S>, count: u32)
+    requires { IsHeard (heard_by S.record_list S.live listener) }
+{
+    let _ = thread::join(
+        rt,
+        move || -> ()
+            requires { IsHeard (heard_by S.record_list S.live listener) }
+        { drops(listener, count) },
+        || {},
+    );
+}
+
+/// What a listener at two batches and the end batch wrote that was dropped after so many steps.
+const WRITTEN: [&[u8]; 5] = [
+    b"closed 0\n",
+    b"1 00000100 0 f\nclosed 1\n",
+    b"1 00000100 0 f\n1 00000100 0 g\nclosed 2\n",
+    b"1 00000100 0 f\n1 00000100 0 g\nclosed 2\n",
+    b"1 00000100 0 f\n1 00000100 0 g\nclosed 2\n",
+];
+
+#[test]
+fn a_dropped_listener_closes_once(rt: HostRuntime) -> Result<(), Fail> {
+    let alloc = rt.alloc();
+    let mut count: u32 = 0;
+    for wants in &WRITTEN {
+        let mut text = Vec::with_capacity(alloc, 99)?;
+        let sink = LineSink::new(alloc, &mut text);
+        drops(
+            Listening::new(alloc, 7, feed_of(alloc, "f!g!.")?, sink),
+            count,
+        );
+        equal(&rt, (count, text.as_slice()), (count, *wants));
+
+        let mut text = Vec::with_capacity(alloc, 99)?;
+        let sink = LineSink::new(alloc, &mut text);
+        drops_elsewhere(
+            &rt,
+            Listening::new(alloc, 7, feed_of(alloc, "f!g!.")?, sink),
+            count,
+        );
+        equal(&rt, (count, text.as_slice()), (count, *wants));
+        count = count.saturating_add(1);
+    }
+    Ok(())
+}
+
+/// Whether this may be told of a listener at five batches of a record each and the end batch, with memory or without.
+fn may_be_told(told: Told) -> bool {
+    let (cause, handed, taken, is_open) = told;
+    let as_caused = match cause {
+        Cause::Last => handed == 6 && taken == 5,
+        Cause::Memory => taken < 6 && handed as u64 == taken,
+        Cause::Sink(SinkFault::Memory) => taken < 5 && handed as u64 == taken + 1,
+        _ => false,
+    };
+    as_caused && !is_open
+}
+
+#[test]
+fn want_of_memory_ends_a_listener(rt: HostRuntime) -> Result<(), Fail> {
+    let alloc = rt.alloc();
+    let told = ran(alloc, "f!g!h!i!j!.", MemorySink::new(alloc), &EACH, 9)?;
+    assert!(rt; may_be_told(told), "{told:?}");
+    Ok(())
+}
+
+/// A listener with a sink in a box.
+fn boxed(alloc: Global, feed: Feed, sink: Box<dyn Sink>) -> Listener
+    requires { ⟦<Box<dyn Sink> as Sink>⟧.live sink ≡ true }
+    ensures { IsHeard (heard_by ⟦<Box<dyn Sink> as Sink>⟧.record_list ⟦<Box<dyn Sink> as Sink>⟧.live result) }
+{
+    Listener::new(alloc, 1, feed, sink)
+}
+
+#[test]
+fn a_sink_in_a_box_is_heard(rt: HostRuntime) -> Result<(), Fail> {
+    let alloc = rt.alloc();
+    let sink: Box<dyn Sink> = Box::new(alloc, CountSink::new(alloc, 2))?;
+    let mut listener = boxed(alloc, feed_of(alloc, "fgh!")?, sink);
+    equal(&rt, listener.step(), Step::Took);
+    let ended = listener.finish();
+    equal(
+        &rt,
+        told(&ended),
+        (Cause::Sink(SinkFault::Full), 1, 2, false),
+    );
+    equal(&rt, (ended.number(), ended.instance()), (1, 1));
+
+    let sink: Box<dyn Sink> = Box::new(alloc, CountSink::new(alloc, 9))?;
+    let told = ran(alloc, "f!g!.", sink, &EACH, 9)?;
+    equal(&rt, told, (Cause::Last, 3, 2, false));
+    Ok(())
+}

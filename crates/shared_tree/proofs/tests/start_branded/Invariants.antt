@@ -1,4 +1,0 @@
-use Rattle.shared_tree.proofs.tests.start_branded.Given as goal
-
-abbrev pub ghosts-start : goal.ghosts-start
-ghosts-start a = record { name = a.blank.name; parts = a.blank.parts }

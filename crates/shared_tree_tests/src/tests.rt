@@ -1,0 +1,331 @@
+//! The locked tree from outside: what no contract can say of seats, pipes and threads.
+//!
+//! A step that lacks memory is made once more, and must then answer as if nothing had happened.
+
+ghost use Rattle.std.specs.Prelude.{◌≡◌, IfOk, IsTrue};
+ghost use Rattle.std.specs.Result.{ForOk};
+ghost use Rattle.tree_core.specs.Calls.{is_plain};
+
+mod pipes;
+mod seats;
+mod threads;
+
+use shared_tree::{Batch, Feed, Held, Pass, Seat};
+use std::alloc::Global;
+use std::marker::Brand;
+use std::sync::ledger::{Blank, Ledger};
+use tree_core::{Call, Receipt, Reply};
+use tree_ops::FileCall;
+use tree_paths::{Limits, Path, Refusal};
+
+/// Room for all that waits, in bytes.
+const ALL: u32 = 4096;
+
+/// The bit `IN_CREATE`.
+const CREATE: u32 = 0x100;
+
+/// What happens to a tree, with what it comes to.
+#[derive(Clone, Copy)]
+enum Step {
+    /// A new seat, which makes the calls from then on.
+    Sits(Result<(), Refusal>),
+    /// The seat is given back. Its number, and how many calls it kept.
+    Stands(u32, usize),
+    /// An instance with a limit and a pipe of so many places.
+    Opens(u32, usize, Says),
+    /// An instance with no pipe.
+    Inits(Says),
+    /// An instance watches the root for new files.
+    Watches(u32, Says),
+    /// A file is made.
+    Creates(&'static str, Says),
+    Reads(u32, Says),
+    Closes(u32, Says),
+    Pumps(u32, Says),
+    /// A batch that the feed of an instance gives: its place and how many records it has.
+    Gives(u32, u64, usize),
+    /// The feed of an instance is there, and gives nothing.
+    GivesNothing(u32),
+    /// No feed of an instance has come.
+    HasNoFeed(u32),
+    /// The feed of an instance is let go.
+    Goes(u32),
+    /// How many records wait in an instance.
+    Waits(u32, Option<usize>),
+    /// How many entries the journal has.
+    Counts(usize),
+}
+
+/// What a call answers, or why it is not carried out.
+#[derive(Clone, Copy, PartialEq, Eq)]
+enum Says {
+    File,
+    Instance(u32),
+    Wd(i32),
+    Records,
+    Done,
+    Refused(Refusal),
+    Fails(Refusal),
+}
+
+fn said(receipt: Result<Receipt, Refusal>) -> Says {
+    match receipt {
+        Ok(receipt) => answered(&receipt.reply),
+        Err(refusal) => Says::Fails(refusal),
+    }
+}
+
+fn answered(reply: &Reply) -> Says {
+    match reply {
+        Reply::File(_) => Says::File,
+        Reply::Instance(id) => Says::Instance(*id),
+        Reply::Wd(wd) => Says::Wd(*wd),
+        Reply::Records(_) => Says::Records,
+        Reply::Done => Says::Done,
+        Reply::Refused(refusal) => Says::Refused(*refusal),
+    }
+}
+
+/// A tree with one seat, and the feeds of its instances 1 and 2.
+#[derive(Drop)]
+struct Stage<L: Ledger> {
+    alloc: Global,
+    held: Held<L>,
+    pass: Pass<L>,
+    seat: Option<Seat<L>>,
+    first: Option<Feed>,
+    second: Option<Feed>,
+}
+
+impl<L: Ledger> Stage<L> {
+    fn new(alloc: Global, blank: Blank, limits: Limits) -> Result<Stage<L>, Refusal>
+        requires name { blank.name ≡ L.name }
+        requires parts { (blank.parts ≡ L.parts) × (blank.parts ≡ 65537) }
+    {
+        let (held, pass) = Held::<L>::new(alloc, blank, limits)?;
+        Ok(Stage {
+            alloc,
+            held,
+            pass,
+            seat: None,
+            first: None,
+            second: None,
+        })
+    }
+
+    fn sits(&mut self) -> Result<(), Refusal> {
+        self.seat = Some(self.pass.seat()?);
+        Ok(())
+    }
+
+    fn stands(&mut self) -> Option<(u32, usize)> {
+        let seat = self.seat.take()?;
+        let log = self.pass.join(seat);
+        Some((log.number, log.kept.as_slice().len()))
+    }
+
+    fn calls(&mut self, call: Result<Call, Refusal>) -> Says
+        requires { ForOk call (λ c. IsTrue (is_plain c)) }
+    {
+        let Stage { held, seat, .. } = self;
+        let Some(seat) = seat else {
+            return Says::Fails(Refusal::SeatsSpent);
+        };
+        match call {
+            Ok(call) => said(held.call(seat, call)),
+            Err(refusal) => Says::Fails(refusal),
+        }
+    }
+
+    fn pumps(&mut self, instance: u32) -> Says {
+        let Stage { held, seat, .. } = self;
+        match seat {
+            Some(seat) => said(held.pump(seat, instance, ALL)),
+            None => Says::Fails(Refusal::SeatsSpent),
+        }
+    }
+
+    // Keeps the feed, under the number that it has.
+    fn opens(&mut self, limit: u32, slots: usize) -> Says {
+        let Stage { held, seat, .. } = self;
+        let Some(seat) = seat else {
+            return Says::Fails(Refusal::SeatsSpent);
+        };
+        match held.open_piped(seat, limit, slots.clamp(1, 65_536)) {
+            Ok((receipt, feed)) => {
+                self.keeps(feed);
+                said(Ok(receipt))
+            }
+            Err(refusal) => Says::Fails(refusal),
+        }
+    }
+
+    fn keeps(&mut self, feed: Option<Feed>) {
+        let Some(feed) = feed else {
+            return;
+        };
+        match feed.instance() {
+            1 => self.first = Some(feed),
+            2 => self.second = Some(feed),
+            _ => {}
+        }
+    }
+
+    fn takes(&mut self, instance: u32) -> Option<Batch> {
+        match instance {
+            1 => self.first.as_mut()?.take(),
+            _ => self.second.as_mut()?.take(),
+        }
+    }
+
+    fn has_feed(&self, instance: u32) -> bool {
+        match instance {
+            1 => self.first.is_some(),
+            _ => self.second.is_some(),
+        }
+    }
+
+    fn goes(&mut self, instance: u32) -> bool {
+        match instance {
+            1 => self.first.take().is_some(),
+            _ => self.second.take().is_some(),
+        }
+    }
+
+    // What the call of a step comes to, if it is one.
+    fn says(&mut self, step: Step) -> Option<(Says, Says)> {
+        let alloc = self.alloc;
+        Some(match step {
+            Step::Opens(limit, slots, wanted) => (self.opens(limit, slots), wanted),
+            Step::Inits(wanted) => (self.calls(Ok(init())), wanted),
+            Step::Watches(instance, wanted) => (self.calls(watch(alloc, instance)), wanted),
+            Step::Creates(text, wanted) => (self.calls(create(alloc, text)), wanted),
+            Step::Reads(instance, wanted) => (self.calls(Ok(read(instance))), wanted),
+            Step::Closes(instance, wanted) => (self.calls(Ok(close(instance))), wanted),
+            Step::Pumps(instance, wanted) => (self.pumps(instance), wanted),
+            _ => return None,
+        })
+    }
+
+    // Whether a step that is no call comes to what is wanted.
+    fn shows(&mut self, step: Step) -> bool {
+        match step {
+            Step::Sits(wanted) => self.sits() == wanted,
+            Step::Stands(number, kept) => self.stands() == Some((number, kept)),
+            Step::Gives(instance, place, records) => {
+                is_batch(&self.takes(instance), instance, place, records)
+            }
+            Step::GivesNothing(instance) => {
+                self.has_feed(instance) && self.takes(instance).is_none()
+            }
+            Step::HasNoFeed(instance) => !self.has_feed(instance),
+            Step::Goes(instance) => self.goes(instance),
+            Step::Waits(instance, count) => self.held.state().waiting(instance) == count,
+            Step::Counts(entries) => self.held.state().journal().len() == entries,
+            _ => false,
+        }
+    }
+
+    // Whether a step comes to what is wanted. A call that lacks memory is made once more.
+    fn goes_well(&mut self, step: Step) -> bool {
+        match self.says(step) {
+            Some((Says::Fails(Refusal::Enomem), _)) => match self.says(step) {
+                Some((said, wanted)) => said == wanted,
+                None => false,
+            },
+            Some((said, wanted)) => said == wanted,
+            None => self.shows(step),
+        }
+    }
+
+    // How many steps go well, before one that does not.
+    fn plays(&mut self, steps: &[Step]) -> usize {
+        for (place, step) in steps.iter().enumerate() {
+            if !self.goes_well(*step) {
+                return place;
+            }
+        }
+        steps.len()
+    }
+}
+
+fn init() -> Call
+    ensures { IsTrue (is_plain result) }
+{
+    Call::Init {
+        limit: 16,
+        piped: false,
+    }
+}
+
+fn read(instance: u32) -> Call
+    ensures { IsTrue (is_plain result) }
+{
+    Call::Read {
+        instance,
+        bytes: ALL,
+    }
+}
+
+fn close(instance: u32) -> Call
+    ensures { IsTrue (is_plain result) }
+{
+    Call::Close { instance }
+}
+
+fn watch(alloc: Global, instance: u32) -> Result<Call, Refusal>
+    ensures { IfOk result (λ c. IsTrue (is_plain c)) }
+{
+    let path = Path::parse(alloc, "/".as_bytes())?;
+    Ok(Call::AddWatch {
+        instance,
+        path,
+        mask: CREATE,
+    })
+}
+
+fn create(alloc: Global, text: &str) -> Result<Call, Refusal>
+    ensures { IfOk result (λ c. IsTrue (is_plain c)) }
+{
+    let path = Path::parse(alloc, text.as_bytes())?;
+    Ok(Call::File(FileCall::Create { path, mode: 0o644 }))
+}
+
+// Whether it is a batch of this instance, of this place and of so many records.
+fn is_batch(batch: &Option<Batch>, instance: u32, place: u64, records: usize) -> bool {
+    match batch {
+        Some(batch) => {
+            batch.instance == instance
+                && batch.place == place
+                && batch.records.as_slice().len() == records
+                && batch.is_last() == (records == 0)
+        }
+        None => false,
+    }
+}
+
+// How many steps go well with a new tree, before one that does not.
+fn start<L: Ledger>(
+    alloc: Global,
+    blank: Blank,
+    limits: Limits,
+    steps: &[Step],
+) -> Result<usize, Refusal>
+    requires name { blank.name ≡ L.name }
+    requires parts { (blank.parts ≡ L.parts) × (blank.parts ≡ 65537) }
+{
+    let mut stage = Stage::<L>::new(alloc, blank, limits)?;
+    Ok(stage.plays(steps))
+}
+
+fn start_branded(alloc: Global, limits: Limits, steps: &[Step]) -> Result<usize, Refusal> {
+    start::<Brand>(alloc, Blank::new(65537), limits, steps)
+}
+
+// How many steps go well with a new tree. A tree that lacks memory is made once more.
+fn plays(alloc: Global, limits: Limits, steps: &[Step]) -> Option<usize> {
+    match start_branded(alloc, limits, steps) {
+        Ok(count) => Some(count),
+        Err(_) => start_branded(alloc, limits, steps).ok(),
+    }
+}

@@ -1,0 +1,115 @@
+//! Pipes with few places, and feeds.
+
+use super::*;
+
+#[test]
+fn instances_are_asked_in_their_way(rt: HostRuntime) {
+    let steps = [
+        Step::Sits(Ok(())),
+        Step::Opens(0, 1, Says::Refused(Refusal::Einval)),
+        Step::HasNoFeed(1),
+        Step::Opens(16, 1, Says::Instance(1)),
+        Step::Reads(1, Says::Refused(Refusal::Piped)),
+        Step::Inits(Says::Instance(2)),
+        Step::Pumps(2, Says::Refused(Refusal::NotPiped)),
+        Step::Pumps(9, Says::Refused(Refusal::Ebadf)),
+        Step::Pumps(1, Says::Refused(Refusal::Eagain)),
+        Step::Counts(7),
+    ];
+    assert_eq!(rt;
+        plays(rt.alloc(), Limits::full(), &steps),
+        Some(steps.len())
+    );
+}
+
+#[test]
+fn a_full_pipe_is_not_pumped(rt: HostRuntime) {
+    let steps = [
+        Step::Sits(Ok(())),
+        Step::Opens(16, 1, Says::Instance(1)),
+        Step::Watches(1, Says::Wd(1)),
+        Step::Creates("/f", Says::File),
+        Step::Pumps(1, Says::Records),
+        Step::Creates("/g", Says::File),
+        Step::Pumps(1, Says::Fails(Refusal::PipeFull)),
+        Step::Counts(5),
+        Step::Waits(1, Some(1)),
+        Step::Gives(1, 4, 1),
+        Step::Pumps(1, Says::Records),
+        Step::Waits(1, Some(0)),
+        Step::Gives(1, 6, 1),
+        Step::GivesNothing(1),
+    ];
+    assert_eq!(rt;
+        plays(rt.alloc(), Limits::full(), &steps),
+        Some(steps.len())
+    );
+}
+
+#[test]
+fn the_end_batch_wants_a_place(rt: HostRuntime) {
+    let steps = [
+        Step::Sits(Ok(())),
+        Step::Opens(16, 1, Says::Instance(1)),
+        Step::Watches(1, Says::Wd(1)),
+        Step::Creates("/f", Says::File),
+        Step::Pumps(1, Says::Records),
+        Step::Closes(1, Says::Fails(Refusal::PipeFull)),
+        Step::Counts(4),
+        Step::Waits(1, Some(0)),
+        Step::Gives(1, 4, 1),
+        Step::Closes(1, Says::Done),
+        Step::Waits(1, None),
+        Step::Gives(1, 5, 0),
+        Step::GivesNothing(1),
+    ];
+    assert_eq!(rt;
+        plays(rt.alloc(), Limits::full(), &steps),
+        Some(steps.len())
+    );
+}
+
+#[test]
+fn each_feed_has_its_own_pipe(rt: HostRuntime) {
+    let steps = [
+        Step::Sits(Ok(())),
+        Step::Opens(16, 4, Says::Instance(1)),
+        Step::Opens(16, 4, Says::Instance(2)),
+        Step::Watches(1, Says::Wd(1)),
+        Step::Watches(2, Says::Wd(1)),
+        Step::Creates("/f", Says::File),
+        Step::Pumps(1, Says::Records),
+        Step::GivesNothing(2),
+        Step::Creates("/g", Says::File),
+        Step::Pumps(2, Says::Records),
+        Step::Gives(1, 6, 1),
+        Step::GivesNothing(1),
+        Step::Gives(2, 8, 2),
+        Step::GivesNothing(2),
+    ];
+    assert_eq!(rt;
+        plays(rt.alloc(), Limits::full(), &steps),
+        Some(steps.len())
+    );
+}
+
+#[test]
+fn a_full_pipe_whose_listener_is_gone_stays_open(rt: HostRuntime) {
+    let steps = [
+        Step::Sits(Ok(())),
+        Step::Opens(16, 1, Says::Instance(1)),
+        Step::Watches(1, Says::Wd(1)),
+        Step::Goes(1),
+        Step::Creates("/f", Says::File),
+        Step::Pumps(1, Says::Records),
+        Step::Creates("/g", Says::File),
+        Step::Pumps(1, Says::Fails(Refusal::PipeFull)),
+        Step::Closes(1, Says::Fails(Refusal::PipeFull)),
+        Step::Counts(5),
+        Step::Waits(1, Some(1)),
+    ];
+    assert_eq!(rt;
+        plays(rt.alloc(), Limits::full(), &steps),
+        Some(steps.len())
+    );
+}

@@ -1,0 +1,358 @@
+//! The tree from outside: each call with its answer, what is heard of it, and each limit at its last value.
+//!
+//! A step that lacks memory is made once more, and must then answer as if nothing had happened.
+
+mod calls;
+mod instances;
+mod keeping;
+mod limits;
+mod refusals;
+
+use inode_table::Kind;
+use record_codec::{Bytes, Event, Name, encode};
+use std::alloc::Global;
+use std::fmt::Debug;
+use std::process::Abort;
+use tree_core::{Call, Receipt, Reply, State};
+use tree_ops::{Answer, FileCall};
+use tree_paths::{Limits, Names, Path, Refusal};
+
+/// What was got is what is wanted. Tests assert in these two functions: the macros in a long body take minutes to prove.
+fn equal<T: PartialEq + Debug + Drop>(rt: &impl Abort, got: T, wanted: T) {
+    assert_eq!(rt; got, wanted);
+}
+
+/// It is so.
+fn holds(rt: &impl Abort, what: &str, is_so: bool) {
+    assert!(rt; is_so, "{what}");
+}
+
+/// Who makes the calls.
+const CALLER: u32 = 7;
+
+/// Room for all that waits, in bytes.
+const ALL: u32 = 4096;
+
+/// A record: the descriptor, the mask, the cookie, and the name, which is empty where it has none.
+type Record<'a> = (i32, u32, u32, &'a str);
+
+// The root alone.
+fn opened(alloc: Global, limits: Limits) -> Result<State, Refusal> {
+    match State::new(alloc, limits) {
+        Err(Refusal::Enomem) => State::new(alloc, limits),
+        state => state,
+    }
+}
+
+// The same call once more.
+fn copied(call: &Call) -> Result<Call, Refusal> {
+    match call.copy() {
+        Err(Refusal::Enomem) => call.copy(),
+        copy => copy,
+    }
+}
+
+// Makes a call.
+fn made(state: &mut State, call: &Call) -> Result<Receipt, Refusal> {
+    let copy = copied(call)?;
+    match state.apply(CALLER, copy) {
+        Err(Refusal::Enomem) => state.apply(CALLER, copied(call)?),
+        receipt => receipt,
+    }
+}
+
+// Whether the last entry of the journal is this call with this reply.
+fn is_last(state: &State, call: &Call, reply: &Reply) -> bool {
+    match state.journal().last() {
+        Some(entry) => entry.caller == CALLER && entry.call == *call && entry.reply == *reply,
+        None => false,
+    }
+}
+
+// What a call answers, and whether the journal has it so as its last entry, at the receipt's place.
+fn answered(state: &mut State, call: Result<Call, Refusal>) -> Result<(Reply, bool), Refusal> {
+    let call = call?;
+    let receipt = made(state, &call)?;
+    let is_at_its_place = receipt.place == state.journal().len() as u64;
+    let is_journaled = is_at_its_place && is_last(state, &call, &receipt.reply);
+    Ok((receipt.reply, is_journaled))
+}
+
+// The reply is the one that is wanted.
+fn is_wanted(rt: &impl Abort, reply: Reply, wanted: Result<Reply, Refusal>) {
+    let wanted = wanted.expect(rt, "a reply");
+    assert_eq!(rt; reply, wanted);
+}
+
+// The call answers what is wanted, and so the journal has it.
+fn tells(
+    rt: &impl Abort,
+    state: &mut State,
+    call: Result<Call, Refusal>,
+    wanted: Result<Reply, Refusal>,
+) {
+    let (reply, is_journaled) = answered(state, call).expect(rt, "a receipt");
+    is_wanted(rt, reply, wanted);
+    assert!(rt; is_journaled);
+}
+
+// The call is not refused.
+fn does(rt: &impl Abort, state: &mut State, call: Result<Call, Refusal>) {
+    let told = answered(state, call);
+    assert!(rt;
+        !matches!(told, Ok((Reply::Refused(_), _)) | Err(_)),
+        "{told:?}"
+    );
+}
+
+// The call is refused so, and what waits for the first two instances is as before.
+fn refuses(rt: &impl Abort, state: &mut State, call: Result<Call, Refusal>, refusal: Refusal) {
+    let before = (state.waiting(1), state.waiting(2));
+    tells(rt, state, call, Ok(Reply::Refused(refusal)));
+    assert_eq!(rt; (state.waiting(1), state.waiting(2)), before);
+}
+
+// So many records wait for the instance.
+fn waits(rt: &impl Abort, state: &State, instance: u32, count: usize) {
+    assert_eq!(rt; state.waiting(instance), Some(count));
+}
+
+// There is no such instance.
+fn is_not_open(rt: &impl Abort, state: &State, instance: u32) {
+    assert_eq!(rt; state.waiting(instance), None);
+}
+
+// The journal has so many entries.
+fn journals(rt: &impl Abort, state: &State, count: usize) {
+    assert_eq!(rt; state.journal().len(), count);
+}
+
+// The journal takes so many more entries.
+fn has_room_for(rt: &impl Abort, state: &State, count: u64) {
+    assert_eq!(rt; state.free_entries(), count);
+}
+
+// The instance has just these records to read.
+fn hears(rt: &impl Abort, state: &mut State, alloc: Global, instance: u32, lines: &[Record]) {
+    waits(rt, state, instance, lines.len());
+    tells(rt, state, read(instance, ALL), records(alloc, lines));
+}
+
+// The instance has nothing to read.
+fn hears_nothing(rt: &impl Abort, state: &mut State, instance: u32) {
+    waits(rt, state, instance, 0);
+    refuses(rt, state, read(instance, ALL), Refusal::Eagain);
+}
+
+// These instances watch the file of this number, and no others.
+fn watch_it(rt: &impl Abort, state: &State, number: u32, ids: &[u32]) {
+    assert_eq!(rt; state.watchers(number), ids);
+}
+
+fn path(alloc: Global, text: &str) -> Result<Path, Refusal> {
+    match Path::parse(alloc, text.as_bytes()) {
+        Err(Refusal::Enomem) => Path::parse(alloc, text.as_bytes()),
+        path => path,
+    }
+}
+
+fn bytes(alloc: Global, slice: &[u8]) -> Result<Bytes, Refusal> {
+    let copy = Vec::from_slice(alloc, slice);
+    let copy = if copy.is_ok() {
+        copy?
+    } else {
+        Vec::from_slice(alloc, slice)?
+    };
+    Ok(Bytes::from_vec(copy))
+}
+
+fn create(alloc: Global, text: &str) -> Result<Call, Refusal> {
+    let path = path(alloc, text)?;
+    Ok(Call::File(FileCall::Create { path, mode: 0o644 }))
+}
+
+fn mkdir(alloc: Global, text: &str) -> Result<Call, Refusal> {
+    let path = path(alloc, text)?;
+    Ok(Call::File(FileCall::Mkdir { path, mode: 0o755 }))
+}
+
+fn write(alloc: Global, text: &str, offset: u64, slice: &[u8]) -> Result<Call, Refusal> {
+    Ok(Call::File(FileCall::Write {
+        path: path(alloc, text)?,
+        offset,
+        bytes: bytes(alloc, slice)?,
+    }))
+}
+
+fn read_file(alloc: Global, text: &str, offset: u64, count: u32) -> Result<Call, Refusal> {
+    Ok(Call::File(FileCall::ReadFile {
+        path: path(alloc, text)?,
+        offset,
+        count,
+    }))
+}
+
+fn truncate(alloc: Global, text: &str, len: u64) -> Result<Call, Refusal> {
+    let path = path(alloc, text)?;
+    Ok(Call::File(FileCall::Truncate { path, len }))
+}
+
+fn chmod(alloc: Global, text: &str, mode: u32) -> Result<Call, Refusal> {
+    let path = path(alloc, text)?;
+    Ok(Call::File(FileCall::Chmod { path, mode }))
+}
+
+fn link(alloc: Global, old: &str, new: &str) -> Result<Call, Refusal> {
+    let old = path(alloc, old)?;
+    let new = path(alloc, new)?;
+    Ok(Call::File(FileCall::Link { old, new }))
+}
+
+fn unlink(alloc: Global, text: &str) -> Result<Call, Refusal> {
+    let path = path(alloc, text)?;
+    Ok(Call::File(FileCall::Unlink { path }))
+}
+
+fn rmdir(alloc: Global, text: &str) -> Result<Call, Refusal> {
+    let path = path(alloc, text)?;
+    Ok(Call::File(FileCall::Rmdir { path }))
+}
+
+fn rename(alloc: Global, old: &str, new: &str) -> Result<Call, Refusal> {
+    let old = path(alloc, old)?;
+    let new = path(alloc, new)?;
+    Ok(Call::File(FileCall::Rename { old, new }))
+}
+
+fn stat(alloc: Global, text: &str) -> Result<Call, Refusal> {
+    let path = path(alloc, text)?;
+    Ok(Call::File(FileCall::Stat { path }))
+}
+
+fn list(alloc: Global, text: &str) -> Result<Call, Refusal> {
+    let path = path(alloc, text)?;
+    Ok(Call::File(FileCall::List { path }))
+}
+
+fn init(limit: u32) -> Result<Call, Refusal> {
+    Ok(Call::Init {
+        limit,
+        piped: false,
+    })
+}
+
+fn init_piped(limit: u32) -> Result<Call, Refusal> {
+    Ok(Call::Init { limit, piped: true })
+}
+
+fn watch(alloc: Global, instance: u32, text: &str, mask: u32) -> Result<Call, Refusal> {
+    Ok(Call::AddWatch {
+        instance,
+        path: path(alloc, text)?,
+        mask,
+    })
+}
+
+fn unwatch(instance: u32, wd: i32) -> Result<Call, Refusal> {
+    Ok(Call::RmWatch { instance, wd })
+}
+
+fn read(instance: u32, bytes: u32) -> Result<Call, Refusal> {
+    Ok(Call::Read { instance, bytes })
+}
+
+fn pump(instance: u32, bytes: u32) -> Result<Call, Refusal> {
+    Ok(Call::Pump { instance, bytes })
+}
+
+fn close(instance: u32) -> Result<Call, Refusal> {
+    Ok(Call::Close { instance })
+}
+
+fn number(number: u32) -> Result<Reply, Refusal> {
+    Ok(Reply::File(Answer::Number(number)))
+}
+
+fn count(count: u64) -> Result<Reply, Refusal> {
+    Ok(Reply::File(Answer::Count(count)))
+}
+
+// The answer of a call on files that has no other one.
+fn filed() -> Result<Reply, Refusal> {
+    Ok(Reply::File(Answer::Done))
+}
+
+// The answer with these bytes of a file.
+fn contents(alloc: Global, slice: &[u8]) -> Result<Reply, Refusal> {
+    Ok(Reply::File(Answer::Bytes(bytes(alloc, slice)?)))
+}
+
+fn names_of(alloc: Global, text: &str) -> Result<Reply, Refusal> {
+    let path = path(alloc, text)?;
+    let mut names = Vec::new(alloc);
+    for name in path.names() {
+        names.push(name.copy()?)?;
+    }
+    Ok(Reply::File(Answer::Names(Names::from_vec(names))))
+}
+
+// The answer with the names of this path.
+fn names(alloc: Global, text: &str) -> Result<Reply, Refusal> {
+    match names_of(alloc, text) {
+        Err(Refusal::Enomem) => names_of(alloc, text),
+        reply => reply,
+    }
+}
+
+fn file(number: u32, mode: u32, links: u64, size: u64) -> Result<Reply, Refusal> {
+    Ok(Reply::File(Answer::Stat {
+        number,
+        kind: Kind::Regular,
+        mode,
+        links,
+        size,
+    }))
+}
+
+fn directory(number: u32, mode: u32) -> Result<Reply, Refusal> {
+    Ok(Reply::File(Answer::Stat {
+        number,
+        kind: Kind::Directory,
+        mode,
+        links: 1,
+        size: 0,
+    }))
+}
+
+fn instance(id: u32) -> Result<Reply, Refusal> {
+    Ok(Reply::Instance(id))
+}
+
+fn wd(wd: i32) -> Result<Reply, Refusal> {
+    Ok(Reply::Wd(wd))
+}
+
+fn done() -> Result<Reply, Refusal> {
+    Ok(Reply::Done)
+}
+
+fn spelled(alloc: Global, lines: &[Record]) -> Result<Reply, Refusal> {
+    let mut events = Vec::new(alloc);
+    for line in lines {
+        events.push(Event {
+            wd: line.0,
+            mask: line.1,
+            cookie: line.2,
+            name: Name::new(alloc, line.3.as_bytes())?,
+        })?;
+    }
+    Ok(Reply::Records(Bytes::from_vec(encode(alloc, events.as_slice())?)))
+}
+
+// The answer with the bytes of these records.
+fn records(alloc: Global, lines: &[Record]) -> Result<Reply, Refusal> {
+    match spelled(alloc, lines) {
+        Err(Refusal::Enomem) => spelled(alloc, lines),
+        reply => reply,
+    }
+}

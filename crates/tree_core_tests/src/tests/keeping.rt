@@ -1,0 +1,234 @@
+//! Copies of calls and replies, what is kept of a call, and pumps.
+
+use super::*;
+use record_codec::Events;
+use std::test::Fail;
+use tree_core::Kept;
+
+// Makes a call whose copy is kept.
+fn kept(state: &mut State, call: &Call) -> Result<(Receipt, Kept), Refusal> {
+    let copy = copied(call)?;
+    match state.keep(CALLER, copy) {
+        Err(Refusal::Enomem) => state.keep(CALLER, copied(call)?),
+        kept => kept,
+    }
+}
+
+// Whether the receipt and what is kept name the place of the journal's last entry.
+fn is_at_the_end(state: &State, receipt: &Receipt, kept: &Kept) -> bool {
+    receipt.place == state.journal().len() as u64 && kept.place == receipt.place
+}
+
+// Whether what is kept of the call is the last entry of the journal, at the receipt's place.
+fn is_as_journaled(state: &State, receipt: &Receipt, kept: &Kept) -> bool {
+    is_at_the_end(state, receipt, kept)
+        && kept.reply == receipt.reply
+        && is_last(state, &kept.call, &kept.reply)
+}
+
+// Whether what is kept is of this call, and is its entry.
+fn is_of(state: &State, call: &Call, receipt: &Receipt, kept: &Kept) -> bool {
+    kept.call == *call && is_as_journaled(state, receipt, kept)
+}
+
+// Whether the call, whose copy is kept, gives this receipt, and what is kept of it is its entry.
+fn gives(state: &mut State, call: &Call, wanted: &Receipt) -> bool {
+    match kept(state, call) {
+        Ok((receipt, kept)) => receipt == *wanted && is_of(state, call, wanted, &kept),
+        Err(_) => false,
+    }
+}
+
+// Whether the call gives the same in both trees, and what is kept of it is its entry.
+fn is_kept(trees: &mut (State, State), call: &Call) -> bool {
+    match made(&mut trees.0, call) {
+        Ok(receipt) => gives(&mut trees.1, call, &receipt),
+        Err(_) => false,
+    }
+}
+
+// The call gives the same in both trees, what is kept of it is its entry, and as many records wait.
+fn keeps(rt: &impl Abort, trees: &mut (State, State), call: Result<Call, Refusal>) {
+    let call = call.expect(rt, "a call");
+    holds(rt, "is_kept(trees, &call)", is_kept(trees, &call));
+    equal(rt, trees.0.waiting(1), trees.1.waiting(1));
+}
+
+// Two trees of the root alone.
+fn pair(alloc: Global) -> Result<(State, State), Refusal> {
+    let first = opened(alloc, Limits::full())?;
+    let second = opened(alloc, Limits::full())?;
+    Ok((first, second))
+}
+
+#[test]
+fn calls_are_kept(rt: HostRuntime) -> Result<(), Fail> {
+    let alloc = rt.alloc();
+    let trees = &mut pair(alloc)?;
+    keeps(&rt, trees, init(10));
+    keeps(&rt, trees, init_piped(10));
+    keeps(&rt, trees, watch(alloc, 1, "/", 0xfff));
+    keeps(&rt, trees, create(alloc, "/f"));
+    keeps(&rt, trees, write(alloc, "/f", 0, b"abc"));
+    keeps(&rt, trees, create(alloc, "/f"));
+    keeps(&rt, trees, rename(alloc, "/f", "/g"));
+    keeps(&rt, trees, read(1, ALL));
+    keeps(&rt, trees, pump(2, 64));
+    keeps(&rt, trees, unwatch(1, 1));
+    keeps(&rt, trees, close(1));
+    Ok(())
+}
+
+// Pumps an instance.
+fn pumped(
+    state: &mut State,
+    id: u32,
+    bytes: u32,
+) -> Result<(Receipt, Kept, Option<Events>), Refusal> {
+    match state.pump(CALLER, id, bytes) {
+        Err(Refusal::Enomem) => state.pump(CALLER, id, bytes),
+        pumped => pumped,
+    }
+}
+
+// The reply that spells these events.
+fn spelled_by(alloc: Global, events: &Events) -> Result<Reply, Refusal> {
+    let bytes = encode(alloc, events.as_slice())?;
+    Ok(Reply::Records(Bytes::from_vec(bytes)))
+}
+
+// The reply that spells these events, or none where there are none.
+fn spelled_reply(alloc: Global, events: &Option<Events>) -> Result<Reply, Refusal> {
+    let Some(events) = events else {
+        return Err(Refusal::Eagain);
+    };
+    match spelled_by(alloc, events) {
+        Err(Refusal::Enomem) => spelled_by(alloc, events),
+        reply => reply,
+    }
+}
+
+// The pump answers what is wanted, and so the journal and what is kept of it have it. Gives its records.
+fn pumping(
+    rt: &impl Abort,
+    state: &mut State,
+    room: (u32, u32),
+    wanted: Result<Reply, Refusal>,
+) -> Option<Events> {
+    let (receipt, kept, events) = pumped(state, room.0, room.1).expect(rt, "a pump");
+    let call = Call::Pump {
+        instance: room.0,
+        bytes: room.1,
+    };
+    assert!(rt; is_of(state, &call, &receipt, &kept));
+    is_wanted(rt, receipt.reply, wanted);
+    events
+}
+
+// The pump answers what is wanted, with the records that the answer spells.
+fn pumps(rt: &impl Abort, state: &mut State, alloc: Global, room: (u32, u32), lines: &[Record]) {
+    let events = pumping(rt, state, room, records(alloc, lines));
+    let spelled = spelled_reply(alloc, &events).expect(rt, "records");
+    is_wanted(rt, spelled, records(alloc, lines));
+}
+
+// The pump is refused so, and gives no records.
+fn refuses_to_pump(rt: &impl Abort, state: &mut State, room: (u32, u32), refusal: Refusal) {
+    let events = pumping(rt, state, room, Ok(Reply::Refused(refusal)));
+    assert!(rt; events.is_none());
+}
+
+#[test]
+fn pumps_move_records(rt: HostRuntime) -> Result<(), Fail> {
+    let alloc = rt.alloc();
+    let tree = &mut opened(alloc, Limits::full())?;
+    does(&rt, tree, init_piped(10));
+    does(&rt, tree, watch(alloc, 1, "/", 0x10c));
+    does(&rt, tree, create(alloc, "/f"));
+    does(&rt, tree, chmod(alloc, "/", 0o700));
+    let first = [(1, 0x100, 0, "f"), (1, 0x8, 0, "f")];
+    pumps(&rt, tree, alloc, (1, 79), &first);
+    waits(&rt, tree, 1, 1);
+    pumps(&rt, tree, alloc, (1, ALL), &[(1, 0x4000_0004, 0, "")]);
+    waits(&rt, tree, 1, 0);
+    journals(&rt, tree, 6);
+    Ok(())
+}
+
+#[test]
+fn refused_pumps_move_nothing(rt: HostRuntime) -> Result<(), Fail> {
+    let alloc = rt.alloc();
+    let tree = &mut opened(alloc, Limits::full())?;
+    does(&rt, tree, init_piped(10));
+    does(&rt, tree, init(10));
+    does(&rt, tree, watch(alloc, 1, "/", 0x100));
+    refuses_to_pump(&rt, tree, (1, ALL), Refusal::Eagain);
+    refuses_to_pump(&rt, tree, (2, ALL), Refusal::NotPiped);
+    refuses_to_pump(&rt, tree, (3, ALL), Refusal::Ebadf);
+    does(&rt, tree, create(alloc, "/f"));
+    refuses_to_pump(&rt, tree, (1, 31), Refusal::Einval);
+    waits(&rt, tree, 1, 1);
+    pumps(&rt, tree, alloc, (1, 32), &[(1, 0x100, 0, "f")]);
+    refuses_to_pump(&rt, tree, (1, 32), Refusal::Eagain);
+    Ok(())
+}
+
+// Whether the call is equal to its copy.
+fn is_copied(call: &Call) -> bool {
+    match copied(call) {
+        Ok(copy) => copy == *call,
+        Err(_) => false,
+    }
+}
+
+// The call and its copy are equal.
+fn copies(rt: &impl Abort, call: Result<Call, Refusal>) {
+    let call = call.expect(rt, "a call");
+    assert!(rt; is_copied(&call));
+}
+
+#[test]
+fn copies_of_calls(rt: HostRuntime) -> Result<(), Fail> {
+    let alloc = rt.alloc();
+    copies(&rt, rename(alloc, "/a/b", "/c"));
+    copies(&rt, write(alloc, "/a", 5, b"xy"));
+    copies(&rt, init_piped(2));
+    copies(&rt, watch(alloc, 1, "/a/b", 3));
+    copies(&rt, unwatch(1, -1));
+    copies(&rt, read(1, 2));
+    copies(&rt, pump(1, 2));
+    copies(&rt, close(1));
+    Ok(())
+}
+
+// The same reply once more.
+fn copied_reply(reply: &Reply) -> Result<Reply, Refusal> {
+    match reply.copy() {
+        Err(Refusal::Enomem) => reply.copy(),
+        copy => copy,
+    }
+}
+
+// The reply and its copy are equal.
+fn copies_reply(rt: &impl Abort, reply: Result<Reply, Refusal>) {
+    let reply = reply.expect(rt, "a reply");
+    let copy = copied_reply(&reply);
+    is_wanted(rt, reply, copy);
+}
+
+#[test]
+fn copies_of_replies(rt: HostRuntime) -> Result<(), Fail> {
+    let alloc = rt.alloc();
+    copies_reply(&rt, filed());
+    copies_reply(&rt, number(2));
+    copies_reply(&rt, count(3));
+    copies_reply(&rt, file(2, 0o644, 1, 5));
+    copies_reply(&rt, contents(alloc, b"abc"));
+    copies_reply(&rt, names(alloc, "/a/b"));
+    copies_reply(&rt, instance(1));
+    copies_reply(&rt, wd(1));
+    copies_reply(&rt, records(alloc, &[(1, 0x100, 0, "f")]));
+    copies_reply(&rt, done());
+    copies_reply(&rt, Ok(Reply::Refused(Refusal::Eagain)));
+    Ok(())
+}

@@ -1,0 +1,344 @@
+//! Storms: their figures, that the four run at once, and what can go wrong.
+
+ghost use Rattle.std.specs.Prelude.{◌≡◌, ◌≤◌, true, IfOk, ⊤};
+ghost use Rattle.event_sinks.specs.Writing.{live_of};
+
+use event_sinks::{Cause, CountSink, Ended, Gate, LineSink, SettleFault, Settled, Sink, settle};
+use shared_tree::{SeatLog, Tree};
+use std::alloc::Global;
+use std::fmt::Debug;
+use std::io;
+use std::io::Write;
+use std::marker::Brand;
+use std::process::Abort;
+use std::sync::atomic::{AtomicU64, Ordering};
+use std::sync::ledger::{Blank, Ledger};
+use std::sync::{Arc, Mutex, Wait};
+use std::test::Fail;
+use std::thread::Threads;
+use watchtree_storm::*;
+
+/// What was got is what is wanted. Tests assert in these two functions: the macros in a long body take minutes to prove.
+fn equal<T: PartialEq + Debug + Drop>(rt: &impl Abort, got: T, wanted: T) {
+    assert_eq!(rt; got, wanted);
+}
+
+/// It is so.
+fn holds(rt: &impl Abort, what: &str, is_so: bool) {
+    assert!(rt; is_so, "{what}");
+}
+
+/// Opens once all four have asked.
+#[derive(Drop)]
+struct Four {
+    turns: u64,
+    asked: [AtomicU64; 4],
+}
+
+impl Four {
+    fn closed(turns: u64) -> Four {
+        Four {
+            turns,
+            asked: [
+                AtomicU64::new(0),
+                AtomicU64::new(0),
+                AtomicU64::new(0),
+                AtomicU64::new(0),
+            ],
+        }
+    }
+}
+
+impl Gate for Four {
+    ghost may_pass = { λ _ _ _ _. ⊤ };
+
+    fn pass(&self, who: u32, _turn: u64) -> bool {
+        if 0 < who && who < 5 {
+            self.asked[who as usize - 1].store(1, Ordering::SeqCst);
+        }
+        for k in 0..4 {
+            if self.asked[k].load(Ordering::SeqCst) == 0 {
+                return false;
+            }
+        }
+        true
+    }
+
+    fn turns(&self) -> u64 {
+        self.turns
+    }
+}
+
+// A storm with boxed sinks that have room for a million records each.
+fn stormed<G: Gate, R: Threads + Wait + Sync>(
+    rt: &R,
+    alloc: Global,
+    calls: u32,
+    gate: &G,
+) -> Result<Stormed, Fail>
+    requires { (1 ≤ calls) × (calls ≤ 1000) }
+{
+    let one: Box<dyn Sink> = Box::new(alloc, CountSink::new(alloc, 1_000_000))?;
+    let other: Box<dyn Sink> = Box::new(alloc, CountSink::new(alloc, 1_000_000))?;
+    Ok(storm(rt, alloc, calls, gate, one, other)?)
+}
+
+// Whether both listeners ended by the end batch, with so many records each.
+fn are_last(listeners: &[(u32, Cause, u64)], taken: u64) -> bool {
+    listeners.len() == 2
+        && listeners[0] == (1, Cause::Last, taken)
+        && listeners[1] == (2, Cause::Last, taken)
+}
+
+fn is_settled(stormed: &Stormed, entries: u64, taken: u64) -> bool {
+    stormed.entries == entries
+        && stormed.settled
+            == Ok(Settled {
+                entries,
+                calls: entries,
+            })
+        && are_last(&stormed.listeners, taken)
+}
+
+#[test]
+fn a_storm_has_its_figures(rt: HostRuntime) -> Result<(), Fail> {
+    let alloc = rt.alloc();
+    let calm = stormed(&rt, alloc, 1, &OpenGate)?;
+    holds(&rt, "is_settled(&calm, 13, 6)", is_settled(&calm, 13, 6));
+    let calm = stormed(&rt, alloc, 2, &OpenGate)?;
+    holds(&rt, "is_settled(&calm, 17, 12)", is_settled(&calm, 17, 12));
+    let calm = stormed(&rt, alloc, 3, &OpenGate)?;
+    holds(&rt, "is_settled(&calm, 21, 16)", is_settled(&calm, 21, 16));
+    let calm = stormed(&rt, alloc, 100, &OpenGate)?;
+    holds(
+        &rt,
+        "is_settled(&calm, 409, 450)",
+        is_settled(&calm, 409, 450),
+    );
+    let calm = stormed(&rt, alloc, 1000, &OpenGate)?;
+    holds(
+        &rt,
+        "is_settled(&calm, 4009, 4500)",
+        is_settled(&calm, 4009, 4500),
+    );
+    Ok(())
+}
+
+#[test]
+fn four_run_at_once(rt: HostRuntime) -> Result<(), Fail> {
+    let alloc = rt.alloc();
+    let calm = stormed(&rt, alloc, 4, &Four::closed(100_000_000))?;
+    assert!(rt; is_settled(&calm, 25, 18));
+    Ok(())
+}
+
+/// Counts the closing lines, wherever they went.
+#[derive(Drop)]
+struct Closings {
+    count: Arc<AtomicU64, Global>,
+}
+
+impl Write for Closings {
+    fn write(&mut self, buf: &[u8]) -> io::Result<usize> {
+        if buf.starts_with(b"closed") {
+            self.count.fetch_add(1, Ordering::SeqCst);
+        }
+        Ok(buf.len())
+    }
+
+    fn flush(&mut self) -> io::Result<()> {
+        Ok(())
+    }
+}
+
+// A sink that counts its closing.
+fn counted(alloc: Global, count: &Arc<AtomicU64, Global>) -> Result<LineSink<Closings>, Fail>
+    ensures { IfOk result (λ sink. live_of sink ≡ true) }
+{
+    let count = Arc::try_clone(count)?;
+    Ok(LineSink::new(alloc, Closings { count }))
+}
+
+// What a storm may come to where memory is wanting: a fault, a listener that did not end by the end batch, a book that is
+// not settled, or a settled book with fewer entries.
+fn is_short_of_memory(stormed: &Result<Stormed, StormFault>, most: u64) -> bool {
+    match stormed {
+        Err(StormFault::Memory) => true,
+        Ok(stormed) => match stormed.settled {
+            Ok(settled) => settled.entries == settled.calls && settled.entries <= most,
+            Err(SettleFault::CountDiffers { .. }) => false,
+            Err(_) => true,
+        },
+    }
+}
+
+#[test]
+fn a_storm_closes_both_sinks(rt: HostRuntime) -> Result<(), Fail> {
+    let alloc = rt.alloc();
+    let count = Arc::new(alloc, AtomicU64::new(0))?;
+    let one = counted(alloc, &count)?;
+    let other = counted(alloc, &count)?;
+    let stormed = storm(&rt, alloc, 4, &OpenGate, one, other);
+    holds(
+        &rt,
+        "is_short_of_memory(&stormed, 25)",
+        is_short_of_memory(&stormed, 25),
+    );
+    equal(&rt, count.load(Ordering::SeqCst), 2);
+    Ok(())
+}
+
+/// What two trees differ in: the file of the second writer.
+const ANOTHER: Writer = Writer {
+    who: 4,
+    instance: 2,
+    file: "/s/c2",
+    moved: "/s/b2",
+};
+
+// A storm of one call each, one after the other.
+fn quiet<L: Ledger>(
+    rt: &impl Wait,
+    alloc: Global,
+    blank: Blank,
+    second_writer: Writer,
+) -> Result<Ran<CountSink>, Fail>
+    requires name { blank.name ≡ L.name }
+    requires parts { (blank.parts ≡ L.parts) × (blank.parts ≡ 65537) }
+{
+    let one = CountSink::new(alloc, 99);
+    let other = CountSink::new(alloc, 99);
+    let Begun {
+        held,
+        mut pass,
+        main,
+        first,
+        second,
+        one,
+        other,
+    } = begin::<L, CountSink>(alloc, blank, 1, one, other)?;
+    let tree: Tree<L> = Mutex::new(held);
+    let first = Writer::first().write(rt, alloc, &tree, first, &OpenGate, 1);
+    let second = second_writer.write(rt, alloc, &tree, second, &OpenGate, 1);
+    let main = close_both(rt, &tree, main);
+    let mut logs = Vec::with_capacity(alloc, 3)?;
+    logs.push(pass.join(main))?;
+    logs.push(pass.join(first))?;
+    logs.push(pass.join(second))?;
+    let ended = (one.run(&OpenGate, 9), other.run(&OpenGate, 9));
+    let book = tree.into_inner().dissolve(pass);
+    Ok(Ran { book, logs, ended })
+}
+
+fn quiet_storm(
+    rt: &impl Wait,
+    alloc: Global,
+    second_writer: Writer,
+) -> Result<Ran<CountSink>, Fail> {
+    quiet::<Brand>(rt, alloc, Blank::new(65537), second_writer)
+}
+
+#[test]
+fn another_trees_seat_is_stray(rt: HostRuntime) -> Result<(), Fail> {
+    let alloc = rt.alloc();
+    let Ran {
+        book,
+        mut logs,
+        ended: (one, other),
+    } = quiet_storm(&rt, alloc, Writer::second())?;
+    let mut ended = Vec::with_capacity(alloc, 2)?;
+    ended.push(one)?;
+    ended.push(other)?;
+    let mut others = quiet_storm(&rt, alloc, ANOTHER)?.logs;
+    let _ = logs.pop();
+    let Some(stray) = others.pop() else {
+        return Err(Fail::from(StormFault::Memory));
+    };
+    logs.push(stray)?;
+    let settled = settle(alloc, book, logs, ended);
+    assert_eq!(rt; settled, Err(SettleFault::Stray(3)));
+    Ok(())
+}
+
+/// Which go first, where the four run one after the other.
+#[derive(Clone, Copy, PartialEq, Eq)]
+enum Order {
+    Listeners,
+    Writers,
+}
+
+// A double that runs the four one after the other, at a gate that waits for all of them. Whether it would pass for a storm
+// of four calls each: both listeners ended by the end batch, and each writer kept its calls.
+fn one_after_the_other<L: Ledger>(
+    rt: &impl Wait,
+    alloc: Global,
+    blank: Blank,
+    order: Order,
+) -> Result<bool, Fail>
+    requires name { blank.name ≡ L.name }
+    requires parts { (blank.parts ≡ L.parts) × (blank.parts ≡ 65537) }
+{
+    let gate = Four::closed(1_000);
+    let Begun {
+        held,
+        mut pass,
+        main,
+        first,
+        second,
+        one,
+        other,
+    } = begin::<L, CountSink>(
+        alloc,
+        blank,
+        4,
+        CountSink::new(alloc, 99),
+        CountSink::new(alloc, 99),
+    )?;
+    let tree: Tree<L> = Mutex::new(held);
+    if order == Order::Listeners {
+        let one = one.run(&gate, gate.turns());
+        let other = other.run(&gate, gate.turns());
+        let first = Writer::first().write(rt, alloc, &tree, first, &gate, 4);
+        let second = Writer::second().write(rt, alloc, &tree, second, &gate, 4);
+        let _ = pass.join(close_both(rt, &tree, main));
+        return Ok(is_whole(&one, &other, &pass.join(first), &pass.join(second)));
+    }
+    let first = Writer::first().write(rt, alloc, &tree, first, &gate, 4);
+    let second = Writer::second().write(rt, alloc, &tree, second, &gate, 4);
+    let _ = pass.join(close_both(rt, &tree, main));
+    let one = one.run(&gate, gate.turns());
+    let other = other.run(&gate, gate.turns());
+    Ok(is_whole(&one, &other, &pass.join(first), &pass.join(second)))
+}
+
+fn is_whole(
+    one: &Ended<CountSink>,
+    other: &Ended<CountSink>,
+    first: &SeatLog,
+    second: &SeatLog,
+) -> bool {
+    one.cause() == Cause::Last
+        && other.cause() == Cause::Last
+        && first.kept.as_slice().len() == 8
+        && second.kept.as_slice().len() == 8
+}
+
+fn passes_for_a_storm(rt: &impl Wait, alloc: Global, order: Order) -> Result<bool, Fail> {
+    one_after_the_other::<Brand>(rt, alloc, Blank::new(65537), order)
+}
+
+#[test]
+fn one_after_the_other_is_noticed(rt: HostRuntime) -> Result<(), Fail> {
+    let alloc = rt.alloc();
+    holds(
+        &rt,
+        "!passes_for_a_storm(&rt, alloc, Order::Listeners)?",
+        !passes_for_a_storm(&rt, alloc, Order::Listeners)?,
+    );
+    holds(
+        &rt,
+        "!passes_for_a_storm(&rt, alloc, Order::Writers)?",
+        !passes_for_a_storm(&rt, alloc, Order::Writers)?,
+    );
+    Ok(())
+}
