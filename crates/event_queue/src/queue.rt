@@ -15,12 +15,22 @@ use tree_paths::Refusal;
 /// The records of an inotify instance that wait to be read, the oldest first.
 ///
 /// [`Queue::with_limit`] makes all the room that is ever needed. No other call takes memory, and each succeeds.
-#[derive(Debug, Drop)]
+#[derive(Debug)]
 pub struct Queue {
     limit: u32,
     // How many of the records are overflow marks.
     marks: usize,
     records: HeapCircularBuffer<Event>,
+}
+
+impl Drop for Queue {
+    fn drop(self) {
+        let Queue {
+            limit: _,
+            marks: _,
+            records: _,
+        } = self;
+    }
 }
 
 impl Model for Queue {

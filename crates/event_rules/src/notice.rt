@@ -45,9 +45,14 @@ impl Notice {
 }
 
 /// Notices, of which contracts see the list.
-#[derive(Drop)]
 pub struct Notices {
     notices: Vec<Notice>,
+}
+
+impl Drop for Notices {
+    fn drop(self) {
+        let Notices { notices: _ } = self;
+    }
 }
 
 impl Model for Notices {

@@ -11,11 +11,20 @@ use std::alloc::Global;
 use std::marker::Model;
 
 /// Keeps a copy of each record, up to a count of them: it is full exactly where it took that many.
-#[derive(Drop)]
 pub struct CountSink {
     most: u64,
     records: Vec<Event>,
     open: bool,
+}
+
+impl Drop for CountSink {
+    fn drop(self) {
+        let CountSink {
+            most: _,
+            records: _,
+            open: _,
+        } = self;
+    }
 }
 
 impl Model for CountSink {

@@ -41,7 +41,6 @@ pub enum Cause {
 ///
 /// The sink is closed after the end batch, after a record that it refused, and where memory is wanting. A listener that
 /// is dropped drops its sink, which closes where it is open.
-#[derive(Drop)]
 pub struct Listening<S> {
     number: u32,
     feed: Feed,
@@ -51,11 +50,23 @@ pub struct Listening<S> {
     cause: Option<Cause>,
 }
 
+impl<S: Drop> Drop for Listening<S> {
+    fn drop(self) {
+        let Listening {
+            number: _,
+            feed: _,
+            sink: _,
+            started: _,
+            handed: _,
+            cause: _,
+        } = self;
+    }
+}
+
 /// A listener with any sink, in a box.
 pub type Listener = Listening<Box<dyn Sink>>;
 
 /// A listener that has ended. Its sink is closed. It keeps its feed, and the batches that it was handed.
-#[derive(Drop)]
 pub struct Ended<S> {
     number: u32,
     feed: Feed,
@@ -63,6 +74,19 @@ pub struct Ended<S> {
     started: u64,
     handed: Vec<Batch>,
     cause: Cause,
+}
+
+impl<S: Drop> Drop for Ended<S> {
+    fn drop(self) {
+        let Ended {
+            number: _,
+            feed: _,
+            sink: _,
+            started: _,
+            handed: _,
+            cause: _,
+        } = self;
+    }
 }
 
 // Puts the records of a batch one by one, until one is refused. Why the listener ends with this batch, if it does.

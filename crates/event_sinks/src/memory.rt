@@ -11,10 +11,18 @@ use std::alloc::Global;
 use std::marker::Model;
 
 /// Keeps a copy of each record.
-#[derive(Drop)]
 pub struct MemorySink {
     records: Vec<Event>,
     open: bool,
+}
+
+impl Drop for MemorySink {
+    fn drop(self) {
+        let MemorySink {
+            records: _,
+            open: _,
+        } = self;
+    }
 }
 
 impl Model for MemorySink {

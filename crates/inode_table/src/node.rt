@@ -12,12 +12,22 @@ use slab::Slab;
 use std::alloc::AllocError;
 
 /// A file or a directory: its number, its mode bits, how many paths lead to it, and what it holds.
-#[derive(Drop)]
 pub struct Node {
     pub number: u32,
     pub mode: u32,
     pub links: u64,
     pub content: Content,
+}
+
+impl Drop for Node {
+    fn drop(self) {
+        let Node {
+            number: _,
+            mode: _,
+            links: _,
+            content: _,
+        } = self;
+    }
 }
 
 /// Puts `key` under the name in the directory, in the place of the key that is there, if any.

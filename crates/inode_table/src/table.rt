@@ -30,10 +30,15 @@ const ROOT_MODE: u32 = 0o755;
 ///
 /// A changing call names files by whole paths. One that grows the table makes its growths before its first change, so that
 /// after an `Err`, which is `Refusal::Enomem` alone, the table is as it was.
-#[derive(Drop)]
 pub struct Table {
     nodes: Slab<Node>,
     alloc: Global,
+}
+
+impl Drop for Table {
+    fn drop(self) {
+        let Table { nodes: _, alloc: _ } = self;
+    }
 }
 
 impl Model for Table {

@@ -6,9 +6,14 @@ use std::alloc::{AllocError, Global};
 use std::marker::Model;
 
 /// The numbers of the instances that watch a file, each once, rising.
-#[derive(Drop)]
 pub struct Ids {
     ids: Vec<u32>,
+}
+
+impl Drop for Ids {
+    fn drop(self) {
+        let Ids { ids: _ } = self;
+    }
 }
 
 impl Model for Ids {

@@ -8,10 +8,18 @@ use std::alloc::{AllocError, Global};
 use std::collections::BTreeMap;
 
 /// The numbers of the instances that watch each file, by the number of the file.
-#[derive(Drop)]
 pub struct Index {
     alloc: Global,
     watchers: BTreeMap<u32, Ids>,
+}
+
+impl Drop for Index {
+    fn drop(self) {
+        let Index {
+            alloc: _,
+            watchers: _,
+        } = self;
+    }
 }
 
 impl Index {

@@ -4,7 +4,6 @@ use event_queue::Queue;
 use watch_table::Watches;
 
 /// An open instance of inotify(7).
-#[derive(Drop)]
 pub struct Instance {
     /// Whether its records go through a pipe.
     pub is_piped: bool,
@@ -12,4 +11,14 @@ pub struct Instance {
     pub watches: Watches,
     /// The records that wait to be read.
     pub queue: Queue,
+}
+
+impl Drop for Instance {
+    fn drop(self) {
+        let Instance {
+            is_piped: _,
+            watches: _,
+            queue: _,
+        } = self;
+    }
 }

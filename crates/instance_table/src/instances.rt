@@ -23,11 +23,20 @@ use tree_paths::{Limits, Refusal};
 use watch_table::{Mask, Watches};
 
 /// The open instances of inotify(7) by their numbers, with an index of who watches each file.
-#[derive(Drop)]
 pub struct Instances {
     pub(crate) alloc: Global,
     opened: BTreeMap<u32, Instance>,
     index: Index,
+}
+
+impl Drop for Instances {
+    fn drop(self) {
+        let Instances {
+            alloc: _,
+            opened: _,
+            index: _,
+        } = self;
+    }
 }
 
 impl Model for Instances {

@@ -25,9 +25,14 @@ pub struct Hearing {
 }
 
 /// What notices raise for the instances that hear any of them.
-#[derive(Drop)]
 pub struct Staging {
     hearings: Vec<Hearing>,
+}
+
+impl Drop for Staging {
+    fn drop(self) {
+        let Staging { hearings: _ } = self;
+    }
 }
 
 impl Model for Staging {
@@ -37,6 +42,16 @@ impl Model for Staging {
     ghost Value = { List Hearing };
 
     ghost view = { λ staging. staging.hearings.items };
+}
+
+impl Staging {
+    // What is raised, for one instance after the other.
+    fn into_hearings(self) -> Vec<Hearing>
+        ensures { result.items ≡ self }
+    {
+        let Staging { hearings } = self;
+        hearings
+    }
 }
 
 impl Instances {
@@ -66,8 +81,7 @@ impl Instances {
         requires { IsStaged self.old notices.now staging }
         ensures { self.new ≡ all_changed self.old (told notices.now) }
     {
-        let Staging { hearings } = staging;
-        self.hear_each(hearings);
+        self.hear_each(staging.into_hearings());
     }
 
     // Raises what was staged, for one instance after the other.

@@ -11,9 +11,15 @@ use std::marker::Model;
 /// Bytes, of which contracts see the list.
 ///
 /// It holds a `Vec<u8>` where a struct, an enum or a vector does that contracts compare.
-#[derive(Debug, Drop)]
+#[derive(Debug)]
 pub struct Bytes {
     bytes: Vec<u8>,
+}
+
+impl Drop for Bytes {
+    fn drop(self) {
+        let Bytes { bytes: _ } = self;
+    }
 }
 
 impl Model for Bytes {
@@ -83,9 +89,15 @@ impl Eq for Bytes {
 /// Events, of which contracts see the list.
 ///
 /// It holds a `Vec<Event>` where a struct, an enum or a vector does that contracts compare.
-#[derive(Debug, Drop)]
+#[derive(Debug)]
 pub struct Events {
     events: Vec<Event>,
+}
+
+impl Drop for Events {
+    fn drop(self) {
+        let Events { events: _ } = self;
+    }
 }
 
 impl Model for Events {

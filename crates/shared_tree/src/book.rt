@@ -11,12 +11,22 @@ use tree_core::{Entry, State};
 /// A journal that has ended, with the ends of all pipes that handed its records over.
 ///
 /// Contracts see the journal, the number of its entries, the numbers of its pipes, and what each pipe was sent.
-#[derive(Drop)]
 pub struct Book {
     pub(crate) core: State,
     pub(crate) numbers: Vec<u32>,
     pub(crate) pipes: Vec<Pipe>,
     pub(crate) entries: u64,
+}
+
+impl Drop for Book {
+    fn drop(self) {
+        let Book {
+            core: _,
+            numbers: _,
+            pipes: _,
+            entries: _,
+        } = self;
+    }
 }
 
 impl Model for Book {

@@ -38,13 +38,24 @@ pub type Tree<L> = Mutex<Held<L>>;
 /// A tree of files with its journal, the pipes of its instances, and the number of its entries in a ledger.
 ///
 /// Contracts see the tree, what each pipe was sent, and the ledger's total.
-#[derive(Drop)]
 pub struct Held<L: Ledger> {
     alloc: Global,
     core: State,
     numbers: Vec<u32>,
     pipes: Vec<Pipe>,
     book: ledger::Book<L>,
+}
+
+impl<L: Ledger> Drop for Held<L> {
+    fn drop(self) {
+        let Held {
+            alloc: _,
+            core: _,
+            numbers: _,
+            pipes: _,
+            book: _,
+        } = self;
+    }
 }
 
 impl<L: Ledger> Model for Held<L> {

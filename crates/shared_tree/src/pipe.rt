@@ -29,9 +29,14 @@ impl Batch {
 }
 
 // The end that hands over. Contracts see what it has sent, and how many places it knows to be free.
-#[derive(Drop)]
 pub(crate) struct Pipe {
     producer: Producer<Batch>,
+}
+
+impl Drop for Pipe {
+    fn drop(self) {
+        let Pipe { producer: _ } = self;
+    }
 }
 
 impl Model for Pipe {
@@ -64,10 +69,18 @@ impl Pipe {
 /// The end of a pipe that takes. It belongs to a listener, who needs neither the tree nor its lock.
 ///
 /// Contracts see the number of its instance, and the batches that it has received.
-#[derive(Drop)]
 pub struct Feed {
     instance: u32,
     consumer: Consumer<Batch>,
+}
+
+impl Drop for Feed {
+    fn drop(self) {
+        let Feed {
+            instance: _,
+            consumer: _,
+        } = self;
+    }
 }
 
 impl Model for Feed {

@@ -13,11 +13,20 @@ use tree_paths::Refusal;
 /// Who makes calls of a tree, under a number of its own. It keeps a copy of each call that was journalled for it.
 ///
 /// Contracts see the number and what it keeps. Its share of the ledger is the number of calls that it keeps.
-#[derive(Drop)]
 pub struct Seat<L: Ledger> {
     pub(crate) number: u32,
     pub(crate) kept: Vec<Kept>,
     pub(crate) share: Share<L>,
+}
+
+impl<L: Ledger> Drop for Seat<L> {
+    fn drop(self) {
+        let Seat {
+            number: _,
+            kept: _,
+            share: _,
+        } = self;
+    }
 }
 
 impl<L: Ledger> Model for Seat<L> {
@@ -31,10 +40,34 @@ impl<L: Ledger> Model for Seat<L> {
     ghost invariant = { λ s. (s.share.parts ≡ 1) × (s.share.amount ≡ length s.kept.items) };
 }
 
+impl<L: Ledger> Seat<L> {
+    // What it kept, and its share of the ledger.
+    fn into_log(self) -> (SeatLog, Share<L>)
+        ensures log { (result.0.number ≡ self.number) × (result.0.kept ≡ self.kept) }
+        ensures share { (result.1.parts ≡ 1) × (result.1.amount ≡ length self.kept) }
+    {
+        let Seat {
+            number,
+            kept,
+            share,
+        } = self;
+        let log = SeatLog {
+            number,
+            kept: KeptCalls::from_vec(kept),
+        };
+        (log, share)
+    }
+}
+
 /// Calls that were kept, of which contracts see the list.
-#[derive(Drop)]
 pub struct KeptCalls {
     calls: Vec<Kept>,
+}
+
+impl Drop for KeptCalls {
+    fn drop(self) {
+        let KeptCalls { calls: _ } = self;
+    }
 }
 
 impl Model for KeptCalls {
@@ -134,15 +167,8 @@ impl<L: Ledger> Pass<L> {
         ensures log { (result.number ≡ seat.number) × (result.kept ≡ seat.kept) }
         ensures pass { self.new ≡ passing (self.old.parts + 1) (self.old.amount + length seat.kept) self.old.given self.old.seats }
     {
-        let Seat {
-            number,
-            kept,
-            share,
-        } = seat;
+        let (log, share) = seat.into_log();
         self.share.merge(share);
-        SeatLog {
-            number,
-            kept: KeptCalls::from_vec(kept),
-        }
+        log
     }
 }

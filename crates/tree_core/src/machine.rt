@@ -27,7 +27,6 @@ use watch_table::Mask;
 const FIRST_NUMBER: u32 = 2;
 
 /// The files, the open instances, and the numbers that come next.
-#[derive(Drop)]
 pub struct Machine {
     pub(crate) alloc: Global,
     pub(crate) limits: Limits,
@@ -36,6 +35,20 @@ pub struct Machine {
     pub(crate) next_cookie: u64,
     pub(crate) next_id: u32,
     pub(crate) instances: Instances,
+}
+
+impl Drop for Machine {
+    fn drop(self) {
+        let Machine {
+            alloc: _,
+            limits: _,
+            table: _,
+            next_number: _,
+            next_cookie: _,
+            next_id: _,
+            instances: _,
+        } = self;
+    }
 }
 
 /// What a call answers: for the journal, for who made the call, and for what is kept of it, where it is kept.

@@ -21,10 +21,18 @@ use tree_paths::{Limits, Refusal};
 ///
 /// Contracts see it as its limits and its journal: the files, the watches and what waits are what the journal stands
 /// for. The journal is lawful at each moment: each reply in it is the one that the tree gives after the calls before.
-#[derive(Drop)]
 pub struct State {
     machine: Machine,
     journal: Vec<Entry>,
+}
+
+impl Drop for State {
+    fn drop(self) {
+        let State {
+            machine: _,
+            journal: _,
+        } = self;
+    }
 }
 
 impl Model for State {

@@ -11,9 +11,15 @@ use record_codec::Name;
 use std::marker::Model;
 
 /// Names in order, which contracts see as their list.
-#[derive(Debug, Drop)]
+#[derive(Debug)]
 pub struct Names {
     names: Vec<Name>,
+}
+
+impl Drop for Names {
+    fn drop(self) {
+        let Names { names: _ } = self;
+    }
 }
 
 impl Model for Names {

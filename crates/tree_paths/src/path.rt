@@ -16,9 +16,15 @@ use std::cmp::Ordering;
 use std::marker::Model;
 
 /// A path from the root: its names.
-#[derive(Debug, Drop)]
+#[derive(Debug)]
 pub struct Path {
     names: Vec<Name>,
+}
+
+impl Drop for Path {
+    fn drop(self) {
+        let Path { names: _ } = self;
+    }
 }
 
 impl Model for Path {

@@ -18,13 +18,24 @@ use tree_paths::{Limits, Refusal};
 /// The watches of an instance, by the numbers of the files and by their descriptors.
 ///
 /// Descriptors are given in turn, 1, 2, 3, .., and none is given again.
-#[derive(Drop)]
 pub struct Watches {
     by_number: BTreeMap<u32, (i32, u32)>,
     by_wd: BTreeMap<i32, u32>,
     next_wd: u32,
     most_watches: u32,
     last_wd: u32,
+}
+
+impl Drop for Watches {
+    fn drop(self) {
+        let Watches {
+            by_number: _,
+            by_wd: _,
+            next_wd: _,
+            most_watches: _,
+            last_wd: _,
+        } = self;
+    }
 }
 
 impl Model for Watches {

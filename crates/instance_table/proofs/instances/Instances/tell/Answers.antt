@@ -5,4 +5,4 @@ use Rattle.instance_table.proofs.instances.Instances.tell.Goals as goal
 
 pub returns : goal.returns
 returns c =
-    c.hear_each.ensures ∙ ap (heard_all c.args.self.now) c.staging.view_is ∙ heard-told c.args.staging c.args.self.now c.args.notices.now c.requires
+    c.hear_each.ensures ∙ ap (heard_all c.args.self.now) c.into_hearings.ensures ∙ heard-told c.args.staging c.args.self.now c.args.notices.now c.requires
