@@ -4,21 +4,15 @@
 
 ghost use Rattle.std.specs.Prelude.{◌≤◌};
 
-mod command_line;
-mod fault;
-mod report;
-
-use command_line::{Asked, asked_by};
 use event_sinks::{CountSink, Sink};
-use fault::Fault;
 use record_codec::Port;
-use report::report;
 use std::alloc::Global;
 use std::io::Write;
 use std::process::ExitCode;
 use std::sync::Wait;
 use std::thread::Threads;
 use std::{env, io};
+use watchtree_command::{Asked, Fault, asked_by, report};
 use watchtree_script::{RunFault, run_script};
 use watchtree_storm::{OpenGate, storm};
 

@@ -1,7 +1,7 @@
 -- The exit status of the program where it ends before its work is done.
 use Rattle.std.specs.Prelude.{ℕ}
-use Rattle.watchtree.specs.declared.fault.Fault.{Fault}
-use Rattle.watchtree.specs.declared.fault.Fault.TheVariants.{CommandLine, Memory, Run, Settle}
+use Rattle.watchtree_command.specs.declared.fault.Fault.{Fault}
+use Rattle.watchtree_command.specs.declared.fault.Fault.TheVariants.{CommandLine, Memory, Run, Settle}
 use Rattle.event_sinks.specs.declared.audit.SettleFault.{SettleFault}
 use Rattle.event_sinks.specs.declared.audit.SettleFault.TheVariants as settle
 use Rattle.watchtree_script.specs.declared.fault.RunFault.{RunFault}

@@ -4,8 +4,8 @@ use Rattle.std.specs.Char.{is_ascii_digit}
 use Rattle.std.specs.List.{list_all}
 use Rattle.std.specs.Str.Parse.{digits_value}
 use Rattle.tree_paths.specs.Greatest.{most_queue}
-use Rattle.watchtree.specs.declared.command_line.Asked.{Asked}
-use Rattle.watchtree.specs.declared.command_line.Asked.TheVariants.{Run, Storm}
+use Rattle.watchtree_command.specs.declared.command_line.Asked.{Asked}
+use Rattle.watchtree_command.specs.declared.command_line.Asked.TheVariants.{Run, Storm}
 
 -- the least limit of a queue. The greatest is that of every queue
 abbrev pub least_queue : ℕ

@@ -1,7 +1,7 @@
 //! Why the program ends before its work is done.
 
 ghost use Rattle.std.specs.Prelude.{◌≡◌, ◌≢◌};
-ghost use Rattle.watchtree.specs.Statuses.{status_of};
+ghost use Rattle.watchtree_command.specs.Statuses.{status_of};
 
 use event_sinks::SettleFault;
 use std::alloc::{AllocError, AllocFailed};

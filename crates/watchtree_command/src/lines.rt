@@ -2,7 +2,7 @@
 
 ghost use Rattle.std.specs.Prelude.{◌≡◌, ◌++◌, IfOk, OnOk};
 ghost use Rattle.std.specs.List.{flat_map};
-ghost use Rattle.watchtree.specs.Report.{cause_word, listener_line, report_of};
+ghost use Rattle.watchtree_command.specs.Report.{cause_word, listener_line, report_of};
 
 use event_sinks::Cause;
 use itoa::Buffer;

@@ -5,7 +5,7 @@ ghost use Rattle.std.specs.Char.{is_ascii_digit};
 ghost use Rattle.std.specs.List.{list_all};
 ghost use Rattle.std.specs.Option.{SomeIff};
 ghost use Rattle.std.specs.Str.Parse.{digits_value};
-ghost use Rattle.watchtree.specs.CommandLine.{number_of, IsAsked};
+ghost use Rattle.watchtree_command.specs.CommandLine.{number_of, IsAsked};
 
 use crate::fault::Fault;
 use clap::error::ErrorKind;

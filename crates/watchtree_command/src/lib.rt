@@ -1,0 +1,11 @@
+//! The program `watchtree` but for its input and output: what the words of its command line ask for, what is printed of a
+//! storm, and the exit status where it ends before its work is done.
+#![tactic(auto)]
+
+mod command_line;
+mod fault;
+mod lines;
+
+pub use command_line::{Asked, asked_by};
+pub use fault::Fault;
+pub use lines::report;
