@@ -198,11 +198,11 @@ fn renames_of_one_file(rt: HostRuntime) -> Result<(), Fail> {
 
 #[test]
 fn last_values(rt: HostRuntime) -> Result<(), Fail> {
-    let limits = Limits::full()
-        .with_numbers(3)
-        .with_file_bytes(4)
-        .with_links(1)
-        .with_cookies(1);
+    let mut limits = Limits::full();
+    limits.numbers = 3;
+    limits.file_bytes = 4;
+    limits.links = 1;
+    limits.cookies = 1;
     let mut calls = Calls::new(rt.alloc(), limits)?;
     tells(&rt, calls.create("/a", 0o644), number(2));
     tells(&rt, calls.create("/b", 0o644), number(3));

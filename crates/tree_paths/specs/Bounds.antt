@@ -1,5 +1,5 @@
 -- How much a tree takes at most.
-use Rattle.std.proofs.Common.{ℕ, lit≤}
+use Rattle.std.proofs.Common.{lit≤}
 use Rattle.tree_paths.specs.declared.limits.Limits.{Limits}
 use Rattle.tree_paths.specs.Greatest.{most_numbers, most_file_bytes, most_links, most_instances, most_ids, most_watches, most_wds, most_queue, most_cookies, most_journal, most_seats}
 
@@ -28,33 +28,4 @@ full = record {
   cookies_in = (lit≤ tt, lit≤ tt);
   journal_in = (lit≤ tt, lit≤ tt);
   seats_in = (lit≤ tt, lit≤ tt);
-}
-
--- limits without the facts that keep them in range
-pub record Values : Type 0 where
-  pub numbers : ℕ
-  pub file_bytes : ℕ
-  pub links : ℕ
-  pub instances : ℕ
-  pub ids : ℕ
-  pub watches : ℕ
-  pub wds : ℕ
-  pub queue : ℕ
-  pub cookies : ℕ
-  pub journal : ℕ
-  pub seats : ℕ
-
-abbrev pub values_of : Limits → Values
-values_of limits = record {
-  numbers = limits.numbers;
-  file_bytes = limits.file_bytes;
-  links = limits.links;
-  instances = limits.instances;
-  ids = limits.ids;
-  watches = limits.watches;
-  wds = limits.wds;
-  queue = limits.queue;
-  cookies = limits.cookies;
-  journal = limits.journal;
-  seats = limits.seats;
 }

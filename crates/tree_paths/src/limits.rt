@@ -5,7 +5,7 @@ ghost use Rattle.tree_paths.specs.Greatest.{most_numbers, most_file_bytes, most_
 
 /// The last value of each kind that is still given; the next one is refused.
 ///
-/// Each field lies between 1 and its value in [`Limits::full`], which the type keeps.
+/// Each field lies between 1 and its value in [`Limits::full`], which the type keeps: code that sets one has to prove it.
 #[derive(Clone, Copy)]
 pub struct Limits {
     /// File numbers, the root counted: up to 2^20. Beyond it `NumbersSpent`.
@@ -44,7 +44,7 @@ pub struct Limits {
 }
 
 impl Limits {
-    ghost use Rattle.tree_paths.specs.Bounds.{full, values_of};
+    ghost use Rattle.tree_paths.specs.Bounds.{full};
 
     /// The greatest limits.
     pub fn full() -> Limits
@@ -63,126 +63,5 @@ impl Limits {
             journal: 1_000_000,
             seats: 65_536,
         }
-    }
-
-    /// These limits with another [`Limits::numbers`].
-    pub fn with_numbers(self, numbers: u32) -> Limits
-        requires least { 1 ≤ numbers }
-        requires most { numbers ≤ most_numbers }
-        ensures { values_of result ≡ record (values_of self) { numbers = numbers } }
-    {
-        let mut limits = self;
-        limits.numbers = numbers;
-        limits
-    }
-
-    /// These limits with another [`Limits::file_bytes`].
-    pub fn with_file_bytes(self, file_bytes: u32) -> Limits
-        requires least { 1 ≤ file_bytes }
-        requires most { file_bytes ≤ most_file_bytes }
-        ensures { values_of result ≡ record (values_of self) { file_bytes = file_bytes } }
-    {
-        let mut limits = self;
-        limits.file_bytes = file_bytes;
-        limits
-    }
-
-    /// These limits with another [`Limits::links`].
-    pub fn with_links(self, links: u32) -> Limits
-        requires least { 1 ≤ links }
-        requires most { links ≤ most_links }
-        ensures { values_of result ≡ record (values_of self) { links = links } }
-    {
-        let mut limits = self;
-        limits.links = links;
-        limits
-    }
-
-    /// These limits with another [`Limits::instances`].
-    pub fn with_instances(self, instances: u32) -> Limits
-        requires least { 1 ≤ instances }
-        requires most { instances ≤ most_instances }
-        ensures { values_of result ≡ record (values_of self) { instances = instances } }
-    {
-        let mut limits = self;
-        limits.instances = instances;
-        limits
-    }
-
-    /// These limits with another [`Limits::ids`].
-    pub fn with_ids(self, ids: u32) -> Limits
-        requires least { 1 ≤ ids }
-        requires most { ids ≤ most_ids }
-        ensures { values_of result ≡ record (values_of self) { ids = ids } }
-    {
-        let mut limits = self;
-        limits.ids = ids;
-        limits
-    }
-
-    /// These limits with another [`Limits::watches`].
-    pub fn with_watches(self, watches: u32) -> Limits
-        requires least { 1 ≤ watches }
-        requires most { watches ≤ most_watches }
-        ensures { values_of result ≡ record (values_of self) { watches = watches } }
-    {
-        let mut limits = self;
-        limits.watches = watches;
-        limits
-    }
-
-    /// These limits with another [`Limits::wds`].
-    pub fn with_wds(self, wds: u32) -> Limits
-        requires least { 1 ≤ wds }
-        requires most { wds ≤ most_wds }
-        ensures { values_of result ≡ record (values_of self) { wds = wds } }
-    {
-        let mut limits = self;
-        limits.wds = wds;
-        limits
-    }
-
-    /// These limits with another [`Limits::queue`].
-    pub fn with_queue(self, queue: u32) -> Limits
-        requires least { 1 ≤ queue }
-        requires most { queue ≤ most_queue }
-        ensures { values_of result ≡ record (values_of self) { queue = queue } }
-    {
-        let mut limits = self;
-        limits.queue = queue;
-        limits
-    }
-
-    /// These limits with another [`Limits::cookies`].
-    pub fn with_cookies(self, cookies: u32) -> Limits
-        requires least { 1 ≤ cookies }
-        requires most { cookies ≤ most_cookies }
-        ensures { values_of result ≡ record (values_of self) { cookies = cookies } }
-    {
-        let mut limits = self;
-        limits.cookies = cookies;
-        limits
-    }
-
-    /// These limits with another [`Limits::journal`].
-    pub fn with_journal(self, journal: u32) -> Limits
-        requires least { 1 ≤ journal }
-        requires most { journal ≤ most_journal }
-        ensures { values_of result ≡ record (values_of self) { journal = journal } }
-    {
-        let mut limits = self;
-        limits.journal = journal;
-        limits
-    }
-
-    /// These limits with another [`Limits::seats`].
-    pub fn with_seats(self, seats: u32) -> Limits
-        requires least { 1 ≤ seats }
-        requires most { seats ≤ most_seats }
-        ensures { values_of result ≡ record (values_of self) { seats = seats } }
-    {
-        let mut limits = self;
-        limits.seats = seats;
-        limits
     }
 }

@@ -246,9 +246,17 @@ fn lists_of_names(rt: HostRuntime) -> Result<(), Fail> {
 }
 
 #[test]
-fn lowered_limits(rt: HostRuntime) {
-    let limits = Limits::full().with_cookies(2);
-    equal(&rt, limits.cookies, 2);
+fn the_greatest_limits(rt: HostRuntime) {
+    let limits = Limits::full();
+    equal(&rt, limits.numbers, 1_048_576);
+    equal(&rt, limits.file_bytes, 16_777_216);
+    equal(&rt, limits.links, 65_000);
+    equal(&rt, limits.instances, 128);
+    equal(&rt, limits.ids, 2_147_483_647);
+    equal(&rt, limits.watches, 8_192);
+    equal(&rt, limits.wds, 2_147_483_647);
+    equal(&rt, limits.queue, 65_535);
+    equal(&rt, limits.cookies, 4_294_967_295);
+    equal(&rt, limits.journal, 1_000_000);
     equal(&rt, limits.seats, 65_536);
-    equal(&rt, limits.with_journal(1).with_cookies(3).journal, 1);
 }

@@ -11,7 +11,8 @@ fn seats_are_spent(rt: HostRuntime) {
         Step::Stands(1, 1),
         Step::Sits(Err(Refusal::SeatsSpent)),
     ];
-    let limits = Limits::full().with_seats(1);
+    let mut limits = Limits::full();
+    limits.seats = 1;
     assert_eq!(rt; plays(rt.alloc(), limits, &steps), Some(steps.len()));
 }
 
@@ -27,6 +28,7 @@ fn a_full_journal_takes_no_call(rt: HostRuntime) {
         Step::Counts(2),
         Step::Stands(1, 2),
     ];
-    let limits = Limits::full().with_journal(2);
+    let mut limits = Limits::full();
+    limits.journal = 2;
     assert_eq!(rt; plays(rt.alloc(), limits, &steps), Some(steps.len()));
 }

@@ -5,7 +5,9 @@ use std::test::Fail;
 
 // The files /a and /b, and instance 1, which watches the root for moved names.
 fn moving(rt: &impl Abort, alloc: Global) -> Result<State, Refusal> {
-    let mut tree = opened(alloc, Limits::full().with_cookies(2))?;
+    let mut limits = Limits::full();
+    limits.cookies = 2;
+    let mut tree = opened(alloc, limits)?;
     does(rt, &mut tree, create(alloc, "/a"));
     does(rt, &mut tree, link(alloc, "/a", "/l"));
     does(rt, &mut tree, init(10));
@@ -38,7 +40,9 @@ fn the_last_cookie(rt: HostRuntime) -> Result<(), Fail> {
 #[test]
 fn the_last_file_number(rt: HostRuntime) -> Result<(), Fail> {
     let alloc = rt.alloc();
-    let tree = &mut opened(alloc, Limits::full().with_numbers(3))?;
+    let mut limits = Limits::full();
+    limits.numbers = 3;
+    let tree = &mut opened(alloc, limits)?;
     tells(&rt, tree, create(alloc, "/a"), number(2));
     tells(&rt, tree, mkdir(alloc, "/b"), number(3));
     refuses(&rt, tree, create(alloc, "/c"), Refusal::NumbersSpent);
@@ -52,7 +56,10 @@ fn the_last_file_number(rt: HostRuntime) -> Result<(), Fail> {
 #[test]
 fn the_last_byte_and_link(rt: HostRuntime) -> Result<(), Fail> {
     let alloc = rt.alloc();
-    let tree = &mut opened(alloc, Limits::full().with_file_bytes(4).with_links(1))?;
+    let mut limits = Limits::full();
+    limits.file_bytes = 4;
+    limits.links = 1;
+    let tree = &mut opened(alloc, limits)?;
     does(&rt, tree, create(alloc, "/f"));
     tells(&rt, tree, write(alloc, "/f", 0, b"abcd"), count(4));
     refuses(&rt, tree, write(alloc, "/f", 4, b"e"), Refusal::Efbig);
@@ -78,7 +85,9 @@ fn the_last_byte_and_link(rt: HostRuntime) -> Result<(), Fail> {
 
 #[test]
 fn the_last_instance(rt: HostRuntime) -> Result<(), Fail> {
-    let tree = &mut opened(rt.alloc(), Limits::full().with_instances(1))?;
+    let mut limits = Limits::full();
+    limits.instances = 1;
+    let tree = &mut opened(rt.alloc(), limits)?;
     tells(&rt, tree, init(1), instance(1));
     refuses(&rt, tree, init(1), Refusal::Emfile);
     refuses(&rt, tree, init_piped(1), Refusal::Emfile);
@@ -90,7 +99,9 @@ fn the_last_instance(rt: HostRuntime) -> Result<(), Fail> {
 
 #[test]
 fn the_last_instance_number(rt: HostRuntime) -> Result<(), Fail> {
-    let tree = &mut opened(rt.alloc(), Limits::full().with_ids(1))?;
+    let mut limits = Limits::full();
+    limits.ids = 1;
+    let tree = &mut opened(rt.alloc(), limits)?;
     tells(&rt, tree, init(1), instance(1));
     refuses(&rt, tree, init(1), Refusal::Emfile);
     tells(&rt, tree, close(1), done());
@@ -112,7 +123,9 @@ fn three_files(rt: &impl Abort, alloc: Global, limits: Limits) -> Result<State, 
 #[test]
 fn the_last_watch(rt: HostRuntime) -> Result<(), Fail> {
     let alloc = rt.alloc();
-    let tree = &mut three_files(&rt, alloc, Limits::full().with_watches(1))?;
+    let mut limits = Limits::full();
+    limits.watches = 1;
+    let tree = &mut three_files(&rt, alloc, limits)?;
     tells(&rt, tree, watch(alloc, 1, "/a", 0x4), wd(1));
     refuses(&rt, tree, watch(alloc, 1, "/b", 0x4), Refusal::Enospc);
     watch_it(&rt, tree, 3, &[]);
@@ -127,7 +140,9 @@ fn the_last_watch(rt: HostRuntime) -> Result<(), Fail> {
 #[test]
 fn the_last_watch_descriptor(rt: HostRuntime) -> Result<(), Fail> {
     let alloc = rt.alloc();
-    let tree = &mut three_files(&rt, alloc, Limits::full().with_wds(2))?;
+    let mut limits = Limits::full();
+    limits.wds = 2;
+    let tree = &mut three_files(&rt, alloc, limits)?;
     tells(&rt, tree, watch(alloc, 1, "/a", 0x4), wd(1));
     tells(&rt, tree, watch(alloc, 1, "/b", 0x4), wd(2));
     refuses(&rt, tree, watch(alloc, 1, "/c", 0x4), Refusal::Enospc);
@@ -142,7 +157,9 @@ fn the_last_watch_descriptor(rt: HostRuntime) -> Result<(), Fail> {
 #[test]
 fn the_greatest_queue(rt: HostRuntime) -> Result<(), Fail> {
     let alloc = rt.alloc();
-    let tree = &mut opened(alloc, Limits::full().with_queue(1))?;
+    let mut limits = Limits::full();
+    limits.queue = 1;
+    let tree = &mut opened(alloc, limits)?;
     refuses(&rt, tree, init(2), Refusal::Einval);
     refuses(&rt, tree, init(0), Refusal::Einval);
     tells(&rt, tree, init(1), instance(1));
@@ -211,7 +228,9 @@ fn has_no_entry(rt: &impl Abort, tree: &mut State, alloc: Global) {
 #[test]
 fn the_last_entry(rt: HostRuntime) -> Result<(), Fail> {
     let alloc = rt.alloc();
-    let tree = &mut opened(alloc, Limits::full().with_journal(2))?;
+    let mut limits = Limits::full();
+    limits.journal = 2;
+    let tree = &mut opened(alloc, limits)?;
     has_room_for(&rt, tree, 2);
     tells(&rt, tree, init_piped(1), instance(1));
     tells(&rt, tree, watch(alloc, 1, "/", 0x100), wd(1));
