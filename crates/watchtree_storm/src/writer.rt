@@ -1,8 +1,7 @@
 //! What the writers of a storm do.
 
-ghost use Rattle.std.specs.Prelude.{◌≡◌, IfOk, IsTrue, codes};
+ghost use Rattle.std.specs.Prelude.{◌≡◌, IfOk, IsTrue};
 ghost use Rattle.tree_core.specs.Calls.{is_plain};
-ghost use Rattle.watchtree_storm.specs.Storm.{IsCallAt};
 
 use event_sinks::Gate;
 use record_codec::Bytes;
@@ -35,10 +34,7 @@ pub struct Writer {
 
 impl Writer {
     /// The first writer of a storm.
-    pub fn first() -> Writer
-        ensures numbers { (result.who ≡ 3) × (result.instance ≡ 1) }
-        ensures paths { (result.file.now ≡ codes "/s/a1") × (result.moved.now ≡ codes "/s/b1") }
-    {
+    pub fn first() -> Writer {
         Writer {
             who: 3,
             instance: 1,
@@ -48,10 +44,7 @@ impl Writer {
     }
 
     /// The second writer of a storm.
-    pub fn second() -> Writer
-        ensures numbers { (result.who ≡ 4) × (result.instance ≡ 2) }
-        ensures paths { (result.file.now ≡ codes "/s/a2") × (result.moved.now ≡ codes "/s/b2") }
-    {
+    pub fn second() -> Writer {
         Writer {
             who: 4,
             instance: 2,
@@ -66,8 +59,7 @@ impl Writer {
     /// # Errors
     /// `ENOMEM`, where there is no memory for it.
     pub fn call(&self, alloc: Global, number: u32) -> Result<Call, Refusal>
-        ensures call { IfOk result (λ call. IsCallAt self.now number call) }
-        ensures plain { IfOk result (λ call. IsTrue (is_plain call)) }
+        ensures { IfOk result (λ call. IsTrue (is_plain call)) }
     {
         let file = Path::parse(alloc, self.file.as_bytes())?;
         let moved = Path::parse(alloc, self.moved.as_bytes())?;
