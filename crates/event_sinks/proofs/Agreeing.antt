@@ -1,7 +1,9 @@
 -- What agrees has no fault, and each of its places is kept once.
-use Rattle.std.proofs.Common.{◌≡◌, ◌≢◌, ◌∙◌, sym, ap, subst, refl, inl, inr, ⊎_elim, ℕ, ◌+◌, ◌-◌, ◌<◌, ◌≤◌, true, false, cond, eqb, List, [], ◌∷◌, ◌++◌, length, arith, append-nil, append_assoc, length-append}
+use Rattle.std.proofs.Common.{◌≡◌, ◌≢◌, ◌∙◌, sym, ap, subst, refl, inl, inr, ⊎_elim, ℕ, zero, suc, map, Option, Some, None, ◌+◌, ◌-◌, ◌<◌, ◌≤◌, true, false, cond, eqb, List, [], ◌∷◌, ◌++◌, length, arith, append-nil, append_assoc, length-append}
 use Rattle.std.proofs.lemmas.List.{length-map}
-use Rattle.std.specs.Prelude.{◌==◌, count_by}
+use Rattle.std.specs.Prelude.{◌==◌, count_by, nat_lt, slice_get}
+use Rattle.std.proofs.lemmas.Bool.Decides.{nat_tests}
+use Rattle.std.proofs.lemmas.List.Elements.{filter-append}
 use Rattle.std.specs.List.{AllByRecursion, IsDistinct, flat_map, list_any}
 use Rattle.std.proofs.lemmas.Bool.{false≢true, cases_eq, ne_eqb, eq-eqb, eqb-true, or_cases}
 use Rattle.std.proofs.lemmas.List.Sums.{sum_by-cons}
@@ -10,13 +12,14 @@ use Rattle.tree_core.specs.declared.reply.Entry.{Entry}
 use Rattle.tree_core.specs.declared.reply.Kept.{Kept}
 use Rattle.shared_tree.specs.declared.pipe.Batch.{Batch}
 use Rattle.shared_tree.specs.declared.seat.SeatLog.{SeatLog}
-use Rattle.shared_tree.specs.Calls.{Bound}
-use Rattle.shared_tree.specs.Handed.{EndBatchesComeLast}
+use Rattle.shared_tree.specs.Calls.{Bound, IsSent}
+use Rattle.tree_core.specs.Journal.{last_place}
+use Rattle.shared_tree.specs.Handed.{CutsPartBatches, EndBatchesComeLast, handed, handed_since, piped_of}
 use Rattle.shared_tree.specs.Held.{IsIn, Lacks}
 use Rattle.shared_tree.proofs.Ends.{front-is-all}
 use Rattle.event_sinks.specs.declared.audit.SettleFault.{SettleFault}
 use Rattle.event_sinks.specs.declared.audit.SettleFault.TheVariants.{CountDiffers, Stray, NotEnded, HandedDiffers, Memory}
-use Rattle.event_sinks.specs.Audited.{AreKept, AuditsAgree, Differs, FaultsContradictTheAudit, FrontsAreWhole, IsFaultAt, IsServed, IsServedAt, IsServedOtherwise, IsStray, IsUnended, Outcome, batches_of, calls_of, of_instance, places}
+use Rattle.event_sinks.specs.Audited.{AreKept, AuditsAgree, Differs, FaultsContradictTheAudit, FrontsAreWhole, IsFaultAt, IsSentTo, IsServed, IsServedAt, IsServedOtherwise, IsStray, IsUnended, Outcome, batches_of, past, calls_of, of_instance, places}
 use Rattle.event_sinks.proofs.Pairs.{PairsByRecursion, all_weaker}
 use Rattle.event_sinks.proofs.KeptCalls.{by_recursion, kept_front, places_in}
 
@@ -33,22 +36,22 @@ differs_from_itself (b ∷ bs) p (inl later) = differs_from_itself bs p later.1
 differs_from_itself (b ∷ bs) p (inr here) = here.0 refl
 
 -- one that was served ended, and was handed these batches and no others
-served_ended : (batches : List Batch) (es : List Outcome) → IsServed batches es → IsUnended es → ⊥
-served_ended batches es served unended = subst IsUnended served.1 unended served.2
+served_ended : (cut : ℕ) (batches : List Batch) (es : List Outcome) → IsServed cut batches es → IsUnended es → ⊥
+served_ended cut batches es served unended = subst IsUnended served.1 unended served.2
 
-served_so : (batches : List Batch) (es : List Outcome) (p : ℕ) → IsServed batches es → IsServedOtherwise batches es p → ⊥
-served_so batches es p served otherwise =
+served_so : (cut : ℕ) (batches : List Batch) (es : List Outcome) (p : ℕ) → IsServed cut batches es → IsServedOtherwise cut batches es p → ⊥
+served_so cut batches es p served otherwise =
     ⊎_elim
     (λ differs. differs_from_itself batches p (subst (λ (bs : List Batch). Differs batches bs p) served.3 differs))
     (λ second. second.1 refl)
-    (subst (λ (xs : List Outcome). IsServedOtherwise batches xs p) served.1 otherwise).1
+    (subst (λ (xs : List Outcome). IsServedOtherwise cut batches xs p) served.1 otherwise).1
 
 not_ended : (b : Bound) (es : List Outcome) (n : ℕ) → IsServedAt b es n → IsIn b.pipes n → IsUnended (of_instance n es) → ⊥
-not_ended b es n (inl served) is_in unended = served_ended (batches_of b n) (of_instance n es) served.1 unended
+not_ended b es n (inl served) is_in unended = served_ended b.state.place (batches_of b n) (of_instance n es) served.1 unended
 not_ended b es n (inr none) is_in unended = in_and_lacks b.pipes n is_in none.0
 
-handed_otherwise : (b : Bound) (es : List Outcome) (n p : ℕ) → IsServedAt b es n → IsIn b.pipes n × IsServedOtherwise (batches_of b n) (of_instance n es) p → ⊥
-handed_otherwise b es n p (inl served) fault = served_so (batches_of b n) (of_instance n es) p served.1 fault.1
+handed_otherwise : (b : Bound) (es : List Outcome) (n p : ℕ) → IsServedAt b es n → IsIn b.pipes n × IsServedOtherwise b.state.place (batches_of b n) (of_instance n es) p → ⊥
+handed_otherwise b es n p (inl served) fault = served_so b.state.place (batches_of b n) (of_instance n es) p served.1 fault.1
 handed_otherwise b es n p (inr none) fault = in_and_lacks b.pipes n fault.0 none.0
 
 handed_to_none : (b : Bound) (es : List Outcome) (n p : ℕ) → IsServedAt b es n → Lacks b.pipes n × (of_instance n es ≢ []) × (p ≡ 0) → ⊥
@@ -62,13 +65,13 @@ fault_at b es n (NotEnded m) served fault = not_ended b es n served fault.1 faul
 fault_at b es n (HandedDiffers m p) served fault = ⊎_elim (handed_otherwise b es n p served) (handed_to_none b es n p served) fault.1
 fault_at b es n Memory served fault = fault
 
-stray_is_not_kept : (entries : List Entry) (logs : List SeatLog) (n : ℕ) → IsStray entries logs n → AreKept entries logs → ⊥
-stray_is_not_kept entries logs n (before, l, rest, split, front, no_longer, same) kept =
-    no_longer (kept_front entries (before ++ l ∷ []) rest (subst (AreKept entries) (split ∙ sym (append_assoc before (l ∷ []) rest)) kept))
+stray_is_not_kept : (cut : ℕ) (entries : List Entry) (logs : List SeatLog) (n : ℕ) → IsStray cut entries logs n → AreKept cut entries logs → ⊥
+stray_is_not_kept cut entries logs n (before, l, rest, split, front, no_longer, same) kept =
+    no_longer (kept_front cut entries (before ++ l ∷ []) rest (subst (AreKept cut entries) (split ∙ sym (append_assoc before (l ∷ []) rest)) kept))
 
 pub faults_contradict : FaultsContradictTheAudit
 faults_contradict b logs es (CountDiffers entries calls) fault other audited = fault.0 audited.counted
-faults_contradict b logs es (Stray n) fault other audited = stray_is_not_kept b.state.entries logs n fault.1 audited.kept
+faults_contradict b logs es (Stray n) fault other audited = stray_is_not_kept b.state.place b.state.entries logs n fault.1 audited.kept
 faults_contradict b logs es (NotEnded n) fault other audited = fault_at b es fault.2.0 (NotEnded n) (audited.served fault.2.0) fault.2.1
 faults_contradict b logs es (HandedDiffers n p) fault other audited = fault_at b es fault.2.0 (HandedDiffers n p) (audited.served fault.2.0) fault.2.1
 faults_contradict b logs es Memory fault other audited = other refl
@@ -123,23 +126,54 @@ length-places (l ∷ logs) =
 
 pub audits-agree : AuditsAgree
 audits-agree b logs es counted audited p positive within =
-    let k = by_recursion b.state.entries logs audited.kept in
-    let len : length (flat_map places logs) ≡ length b.state.entries = length-places logs ∙ (sym audited.counted ∙ counted) in
-    count_one (flat_map places logs) p k.once (none_missing (length b.state.entries) (flat_map places logs) p len k.once (places_in b.state.entries logs k.stand) positive (omega arith))
+    let k = by_recursion b.state.place b.state.entries logs audited.kept in
+    let len : length (flat_map places logs) ≡ last_place b.state = length-places logs ∙ (sym audited.counted ∙ counted) in
+    count_one (flat_map places logs) p k.once (none_missing (last_place b.state) (flat_map places logs) p len k.once (places_in b.state.place b.state.entries logs k.stand) positive (omega arith))
 
 -- ---- fronts
 
--- a front that ends with an end batch is all
-all_of_it : EndBatchesComeLast → (b : Bound) (n : ℕ) (handed before rest : List Batch) (last : Batch) → handed ≡ before ++ last ∷ [] → last.records ≡ [] → batches_of b n ≡ handed ++ rest → batches_of b n ≡ handed
-all_of_it come_last b n handed before rest last is none more =
-    let none_left : rest ≡ [] = front-is-all come_last b.state.limits b.state.entries n before rest last (more ∙ ap (λ (xs : List Batch). xs ++ rest) is) none in
-    more ∙ ap (λ (xs : List Batch). handed ++ xs) none_left ∙ append-nil handed
+past-early : (cut : ℕ) (bs : List Batch) → AllByRecursion (λ b. b.place ≤ cut) bs → past cut bs ≡ []
+past-early cut [] early = refl
+past-early cut (b ∷ bs) early =
+    let no : nat_lt cut b.place ≡ false = (let h = early.0 in grind (arith, nat_tests)) in
+    ap (λ t. cond t (b ∷ past cut bs) (past cut bs)) no ∙ past-early cut bs early.1
 
-not_different : (batches : List Batch) (e : Outcome) (more : List Outcome) (p : ℕ) → batches ≡ e.handed → IsServedOtherwise batches (e ∷ more) p → p ≡ 0
-not_different batches e more p same (why, inl differs) = absurd (differs_from_itself e.handed p (subst (λ (bs : List Batch). Differs bs e.handed p) same differs))
-not_different batches e more p same (why, inr second) = second.2
+past-late : (cut : ℕ) (bs : List Batch) → AllByRecursion (λ b. cut < b.place) bs → past cut bs ≡ bs
+past-late cut [] late = refl
+past-late cut (b ∷ bs) late =
+    let yes : nat_lt cut b.place ≡ true = (let h = late.0 in grind (arith, nat_tests)) in
+    ap (λ t. cond t (b ∷ past cut bs) (past cut bs)) yes ∙ ap (λ (xs : List Batch). b ∷ xs) (past-late cut bs late.1)
 
-pub fronts-are-whole : EndBatchesComeLast → FrontsAreWhole
-fronts-are-whole come_last b es more e n p before rest last first is_in is none front (same, inl other) =
-    not_different (batches_of b n) e more p (all_of_it come_last b n e.handed before rest last is none front) (subst (λ (xs : List Outcome). IsServedOtherwise (batches_of b n) xs p) first other.1)
-fronts-are-whole come_last b es more e n p before rest last first is_in is none front (same, inr none_there) = none_there.2
+-- what the pipe of a number was sent is what the whole journal hands to its instance
+sent-whole : (f : ℕ → List Batch) (ns : List ℕ) (k n : ℕ) (bs : List Batch) → slice_get ns k ≡ Some n → slice_get (map f ns) k ≡ Some bs → bs ≡ f n
+sent-whole f [] k n bs at there = absurd (let none : ◌≡◌ {A = Option ℕ} None (Some n) = at in cc)
+sent-whole f (m ∷ ns) zero n bs at there =
+    let same : m ≡ n = (let e : ◌≡◌ {A = Option ℕ} (Some m) (Some n) = at in cc) in
+    let sent : f m ≡ bs = (let e : ◌≡◌ {A = Option (List Batch)} (Some (f m)) (Some bs) = there in cc) in
+    sym sent ∙ ap f same
+sent-whole f (m ∷ ns) (suc k) n bs at there = sent-whole f ns k n bs at there
+
+-- a front that ends with an end batch is all, and past the cut it is what the journal hands over
+all_of_it : EndBatchesComeLast → CutsPartBatches → (b : Bound) (n : ℕ) (handed before rest : List Batch) (last : Batch) → (sends : IsSent b.state b.pipes b.sent) → handed ≡ before ++ last ∷ [] → last.records ≡ [] → IsSentTo b n (handed ++ rest)
+    → past b.state.place handed ≡ batches_of b n
+all_of_it come_last parts b n given before rest last sends is none (k, at, sent) =
+    let es = sends.past ++ b.state.entries in
+    let limits = b.state.start.limits in
+    let whole : given ++ rest ≡ handed limits es n =
+    sent-whole (handed limits es) (piped_of es) k n (given ++ rest) (ap (λ (ns : List ℕ). slice_get ns k) (sym sends.pipes_are) ∙ at) (ap (λ (xss : List (List Batch)). slice_get xss k) (sym sends.sent_are) ∙ sent) in
+    let none_left : rest ≡ [] = front-is-all come_last limits es n before rest last (sym whole ∙ ap (λ (xs : List Batch). xs ++ rest) is) none in
+    let part = parts b.state sends.past n sends.is_past in
+    let all : given ≡ handed limits sends.past n ++ handed_since b.state n = sym (append-nil given) ∙ ap (λ (xs : List Batch). given ++ xs) (sym none_left) ∙ whole ∙ part.parted in
+    ap (past b.state.place) all ∙ filter-append (λ (x : Batch). nat_lt b.state.place x.place) (handed limits sends.past n) (handed_since b.state n)
+    ∙ ap (λ (xs : List Batch). xs ++ past b.state.place (handed_since b.state n)) (past-early b.state.place (handed limits sends.past n) part.early)
+    ∙ past-late b.state.place (handed_since b.state n) part.late
+
+not_different : (cut : ℕ) (batches : List Batch) (e : Outcome) (more : List Outcome) (p : ℕ) → past cut e.handed ≡ batches → IsServedOtherwise cut batches (e ∷ more) p → p ≡ 0
+not_different cut batches e more p same (why, inl differs) = absurd (differs_from_itself batches p (subst (λ (bs : List Batch). Differs batches bs p) same differs))
+not_different cut batches e more p same (why, inr second) = second.2
+
+pub fronts-are-whole : EndBatchesComeLast → CutsPartBatches → FrontsAreWhole
+fronts-are-whole come_last parts b es more e n p before rest last sends first is none sent (same, inl other) =
+    not_different b.state.place (batches_of b n) e more p (all_of_it come_last parts b n e.handed before rest last sends is none sent)
+    (subst (λ (xs : List Outcome). IsServedOtherwise b.state.place (batches_of b n) xs p) first other.1)
+fronts-are-whole come_last parts b es more e n p before rest last sends first is none sent (same, inr none_there) = none_there.2

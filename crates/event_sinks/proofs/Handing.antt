@@ -28,8 +28,8 @@ same_batch are_one b one instance place bytes s same_instance same_place spelled
 
 -- ---- the tracks
 
-module _ (es : List Outcome) where
-  goes_same : (o new : Option Track) → new ≡ o → Goes es [] o new
+module _ (cut : ℕ) (es : List Outcome) where
+  goes_same : (o new : Option Track) → new ≡ o → Goes cut es [] o new
   goes_same None new is = is
   goes_same (Some t) new is = (t.progress, is, λ left o h. h)
 
@@ -41,38 +41,38 @@ module _ (es : List Outcome) where
     there n off = ap (λ (t : Bool). cond t (b ∷ []) []) (ne_eqb b.instance n (λ is. off (sym is ∙ own)))
 
     module _ (m k : BTreeMap ℕ Track) where
-      pub hands_some : (t : Track) (p : Progress) → track_at m number ≡ Some t → Follows (handed_at es t.first) (b ∷ []) t.progress p → tree.Updates nat_cmp m k number (Some (record t { progress = p })) → HandsOn es (Some b) m k
+      pub hands_some : (t : Track) (p : Progress) → track_at m number ≡ Some t → Follows cut (handed_at es t.first) (b ∷ []) t.progress p → tree.Updates nat_cmp m k number (Some (record t { progress = p })) → HandsOn cut es (Some b) m k
       hands_some t p was follows put n =
           let new : Track = record t { progress = p } in
           elim (cases_eq n number) [
             | inl is ↦
                 let gets : track_at k n ≡ Some new = put.0 n ∙ ap (λ (x : Bool). cond x (Some new) (track_at m n)) (unsigned_tied number n ∙ eq-eqb number n (sym is)) in
                 let before : Some t ≡ track_at m n = sym (ap (track_at m) is ∙ was) in
-                subst (λ (bs : List Batch). Goes es bs (track_at m n) (track_at k n)) (sym (here n is)) (subst (λ (o : Option Track). Goes es (b ∷ []) o (track_at k n)) before (p, gets, follows))
+                subst (λ (bs : List Batch). Goes cut es bs (track_at m n) (track_at k n)) (sym (here n is)) (subst (λ (o : Option Track). Goes cut es (b ∷ []) o (track_at k n)) before (p, gets, follows))
             | inr off ↦
                 let gets : track_at k n ≡ track_at m n = put.0 n ∙ ap (λ (x : Bool). cond x (Some new) (track_at m n)) (unsigned_tied number n ∙ ne_eqb number n (λ is. off (sym is))) in
-                subst (λ (bs : List Batch). Goes es bs (track_at m n) (track_at k n)) (sym (there n off)) (goes_same (track_at m n) (track_at k n) gets)
+                subst (λ (bs : List Batch). Goes cut es bs (track_at m n) (track_at k n)) (sym (there n off)) (goes_same (track_at m n) (track_at k n) gets)
           ]
 
-      pub hands_none : track_at m number ≡ None → k ≡ m → HandsOn es (Some b) m k
+      pub hands_none : track_at m number ≡ None → k ≡ m → HandsOn cut es (Some b) m k
       hands_none was same n =
           let gets : track_at k n ≡ track_at m n = ap (λ (x : BTreeMap ℕ Track). track_at x n) same in
           elim (cases_eq n number) [
             | inl is ↦
                 let none : track_at m n ≡ None = ap (track_at m) is ∙ was in
-                subst (λ (o : Option Track). Goes es (hands (Some b) n) o (track_at k n)) (sym none) (gets ∙ none)
-            | inr off ↦ subst (λ (bs : List Batch). Goes es bs (track_at m n) (track_at k n)) (sym (there n off)) (goes_same (track_at m n) (track_at k n) gets)
+                subst (λ (o : Option Track). Goes cut es (hands (Some b) n) o (track_at k n)) (sym none) (gets ∙ none)
+            | inr off ↦ subst (λ (bs : List Batch). Goes cut es bs (track_at m n) (track_at k n)) (sym (there n off)) (goes_same (track_at m n) (track_at k n) gets)
           ]
 
   -- ---- what an entry hands over
 
   module _ (e : Entry) (place : ℕ) (m k : BTreeMap ℕ Track) where
-    pub entry_some : (number : ℕ) (bytes : List ℕ) → given_by e.call e.reply ≡ Some (number, bytes) → ((b : Batch) → IsSpelled b number place bytes → HandsOn es (Some b) m k) → (o : Option Batch) → HandsOver e place o → HandsOn es o m k
+    pub entry_some : (number : ℕ) (bytes : List ℕ) → given_by e.call e.reply ≡ Some (number, bytes) → ((b : Batch) → IsSpelled b number place bytes → HandsOn cut es (Some b) m k) → (o : Option Batch) → HandsOver e place o → HandsOn cut es o m k
     entry_some number bytes gives hands_on None over = absurd (cc)
     entry_some number bytes gives hands_on (Some b) over =
         let same : (b.instance, over.0) ≡ (number, bytes) = cc in
         hands_on b (subst (λ (p : ℕ × List ℕ). IsSpelled b p.0 place p.1) same over.2)
 
-    pub entry_none : given_by e.call e.reply ≡ None → (o : Option Batch) → HandsOver e place o → HandsOn es o m m
+    pub entry_none : given_by e.call e.reply ≡ None → (o : Option Batch) → HandsOver e place o → HandsOn cut es o m m
     entry_none none None over = λ n. goes_same (track_at m n) (track_at m n) refl
     entry_none none (Some b) over = absurd (cc)

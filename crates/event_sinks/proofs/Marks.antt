@@ -64,16 +64,16 @@ unset_at_first (suc n) (suc j) within = unset_at_first n j (omega arith)
 -- ---- the calls of a seat
 
 -- each call stands in the journal, the places rise from above the last one on, and none is marked
-pub record Fits (entries : List Entry) (seen : List Bool) (number last : ℕ) (ks : List Kept) : Type 0 where
-  pub stand : AllByRecursion (Stands entries number) ks
+pub record Fits (cut : ℕ) (entries : List Entry) (seen : List Bool) (number last : ℕ) (ks : List Kept) : Type 0 where
+  pub stand : AllByRecursion (Stands cut entries number) ks
   pub above : AllByRecursion (λ p. last < p) (map (λ (k : Kept). k.place) ks)
   pub rise : PairsByRecursion (λ j k. j < k) (map (λ (k : Kept). k.place) ks)
   pub unset : AllByRecursion (λ p. IsUnset seen (p - 1)) (map (λ (k : Kept). k.place) ks)
 
-pub fits_from_next : (entries : List Entry) (seen : List Bool) (number last : ℕ) (ks : List Kept) → AreNext entries seen number last ks → Fits entries seen number last ks
-fits_from_next entries seen number last [] next = record { stand = tt; above = tt; rise = tt; unset = tt }
-fits_from_next entries seen number last (k ∷ ks) next =
-    let rest = fits_from_next entries (slice_set seen (k.place - 1) true) number k.place ks next.1 in
+pub fits_from_next : (cut : ℕ) (entries : List Entry) (seen : List Bool) (number last : ℕ) (ks : List Kept) → AreNext cut entries seen number last ks → Fits cut entries seen number last ks
+fits_from_next cut entries seen number last [] next = record { stand = tt; above = tt; rise = tt; unset = tt }
+fits_from_next cut entries seen number last (k ∷ ks) next =
+    let rest = fits_from_next cut entries (slice_set seen (k.place - 1) true) number k.place ks next.1 in
     let ps = map (λ (j : Kept). j.place) ks in
     record {
       stand = (next.0.1, rest.stand);
@@ -82,13 +82,13 @@ fits_from_next entries seen number last (k ∷ ks) next =
       unset = (next.0.2, all_weaker (λ p. IsUnset (slice_set seen (k.place - 1) true) (p - 1)) (λ p. IsUnset seen (p - 1)) (λ p u. (was_unset seen (k.place - 1) (p - 1) u).1) ps rest.unset);
     }
 
-pub next_from_fits : (entries : List Entry) (seen : List Bool) (number last : ℕ) (ks : List Kept) → Fits entries seen number last ks → AreNext entries seen number last ks
-next_from_fits entries seen number last [] fits = tt
-next_from_fits entries seen number last (k ∷ ks) fits =
+pub next_from_fits : (cut : ℕ) (entries : List Entry) (seen : List Bool) (number last : ℕ) (ks : List Kept) → Fits cut entries seen number last ks → AreNext cut entries seen number last ks
+next_from_fits cut entries seen number last [] fits = tt
+next_from_fits cut entries seen number last (k ∷ ks) fits =
     let ps = map (λ (j : Kept). j.place) ks in
-    let positive : 0 < k.place = fits.stand.0.0 in (
+    let positive : 0 < k.place = fits.stand.0.low in (
       (fits.above.0, fits.stand.0, fits.unset.0),
-      next_from_fits entries (slice_set seen (k.place - 1) true) number k.place ks (record {
+      next_from_fits cut entries (slice_set seen (k.place - 1) true) number k.place ks (record {
         stand = fits.stand.1;
         above = fits.rise.0;
         rise = fits.rise.1;

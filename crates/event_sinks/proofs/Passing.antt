@@ -10,11 +10,11 @@ use Rattle.tree_core.specs.declared.reply.Entry.{Entry}
 use Rattle.tree_core.specs.declared.reply.Reply.{Reply}
 use Rattle.tree_core.specs.declared.reply.Reply.TheVariants as reply
 use Rattle.tree_core.specs.Histories.{where_records}
-use Rattle.tree_core.specs.Tree.{Tree, after, opening, reply_of}
-use Rattle.tree_core.specs.Journal.{IsLawful, IsLawfulFrom}
+use Rattle.tree_core.specs.Tree.{Tree, after, reply_of}
+use Rattle.tree_core.specs.Journal.{IsLawfulFrom}
 use Rattle.shared_tree.specs.declared.pipe.Batch.{Batch}
 use Rattle.shared_tree.specs.Calls.{Bound}
-use Rattle.shared_tree.specs.Handed.{AreOfEvents, BatchesAreAnswered, batch, handed, handed_by, handed_from, hands, where_done}
+use Rattle.shared_tree.specs.Handed.{AreOfEvents, BatchesAreAnswered, batch, handed_by, handed_from, handed_since, hands, where_done}
 use Rattle.event_sinks.specs.declared.served.Track.{Track}
 use Rattle.event_sinks.specs.Audited.{Outcome, batches_of}
 use Rattle.event_sinks.specs.Tracks.{Goes, HandsOver, IsSpelled, IsTracked, given_by}
@@ -88,23 +88,23 @@ rest_events (b ∷ bs) rest h = rest_events bs rest h.1
 
 -- ---- the tracks
 
-goes_on : (b : Bound) (es : List Outcome) (n : ℕ) (bs left : List Batch) (old new : Option Track) → IsTracked b es (bs ++ left) n old → Goes es bs old new → IsTracked b es left n new
+goes_on : (b : Bound) (es : List Outcome) (n : ℕ) (bs left : List Batch) (old new : Option Track) → IsTracked b es (bs ++ left) n old → Goes b.state.place es bs old new → IsTracked b es left n new
 goes_on b es n bs left None new h g = subst (IsTracked b es left n) (sym g) (record { is_noted = h.is_noted; tells = tt })
 goes_on b es n bs left (Some t) new h g =
     subst (IsTracked b es left n) (sym g.1) (record { is_noted = h.is_noted; tells = λ o c. h.tells o (g.2 left o c) })
 
--- these entries are left, from a tree on
+-- these entries are left, from a tree on, behind this place
 pub record IsPassed (b : Bound) (es : List Outcome) (t : Tree) (passed : ℕ) (left : List Entry) (track : ℕ → Option Track) : Type 0 where
   pub lawful : IsLawfulFrom t left
   pub events : (n : ℕ) → AreOfEvents (handed_from t (passed + 1) left n)
   pub tracked : (n : ℕ) → IsTracked b es (handed_from t (passed + 1) left n) n (track n)
 
-pub passed_none : (b : Bound) (es : List Outcome) (track : ℕ → Option Track) → IsLawful b.state.limits b.state.entries → ((n : ℕ) → AreOfEvents (batches_of b n)) → ((n : ℕ) → IsTracked b es (batches_of b n) n (track n)) → IsPassed b es (opening b.state.limits) 0 b.state.entries track
-unfolding IsLawful handed
+pub passed_none : (b : Bound) (es : List Outcome) (track : ℕ → Option Track) → IsLawfulFrom b.state.start b.state.entries → ((n : ℕ) → AreOfEvents (batches_of b n)) → ((n : ℕ) → IsTracked b es (batches_of b n) n (track n)) → IsPassed b es b.state.start b.state.place b.state.entries track
+unfolding handed_since
 passed_none b es track lawful events tracked = record { lawful = lawful; events = events; tracked = tracked }
 
 module _ (answered : BatchesAreAnswered) (b : Bound) (es : List Outcome) (t : Tree) (passed : ℕ) (e : Entry) (old new : ℕ → Option Track) where
-  passed_on : (left : List Entry) → IsPassed b es t passed (e ∷ left) old → ((o : Option Batch) → HandsOver e (passed + 1) o → (n : ℕ) → Goes es (hands o n) (old n) (new n)) → IsPassed b es (after t e.call) (passed + 1) left new
+  passed_on : (left : List Entry) → IsPassed b es t passed (e ∷ left) old → ((o : Option Batch) → HandsOver e (passed + 1) o → (n : ℕ) → Goes b.state.place es (hands o n) (old n) (new n)) → IsPassed b es (after t e.call) (passed + 1) left new
   passed_on left h goes =
       let o : Option Batch = handed_by t (passed + 1) e.call in
       let over = hands_over t (passed + 1) e o answered h.lawful.0 refl (λ x is. first_events o x _ is (h.events x.instance)) in
@@ -114,8 +114,10 @@ module _ (answered : BatchesAreAnswered) (b : Bound) (es : List Outcome) (t : Tr
         tracked = λ n. goes_on b es n (hands o n) _ (old n) (new n) (h.tracked n) (goes o over n);
       }
 
-  pub passed_more : (entries : List Entry) → passed < length entries → e ≡ get_or entries passed e → IsPassed b es t passed (drop passed entries) old → ((o : Option Batch) → HandsOver e (passed + 1) o → (n : ℕ) → Goes es (hands o n) (old n) (new n))
-      → IsPassed b es (after t e.call) (passed + 1) (drop (passed + 1) entries) new
-  passed_more entries within is h goes =
-      let next : drop passed entries ≡ e ∷ drop (passed + 1) entries = drop_more entries passed e within ∙ ap (λ (x : Entry). x ∷ drop (passed + 1) entries) (sym is) in
-      passed_on (drop (passed + 1) entries) (subst (λ (xs : List Entry). IsPassed b es t passed xs old) next h) goes
+  pub passed_more : (entries : List Entry) (i next : ℕ) → i < length entries → e ≡ get_or entries i e → next ≡ passed + 1 → IsPassed b es t passed (drop i entries) old → ((o : Option Batch) → HandsOver e next o → (n : ℕ) → Goes b.state.place es (hands o n) (old n) (new n))
+      → IsPassed b es (after t e.call) next (drop (i + 1) entries) new
+  passed_more entries i next within is more h goes =
+      let rest : drop i entries ≡ e ∷ drop (i + 1) entries = drop_more entries i e within ∙ ap (λ (x : Entry). x ∷ drop (i + 1) entries) (sym is) in
+      let Given : ℕ → Type 0 = λ k. (o : Option Batch) → HandsOver e k o → (n : ℕ) → Goes b.state.place es (hands o n) (old n) (new n) in
+      subst (λ k. IsPassed b es (after t e.call) k (drop (i + 1) entries) new) (sym more)
+      (passed_on (drop (i + 1) entries) (subst (λ (xs : List Entry). IsPassed b es t passed xs old) rest h) (subst Given more goes))

@@ -1,13 +1,14 @@
 -- When a book, the logs of its seats, and the listeners that ended agree.
-use Rattle.std.specs.Prelude.{◌≡◌, ◌≢◌, ◌<◌, ◌≤◌, ◌-◌, ◌==◌, ◌++◌, ⊤, ℕ, List, [], ◌∷◌, All, AllPairs, count_by, length, map, min, slice_get, sum_by, Some, Result, Ok, Err, ◌⊎◌}
-use Rattle.std.specs.List.{flat_map}
+use Rattle.std.specs.Prelude.{◌≡◌, ◌≢◌, ◌<◌, ◌≤◌, ◌+◌, ◌-◌, ◌==◌, ◌++◌, ⊤, ℕ, List, [], ◌∷◌, All, AllPairs, count_by, length, map, min, nat_lt, slice_get, sum_by, Some, Result, Ok, Err, ◌⊎◌}
+use Rattle.std.specs.List.{filter, flat_map}
 use Rattle.tree_core.specs.declared.reply.Entry.{Entry}
 use Rattle.tree_core.specs.declared.reply.Kept.{Kept}
 use Rattle.tree_core.specs.Histories.{where_same}
 use Rattle.shared_tree.specs.declared.pipe.Batch.{Batch}
 use Rattle.shared_tree.specs.declared.seat.SeatLog.{SeatLog}
-use Rattle.shared_tree.specs.Calls.{Bound}
-use Rattle.shared_tree.specs.Handed.{handed}
+use Rattle.tree_core.specs.Journal.{last_place}
+use Rattle.shared_tree.specs.Calls.{Bound, IsSent}
+use Rattle.shared_tree.specs.Handed.{handed_since}
 use Rattle.shared_tree.specs.Held.{IsIn, Lacks}
 use Rattle.event_sinks.specs.declared.audit.Settled.{Settled}
 use Rattle.event_sinks.specs.declared.audit.SettleFault.{SettleFault}
@@ -22,22 +23,25 @@ use Rattle.event_sinks.specs.declared.listener.Ended.{Ended}
 abbrev pub calls_of : List SeatLog → ℕ
 calls_of logs = sum_by (λ (l : SeatLog). length l.kept) logs
 
--- the journal's entry at the place of a kept call, the first being 1, is this call of the seat, with this reply
-abbrev pub Stands : List Entry → ℕ → Kept → Type 0
-Stands entries number k = (0 < k.place) × (slice_get entries (k.place - 1) ≡ Some (record { caller = number; call = k.call; reply = k.reply }))
+-- the place of a kept call, the first being 1, is one of the whole journal; where it is past the cut, the entry at it is this
+-- call of the seat, with this reply. The entries are those past the cut
+pub record Stands (cut : ℕ) (entries : List Entry) (number : ℕ) (k : Kept) : Type 0 where
+  pub low : 0 < k.place
+  pub high : k.place ≤ cut + length entries
+  pub entry : cut < k.place → slice_get entries (k.place - cut - 1) ≡ Some (record { caller = number; call = k.call; reply = k.reply })
 
 abbrev pub places : SeatLog → List ℕ
 places l = map (λ (k : Kept). k.place) l.kept
 
 -- each kept call stands in the journal, the places of a seat rise, and no place is kept twice
-pub record AreKept (entries : List Entry) (logs : List SeatLog) : Type 0 where
-  pub stand : All (λ l. All (Stands entries l.number) l.kept) logs
+pub record AreKept (cut : ℕ) (entries : List Entry) (logs : List SeatLog) : Type 0 where
+  pub stand : All (λ l. All (Stands cut entries l.number) l.kept) logs
   pub rise : All (λ l. AllPairs (λ j k. j < k) (places l)) logs
   pub once : AllPairs (λ j k. j ≢ k) (flat_map places logs)
 
 -- the first seat, in the order handed in, with whose log this is no longer so
-abbrev pub IsStray : List Entry → List SeatLog → ℕ → Type 0
-IsStray entries logs n = (before : List SeatLog) × (l : SeatLog) × (rest : List SeatLog) × (logs ≡ before ++ l ∷ rest) × AreKept entries before × (AreKept entries (before ++ l ∷ []) → ⊥) × (n ≡ l.number)
+abbrev pub IsStray : ℕ → List Entry → List SeatLog → ℕ → Type 0
+IsStray cut entries logs n = (before : List SeatLog) × (l : SeatLog) × (rest : List SeatLog) × (logs ≡ before ++ l ∷ rest) × AreKept cut entries before × (AreKept cut entries (before ++ l ∷ []) → ⊥) × (n ≡ l.number)
 
 -- ---- the batches that the listeners were handed
 
@@ -58,17 +62,26 @@ abbrev pub of_instance : ℕ → List Outcome → List Outcome
 of_instance n [] = []
 of_instance n (e ∷ es) = where_same e.instance n (e ∷ []) ++ of_instance n es
 
--- one listener ended for the pipe, by the end batch, and was handed the journal's batches, in order, each once
-abbrev pub IsServed : List Batch → List Outcome → Type 0
-IsServed batches es = (e : Outcome) × (es ≡ e ∷ []) × (e.cause ≡ Last) × (e.handed ≡ batches)
+-- the batches whose places are past the cut
+abbrev pub past : ℕ → List Batch → List Batch
+past cut bs = filter (λ (b : Batch). nat_lt cut b.place) bs
 
--- what the book hands to an instance
+-- one listener ended for the pipe, by the end batch, and was handed the journal's batches, in order, each once, as far as they
+-- are past the cut
+abbrev pub IsServed : ℕ → List Batch → List Outcome → Type 0
+IsServed cut batches es = (e : Outcome) × (es ≡ e ∷ []) × (e.cause ≡ Last) × (past cut e.handed ≡ batches)
+
+-- what the entries of the book, which are those past the cut, hand to an instance
 abbrev pub batches_of : Bound → ℕ → List Batch
-batches_of b n = handed b.state.limits b.state.entries n
+batches_of b n = handed_since b.state n
+
+-- what the book's pipe of a number was sent
+abbrev pub IsSentTo : Bound → ℕ → List Batch → Type 0
+IsSentTo b n bs = (k : ℕ) × (slice_get b.pipes k ≡ Some n) × (slice_get b.sent k ≡ Some bs)
 
 -- a number is a pipe of the book, and was served, or it is none, and no listener ended for it
 abbrev pub IsServedAt : Bound → List Outcome → ℕ → Type 0
-IsServedAt b es n = (IsIn b.pipes n × IsServed (batches_of b n) (of_instance n es)) ⊎ (Lacks b.pipes n × (of_instance n es ≡ []))
+IsServedAt b es n = (IsIn b.pipes n × IsServed b.state.place (batches_of b n) (of_instance n es)) ⊎ (Lacks b.pipes n × (of_instance n es ≡ []))
 
 -- the place of the first batch that is not the one handed at its position, or of the first one handed past the end
 abbrev pub Differs : List Batch → List Batch → ℕ → Type 0
@@ -84,14 +97,14 @@ IsUnended (e ∷ es) = e.cause ≢ Last
 
 -- the first listener that ended for the pipe was handed other batches; or it was handed these, and there is a second one,
 -- which is told as place 0
-abbrev pub IsServedOtherwise : List Batch → List Outcome → ℕ → Type 0
-IsServedOtherwise batches [] p = ⊥
-IsServedOtherwise batches (e ∷ es) p = (e.cause ≡ Last) × (Differs batches e.handed p ⊎ ((e.handed ≡ batches) × (es ≢ []) × (p ≡ 0)))
+abbrev pub IsServedOtherwise : ℕ → List Batch → List Outcome → ℕ → Type 0
+IsServedOtherwise cut batches [] p = ⊥
+IsServedOtherwise cut batches (e ∷ es) p = (e.cause ≡ Last) × (Differs batches (past cut e.handed) p ⊎ ((past cut e.handed ≡ batches) × (es ≢ []) × (p ≡ 0)))
 
 -- what is wrong with a number. A listener for a number that is no pipe of the book is told as place 0
 abbrev pub IsFaultAt : Bound → List Outcome → ℕ → SettleFault → Type 0
 IsFaultAt b es n (NotEnded m) = (m ≡ n) × IsIn b.pipes n × IsUnended (of_instance n es)
-IsFaultAt b es n (HandedDiffers m p) = (m ≡ n) × ((IsIn b.pipes n × IsServedOtherwise (batches_of b n) (of_instance n es) p) ⊎ (Lacks b.pipes n × (of_instance n es ≢ []) × (p ≡ 0)))
+IsFaultAt b es n (HandedDiffers m p) = (m ≡ n) × ((IsIn b.pipes n × IsServedOtherwise b.state.place (batches_of b n) (of_instance n es) p) ⊎ (Lacks b.pipes n × (of_instance n es ≢ []) × (p ≡ 0)))
 IsFaultAt b es n _ = ⊥
 
 -- what is wrong with the least number with which anything is
@@ -104,7 +117,7 @@ IsFirstFault b es f = (n : ℕ) × IsFaultAt b es n f × ((m : ℕ) → m < n �
 -- the entry at its place, a seat's in their order and each place once, and each pipe was served
 pub record IsAudited (b : Bound) (logs : List SeatLog) (es : List Outcome) : Type 0 where
   pub counted : b.entries ≡ calls_of logs
-  pub kept : AreKept b.state.entries logs
+  pub kept : AreKept b.state.place b.state.entries logs
   pub served : (n : ℕ) → IsServedAt b es n
 
 -- the fault is the first that holds: the counts, then the logs, then the numbers. More calls than a u64 holds are told as
@@ -112,8 +125,8 @@ pub record IsAudited (b : Bound) (logs : List SeatLog) (es : List Outcome) : Typ
 abbrev pub IsFault : Bound → List SeatLog → List Outcome → SettleFault → Type 0
 IsFault b logs es Memory = ⊤
 IsFault b logs es (CountDiffers entries calls) = (b.entries ≢ calls_of logs) × (entries ≡ b.entries) × (calls ≡ min (calls_of logs) 18446744073709551615)
-IsFault b logs es (Stray n) = (b.entries ≡ calls_of logs) × IsStray b.state.entries logs n
-IsFault b logs es f = (b.entries ≡ calls_of logs) × AreKept b.state.entries logs × IsFirstFault b es f
+IsFault b logs es (Stray n) = (b.entries ≡ calls_of logs) × IsStray b.state.place b.state.entries logs n
+IsFault b logs es f = (b.entries ≡ calls_of logs) × AreKept b.state.place b.state.entries logs × IsFirstFault b es f
 
 -- what settling answers: all agree, and as many entries and calls are told; or this is the first fault that holds
 abbrev pub Settles : Bound → List SeatLog → List Outcome → Result Settled SettleFault → Type 0
@@ -128,9 +141,12 @@ FaultsContradictTheAudit = (b : Bound) (logs : List SeatLog) (es : List Outcome)
 
 -- where they agree, each place of the journal was kept by exactly one call
 abbrev pub AuditsAgree : Type 0
-AuditsAgree = (b : Bound) (logs : List SeatLog) (es : List Outcome) → b.entries ≡ length b.state.entries → IsAudited b logs es → (p : ℕ) → 0 < p → p ≤ b.entries → count_by (λ q. q == p) (flat_map places logs) ≡ 1
+AuditsAgree = (b : Bound) (logs : List SeatLog) (es : List Outcome) → b.entries ≡ last_place b.state → IsAudited b logs es → (p : ℕ) → 0 < p → p ≤ b.entries → count_by (λ q. q == p) (flat_map places logs) ≡ 1
 
--- where the first listener that ended for a pipe was handed a front of the journal's batches that ends with an end batch,
--- it was handed all of them: it never differs at a place above 0
+-- where the first listener that ended for a pipe was handed a front of what the pipe was sent that ends with an end batch, it
+-- was handed all of it: it never differs at a place above 0
 abbrev pub FrontsAreWhole : Type 0
-FrontsAreWhole = (b : Bound) (es more : List Outcome) (e : Outcome) (n p : ℕ) (before rest : List Batch) (last : Batch) → of_instance n es ≡ e ∷ more → IsIn b.pipes n → e.handed ≡ before ++ last ∷ [] → last.records ≡ [] → batches_of b n ≡ e.handed ++ rest → IsFaultAt b es n (HandedDiffers n p) → p ≡ 0
+FrontsAreWhole =
+    (b : Bound) (es more : List Outcome) (e : Outcome) (n p : ℕ) (before rest : List Batch) (last : Batch)
+    → IsSent b.state b.pipes b.sent → of_instance n es ≡ e ∷ more → e.handed ≡ before ++ last ∷ [] → last.records ≡ [] → IsSentTo b n (e.handed ++ rest)
+    → IsFaultAt b es n (HandedDiffers n p) → p ≡ 0

@@ -10,10 +10,10 @@ marked seen [] = seen
 marked seen (p ∷ ps) = marked (slice_set seen (p - 1) true) ps
 
 -- the call can be the next one of a seat: its place is above the last, it stands in the journal, and its place is not marked
-abbrev pub IsNext : List Entry → List Bool → ℕ → ℕ → Kept → Type 0
-IsNext entries seen number last k = (last < k.place) × Stands entries number k × (slice_get seen (k.place - 1) ≡ Some false)
+abbrev pub IsNext : ℕ → List Entry → List Bool → ℕ → ℕ → Kept → Type 0
+IsNext cut entries seen number last k = (last < k.place) × Stands cut entries number k × (slice_get seen (k.place - 1) ≡ Some false)
 
 -- each of these calls can be the next one, once those before it are marked
-abbrev pub AreNext : List Entry → List Bool → ℕ → ℕ → List Kept → Type 0
-AreNext entries seen number last [] = ⊤
-AreNext entries seen number last (k ∷ ks) = IsNext entries seen number last k × AreNext entries (slice_set seen (k.place - 1) true) number k.place ks
+abbrev pub AreNext : ℕ → List Entry → List Bool → ℕ → ℕ → List Kept → Type 0
+AreNext cut entries seen number last [] = ⊤
+AreNext cut entries seen number last (k ∷ ks) = IsNext cut entries seen number last k × AreNext cut entries (slice_set seen (k.place - 1) true) number k.place ks

@@ -16,7 +16,7 @@ use Rattle.shared_tree.specs.Held.{IsIn, Lacks}
 use Rattle.event_sinks.specs.declared.listener.Cause.TheVariants.{Last}
 use Rattle.event_sinks.specs.declared.served.Progress.{Progress}
 use Rattle.event_sinks.specs.declared.served.Track.{Track}
-use Rattle.event_sinks.specs.Audited.{Outcome, Differs, batches_of, of_instance}
+use Rattle.event_sinks.specs.Audited.{Outcome, Differs, batches_of, of_instance, past}
 
 -- ---- what an entry hands over
 
@@ -50,16 +50,16 @@ abbrev pub ComesBy : Option ℕ → List Batch → List Batch → Option ℕ →
 ComesBy None left handed o = IsDifference left handed o
 ComesBy (Some p) left handed o = o ≡ Some p
 
-abbrev pub Comes : List Batch → List Batch → Progress → Option ℕ → Type 0
-Comes left handed p o = ComesBy p.differs left (drop p.taken handed) o
+abbrev pub Comes : ℕ → List Batch → List Batch → Progress → Option ℕ → Type 0
+Comes cut left handed p o = ComesBy p.differs left (past cut (drop p.taken handed)) o
 
 -- nothing is compared yet
 abbrev pub start : Progress
 start = record { taken = 0; differs = None }
 
 -- what comes of the progress after batches were handed over comes of the one before them
-abbrev pub Follows : List Batch → List Batch → Progress → Progress → Type 0
-Follows handed bs old new = (left : List Batch) (o : Option ℕ) → Comes left handed new o → Comes (bs ++ left) handed old o
+abbrev pub Follows : ℕ → List Batch → List Batch → Progress → Progress → Type 0
+Follows cut handed bs old new = (left : List Batch) (o : Option ℕ) → Comes cut left handed new o → Comes cut (bs ++ left) handed old o
 
 -- ---- what is known of the instance of a number
 
@@ -120,7 +120,7 @@ IsNoted pipes es found n (Some t) = IsPiped pipes n t.is_piped × IsFirst es fou
 -- what comes of the rest tells what is to be told of all batches of the number
 abbrev pub Tells : Bound → List Outcome → List Batch → ℕ → Option Track → Type 0
 Tells b es left n None = ⊤
-Tells b es left n (Some t) = (o : Option ℕ) → Comes left (handed_at es t.first) t.progress o → IsDifference (batches_of b n) (handed_at es t.first) o
+Tells b es left n (Some t) = (o : Option ℕ) → Comes b.state.place left (handed_at es t.first) t.progress o → IsDifference (batches_of b n) (past b.state.place (handed_at es t.first)) o
 
 -- what is known of a number while these batches are still to be handed to it
 pub record IsTracked (b : Bound) (es : List Outcome) (left : List Batch) (n : ℕ) (o : Option Track) : Type 0 where
@@ -128,10 +128,10 @@ pub record IsTracked (b : Bound) (es : List Outcome) (left : List Batch) (n : �
   pub tells : Tells b es left n o
 
 -- what becomes of a track as batches are handed over
-abbrev pub Goes : List Outcome → List Batch → Option Track → Option Track → Type 0
-Goes es bs None new = new ≡ None
-Goes es bs (Some t) new = (p : Progress) × (new ≡ Some (record t { progress = p })) × Follows (handed_at es t.first) bs t.progress p
+abbrev pub Goes : ℕ → List Outcome → List Batch → Option Track → Option Track → Type 0
+Goes cut es bs None new = new ≡ None
+Goes cut es bs (Some t) new = (p : Progress) × (new ≡ Some (record t { progress = p })) × Follows cut (handed_at es t.first) bs t.progress p
 
 -- what becomes of each number's, where an entry hands this batch over
-abbrev pub HandsOn : List Outcome → Option Batch → BTreeMap ℕ Track → BTreeMap ℕ Track → Type 0
-HandsOn es o old new = (n : ℕ) → Goes es (hands o n) (track_at old n) (track_at new n)
+abbrev pub HandsOn : ℕ → List Outcome → Option Batch → BTreeMap ℕ Track → BTreeMap ℕ Track → Type 0
+HandsOn cut es o old new = (n : ℕ) → Goes cut es (hands o n) (track_at old n) (track_at new n)

@@ -6,7 +6,7 @@ ghost use Rattle.event_sinks.specs.Audited.{Settles, outcomes};
 
 use crate::listener::Ended;
 use crate::served::first_unserved;
-use crate::strays::{count_calls, first_stray};
+use crate::strays::{are_as_many, count_calls, first_stray};
 use shared_tree::{Book, SeatLog};
 use std::alloc::{AllocError, Global};
 use thiserror::Error;
@@ -76,15 +76,18 @@ pub fn settle<S: Drop>(
     ensures { Settles book logs.items (outcomes ended.items) result }
 {
     let entries = book.entries();
-    let calls = count_calls(logs.as_slice());
-    if entries != calls {
+    if !are_as_many(entries, logs.as_slice()) {
+        let calls = count_calls(logs.as_slice());
         return Err(SettleFault::CountDiffers { entries, calls });
     }
-    if let Some(number) = first_stray(alloc, book.journal(), logs.as_slice())? {
+    if let Some(number) = first_stray(alloc, &book, logs.as_slice())? {
         return Err(SettleFault::Stray(number));
     }
     match first_unserved(alloc, &book, ended.as_slice())? {
         Some(fault) => Err(fault),
-        None => Ok(Settled { entries, calls }),
+        None => Ok(Settled {
+            entries,
+            calls: entries,
+        }),
     }
 }

@@ -2,7 +2,7 @@
 
 ghost use Rattle.event_sinks.specs.Audited.{AuditsAgree, FaultsContradictTheAudit, FrontsAreWhole};
 
-use shared_tree::end_batches_come_last;
+use shared_tree::{cuts_part_batches, end_batches_come_last};
 
 /// A law: where a book, the logs of its seats and the listeners that ended agree, no fault holds of them but want of
 /// memory. So [`settle`](crate::settle) settles a book exactly where they agree, want of memory aside.
@@ -15,10 +15,11 @@ pub fn audits_agree()
     ensures { AuditsAgree }
 {}
 
-/// A law: a listener that was handed a front of what the journal hands over, up to an end batch, was handed all of it. So
+/// A law: a listener that was handed a front of what its pipe was sent, up to an end batch, was handed all of it. So
 /// [`settle`](crate::settle) never says of it that it was handed other batches, at a place above 0.
 pub fn fronts_are_whole()
     ensures { FrontsAreWhole }
 {
     end_batches_come_last();
+    cuts_part_batches();
 }

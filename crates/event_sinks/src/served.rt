@@ -4,7 +4,9 @@ ghost use Rattle.std.specs.Prelude.{◌≡◌, ◌↔◌, ◌==◌, ℕ, true, [
 ghost use Rattle.shared_tree.specs.declared.pipe.Batch.{Batch};
 ghost use Rattle.shared_tree.specs.Calls.{Bound};
 ghost use Rattle.shared_tree.specs.Held.{IsIn, Lacks};
-ghost use Rattle.event_sinks.specs.Audited.{IsFaultAt, IsFirstFault, IsServedAt, batches_of, outcomes};
+ghost use Rattle.std.specs.Prelude.{◌<◌, drop, get_or, length};
+ghost use Rattle.shared_tree.specs.Handed.{batch};
+ghost use Rattle.event_sinks.specs.Audited.{IsFaultAt, IsFirstFault, IsServedAt, batches_of, outcomes, past};
 ghost use Rattle.event_sinks.specs.Tracks.{Comes, EndsLastAt, Follows, HandsOn, HandsOver, IsSpelled, IsTracked, blank, given_by, handed_at, noted, track_at};
 
 use crate::audit::SettleFault;
@@ -47,7 +49,7 @@ pub(crate) fn first_unserved<S>(
 {
     let mut tracks = tracks_of(alloc, book, ended)?;
     hand_all(&mut tracks, book, ended);
-    Ok(first_fault(&tracks, ended))
+    Ok(first_fault(&tracks, ended, book.snapshot().place))
 }
 
 // What is known of each pipe of a book, and of each instance for which a listener ended. Nothing is compared yet.
@@ -102,18 +104,27 @@ fn hand_all<S>(tracks: &mut BTreeMap<u32, Track>, book: &Book, ended: &[Ended<S>
 {
     book.law();
     batches_are_answered();
+    let cut = book.snapshot().place;
+    let _last = book.entries();
     let journal = book.journal();
     for at in 0..journal.len() {
-        hand_entry(tracks, ended, &journal[at], at as u64 + 1);
+        hand_entry(tracks, ended, cut, &journal[at], cut + at as u64 + 1);
     }
 }
 
 // Compares what an entry hands over with the next batch of the listener of its instance.
-fn hand_entry<S>(tracks: &mut BTreeMap<u32, Track>, ended: &[Ended<S>], entry: &Entry, place: u64)
-    ensures { (o : Option Batch) → HandsOver entry.now place o → HandsOn (outcomes ended.now) o tracks.old tracks.new }
+fn hand_entry<S>(
+    tracks: &mut BTreeMap<u32, Track>,
+    ended: &[Ended<S>],
+    cut: u64,
+    entry: &Entry,
+    place: u64,
+)
+    requires { cut < place }
+    ensures { (o : Option Batch) → HandsOver entry.now place o → HandsOn cut (outcomes ended.now) o tracks.old tracks.new }
 {
     if let Some((number, bytes)) = given(entry) {
-        hand(tracks, ended, number, place, bytes);
+        hand(tracks, ended, cut, number, place, bytes);
     }
 }
 
@@ -121,15 +132,17 @@ fn hand_entry<S>(tracks: &mut BTreeMap<u32, Track>, ended: &[Ended<S>], entry: &
 fn hand<S>(
     tracks: &mut BTreeMap<u32, Track>,
     ended: &[Ended<S>],
+    cut: u64,
     number: u32,
     place: u64,
     bytes: &[u8],
 )
-    ensures { (b : Batch) → IsSpelled b number place bytes.now → HandsOn (outcomes ended.now) (Some b) tracks.old tracks.new }
+    requires { cut < place }
+    ensures { (b : Batch) → IsSpelled b number place bytes.now → HandsOn cut (outcomes ended.now) (Some b) tracks.old tracks.new }
 {
     if let Some(track) = tracks.get_mut(&number) {
         let handed = handed_at(ended, track.first);
-        track.progress = track.progress.after(handed, number, place, bytes);
+        track.progress = track.progress.after(handed, cut, number, place, bytes);
     }
 }
 
@@ -148,6 +161,19 @@ fn given(entry: &Entry) -> Option<(u32, &[u8])>
         },
         _ => None,
     }
+}
+
+// Where the next batch past the cut stands, from here on.
+fn next_past(handed: &[Batch], cut: u64, from: usize) -> usize
+    ensures same { past cut (drop result handed.now) ≡ past cut (drop from handed.now) }
+    ensures later { result < length handed.now → cut < (get_or handed.now result (batch 0 0 [])).place }
+{
+    for at in from..handed.len() {
+        if handed[at].place > cut {
+            return at;
+        }
+    }
+    handed.len()
 }
 
 // Whether it is the batch of this instance and place whose records these bytes spell.
@@ -186,11 +212,15 @@ fn is_ended_at<S>(ended: &[Ended<S>], at: Option<usize>) -> bool
 }
 
 // What is wrong with the least number with which anything is.
-fn first_fault<S>(tracks: &BTreeMap<u32, Track>, ended: &[Ended<S>]) -> Option<SettleFault>
-    ensures { (b : Bound) → ((n : ℕ) → IsTracked b (outcomes ended.now) [] n (track_at tracks.now n)) → MatchOption result ((n : ℕ) → IsServedAt b (outcomes ended.now) n) (λ f. IsFirstFault b (outcomes ended.now) f) }
+fn first_fault<S>(
+    tracks: &BTreeMap<u32, Track>,
+    ended: &[Ended<S>],
+    cut: u64,
+) -> Option<SettleFault>
+    ensures { (b : Bound) → b.state.place ≡ cut → ((n : ℕ) → IsTracked b (outcomes ended.now) [] n (track_at tracks.now n)) → MatchOption result ((n : ℕ) → IsServedAt b (outcomes ended.now) n) (λ f. IsFirstFault b (outcomes ended.now) f) }
 {
     for (number, track) in tracks {
-        if let Some(fault) = fault_of(*number, track, ended) {
+        if let Some(fault) = fault_of(*number, track, ended, cut) {
             return Some(fault);
         }
     }
@@ -198,8 +228,8 @@ fn first_fault<S>(tracks: &BTreeMap<u32, Track>, ended: &[Ended<S>]) -> Option<S
 }
 
 // What is wrong with an instance, once all batches were compared.
-fn fault_of<S>(number: u32, track: &Track, ended: &[Ended<S>]) -> Option<SettleFault>
-    ensures { (b : Bound) → IsTracked b (outcomes ended.now) [] number (Some track.now) → MatchOption result (IsServedAt b (outcomes ended.now) number) (λ f. IsFaultAt b (outcomes ended.now) number f) }
+fn fault_of<S>(number: u32, track: &Track, ended: &[Ended<S>], cut: u64) -> Option<SettleFault>
+    ensures { (b : Bound) → b.state.place ≡ cut → IsTracked b (outcomes ended.now) [] number (Some track.now) → MatchOption result (IsServedAt b (outcomes ended.now) number) (λ f. IsFaultAt b (outcomes ended.now) number f) }
 {
     let differing = |place| SettleFault::HandedDiffers {
         instance: number,
@@ -211,7 +241,10 @@ fn fault_of<S>(number: u32, track: &Track, ended: &[Ended<S>]) -> Option<SettleF
     if !is_ended_at(ended, track.first) {
         return Some(SettleFault::NotEnded(number));
     }
-    match track.progress.difference(handed_at(ended, track.first)) {
+    match track
+        .progress
+        .difference(handed_at(ended, track.first), cut)
+    {
         Some(place) => Some(differing(place)),
         None if track.is_again => Some(differing(0)),
         None => None,
@@ -254,33 +287,37 @@ impl Track {
 
 impl Progress {
     // What it becomes by a batch that the journal hands over, where these were handed to the listener.
-    fn after(self, handed: &[Batch], instance: u32, place: u64, bytes: &[u8]) -> Progress
-        ensures { (b : Batch) → IsSpelled b instance place bytes.now → Follows handed.now (b ∷ []) self result }
+    fn after(self, handed: &[Batch], cut: u64, instance: u32, place: u64, bytes: &[u8]) -> Progress
+        requires { cut < place }
+        ensures { (b : Batch) → IsSpelled b instance place bytes.now → Follows cut handed.now (b ∷ []) self result }
     {
         if self.differs.is_some() {
             return self;
         }
-        if self.taken < handed.len() && is_batch(&handed[self.taken], instance, place, bytes) {
+        let taken = next_past(handed, cut, self.taken);
+        if taken < handed.len() && is_batch(&handed[taken], instance, place, bytes) {
             Progress {
-                taken: self.taken + 1,
+                taken: taken + 1,
                 differs: None,
             }
         } else {
             Progress {
-                taken: self.taken,
+                taken,
                 differs: Some(place),
             }
         }
     }
 
     // The place of the first batch that is not the journal's, where no more is handed over.
-    fn difference(self, handed: &[Batch]) -> Option<u64>
-        ensures { Comes [] handed.now self result }
+    fn difference(self, handed: &[Batch], cut: u64) -> Option<u64>
+        ensures { Comes cut [] handed.now self result }
     {
         if self.differs.is_some() {
-            self.differs
-        } else if self.taken < handed.len() {
-            Some(handed[self.taken].place)
+            return self.differs;
+        }
+        let taken = next_past(handed, cut, self.taken);
+        if taken < handed.len() {
+            Some(handed[taken].place)
         } else {
             None
         }

@@ -16,6 +16,8 @@ use std::marker::Model;
 use tree_paths::Refusal;
 
 mod changing;
+mod files;
+mod flat;
 mod keyed;
 mod reading;
 mod writing;

@@ -4,3 +4,4 @@ pub mod Instances
 pub mod Codes
 pub mod Views
 pub mod Staging
+pub mod Rows

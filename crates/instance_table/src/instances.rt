@@ -1,5 +1,5 @@
 //! The open instances.
-ghost use Rattle.std.specs.Prelude.{◌≡◌, ◌≤◌, ◌+◌, ◌++◌, ◌⊎◌, ◌&&◌, ◌||◌, ◌==◌, ℕ, not, is_some, drop, fold, take, vec_len, vec_capacity, Some, None, Ok, Err, IfOk, IfErr, OnOk, OnErr, IsSome, IfSome, length};
+ghost use Rattle.std.specs.Prelude.{◌≡◌, ◌≤◌, ◌+◌, ◌++◌, ◌⊎◌, ◌&&◌, ◌||◌, ◌==◌, ℕ, not, is_some, drop, fold, take, vec_len, vec_capacity, Some, None, Ok, Err, IfOk, IfErr, OnOk, OnErr, IsSome, IfSome, length, map};
 ghost use Rattle.std.specs.Option.{option_copied};
 ghost use Rattle.std.specs.FinMap as finmap;
 ghost use Rattle.tree_paths.specs.declared.refusal.Refusal.{Refusal};
@@ -8,10 +8,12 @@ ghost use Rattle.event_queue.specs.Backlogs.{IsLimit, after_offer};
 ghost use Rattle.watch_table.specs.Masks.{mask_fault};
 ghost use Rattle.watch_table.specs.Watching.{add_refusal, added, removed, watch_of, wd_added};
 ghost use Rattle.instance_table.specs.Index.{is_noted};
+ghost use Rattle.instance_table.specs.Rows.{instance_row};
 ghost use Rattle.instance_table.specs.Instances.{after_read, changed, instance_of, new_instance, unwatching, waiting_of, watchers_of, watching};
 
 use crate::index::Index;
 use crate::instance::Instance;
+use crate::rows::{InstanceRow, row};
 use crate::staging::offer_each;
 use event_queue::Queue;
 use event_rules::ignored;
@@ -85,6 +87,18 @@ impl Instances {
         ensures { result.now ≡ watchers_of self.now number }
     {
         self.index.of(number)
+    }
+
+    /// The open instances in the order of their numbers.
+    pub fn rows(&self) -> Result<Vec<InstanceRow>, Refusal>
+        ensures rows { IfOk result (λ rows. rows.items ≡ map instance_row (finmap.entries self.now)) }
+        ensures err { IfErr result (λ refusal. refusal ≡ Enomem) }
+    {
+        let mut rows = Vec::new(self.alloc);
+        for (id, instance) in &self.opened {
+            rows.push(row(self.alloc, *id, instance)?)?;
+        }
+        Ok(rows)
     }
 
     /// Opens an instance with a queue of `limit` records. `Err` is want of memory.

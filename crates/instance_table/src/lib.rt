@@ -5,8 +5,10 @@ mod ids;
 mod index;
 mod instance;
 mod instances;
+mod rows;
 mod staging;
 
 pub use instance::Instance;
 pub use instances::Instances;
+pub use rows::InstanceRow;
 pub use staging::Staging;

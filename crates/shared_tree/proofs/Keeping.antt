@@ -1,4 +1,4 @@
--- What the locked value keeps, over one entry more.
+-- What the locked value keeps of a whole journal, over one entry more.
 use Rattle.std.proofs.Common.{◌≡◌, ◌⊎◌, ℕ, zero, suc, ◌+◌, ◌<◌, ◌≤◌, Bool, true, false, cond, eqb, List, [], ◌∷◌, ◌++◌, length, map, Option, Some, None, option_map, is_some, refl, sym, ap, ◌∙◌, subst, inl, inr, arith, append-nil, append_assoc, length-append}
 use Rattle.std.specs.FinMap as finmap
 use Rattle.std.specs.FinMap.{get-empty}
@@ -16,16 +16,16 @@ use Rattle.tree_core.specs.declared.reply.Receipt.{Receipt}
 use Rattle.tree_core.specs.declared.reply.Reply.{Reply}
 use Rattle.tree_core.specs.declared.reply.Reply.TheVariants as reply
 use Rattle.tree_core.specs.Tree.{Tree, opening, reply_of, after}
-use Rattle.tree_core.specs.Journal.{Journaled, stands_for, tree_after, now, waiting_in, with_entry}
-use Rattle.tree_core.proofs.Lawful.{stands_for-append}
+use Rattle.tree_core.specs.Journal.{Journaled, last_place, now, opened, tree_after, waiting_in, with_entry}
+use Rattle.tree_core.proofs.Lawful.{now-entry}
 use Rattle.shared_tree.specs.declared.pipe.Batch.{Batch}
 use Rattle.tree_core.specs.Calls.{is_plain}
 use Rattle.tree_core.specs.Histories.{pumped, read_by, where_records}
 use Rattle.shared_tree.specs.Pipes.{Piped}
 use Rattle.shared_tree.specs.Seats.{Seated}
-use Rattle.shared_tree.specs.Handed.{AreOfEvents, batch, handed, handed_all, handed_by, handed_from, hands, piped_by, piped_of, where_done}
+use Rattle.shared_tree.specs.Handed.{AreOfEvents, batch, handed_by, handed_from, handed_since, hands, piped_by, piped_of, where_done}
 use Rattle.shared_tree.specs.Calls.{Enters, HasPipe, IsForPipe}
-use Rattle.shared_tree.specs.Held.{closed_of, deliver, end_of, sents, IsFilled, IsHeld, IsIn, IsLooked, IsReady, Rises}
+use Rattle.shared_tree.specs.Held.{closed_of, deliver, end_of, sents, IsFilled, IsHeldWhole, IsIn, IsLooked, IsReady, Rises}
 use Rattle.shared_tree.proofs.Steps.{Told, end_of-handed, hands-none, next-init, plain-makes-none, opened-by, piped_by-cases, IsMade, WasOpen}
 
 -- ---- lists of numbers
@@ -78,9 +78,9 @@ handed_from-snoc t place at (x ∷ es) e id is =
     ap (λ r. hands (handed_by t place x.call) id ++ r) (handed_from-snoc (after t x.call) (place + 1) at es e id (omega (arith, is)))
     ∙ sym (append_assoc (hands (handed_by t place x.call) id) (handed_from (after t x.call) (place + 1) es id) (hands (handed_by (tree_after (after t x.call) es) at e.call) id))
 
-handed-snoc : (s : Journaled) (e : Entry) (id : ℕ) → handed s.limits (s.entries ++ e ∷ []) id ≡ handed s.limits s.entries id ++ hands (handed_by (now s) (length s.entries + 1) e.call) id
-unfolding handed stands_for
-handed-snoc s e id = handed_from-snoc (opening s.limits) 1 (length s.entries + 1) s.entries e id (omega arith)
+handed-snoc : (s : Journaled) (e : Entry) (id : ℕ) → handed_since (with_entry s e) id ≡ handed_since s id ++ hands (handed_by (now s) (last_place s + 1) e.call) id
+unfolding handed_since now
+handed-snoc s e id = handed_from-snoc s.start (s.place + 1) (last_place s + 1) s.entries e id (omega arith)
 
 piped_of-snoc : (es : List Entry) (e : Entry) → piped_of (es ++ e ∷ []) ≡ piped_of es ++ piped_by e.call e.reply
 piped_of-snoc [] e = append-nil (piped_by e.call e.reply)
@@ -115,8 +115,8 @@ all-hands (Some b) id is = by (eqb b.instance id)
     by true = (is, tt)
     by false = tt
 
-module _ (tells : Told) (s : Journaled) (e : Entry) (numbers : List ℕ) (sent : List (List Batch)) (total : ℕ) (held : IsHeld s numbers sent total) (lawful : e.reply ≡ reply_of (now s) e.call)
-    (sound : IfSome (handed_by (now s) (length s.entries + 1) e.call) IsOfEvents) where
+module _ (tells : Told) (s : Journaled) (e : Entry) (numbers : List ℕ) (sent : List (List Batch)) (total : ℕ) (held : IsHeldWhole s numbers sent total) (lawful : e.reply ≡ reply_of (now s) e.call)
+    (sound : IfSome (handed_by (now s) (last_place s + 1) e.call) IsOfEvents) where
   abbrev t : Tree
   t = now s
 
@@ -124,13 +124,13 @@ module _ (tells : Told) (s : Journaled) (e : Entry) (numbers : List ℕ) (sent :
   new = with_entry s e
 
   abbrev o : Option Batch
-  o = handed_by t (length s.entries + 1) e.call
+  o = handed_by t (last_place s + 1) e.call
 
   abbrev made : List ℕ
   made = piped_by e.call e.reply
 
   later : now new ≡ after t e.call
-  later = stands_for-append s.limits s.entries e
+  later = now-entry s e
 
   grows : t.next_id ≤ (now new).next_id
   grows = subst (λ (u : Tree). t.next_id ≤ u.next_id) (sym later) (tells t e.call).rising
@@ -146,11 +146,11 @@ module _ (tells : Told) (s : Journaled) (e : Entry) (numbers : List ℕ) (sent :
       by None h = refl
       by (Some i) h = let below = held.below id i h in absurd (omega (arith, below, past))
 
-  hands-nothing : (id : ℕ) → t.next_id ≤ id → handed s.limits (s.entries ++ e ∷ []) id ≡ []
+  hands-nothing : (id : ℕ) → t.next_id ≤ id → handed_since new id ≡ []
   hands-nothing id past =
       handed-snoc s e id
       ∙ ap (λ (xs : List Batch). xs ++ hands o id) (held.unmade id past)
-      ∙ hands-none tells t (length s.entries + 1) id (closed-at id past) e.call
+      ∙ hands-none tells t (last_place s + 1) id (closed-at id past) e.call
 
   -- the numbers that are made
   made-cases : (made ≡ []) ⊎ ((made ≡ t.next_id ∷ []) × ((now new).next_id ≡ t.next_id + 1) × (e.reply ≡ reply.Instance t.next_id))
@@ -167,7 +167,7 @@ module _ (tells : Told) (s : Journaled) (e : Entry) (numbers : List ℕ) (sent :
             says ∙ ap (λ (n : ℕ). reply.Instance n) same,
           )
 
-  counted : total + 1 ≡ length new.entries
+  counted : total + 1 ≡ last_place new
   counted = omega (arith, held.counted, length-append s.entries (e ∷ []))
 
   piped : numbers ++ made ≡ piped_of new.entries
@@ -188,18 +188,18 @@ module _ (tells : Told) (s : Journaled) (e : Entry) (numbers : List ℕ) (sent :
           first (inl same) = omega (arith, same)
           first (inr none) = absurd none
 
-  pushed : deliver o numbers sent ++ map (λ (id : ℕ). []) made ≡ handed_all new.limits new.entries
+  pushed : deliver o numbers sent ++ map (λ (id : ℕ). []) made ≡ map (handed_since new) (piped_of new.entries)
   pushed =
-      let old : deliver o numbers sent ≡ map (handed s.limits new.entries) (piped_of s.entries) =
+      let old : deliver o numbers sent ≡ map (handed_since new) (piped_of s.entries) =
       ap (λ (ns : List ℕ). deliver o ns sent) held.piped ∙ ap (λ (xss : List (List Batch)). deliver o (piped_of s.entries) xss) held.pushed
-      ∙ sym (map_deliver (handed s.limits s.entries) (handed s.limits new.entries) o (piped_of s.entries) (handed-snoc s e)) in
-      let fresh : map (λ (id : ℕ). []) made ≡ map (handed s.limits new.entries) made =
-      sym (map-none (handed s.limits new.entries) made (λ id there. hands-nothing id (made-are-next id there))) in
-      ap (λ (xss : List (List Batch)). xss ++ map (λ (id : ℕ). []) made) old ∙ ap (λ (xss : List (List Batch)). map (handed s.limits new.entries) (piped_of s.entries) ++ xss) fresh
-      ∙ sym (map-append (handed s.limits new.entries) (piped_of s.entries) made) ∙ ap (map (handed s.limits new.entries)) (sym (piped_of-snoc s.entries e))
+      ∙ sym (map_deliver (handed_since s) (handed_since new) o (piped_of s.entries) (handed-snoc s e)) in
+      let fresh : map (λ (id : ℕ). []) made ≡ map (handed_since new) made =
+      sym (map-none (handed_since new) made (λ id there. hands-nothing id (made-are-next id there))) in
+      ap (λ (xss : List (List Batch)). xss ++ map (λ (id : ℕ). []) made) old ∙ ap (λ (xss : List (List Batch)). map (handed_since new) (piped_of s.entries) ++ xss) fresh
+      ∙ sym (map-append (handed_since new) (piped_of s.entries) made) ∙ ap (map (handed_since new)) (sym (piped_of-snoc s.entries e))
 
-  events : (id : ℕ) → AreOfEvents (handed new.limits new.entries id)
-  events id = subst AreOfEvents (sym (handed-snoc s e id)) (all-more (handed s.limits s.entries id) (hands o id) (held.events id) (all-hands o id sound))
+  events : (id : ℕ) → AreOfEvents (handed_since new id)
+  events id = subst AreOfEvents (sym (handed-snoc s e id)) (all-more (handed_since s id) (hands o id) (held.events id) (all-hands o id sound))
 
   -- ---- the open instances
 
@@ -213,7 +213,7 @@ module _ (tells : Told) (s : Journaled) (e : Entry) (numbers : List ℕ) (sent :
       by (inl (j, there, same)) = let old = held.below id j there in omega (arith, old, grows)
       by (inr is) = let more : (now new).next_id ≡ t.next_id + 1 = ap (λ (u : Tree). u.next_id) later ∙ is.grows in let next = is.is_next in omega (arith, next, more)
 
-  unmade : (id : ℕ) → (now new).next_id ≤ id → handed new.limits new.entries id ≡ []
+  unmade : (id : ℕ) → (now new).next_id ≤ id → handed_since new id ≡ []
   unmade id past = hands-nothing id (omega (arith, grows, past))
 
   -- what was open keeps its way
@@ -257,7 +257,7 @@ module _ (tells : Told) (s : Journaled) (e : Entry) (numbers : List ℕ) (sent :
       by (inl (j, there, same)) = keeps-way id i j there same
       by (inr is) = made-way id i i.is_piped refl is
 
-  pub held-more : IsHeld new (numbers ++ made) (deliver o numbers sent ++ map (λ (id : ℕ). []) made) (total + 1)
+  pub held-more : IsHeldWhole new (numbers ++ made) (deliver o numbers sent ++ map (λ (id : ℕ). []) made) (total + 1)
   held-more = record {
     counted = counted;
     piped = piped;
@@ -280,42 +280,42 @@ length-sents : (ps : List Piped) → length (sents ps) ≡ length ps
 length-sents [] = refl
 length-sents (p ∷ ps) = ap suc (length-sents ps)
 
-pub held-length : (s : Journaled) (ns : List ℕ) (xss : List (List Batch)) (total : ℕ) → IsHeld s ns xss total → length ns ≡ length xss
+pub held-length : (s : Journaled) (ns : List ℕ) (xss : List (List Batch)) (total : ℕ) → IsHeldWhole s ns xss total → length ns ≡ length xss
 held-length s ns xss total held =
-    ap (λ (ms : List ℕ). length ms) held.piped ∙ sym (length-map (handed s.limits s.entries) (piped_of s.entries)) ∙ ap (λ (yss : List (List Batch)). length yss) (sym held.pushed)
+    ap (λ (ms : List ℕ). length ms) held.piped ∙ sym (length-map (handed_since s) (piped_of s.entries)) ∙ ap (λ (yss : List (List Batch)). length yss) (sym held.pushed)
 
-pub held-pipes : (s : Journaled) (ns : List ℕ) (ps : List Piped) (total : ℕ) → IsHeld s ns (sents ps) total → length ns ≡ length ps
+pub held-pipes : (s : Journaled) (ns : List ℕ) (ps : List Piped) (total : ℕ) → IsHeldWhole s ns (sents ps) total → length ns ≡ length ps
 held-pipes s ns ps total held = held-length s ns (sents ps) total held ∙ length-sents ps
 
-deliver-none : (ns : List ℕ) (xss : List (List Batch)) → length ns ≡ length xss → deliver None ns xss ≡ xss
+pub deliver-none : (ns : List ℕ) (xss : List (List Batch)) → length ns ≡ length xss → deliver None ns xss ≡ xss
 deliver-none [] [] len = refl
 deliver-none [] (xs ∷ xss) len = absurd (omega arith)
 deliver-none (n ∷ ns) [] len = absurd (omega arith)
 deliver-none (n ∷ ns) (xs ∷ xss) len = rw (append-nil xs, deliver-none ns xss (omega arith)) refl
 
 -- a call that makes no pipe
-pub held-carries : (tells : Told) (s longer : Journaled) (e : Entry) (ns : List ℕ) (xss : List (List Batch)) (total more : ℕ) (o : Option Batch) → IsHeld s ns xss total → longer ≡ with_entry s e → e.reply ≡ reply_of (now s) e.call
-    → piped_by e.call e.reply ≡ [] → more ≡ total + 1 → o ≡ handed_by (now s) (length s.entries + 1) e.call → IfSome (handed_by (now s) (length s.entries + 1) e.call) IsOfEvents → IsHeld longer ns (deliver o ns xss) more
+pub held-carries : (tells : Told) (s longer : Journaled) (e : Entry) (ns : List ℕ) (xss : List (List Batch)) (total more : ℕ) (o : Option Batch) → IsHeldWhole s ns xss total → longer ≡ with_entry s e → e.reply ≡ reply_of (now s) e.call
+    → piped_by e.call e.reply ≡ [] → more ≡ total + 1 → o ≡ handed_by (now s) (last_place s + 1) e.call → IfSome (handed_by (now s) (last_place s + 1) e.call) IsOfEvents → IsHeldWhole longer ns (deliver o ns xss) more
 held-carries tells s longer e ns xss total more o held is lawful none one batch sound =
     let step = held-more tells s e ns xss total held lawful sound in
     let numbers : ns ++ piped_by e.call e.reply ≡ ns = ap (λ (ms : List ℕ). ns ++ ms) none ∙ append-nil ns in
-    let pipes : deliver (handed_by (now s) (length s.entries + 1) e.call) ns xss ++ map (λ (id : ℕ). []) (piped_by e.call e.reply) ≡ deliver o ns xss =
-    ap (λ (ms : List ℕ). deliver (handed_by (now s) (length s.entries + 1) e.call) ns xss ++ map (λ (id : ℕ). []) ms) none ∙ append-nil _ ∙ ap (λ b. deliver b ns xss) (sym batch) in
-    subst (λ (j : Journaled). IsHeld j ns (deliver o ns xss) more) (sym is)
-    (subst (λ (n : ℕ). IsHeld (with_entry s e) ns (deliver o ns xss) n) (sym one)
-    (subst (λ (yss : List (List Batch)). IsHeld (with_entry s e) ns yss (total + 1)) pipes
-    (subst (λ (ms : List ℕ). IsHeld (with_entry s e) ms (deliver (handed_by (now s) (length s.entries + 1) e.call) ns xss ++ map (λ (id : ℕ). []) (piped_by e.call e.reply)) (total + 1)) numbers step)))
+    let pipes : deliver (handed_by (now s) (last_place s + 1) e.call) ns xss ++ map (λ (id : ℕ). []) (piped_by e.call e.reply) ≡ deliver o ns xss =
+    ap (λ (ms : List ℕ). deliver (handed_by (now s) (last_place s + 1) e.call) ns xss ++ map (λ (id : ℕ). []) ms) none ∙ append-nil _ ∙ ap (λ b. deliver b ns xss) (sym batch) in
+    subst (λ (j : Journaled). IsHeldWhole j ns (deliver o ns xss) more) (sym is)
+    (subst (λ (n : ℕ). IsHeldWhole (with_entry s e) ns (deliver o ns xss) n) (sym one)
+    (subst (λ (yss : List (List Batch)). IsHeldWhole (with_entry s e) ns yss (total + 1)) pipes
+    (subst (λ (ms : List ℕ). IsHeldWhole (with_entry s e) ms (deliver (handed_by (now s) (last_place s + 1) e.call) ns xss ++ map (λ (id : ℕ). []) (piped_by e.call e.reply)) (total + 1)) numbers step)))
 
 -- a call that makes an instance with a pipe
-pub held-opens : (tells : Told) (s longer : Journaled) (caller limit : ℕ) (r : Reply) (ns : List ℕ) (xss : List (List Batch)) (total more : ℕ) → IsHeld s ns xss total
+pub held-opens : (tells : Told) (s longer : Journaled) (caller limit : ℕ) (r : Reply) (ns : List ℕ) (xss : List (List Batch)) (total more : ℕ) → IsHeldWhole s ns xss total
     → longer ≡ with_entry s (record { caller = caller; call = call.Init limit true; reply = r }) → r ≡ reply_of (now s) (call.Init limit true) → more ≡ total + 1
-    → IsHeld longer (ns ++ piped_by (call.Init limit true) r) (xss ++ map (λ (id : ℕ). []) (piped_by (call.Init limit true) r)) more
+    → IsHeldWhole longer (ns ++ piped_by (call.Init limit true) r) (xss ++ map (λ (id : ℕ). []) (piped_by (call.Init limit true) r)) more
 held-opens tells s longer caller limit r ns xss total more held is lawful one =
     let e : Entry = record { caller = caller; call = call.Init limit true; reply = r } in
     let step = held-more tells s e ns xss total held lawful tt in
-    subst (λ (j : Journaled). IsHeld j (ns ++ piped_by e.call e.reply) (xss ++ map (λ (id : ℕ). []) (piped_by e.call e.reply)) more) (sym is)
-    (subst (λ (n : ℕ). IsHeld (with_entry s e) (ns ++ piped_by e.call e.reply) (xss ++ map (λ (id : ℕ). []) (piped_by e.call e.reply)) n) (sym one)
-    (subst (λ (yss : List (List Batch)). IsHeld (with_entry s e) (ns ++ piped_by e.call e.reply) (yss ++ map (λ (id : ℕ). []) (piped_by e.call e.reply)) (total + 1)) (deliver-none ns xss (held-length s ns xss total held)) step))
+    subst (λ (j : Journaled). IsHeldWhole j (ns ++ piped_by e.call e.reply) (xss ++ map (λ (id : ℕ). []) (piped_by e.call e.reply)) more) (sym is)
+    (subst (λ (n : ℕ). IsHeldWhole (with_entry s e) (ns ++ piped_by e.call e.reply) (xss ++ map (λ (id : ℕ). []) (piped_by e.call e.reply)) n) (sym one)
+    (subst (λ (yss : List (List Batch)). IsHeldWhole (with_entry s e) (ns ++ piped_by e.call e.reply) (yss ++ map (λ (id : ℕ). []) (piped_by e.call e.reply)) (total + 1)) (deliver-none ns xss (held-length s ns xss total held)) step))
 
 -- ---- the pipe of a call
 
@@ -354,13 +354,13 @@ module _ (tells : Told) (ns : List ℕ) (ps : List Piped) (t : Tree) (place : �
   end-ready (call.Close from) looked = closes-ready from (reply_of t (call.Close from)) looked refl
 
 -- where the pipe of an open instance is full, the instance has a pipe
-has-pipe : (s : Journaled) (ns : List ℕ) (xss : List (List Batch)) (total id : ℕ) → IsHeld s ns xss total → IsFilled ns (now s) (Some id) → HasPipe (instance_of (now s).instances id)
+has-pipe : (s : Journaled) (ns : List ℕ) (xss : List (List Batch)) (total id : ℕ) → IsHeldWhole s ns xss total → IsFilled ns (now s) (Some id) → HasPipe (instance_of (now s).instances id)
 has-pipe s ns xss total id held (i, there, listed) = subst HasPipe (sym there) ((held.with_pipe id i there).1 listed)
 
-pub pump-full : (s : Journaled) (ns : List ℕ) (xss : List (List Batch)) (total id bytes : ℕ) → IsHeld s ns xss total → IsFilled ns (now s) (Some id) → IsForPipe (now s) (call.Pump id bytes)
+pub pump-full : (s : Journaled) (ns : List ℕ) (xss : List (List Batch)) (total id bytes : ℕ) → IsHeldWhole s ns xss total → IsFilled ns (now s) (Some id) → IsForPipe (now s) (call.Pump id bytes)
 pump-full s ns xss total id bytes held filled = has-pipe s ns xss total id held filled
 
-pub close-full : (s : Journaled) (ns : List ℕ) (xss : List (List Batch)) (total : ℕ) (c : Call) → IsHeld s ns xss total → IsFilled ns (now s) (closed_of c) → IsForPipe (now s) c
+pub close-full : (s : Journaled) (ns : List ℕ) (xss : List (List Batch)) (total : ℕ) (c : Call) → IsHeldWhole s ns xss total → IsFilled ns (now s) (closed_of c) → IsForPipe (now s) c
 close-full s ns xss total (call.File f) held filled = absurd filled
 close-full s ns xss total (call.Init limit is_piped) held filled = absurd filled
 close-full s ns xss total (call.AddWatch from p mask) held filled = absurd filled
@@ -377,8 +377,8 @@ none-open id i h = absurd (open-none (sym (get-empty {X = Instance} nat_cmp id) 
     open-none : ◌≡◌ {A = Option Instance} None (Some i) → ⊥
     open-none e = cc
 
-pub held-new : (limits : Limits) → IsHeld (record { limits = limits; entries = [] }) [] [] 0
-unfolding stands_for opening handed
+pub held-new : (limits : Limits) → IsHeldWhole (opened limits) [] [] 0
+unfolding now opening handed_since
 held-new limits = record {
   counted = refl;
   piped = refl;
@@ -392,11 +392,14 @@ held-new limits = record {
 
 -- ---- what the functions over its parts say
 
-pub looked-length : (s : Journaled) (ns : List ℕ) (ps qs : List Piped) (total : ℕ) → IsHeld s ns (sents ps) total → sents qs ≡ sents ps → length ns ≡ length qs
+pub looked-length : (s : Journaled) (ns : List ℕ) (ps qs : List Piped) (total : ℕ) → IsHeldWhole s ns (sents ps) total → sents qs ≡ sents ps → length ns ≡ length qs
 looked-length s ns ps qs total held same = held-length s ns (sents ps) total held ∙ ap (λ (xss : List (List Batch)). length xss) (sym same) ∙ length-sents qs
 
-next-place : (s longer : Journaled) (e : Entry) (place : ℕ) → longer ≡ with_entry s e → place ≡ length longer.entries → place ≡ length s.entries + 1
-next-place s longer e place is at = at ∙ ap (λ (j : Journaled). length j.entries) is ∙ length-append s.entries (e ∷ [])
+next-place : (s longer : Journaled) (e : Entry) (place : ℕ) → longer ≡ with_entry s e → place ≡ last_place longer → place ≡ last_place s + 1
+next-place s longer e place is at =
+    let more = length-append s.entries (e ∷ []) in
+    let same : last_place longer ≡ last_place (with_entry s e) = ap (λ (j : Journaled). last_place j) is in
+    omega (arith, at, same, more)
 
 done-sound : (id place : ℕ) (r : Reply) → IfSome (where_done r (batch id place [])) IsOfEvents
 done-sound id place reply.Done = tt
@@ -419,25 +422,25 @@ pump-sound : (id place : ℕ) (x : Option (List Event)) → IfSome x AreEvents �
 pump-sound id place None is = tt
 pump-sound id place (Some rs) is = is
 
-pub held-call : (tells : Told) (s longer : Journaled) (seat left : Seated) (c : Call) (r : Receipt) (ns : List ℕ) (xss : List (List Batch)) (total more : ℕ) (closed : Option ℕ) (o : Option Batch) → IsHeld s ns xss total → Enters s seat c longer left r
-    → IsTrue (is_plain c) → more ≡ total + 1 → closed ≡ closed_of c → o ≡ end_of closed r.place r.reply → IsHeld longer ns (deliver o ns xss) more
+pub held-call : (tells : Told) (s longer : Journaled) (seat left : Seated) (c : Call) (r : Receipt) (ns : List ℕ) (xss : List (List Batch)) (total more : ℕ) (closed : Option ℕ) (o : Option Batch) → IsHeldWhole s ns xss total → Enters s seat c longer left r
+    → IsTrue (is_plain c) → more ≡ total + 1 → closed ≡ closed_of c → o ≡ end_of closed r.place r.reply → IsHeldWhole longer ns (deliver o ns xss) more
 held-call tells s longer seat left c r ns xss total more closed o held enters plain one shut is =
     let e : Entry = record { caller = seat.number; call = c; reply = r.reply } in
-    let batch : o ≡ handed_by (now s) (length s.entries + 1) c =
+    let batch : o ≡ handed_by (now s) (last_place s + 1) c =
     is ∙ ap (λ x. end_of x r.place r.reply) shut ∙ ap (λ x. end_of (closed_of c) r.place x) enters.reply ∙ end_of-handed (now s) c r.place plain
     ∙ ap (λ (p : ℕ). handed_by (now s) p c) (next-place s longer e r.place enters.entry enters.place) in
-    held-carries tells s longer e ns xss total more o held enters.entry enters.reply (plain-makes-none c r.reply plain) one batch (end-sound (now s) (length s.entries + 1) c plain)
+    held-carries tells s longer e ns xss total more o held enters.entry enters.reply (plain-makes-none c r.reply plain) one batch (end-sound (now s) (last_place s + 1) c plain)
 
-pub held-pump : (tells : Told) (s longer : Journaled) (seat left : Seated) (id bytes : ℕ) (r : Receipt) (ns : List ℕ) (xss : List (List Batch)) (total more : ℕ) (rs : Option (List Event)) (o : Option Batch) → IsHeld s ns xss total
-    → Enters s seat (call.Pump id bytes) longer left r → more ≡ total + 1 → rs ≡ pumped (now s) id bytes → IfSome rs AreEvents → o ≡ option_map (batch id r.place) rs → IsHeld longer ns (deliver o ns xss) more
+pub held-pump : (tells : Told) (s longer : Journaled) (seat left : Seated) (id bytes : ℕ) (r : Receipt) (ns : List ℕ) (xss : List (List Batch)) (total more : ℕ) (rs : Option (List Event)) (o : Option Batch) → IsHeldWhole s ns xss total
+    → Enters s seat (call.Pump id bytes) longer left r → more ≡ total + 1 → rs ≡ pumped (now s) id bytes → IfSome rs AreEvents → o ≡ option_map (batch id r.place) rs → IsHeldWhole longer ns (deliver o ns xss) more
 held-pump tells s longer seat left id bytes r ns xss total more rs o held enters one given events is =
     let e : Entry = record { caller = seat.number; call = call.Pump id bytes; reply = r.reply } in
-    let handed_over : o ≡ handed_by (now s) (length s.entries + 1) (call.Pump id bytes) =
+    let handed_over : o ≡ handed_by (now s) (last_place s + 1) (call.Pump id bytes) =
     is ∙ ap (λ x. option_map (batch id r.place) x) given ∙ ap (λ (p : ℕ). handed_by (now s) p (call.Pump id bytes)) (next-place s longer e r.place enters.entry enters.place) in
-    held-carries tells s longer e ns xss total more o held enters.entry enters.reply refl one handed_over (pump-sound id (length s.entries + 1) (pumped (now s) id bytes) (subst (λ x. IfSome x AreEvents) given events))
+    held-carries tells s longer e ns xss total more o held enters.entry enters.reply refl one handed_over (pump-sound id (last_place s + 1) (pumped (now s) id bytes) (subst (λ x. IfSome x AreEvents) given events))
 
-pub held-open : (tells : Told) (s longer : Journaled) (seat left : Seated) (limit : ℕ) (r : Receipt) (ns : List ℕ) (xss : List (List Batch)) (total more : ℕ) → IsHeld s ns xss total → Enters s seat (call.Init limit true) longer left r
-    → more ≡ total + 1 → IsHeld longer (ns ++ piped_by (call.Init limit true) r.reply) (xss ++ map (λ (id : ℕ). []) (piped_by (call.Init limit true) r.reply)) more
+pub held-open : (tells : Told) (s longer : Journaled) (seat left : Seated) (limit : ℕ) (r : Receipt) (ns : List ℕ) (xss : List (List Batch)) (total more : ℕ) → IsHeldWhole s ns xss total → Enters s seat (call.Init limit true) longer left r
+    → more ≡ total + 1 → IsHeldWhole longer (ns ++ piped_by (call.Init limit true) r.reply) (xss ++ map (λ (id : ℕ). []) (piped_by (call.Init limit true) r.reply)) more
 held-open tells s longer seat left limit r ns xss total more held enters one = held-opens tells s longer seat.number limit r.reply ns xss total more held enters.entry enters.reply one
 
 -- ---- what waits tells what is open

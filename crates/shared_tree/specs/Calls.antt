@@ -1,5 +1,5 @@
 -- What contracts see of a tree behind a lock, and what a call by a seat does to it.
-use Rattle.std.specs.Prelude.{◌≡◌, ◌<◌, ◌≤◌, ◌⊎◌, ℕ, List, [], ◌∷◌, ◌++◌, Option, Some, None, IsTrue, length}
+use Rattle.std.specs.Prelude.{◌≡◌, ◌+◌, ◌⊎◌, ℕ, List, [], ◌∷◌, ◌++◌, Option, Some, None, IsTrue, map}
 use Rattle.tree_paths.specs.declared.refusal.Refusal.{Refusal}
 use Rattle.tree_paths.specs.declared.refusal.Refusal.TheVariants.{Enomem, JournalFull, PipeFull}
 use Rattle.instance_table.specs.declared.instance.Instance.{Instance}
@@ -8,30 +8,45 @@ use Rattle.tree_core.specs.declared.call.Call.{Call}
 use Rattle.tree_core.specs.declared.call.Call.TheVariants as call
 use Rattle.tree_core.specs.declared.reply.Receipt.{Receipt}
 use Rattle.tree_core.specs.Tree.{Tree, reply_of}
-use Rattle.tree_core.specs.Journal.{Journaled, now, with_entry}
+use Rattle.tree_core.specs.declared.reply.Entry.{Entry}
+use Rattle.tree_core.specs.Journal.{Journaled, IsPast, IsSpent, last_place, now, with_entry}
 use Rattle.shared_tree.specs.declared.pipe.Batch.{Batch}
 use Rattle.shared_tree.specs.Seats.{Seated, seated}
-use Rattle.shared_tree.specs.Handed.{handed_all}
+use Rattle.shared_tree.specs.Handed.{handed_all, handed_by, piped_by, piped_of}
+use Rattle.shared_tree.specs.Held.{deliver}
 
--- the tree with its journal, what each pipe was sent in the order in which the pipes were made, and the ledger's total
+-- the tree with its journal, the instances that were made with a pipe, what each pipe was sent in the order in which the pipes
+-- were made, and the ledger's total
 pub record Holding : Type 0 where
   pub state : Journaled
+  pub pipes : List ℕ
   pub sent : List (List Batch)
   pub total : ℕ
 
-abbrev pub holding : Journaled → List (List Batch) → ℕ → Holding
-holding state sent total = record { state = state; sent = sent; total = total }
+abbrev pub holding : Journaled → List ℕ → List (List Batch) → ℕ → Holding
+holding state pipes sent total = record { state = state; pipes = pipes; sent = sent; total = total }
 
--- each pipe was sent what the journal hands to its instance
-abbrev pub IsSent : Holding → Type 0
-IsSent h = h.sent ≡ handed_all h.state.limits h.state.entries
+-- the pipes are those of the instances that the whole journal made with one, and each was sent what it hands to its
+-- instance. The whole journal is what was cut off, and the entries since
+pub record IsSent (state : Journaled) (pipes : List ℕ) (sent : List (List Batch)) : Type 0 where
+  pub past : List Entry
+  pub is_past : IsPast state.start state.place past
+  pub pipes_are : pipes ≡ piped_of (past ++ state.entries)
+  pub sent_are : sent ≡ handed_all state.start.limits (past ++ state.entries)
+
+-- what a call does beside its entry: an instance with a pipe that it made has a pipe more, which was sent nothing; the batch
+-- that it hands over joins what the pipe of its instance was sent; and the ledger's total is one more
+pub record HandsOver (old : Holding) (c : Call) (r : Receipt) (new : Holding) : Type 0 where
+  pub pipes_are : new.pipes ≡ old.pipes ++ piped_by c r.reply
+  pub sent_are : new.sent ≡ deliver (handed_by (now old.state) r.place c) old.pipes old.sent ++ map (λ id. []) (piped_by c r.reply)
+  pub counted : new.total ≡ old.total + 1
 
 -- a call by a seat is one entry more, under the seat's number and with the reply of the tree before it. The seat keeps
 -- this one call more
 pub record Enters (old : Journaled) (seat : Seated) (c : Call) (new : Journaled) (left : Seated) (r : Receipt) : Type 0 where
   pub entry : new ≡ with_entry old (record { caller = seat.number; call = c; reply = r.reply })
   pub reply : r.reply ≡ reply_of (now old) c
-  pub place : r.place ≡ length new.entries
+  pub place : r.place ≡ last_place new
   pub kept : left ≡ seated seat.number (seat.kept ++ record { place = r.place; call = c; reply = r.reply } ∷ [])
 
 abbrev pub HasPipe : Option Instance → Type 0
@@ -46,14 +61,14 @@ IsForPipe t _ = ⊥
 
 -- the journal is full; or it is not, and there is no memory
 abbrev pub IsUnable : Journaled → Refusal → Type 0
-IsUnable old e = ((e ≡ JournalFull) × (old.limits.journal ≤ length old.entries)) ⊎ ((e ≡ Enomem) × (length old.entries < old.limits.journal))
+IsUnable old e = ((e ≡ JournalFull) × IsSpent old) ⊎ ((e ≡ Enomem) × ¬ IsSpent old)
 
 -- why a call is not carried out. A pipe without a free place is looked for first
 abbrev pub IsWhyNot : Journaled → Call → Refusal → Type 0
 IsWhyNot old c e = ((e ≡ PipeFull) × IsForPipe (now old) c) ⊎ IsUnable old e
 
--- what contracts see of a journal that has ended: its limits and entries, the number of these, the numbers of its pipes,
--- and what each was sent
+-- what contracts see of a journal that has ended: the state, the place of its last entry, the numbers of its pipes, and what
+-- each was sent
 pub record Bound : Type 0 where
   pub state : Journaled
   pub entries : ℕ

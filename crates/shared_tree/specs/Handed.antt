@@ -1,5 +1,5 @@
 -- What a journal hands to the pipes of its instances.
-use Rattle.std.specs.Prelude.{◌≡◌, ℕ, ◌+◌, true, List, [], ◌∷◌, ◌++◌, Option, Some, None, option_map, map, flat_map}
+use Rattle.std.specs.Prelude.{◌≡◌, ℕ, ◌+◌, ◌<◌, ◌≤◌, true, List, [], ◌∷◌, ◌++◌, Option, Some, None, option_map, map, flat_map}
 use Rattle.std.specs.List.{AllByRecursion}
 use Rattle.record_codec.specs.declared.event.Event.{Event}
 use Rattle.record_codec.specs.Records.{AreEvents, spelling}
@@ -11,7 +11,7 @@ use Rattle.tree_core.specs.declared.reply.Reply.{Reply}
 use Rattle.tree_core.specs.declared.reply.Reply.TheVariants as reply
 use Rattle.tree_core.specs.Tree.{Tree, opening, reply_of, after}
 use Rattle.tree_core.specs.Histories.{pumped, read_in, where_same}
-use Rattle.tree_core.specs.Journal.{IsLawful}
+use Rattle.tree_core.specs.Journal.{Journaled, IsLawful, IsPast}
 use Rattle.shared_tree.specs.declared.pipe.Batch.{Batch}
 
 abbrev pub batch : ℕ → ℕ → List Event → Batch
@@ -37,9 +37,13 @@ abbrev pub handed_from : Tree → ℕ → List Entry → ℕ → List Batch
 handed_from t place [] id = []
 handed_from t place (e ∷ es) id = hands (handed_by t place e.call) id ++ handed_from (after t e.call) (place + 1) es id
 
--- what a journal hands to an instance, in order. Places run from 1
+-- what a whole journal hands to an instance, in order. Places run from 1
 unfoldable pub handed : Limits → List Entry → ℕ → List Batch
 handed limits es id = handed_from (opening limits) 1 es id
+
+-- what the entries since the last cut hand to an instance, in order
+unfoldable pub handed_since : Journaled → ℕ → List Batch
+handed_since s id = handed_from s.start (s.place + 1) s.entries id
 
 -- the number of the instance with a pipe that an entry made
 abbrev pub piped_by : Call → Reply → List ℕ
@@ -78,6 +82,16 @@ EndBatchesComeLast = (limits : Limits) (es : List Entry) (id : ℕ) → NothingF
 -- the records of batches, one batch after another
 abbrev pub records_of : List Batch → List Event
 records_of bs = flat_map (λ b. b.records) bs
+
+-- what a state and its past hand to an instance is what the past hands, at places up to the cut, and then what the entries
+-- since hand, at later places
+pub record IsParted (s : Journaled) (past : List Entry) (id : ℕ) : Type 0 where
+  pub parted : handed s.start.limits (past ++ s.entries) id ≡ handed s.start.limits past id ++ handed_since s id
+  pub early : AllByRecursion (λ b. b.place ≤ s.place) (handed s.start.limits past id)
+  pub late : AllByRecursion (λ b. s.place < b.place) (handed_since s id)
+
+abbrev pub CutsPartBatches : Type 0
+CutsPartBatches = (s : Journaled) (past : List Entry) (id : ℕ) → IsPast s.start s.place past → IsParted s past id
 
 -- what a lawful journal hands to an instance with a pipe is what it reads of that instance
 abbrev pub SentIsRead : Type 0

@@ -6,11 +6,12 @@ use Rattle.instance_table.specs.Instances.{instance_of}
 use Rattle.tree_core.specs.declared.call.Call.{Call}
 use Rattle.tree_core.specs.declared.call.Call.TheVariants as call
 use Rattle.tree_core.specs.declared.reply.Reply.{Reply}
-use Rattle.tree_core.specs.Tree.{Tree}
-use Rattle.tree_core.specs.Journal.{IsLawful, Journaled, now}
+use Rattle.tree_core.specs.declared.reply.Entry.{Entry}
+use Rattle.tree_core.specs.Tree.{Tree, opening}
+use Rattle.tree_core.specs.Journal.{IsPast, Journaled, last_place, now}
 use Rattle.shared_tree.specs.declared.pipe.Batch.{Batch}
 use Rattle.shared_tree.specs.Pipes.{Piped}
-use Rattle.shared_tree.specs.Handed.{AreOfEvents, batch, handed, handed_all, hands, piped_of, where_done}
+use Rattle.shared_tree.specs.Handed.{AreOfEvents, batch, handed_since, hands, piped_of, where_done}
 
 -- ---- numbers that rise
 
@@ -87,23 +88,25 @@ IsReady ns ps at (Some b) = IsPlaceOf ns b.instance at × HasRoom ps at
 
 -- ---- the locked value
 
--- the total is the number of entries; the pipes are those of the instances that were made with one, in order, and each
+-- of a whole journal: the total is the number of entries; the pipes are those of the instances that were made with one, in order, and each
 -- was sent what the journal hands to its instance; the open instances that have a pipe are those with is_piped; an
 -- instance that is still to be made has no pipe and was handed nothing; what was handed are events
-pub record IsHeld (state : Journaled) (numbers : List ℕ) (sent : List (List Batch)) (total : ℕ) : Type 0 where
-  pub counted : total ≡ length state.entries
+pub record IsHeldWhole (state : Journaled) (numbers : List ℕ) (sent : List (List Batch)) (total : ℕ) : Type 0 where
+  pub counted : total ≡ last_place state
   pub piped : numbers ≡ piped_of state.entries
-  pub pushed : sent ≡ handed_all state.limits state.entries
+  pub pushed : sent ≡ map (handed_since state) (piped_of state.entries)
   pub rises : Rises 1 numbers (now state).next_id
   pub below : (id : ℕ) (i : Instance) → instance_of (now state).instances id ≡ Some i → id < (now state).next_id
-  pub unmade : (id : ℕ) → (now state).next_id ≤ id → handed state.limits state.entries id ≡ []
-  pub events : (id : ℕ) → AreOfEvents (handed state.limits state.entries id)
+  pub unmade : (id : ℕ) → (now state).next_id ≤ id → handed_since state id ≡ []
+  pub events : (id : ℕ) → AreOfEvents (handed_since state id)
   pub with_pipe : (id : ℕ) (i : Instance) → instance_of (now state).instances id ≡ Some i → IsTrue i.is_piped ↔ IsIn numbers id
 
--- the same of a journal that has ended
-pub record IsBound (state : Journaled) (entries : ℕ) (pipes : List ℕ) (sent : List (List Batch)) : Type 0 where
-  pub lawful : IsLawful state.limits state.entries
-  pub counted : entries ≡ length state.entries
-  pub piped : pipes ≡ piped_of state.entries
-  pub pushed : sent ≡ handed_all state.limits state.entries
-  pub events : (id : ℕ) → AreOfEvents (handed state.limits state.entries id)
+-- a state whose journal was never cut: what was cut off, and the entries since
+abbrev pub whole : Journaled → List Entry → Journaled
+whole s past = record { start = opening s.start.limits; place = 0; entries = past ++ s.entries }
+
+-- the same of a state whose journal may have been cut, and of its past
+pub record IsHeld (state : Journaled) (numbers : List ℕ) (sent : List (List Batch)) (total : ℕ) : Type 0 where
+  pub past : List Entry
+  pub is_past : IsPast state.start state.place past
+  pub held : IsHeldWhole (whole state past) numbers sent total

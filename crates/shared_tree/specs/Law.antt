@@ -1,20 +1,20 @@
 -- What holds of the locked tree whenever the lock is free.
-use Rattle.std.specs.Prelude.{◌≡◌, ◌↔◌, ℕ, List, [], ◌∷◌, ⊤, Some, All, IsTrue}
+use Rattle.std.specs.Prelude.{◌≡◌, ◌↔◌, ℕ, List, [], ◌∷◌, ◌++◌, ⊤, Some, All, IsTrue}
 use Rattle.record_codec.specs.Records.{spelling}
 use Rattle.tree_paths.specs.declared.refusal.Refusal.{Refusal}
 use Rattle.event_rules.specs.Raised.{event_bit}
 use Rattle.event_rules.specs.Laws.{cookie_for}
 use Rattle.instance_table.specs.declared.instance.Instance.{Instance}
-use Rattle.instance_table.specs.Instances.{instance_of}
+use Rattle.instance_table.specs.Instances.{instance_of, waiting_of}
 use Rattle.tree_core.specs.declared.call.Call.{Call}
 use Rattle.tree_core.specs.declared.reply.Entry.{Entry}
 use Rattle.tree_core.specs.declared.reply.Reply.TheVariants as reply
-use Rattle.tree_core.specs.Tree.{Tree, opening, reply_of, after}
+use Rattle.tree_core.specs.Tree.{Tree, reply_of, after}
 use Rattle.tree_core.specs.Journal.{Journaled, now}
 use Rattle.tree_core.specs.Histories.{events, joined, raised_by, raised_in, read_in}
 use Rattle.tree_core.specs.QueueLaws.{AreAccountedFor, IsInOrder, bytes_read}
 use Rattle.tree_core.specs.TurnLaws.{AreInTurn, EndsOnce, cookies_in, cookies_used, only}
-use Rattle.shared_tree.specs.Handed.{piped_of}
+use Rattle.shared_tree.specs.Calls.{Holding}
 use Rattle.shared_tree.specs.Held.{IsIn}
 
 -- at each entry of a journal this is true of the tree before it and of its call
@@ -30,18 +30,19 @@ TiesMoves t c = (id : ℕ) → All (λ e. e.cookie ≡ cookie_for (event_bit e.m
 abbrev pub RefusedAddsNothing : Tree → Call → Type 0
 RefusedAddsNothing t c = (refusal : Refusal) → reply_of t c ≡ reply.Refused refusal → after t c ≡ t
 
--- the records that were read of an instance, followed by those that wait, are the events that the journal raises for it,
--- in order, each once, but for those merged into an equal unread neighbour and those lost behind a mark
+-- the records that were read of an instance since the cut, followed by those that wait, are those that waited at the cut and the
+-- events that the journal raises for it, in order, each once, but for those merged into an equal unread neighbour and those
+-- lost behind a mark
 pub record IsTold (s : Journaled) (id : ℕ) : Type 0 where
-  pub order : IsInOrder (read_in (opening s.limits) s.entries id) (joined (raised_in (opening s.limits) s.entries id)) (instance_of (now s).instances id)
-  pub bytes : bytes_read id s.entries ≡ spelling (read_in (opening s.limits) s.entries id)
-  pub accounted : AreAccountedFor (raised_in (opening s.limits) s.entries id)
+  pub order : IsInOrder (read_in s.start s.entries id) (waiting_of (instance_of s.start.instances id) ++ joined (raised_in s.start s.entries id)) (instance_of (now s).instances id)
+  pub bytes : bytes_read id s.entries ≡ spelling (read_in s.start s.entries id)
+  pub accounted : AreAccountedFor (raised_in s.start s.entries id)
 
 -- no two renames share a cookie, and only the events of a rename have one
 pub record HasCookiesInTurn (s : Journaled) : Type 0 where
-  pub turn : AreInTurn 1 (cookies_in (opening s.limits) s.entries)
-  pub ties : AtEach TiesMoves (opening s.limits) s.entries
+  pub turn : AreInTurn s.start.next_cookie (cookies_in s.start s.entries)
+  pub ties : AtEach TiesMoves s.start s.entries
 
 -- an open instance has a pipe exactly where it was made with one
-abbrev pub HasPipesOfPiped : Journaled → Type 0
-HasPipesOfPiped s = (id : ℕ) (i : Instance) → instance_of (now s).instances id ≡ Some i → IsTrue i.is_piped ↔ IsIn (piped_of s.entries) id
+abbrev pub HasPipesOfPiped : Holding → Type 0
+HasPipesOfPiped h = (id : ℕ) (i : Instance) → instance_of (now h.state).instances id ≡ Some i → IsTrue i.is_piped ↔ IsIn h.pipes id

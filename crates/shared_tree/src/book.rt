@@ -1,12 +1,14 @@
 //! A journal that has ended.
 
-ghost use Rattle.std.specs.Prelude.{◌≡◌, ℕ, length};
-ghost use Rattle.tree_core.specs.Journal.{IsLawful};
-ghost use Rattle.shared_tree.specs.Handed.{AreOfEvents, handed, handed_all, piped_of};
+ghost use Rattle.std.specs.Prelude.{◌≡◌, ℕ};
+ghost use Rattle.tree_core.specs.Journal.{IsLawfulFrom, last_place};
+ghost use Rattle.tree_core.specs.Snapshots.{IsSnapshotOf};
+ghost use Rattle.shared_tree.specs.Calls.{IsSent};
+ghost use Rattle.shared_tree.specs.Handed.{AreOfEvents, handed_since};
 
 use crate::pipe::Pipe;
 use std::marker::Model;
-use tree_core::{Entry, State};
+use tree_core::{Entry, Snapshot, State};
 
 /// A journal that has ended, with the ends of all pipes that handed its records over.
 ///
@@ -31,9 +33,13 @@ impl Drop for Book {
 
 impl Model for Book {
     ghost use Rattle.shared_tree.specs.Calls.{Bound};
-    ghost use Rattle.shared_tree.specs.Held.{IsBound, sents};
+    ghost use Rattle.shared_tree.specs.Codes.{bound_code};
+    ghost use Rattle.shared_tree.specs.Bound.{IsBound};
+    ghost use Rattle.shared_tree.specs.Held.{sents};
 
     ghost Value = { Bound };
+
+    ghost coded = { bound_code };
 
     ghost view = { λ b. record { state = b.core; entries = b.entries; pipes = b.numbers.items; sent = sents b.pipes.items } };
 
@@ -45,23 +51,29 @@ impl Book {
     ///
     /// The journal is lawful. Each pipe was sent what the journal hands to its instance, and that are events.
     pub fn law(&self)
-        ensures lawful { IsLawful self.now.state.limits self.now.state.entries }
-        ensures counted { self.now.entries ≡ length self.now.state.entries }
-        ensures pipes { self.now.pipes ≡ piped_of self.now.state.entries }
-        ensures sent { self.now.sent ≡ handed_all self.now.state.limits self.now.state.entries }
-        ensures events { (id : ℕ) → AreOfEvents (handed self.now.state.limits self.now.state.entries id) }
+        ensures lawful { IsLawfulFrom self.now.state.start self.now.state.entries }
+        ensures counted { self.now.entries ≡ last_place self.now.state }
+        ensures sent { IsSent self.now.state self.now.pipes self.now.sent }
+        ensures events { (id : ℕ) → AreOfEvents (handed_since self.now.state id) }
     {
         let _ = &self.core;
     }
 
-    /// The entries of the journal, in order.
+    /// The entries since the last cut, in order.
     pub fn journal(&self) -> &[Entry]
         ensures { result.now ≡ self.now.state.entries }
     {
         self.core.journal()
     }
 
-    /// How many entries the journal has.
+    /// What the last cut kept of the tree, and the place of the last entry before it.
+    pub fn snapshot(&self) -> &Snapshot
+        ensures { IsSnapshotOf self.now.state.start self.now.state.place result.now }
+    {
+        self.core.snapshot()
+    }
+
+    /// How many entries the whole journal has: the place of the last one.
     pub fn entries(&self) -> u64
         ensures { result ≡ self.now.entries }
     {

@@ -3,17 +3,17 @@
 ghost use Rattle.std.specs.Prelude.{◌≡◌, ◌+◌, ◌<◌, ◌≤◌, ℕ, [], ◌∷◌, ◌++◌, length, map, vec_len, vec_capacity, option_map, IfOk, IfErr, IfSome, OnOk, OnErr, IsTrue, true, false};
 ghost use Rattle.record_codec.specs.Records.{AreEvents};
 ghost use Rattle.tree_paths.specs.declared.refusal.Refusal.TheVariants.{Enomem, JournalFull, PipeFull};
-ghost use Rattle.instance_table.specs.Instances.{instance_of};
+ghost use Rattle.instance_table.specs.Instances.{instance_of, waiting_of};
 ghost use Rattle.tree_core.specs.declared.call.Call.TheVariants.{Init, Pump};
 ghost use Rattle.tree_core.specs.Calls.{is_plain};
 ghost use Rattle.tree_core.specs.Histories.{pumped, raised_in};
-ghost use Rattle.tree_core.specs.Journal.{IsLawful, now};
-ghost use Rattle.tree_core.specs.Tree.{opening};
+ghost use Rattle.tree_core.specs.Journal.{IsLawfulFrom, IsSpent, cut_off, last_place, now, opened};
+ghost use Rattle.tree_core.specs.Sound.{IsSoundTree};
 ghost use Rattle.tree_core.specs.TurnLaws.{EndsOnce};
 ghost use Rattle.shared_tree.specs.Pipes.{feed_of};
 ghost use Rattle.shared_tree.specs.Seats.{passing};
-ghost use Rattle.shared_tree.specs.Handed.{AreOfEvents, batch, handed, handed_all, piped_by, piped_of};
-ghost use Rattle.shared_tree.specs.Calls.{holding, Enters, IsSent, HasPipe, IsUnable, IsWhyNot};
+ghost use Rattle.shared_tree.specs.Handed.{AreOfEvents, batch, handed_since, piped_by};
+ghost use Rattle.shared_tree.specs.Calls.{holding, Enters, HandsOver, IsSent, HasPipe, IsUnable, IsWhyNot};
 ghost use Rattle.shared_tree.specs.Law.{AtEach, HasCookiesInTurn, HasPipesOfPiped, IsTold, RefusedAddsNothing};
 ghost use Rattle.shared_tree.specs.Held.{sents, pushed_at, deliver, closed_of, end_of, FreeAt, IsFilled, IsLooked, IsPlaceOf, IsReady, IsRising};
 
@@ -27,7 +27,7 @@ use std::sync::ledger::{Blank, Ledger};
 use std::sync::{Mutex, ledger};
 use tree_core::{
     Call, Kept, Receipt, Reply, State, bytes_are_of_records, cookies_are_in_turn,
-    events_are_accounted_for, reads_are_in_order, replies_tell, watches_end_once,
+    events_are_accounted_for, pasts_make_whole, reads_are_in_order, replies_tell, watches_end_once,
 };
 use tree_paths::{Limits, Refusal};
 
@@ -60,21 +60,24 @@ impl<L: Ledger> Drop for Held<L> {
 
 impl<L: Ledger> Model for Held<L> {
     ghost use Rattle.shared_tree.specs.Calls.{Holding, holding};
+    ghost use Rattle.shared_tree.specs.Codes.{holding_code};
     ghost use Rattle.shared_tree.specs.Held.{IsHeld, sents};
 
     ghost Value = { Holding };
 
-    ghost view = { λ h. holding h.core (sents h.pipes.items) h.book.total };
+    ghost coded = { holding_code };
+
+    ghost view = { λ h. holding h.core h.numbers.items (sents h.pipes.items) h.book.total };
 
     ghost invariant = { λ h. IsHeld h.core h.numbers.items (sents h.pipes.items) h.book.total };
 }
 
 // Whether the journal takes one more entry.
 fn check_room(core: &State) -> Result<(), Refusal>
-    ensures free { OnOk result (length core.now.entries < core.now.limits.journal) }
-    ensures errors { IfErr result (λ e. (e ≡ JournalFull) × (core.now.limits.journal ≤ length core.now.entries)) }
+    ensures free { OnOk result (¬ IsSpent core.now) }
+    ensures errors { IfErr result (λ e. (e ≡ JournalFull) × IsSpent core.now) }
 {
-    if core.free_entries() == 0 {
+    if core.free_entries() == 0 || core.last_place() == u64::MAX {
         return Err(Refusal::JournalFull);
     }
     Ok(())
@@ -84,7 +87,7 @@ fn check_room(core: &State) -> Result<(), Refusal>
 fn make_room(core: &State, kept: &mut Vec<Kept>) -> Result<(), Refusal>
     ensures items { kept.new.items ≡ kept.old.items }
     ensures room { OnOk result (vec_len kept.new < vec_capacity kept.new) }
-    ensures free { OnOk result (length core.now.entries < core.now.limits.journal) }
+    ensures free { OnOk result (¬ IsSpent core.now) }
     ensures errors { IfErr result (λ e. IsUnable core.now e) }
 {
     check_room(core)?;
@@ -101,7 +104,7 @@ fn enter<L: Ledger>(
 ) -> Result<Receipt, Refusal>
     ensures ok { IfOk result (λ r. Enters core.old seat.old call core.new seat.new r) }
     ensures total { OnOk result (book.new.total ≡ book.old.total + 1) }
-    ensures room { OnOk result (length core.old.entries < core.old.limits.journal) }
+    ensures room { OnOk result (¬ IsSpent core.old) }
     ensures err { OnErr result ((core.new ≡ core.old) × (seat.new ≡ seat.old) × (book.new.total ≡ book.old.total)) }
     ensures errors { IfErr result (λ e. IsUnable core.old e) }
 {
@@ -129,7 +132,7 @@ fn enter_pump<L: Ledger>(
     ensures records { IfOk result (λ r. r.1 ≡ pumped (now core.old) instance bytes) }
     ensures events { IfOk result (λ r. IfSome r.1 AreEvents) }
     ensures total { OnOk result (book.new.total ≡ book.old.total + 1) }
-    ensures room { OnOk result (length core.old.entries < core.old.limits.journal) }
+    ensures room { OnOk result (¬ IsSpent core.old) }
     ensures err { OnErr result ((core.new ≡ core.old) × (seat.new ≡ seat.old) × (book.new.total ≡ book.old.total)) }
     ensures errors { IfErr result (λ e. IsUnable core.old e) }
 {
@@ -308,7 +311,7 @@ impl<L: Ledger> Held<L> {
     pub fn new(alloc: Global, blank: Blank, limits: Limits) -> Result<(Held<L>, Pass<L>), Refusal>
         requires name { blank.name ≡ L.name }
         requires parts { (blank.parts ≡ L.parts) × (blank.parts ≡ 65537) }
-        ensures held { IfOk result (λ r. r.0 ≡ holding (record { limits = limits; entries = [] }) [] 0) }
+        ensures held { IfOk result (λ r. r.0 ≡ holding (opened limits) [] [] 0) }
         ensures pass { IfOk result (λ r. r.1 ≡ passing 65537 0 0 limits.seats) }
         ensures err { IfErr result (λ e. e ≡ Enomem) }
     {
@@ -345,16 +348,18 @@ impl<L: Ledger> Held<L> {
     /// nothing. An open instance has a pipe exactly where it was made with one. Each pipe was sent what the journal hands
     /// to its instance, and that are events. The ledger's total is the number of entries.
     pub fn law(&self)
-        ensures lawful { IsLawful self.now.state.limits self.now.state.entries }
+        ensures lawful { IsLawfulFrom self.now.state.start self.now.state.entries }
+        ensures sound { IsSoundTree self.now.state.start }
         ensures told { (id : ℕ) → IsTold self.now.state id }
         ensures cookies { HasCookiesInTurn self.now.state }
-        ensures ends { (id : ℕ) → EndsOnce (raised_in (opening self.now.state.limits) self.now.state.entries id) }
-        ensures refused { AtEach RefusedAddsNothing (opening self.now.state.limits) self.now.state.entries }
-        ensures with_pipe { HasPipesOfPiped self.now.state }
-        ensures sent { IsSent self.now }
-        ensures events { (id : ℕ) → AreOfEvents (handed self.now.state.limits self.now.state.entries id) }
-        ensures counted { self.now.total ≡ length self.now.state.entries }
+        ensures ends { (id : ℕ) → EndsOnce (waiting_of (instance_of self.now.state.start.instances id)) (raised_in self.now.state.start self.now.state.entries id) }
+        ensures refused { AtEach RefusedAddsNothing self.now.state.start self.now.state.entries }
+        ensures with_pipe { HasPipesOfPiped self.now }
+        ensures sent { IsSent self.now.state self.now.pipes self.now.sent }
+        ensures events { (id : ℕ) → AreOfEvents (handed_since self.now.state id) }
+        ensures counted { self.now.total ≡ last_place self.now.state }
     {
+        pasts_make_whole();
         reads_are_in_order();
         bytes_are_of_records();
         events_are_accounted_for();
@@ -374,8 +379,8 @@ impl<L: Ledger> Held<L> {
     pub fn call(&mut self, seat: &mut Seat<L>, call: Call) -> Result<Receipt, Refusal>
         requires plain { IsTrue (is_plain call) }
         ensures ok { IfOk result (λ r. Enters self.old.state seat.old call self.new.state seat.new r) }
-        ensures sent { OnOk result (IsSent self.new) }
-        ensures room { OnOk result (length self.old.state.entries < self.old.state.limits.journal) }
+        ensures hands { IfOk result (λ r. HandsOver self.old call r self.new) }
+        ensures room { OnOk result (¬ IsSpent self.old.state) }
         ensures err { OnErr result ((self.new ≡ self.old) × (seat.new ≡ seat.old)) }
         ensures errors { IfErr result (λ e. IsWhyNot self.old.state call e) }
     {
@@ -410,8 +415,8 @@ impl<L: Ledger> Held<L> {
         bytes: u32,
     ) -> Result<Receipt, Refusal>
         ensures ok { IfOk result (λ r. Enters self.old.state seat.old (Pump instance bytes) self.new.state seat.new r) }
-        ensures sent { OnOk result (IsSent self.new) }
-        ensures room { OnOk result (length self.old.state.entries < self.old.state.limits.journal) }
+        ensures hands { IfOk result (λ r. HandsOver self.old (Pump instance bytes) r self.new) }
+        ensures room { OnOk result (¬ IsSpent self.old.state) }
         ensures err { OnErr result ((self.new ≡ self.old) × (seat.new ≡ seat.old)) }
         ensures errors { IfErr result (λ e. IsWhyNot self.old.state (Pump instance bytes) e) }
     {
@@ -446,8 +451,8 @@ impl<L: Ledger> Held<L> {
         requires slots { (1 ≤ slots) × (slots ≤ 65536) }
         ensures ok { IfOk result (λ r. Enters self.old.state seat.old (Init limit true) self.new.state seat.new r.0) }
         ensures feed { IfOk result (λ r. r.1 ≡ feed_of r.0.reply) }
-        ensures sent { OnOk result (IsSent self.new) }
-        ensures room { OnOk result (length self.old.state.entries < self.old.state.limits.journal) }
+        ensures hands { IfOk result (λ r. HandsOver self.old (Init limit true) r.0 self.new) }
+        ensures room { OnOk result (¬ IsSpent self.old.state) }
         ensures err { OnErr result ((self.new ≡ self.old) × (seat.new ≡ seat.old)) }
         ensures errors { IfErr result (λ e. IsUnable self.old.state e) }
     {
@@ -465,14 +470,29 @@ impl<L: Ledger> Held<L> {
         Ok((receipt, feed))
     }
 
+    /// Cuts the journal as [`State::cut`]. The pipes and the seats stay as they are.
+    ///
+    /// # Errors
+    /// `ENOMEM`, where there is no memory for it. All is then as before.
+    pub fn cut(&mut self) -> Result<u64, Refusal>
+        ensures place { IfOk result (λ place. place ≡ last_place self.old.state) }
+        ensures cut { OnOk result (self.new ≡ record self.old { state = cut_off self.old.state }) }
+        ensures err { OnErr result (self.new ≡ self.old) }
+        ensures errors { IfErr result (λ e. e ≡ Enomem) }
+    {
+        pasts_make_whole();
+        let _ = self.core.journal();
+        self.core.cut()
+    }
+
     /// What is left once nobody calls any more: the journal, and the ends of all pipes, also of closed instances. It takes
     /// no memory.
     pub fn dissolve(self, pass: Pass<L>) -> Book
         ensures state { result.state ≡ self.state }
-        ensures entries { result.entries ≡ length self.state.entries }
+        ensures entries { result.entries ≡ last_place self.state }
         ensures shares { pass.parts ≡ L.parts → result.entries ≡ pass.amount }
-        ensures pipes { result.pipes ≡ piped_of self.state.entries }
-        ensures sent { result.sent ≡ handed_all self.state.limits self.state.entries }
+        ensures pipes { result.pipes ≡ self.pipes }
+        ensures sent { result.sent ≡ self.sent }
     {
         let Held {
             alloc: _,
@@ -488,7 +508,8 @@ impl<L: Ledger> Held<L> {
             seats: _,
         } = pass;
         book.audit(&mut share);
-        let entries = core.journal().len() as u64;
+        let _ = core.journal();
+        let entries = core.last_place();
         Book {
             core,
             numbers,

@@ -1,6 +1,6 @@
 //! Laws of what a journal hands over. Each is a function that does nothing, and its contract is the law.
 
-ghost use Rattle.shared_tree.specs.Handed.{BatchesAreAnswered, EndBatchesComeLast, SentIsRead};
+ghost use Rattle.shared_tree.specs.Handed.{BatchesAreAnswered, CutsPartBatches, EndBatchesComeLast, SentIsRead};
 
 use tree_core::replies_tell;
 
@@ -24,3 +24,9 @@ pub fn sent_is_read()
 {
     replies_tell();
 }
+
+/// A law: what a state and its past hand to an instance is what the past hands, at places up to the cut, and then what the
+/// entries since hand, at later places.
+pub fn cuts_part_batches()
+    ensures { CutsPartBatches }
+{}

@@ -12,6 +12,6 @@ mod seat;
 
 pub use book::Book;
 pub use held::{Held, Tree};
-pub use laws::{batches_are_answered, end_batches_come_last, sent_is_read};
+pub use laws::{batches_are_answered, cuts_part_batches, end_batches_come_last, sent_is_read};
 pub use pipe::{Batch, Feed};
 pub use seat::{KeptCalls, Pass, Seat, SeatLog};

@@ -25,10 +25,11 @@ use Rattle.instance_table.specs.Instances.{instance_of}
 use Rattle.tree_core.specs.declared.call.Call.{Call}
 use Rattle.tree_core.specs.declared.call.Call.TheVariants as call
 use Rattle.tree_core.specs.declared.reply.Entry.{Entry}
-use Rattle.tree_core.specs.Tree.{Tree, opening, cookie_now, refusal_of, rm_watch_rows, after}
+use Rattle.tree_core.specs.Tree.{Tree, cookie_now, refusal_of, rm_watch_rows, after}
 use Rattle.tree_core.specs.Histories.{Raised, where_open, events_for, raised_to, raised_by, raised_in, fate, is_keeping, is_merging, is_losing, events, joined, kept}
 use Rattle.tree_core.specs.QueueLaws.{EventsAreAccountedFor}
-use Rattle.tree_core.proofs.SoundWatches.{WatchLaws, HasSoundWatches, WatchesAreSound, WatchesAreSound-after, WatchesAreSound-opening}
+use Rattle.tree_core.proofs.SoundWatches.{WatchLaws, HasSoundWatches, WatchesAreSound, WatchesAreSound-after}
+use Rattle.tree_core.proofs.SoundTrees.{sound-watches}
 
 -- ---- of any events
 
@@ -111,23 +112,27 @@ module _ (laws : RaisedLaws) (t : Tree) (id : ℕ) (i : Instance) (is : instance
   unfolding rm_watch_rows
   ended wd e = let found = has-number (number_of i.watches wd) e in (found.0, (laws.tells i.watches wd found.0 sound).0 found.1)
 
-  ignored-plain : (from : ℕ) (wd : ℤ) (b : Bool) → (from == id) ≡ b → refusal_of t (call.RmWatch from wd) ≡ None → All IsNoMark (if b then ignored wd ∷ [] else [])
-  ignored-plain from wd true same e =
+  abbrev IsWatched : Event → Type 0
+  IsWatched e = HasWatch i.watches e.wd
+
+  ignored-watched : (from : ℕ) (wd : ℤ) (b : Bool) → (from == id) ≡ b → refusal_of t (call.RmWatch from wd) ≡ None → All IsWatched (if b then ignored wd ∷ [] else [])
+  ignored-watched from wd true same e =
       let there : instance_of t.instances from ≡ Some i = ap (instance_of t.instances) (eqb-true from id same) ∙ is in
-      let has = ended wd (ap (λ (o : Option Instance). first_row (rm_watch_rows wd o)) (sym there) ∙ e) in
-      All-cons IsNoMark (ignored wd) [] (of-watch i.watches sound (ignored wd) has) (All-nil IsNoMark)
-  ignored-plain from wd false same e = All-nil IsNoMark
+      All-cons IsWatched (ignored wd) [] (ended wd (ap (λ (o : Option Instance). first_row (rm_watch_rows wd o)) (sym there) ∙ e)) (All-nil IsWatched)
+  ignored-watched from wd false same e = All-nil IsWatched
+
+  -- each event of an accepted call is of a watch that the instance has
+  pub events-watched : (c : Call) → refusal_of t c ≡ None → All IsWatched (events_for t c id i)
+  events-watched (call.File f) e = laws.events i.watches (notices_of t.world f (cookie_now t.next_cookie))
+  events-watched (call.Init limit is_piped) e = All-nil IsWatched
+  events-watched (call.AddWatch from p mask) e = All-nil IsWatched
+  events-watched (call.RmWatch from wd) e = ignored-watched from wd (from == id) refl e
+  events-watched (call.Read from bytes) e = All-nil IsWatched
+  events-watched (call.Pump from bytes) e = All-nil IsWatched
+  events-watched (call.Close from) e = All-nil IsWatched
 
   events-plain : (c : Call) → refusal_of t c ≡ None → All IsNoMark (events_for t c id i)
-  events-plain (call.File f) e =
-      let ns = notices_of t.world f (cookie_now t.next_cookie) in
-      All-weaker (λ (x : Event). HasWatch i.watches x.wd) IsNoMark (of-watch i.watches sound) (events_of i.watches ns) (laws.events i.watches ns)
-  events-plain (call.Init limit is_piped) e = All-nil IsNoMark
-  events-plain (call.AddWatch from p mask) e = All-nil IsNoMark
-  events-plain (call.RmWatch from wd) e = ignored-plain from wd (from == id) refl e
-  events-plain (call.Read from bytes) e = All-nil IsNoMark
-  events-plain (call.Pump from bytes) e = All-nil IsNoMark
-  events-plain (call.Close from) e = All-nil IsNoMark
+  events-plain c e = All-weaker IsWatched IsNoMark (of-watch i.watches sound) (events_for t c id i) (events-watched c e)
 
 raised_to-plain : (b : Backlog) (es : List Event) → All IsNoMark es → AreNoMarks (raised_to b es)
 raised_to-plain b [] h = All-nil (λ (r : Raised). IsNoMark r.event)
@@ -153,10 +158,6 @@ module _ (laws : RaisedLaws) (id : ℕ) where
       (raised_in-plain (after t e.call) es (WatchesAreSound-after laws.watches t e.call sound))
 
 pub events_are_accounted_for : FateLaw → RaisedLaws → EventsAreAccountedFor
-events_are_accounted_for law laws limits es id =
-    let rs : List Raised = raised_in (opening limits) es id in
-    record {
-      fates = have-fates law rs;
-      count = are-counted rs;
-      order = are-in-order rs (raised_in-plain laws id (opening limits) es (WatchesAreSound-opening limits));
-    }
+events_are_accounted_for law laws t es id sound =
+    let rs : List Raised = raised_in t es id in
+    record { fates = have-fates law rs; count = are-counted rs; order = are-in-order rs (raised_in-plain laws id t es (sound-watches t sound)) }

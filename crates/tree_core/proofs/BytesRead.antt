@@ -11,8 +11,8 @@ use Rattle.tree_core.specs.declared.call.Call.TheVariants as call
 use Rattle.tree_core.specs.declared.reply.Entry.{Entry}
 use Rattle.tree_core.specs.declared.reply.Reply.{Reply}
 use Rattle.tree_core.specs.declared.reply.Reply.TheVariants as reply
-use Rattle.tree_core.specs.Tree.{Tree, opening, refusal_of, answer_of, read_answer, reply_by, reply_of, after}
-use Rattle.tree_core.specs.Journal.{IsLawfulFrom, IsLawful}
+use Rattle.tree_core.specs.Tree.{Tree, refusal_of, answer_of, read_answer, reply_by, reply_of, after}
+use Rattle.tree_core.specs.Journal.{IsLawfulFrom}
 use Rattle.tree_core.specs.Histories.{where_open, oldest, records_for, read_by, read_in}
 use Rattle.tree_core.specs.QueueLaws.{bytes_in, bytes_of, bytes_read, BytesAreOfRecords}
 
@@ -74,5 +74,4 @@ run-bytes t (e ∷ es) id h =
     ∙ sym (flat_map-append record_bytes (read_by t e.call id) (read_in (after t e.call) es id))
 
 pub bytes_are_of_records : BytesAreOfRecords
-unfolding IsLawful
-bytes_are_of_records limits es id h = run-bytes (opening limits) es id h
+bytes_are_of_records = run-bytes

@@ -29,8 +29,8 @@ use Rattle.tree_core.specs.declared.call.Call.{Call}
 use Rattle.tree_core.specs.declared.call.Call.TheVariants as call
 use Rattle.tree_core.specs.declared.reply.Entry.{Entry}
 use Rattle.tree_core.specs.Histories.{raised_to, raised_by, events, events_for, where_open}
-use Rattle.tree_core.specs.Tree.{Tree, opening, cookie_now, counts_of, refusal_of, after_file, after_init, after_add_watch, after_rm_watch, after_accepted_read, after_close, accepted, tree_by, after}
-use Rattle.tree_core.specs.TurnLaws.{AreInTurn, cookies_taken, cookies_by, cookies_in, CookiesAreInTurn, CookiesTieMoves, only}
+use Rattle.tree_core.specs.Tree.{Tree, cookie_now, counts_of, refusal_of, after_file, after_init, after_add_watch, after_rm_watch, after_accepted_read, after_close, accepted, tree_by, after}
+use Rattle.tree_core.specs.TurnLaws.{AreInTurn, cookies_taken, cookies_by, cookies_in, cookies_used, CookiesAreInTurn, CookiesTieMoves, only}
 use Rattle.tree_core.proofs.Counted.{Each, each-passes, row-passes, move-left}
 use Rattle.tree_core.proofs.Turns.{Step, gives-none, gives-one, same-number}
 
@@ -83,13 +83,15 @@ step-cookies : (t : Tree) (c : Call) (o : Option Refusal) → refusal_of t c ≡
 step-cookies t c None e = accepted-cookies t c e
 step-cookies t c (Some r) e = gives-none _ _ _ refl refl
 
+pub cookies-step : (t : Tree) (c : Call) → Step t.next_cookie (after t c).next_cookie (cookies_used t c)
+cookies-step t c = step-cookies t c (refusal_of t c) refl
+
 cookies-from : (t : Tree) (es : List Entry) → AreInTurn t.next_cookie (cookies_in t es)
 cookies-from t [] = tt
 cookies-from t (e ∷ es) = (step-cookies t e.call (refusal_of t e.call) refl).all (cookies_in (after t e.call) es) (cookies-from (after t e.call) es)
 
 pub cookies-in-turn : CookiesAreInTurn
-unfolding opening
-cookies-in-turn limits es = cookies-from (opening limits) es
+cookies-in-turn = cookies-from
 
 -- ---- the events of an accepted call
 

@@ -7,7 +7,6 @@ use Rattle.std.proofs.lemmas.List.{map-append}
 use Rattle.std.proofs.lemmas.List.Elements.{All-nil, All-append, All-cons, All-map, All-same, All-weaker}
 use Rattle.record_codec.specs.declared.event.Event.{Event}
 use Rattle.tree_paths.specs.Rows.{row, first_row}
-use Rattle.tree_paths.specs.declared.limits.Limits.{Limits}
 use Rattle.tree_paths.specs.declared.refusal.Refusal.{Refusal}
 use Rattle.tree_paths.specs.declared.refusal.Refusal.TheVariants.{Einval}
 use Rattle.inode_table.specs.World.{look}
@@ -18,21 +17,23 @@ use Rattle.event_rules.specs.Raised.{events_of, ignored, watches_after, wds_ende
 use Rattle.event_rules.specs.Laws.{TellsNothing, says_ended}
 use Rattle.event_rules.specs.Table.{notices_of}
 use Rattle.instance_table.specs.declared.instance.Instance.{Instance}
-use Rattle.instance_table.specs.Instances.{instance_of, new_instance, told, watching, unwatching}
+use Rattle.instance_table.specs.Instances.{instance_of, new_instance, told, unwatching, waiting_of, watching}
 use Rattle.tree_core.specs.declared.call.Call.{Call}
 use Rattle.tree_core.specs.declared.call.Call.TheVariants as call
 use Rattle.tree_core.specs.declared.reply.Entry.{Entry}
 use Rattle.tree_core.specs.declared.reply.Reply.{Reply}
-use Rattle.tree_core.specs.Histories.{Raised, raised_to, raised_by, raised_in, events, events_for, where_open}
-use Rattle.tree_core.specs.Journal.{tree_after, IsLawfulFrom, IsLawful, stands_for}
-use Rattle.tree_core.specs.Tree.{Tree, opening, cookie_now, rm_watch_rows, refusal_of, number_seen, after_reading, after_file, after_init, after_add_watch, after_rm_watch, after_accepted_read, after_close, accepted, tree_by, watch_answer, reply_by, reply_of, after}
+use Rattle.tree_core.specs.Histories.{Raised, raised_to, raised_by, raised_in, events, events_for, joined, where_open}
+use Rattle.tree_core.specs.Journal.{IsLawfulFrom}
+use Rattle.tree_core.specs.Sound.{IsSoundTree}
+use Rattle.tree_core.specs.Tree.{Tree, cookie_now, rm_watch_rows, refusal_of, number_seen, after_reading, after_file, after_init, after_add_watch, after_rm_watch, after_accepted_read, after_close, accepted, tree_by, watch_answer, reply_by, reply_of, after}
 use Rattle.tree_core.specs.TurnLaws.{WatchesEndOnce, wd_in, wds_of, wds_given, DescriptorsEndForGood}
 use Rattle.tree_core.proofs.Cookies.{events-raised_to}
 use Rattle.tree_core.proofs.Counted.{first-passes, row-passes}
 use Rattle.tree_core.proofs.Opened.{eqb-other, eqb-swap, left_of, instance_of-accepted}
-use Rattle.tree_core.proofs.Quiet.{Quiet, Quiet-from, Quiet-append, Ends, All-unfiltered, IsGiven, EndsOnce-Quiet}
-use Rattle.tree_core.proofs.SoundWatches.{WatchLaws, HasSoundWatches, WatchesAreSound, WatchesAreSound-after, WatchesAreSound-tree_after, WatchesAreSound-opening}
-use Rattle.tree_core.proofs.Untouched.{next-after, none-opening}
+use Rattle.tree_core.proofs.Quiet.{Quiet, Quiet-from, Quiet-append, Ends, All-unfiltered, IsGiven, EndsOnce-Quiet, joined-silent}
+use Rattle.tree_core.proofs.SoundTrees.{sound-watches}
+use Rattle.tree_core.proofs.SoundWatches.{WatchLaws, HasSoundWatches, WatchesAreSound, WatchesAreSound-after}
+use Rattle.tree_core.proofs.Untouched.{next-after}
 
 -- the laws of the crates of watches and of events, on watches that end
 pub record EndLaws : Type 0 where
@@ -49,7 +50,7 @@ pub record EndLaws : Type 0 where
 
 -- ---- numbers of open instances are behind the next one
 
-abbrev AreBelow : Tree → Type 0
+abbrev pub AreBelow : Tree → Type 0
 AreBelow t = (id : ℕ) → IsSome (instance_of t.instances id) → id < t.next_id
 
 some-before : (b : Bool) (change : Instance → Instance) (o : Option Instance) → IsSome (cond b (option_map change o) o) → IsSome o
@@ -82,33 +83,22 @@ below-by t c None below = λ id there. left-below t c id (instance_of t.instance
 AreBelow-after : (t : Tree) (c : Call) → AreBelow t → AreBelow (after t c)
 AreBelow-after t c below = below-by t c (refusal_of t c) below
 
-AreBelow-tree_after : (t : Tree) (es : List Entry) → AreBelow t → AreBelow (tree_after t es)
-AreBelow-tree_after t [] below = below
-AreBelow-tree_after t (e ∷ es) below = AreBelow-tree_after (after t e.call) es (AreBelow-after t e.call below)
-
-AreBelow-opening : (limits : Limits) → AreBelow (opening limits)
-AreBelow-opening limits id there = absurd (by (instance_of (opening limits).instances id) (none-opening limits id) there)
-  where
-    by : (o : Option Instance) → o ≡ None → IsSome o → ⊥
-    by None none h = cc
-    by (Some i) none h = cc
-
 -- ---- a descriptor whose watch has ended
 
 -- its watch has ended, or the instance is closed
-abbrev OverIn : ℤ → Option Instance → Type 0
+abbrev pub OverIn : ℤ → Option Instance → Type 0
 OverIn wd None = IsGiven wd
 OverIn wd (Some i) = HasEnded i.watches wd
 
-record IsOver (t : Tree) (id : ℕ) (wd : ℤ) : Type 0 where
-  made : id < t.next_id
-  over : OverIn wd (instance_of t.instances id)
+pub record IsOver (t : Tree) (id : ℕ) (wd : ℤ) : Type 0 where
+  pub made : id < t.next_id
+  pub over : OverIn wd (instance_of t.instances id)
 
 -- after a call that is accepted where the instance is open
 abbrev OverLeft : Tree → Call → ℕ → Instance → ℤ → Type 0
 OverLeft t c id i wd = OverIn wd (left_of t c id (Some i))
 
-over-given : (wd : ℤ) (o : Option Instance) → OverIn wd o → IsGiven wd
+pub over-given : (wd : ℤ) (o : Option Instance) → OverIn wd o → IsGiven wd
 over-given wd None h = h
 over-given wd (Some i) h = h.given.0
 
@@ -154,7 +144,7 @@ module _ (laws : EndLaws) where
   over-by t c id wd None h = subst (OverIn wd) (sym (instance_of-accepted t c id)) (left-over t c id wd (instance_of t.instances id) h.made h.over)
 
   -- it stays so
-  IsOver-after : (t : Tree) (c : Call) (id : ℕ) (wd : ℤ) → IsOver t id wd → IsOver (after t c) id wd
+  pub IsOver-after : (t : Tree) (c : Call) (id : ℕ) (wd : ℤ) → IsOver t id wd → IsOver (after t c) id wd
   IsOver-after t c id wd h = let rises = next-after t c in let made = h.made in record { made = omega arith; over = over-by t c id wd (refusal_of t c) h }
 
   -- nothing of it is raised
@@ -230,7 +220,7 @@ module _ (laws : EndLaws) where
   silent-by t c id wd None (Some i) there passes sound h =
       All-same (λ (e : Event). e.wd ≢ wd) (events (raised_to i.queue (events_for t c id i))) (events_for t c id i) (events-raised_to i.queue (events_for t c id i)) (silent-for t c id i wd there passes sound h)
 
-  silent-one : (t : Tree) (c : Call) (id : ℕ) (wd : ℤ) → WatchesAreSound t → IsOver t id wd → TellsNothing wd (events (raised_by t c id))
+  pub silent-one : (t : Tree) (c : Call) (id : ℕ) (wd : ℤ) → WatchesAreSound t → IsOver t id wd → TellsNothing wd (events (raised_by t c id))
   unfolding raised_by
   silent-one t c id wd sound h = silent-by t c id wd (refusal_of t c) (instance_of t.instances id) refl refl (sound id) h.over
 
@@ -244,7 +234,7 @@ module _ (laws : EndLaws) where
       (λ e h said. record { made = made refl; over = subst (OverIn e.wd) (sym (instance_of-accepted t c id ∙ ap (left_of t c id) there)) (h said) })
       (events_for t c id i) (said-for t c id i there passes sound))
 
-  said-one : (t : Tree) (c : Call) (id : ℕ) → WatchesAreSound t → AreBelow t → All (Ends (IsOver (after t c) id)) (events (raised_by t c id))
+  pub said-one : (t : Tree) (c : Call) (id : ℕ) → WatchesAreSound t → AreBelow t → All (Ends (IsOver (after t c) id)) (events (raised_by t c id))
   unfolding raised_by
   said-one t c id sound below =
       let rises = next-after t c in
@@ -255,7 +245,7 @@ module _ (laws : EndLaws) where
   quiet-by t c id None None sound = tt
   quiet-by t c id None (Some i) sound = subst Quiet (sym (events-raised_to i.queue (events_for t c id i))) (quiet-for t c id i sound)
 
-  quiet-one : (t : Tree) (c : Call) (id : ℕ) → WatchesAreSound t → Quiet (events (raised_by t c id))
+  pub quiet-one : (t : Tree) (c : Call) (id : ℕ) → WatchesAreSound t → Quiet (events (raised_by t c id))
   unfolding raised_by
   quiet-one t c id sound = quiet-by t c id (refusal_of t c) (instance_of t.instances id) (sound id)
 
@@ -290,11 +280,26 @@ module _ (laws : EndLaws) where
       (events (raised_by t e.call id)) (said-one t e.call id sound below))
       (given-from (after t e.call) es id (WatchesAreSound-after laws.sound t e.call sound) (AreBelow-after t e.call below)))
 
+  module _ (t : Tree) (is : IsSoundTree t) (es : List Entry) (id : ℕ) where
+    -- nothing joins of a watch whose end waits
+    waiting-over : (o : Option Instance) → instance_of t.instances id ≡ o → All (Ends (λ wd. TellsNothing wd (joined (raised_in t es id)))) (waiting_of o)
+    waiting-over None at = All-nil (Ends (λ wd. TellsNothing wd (joined (raised_in t es id))))
+    waiting-over (Some i) at =
+        All-weaker (Ends (HasEnded i.watches)) (Ends (λ wd. TellsNothing wd (joined (raised_in t es id))))
+        (λ e over said. joined-silent e.wd (over said).given.0 (raised_in t es id)
+        (silent-from t es id e.wd (sound-watches t is) (record { made = is.counted.opened id (ap is_some at); over = subst (OverIn e.wd) (sym at) (over said) })))
+        i.queue.waiting (is.instances id i at).over
+
+    waiting-quiet : (o : Option Instance) → instance_of t.instances id ≡ o → Quiet (waiting_of o)
+    waiting-quiet None at = tt
+    waiting-quiet (Some i) at = Quiet-from i.queue.waiting (is.instances id i at).quiet
+
   pub watches-end-once : WatchesEndOnce
-  watches-end-once limits es id =
-      let sound = WatchesAreSound-opening limits in
-      let below = AreBelow-opening limits in
-      EndsOnce-Quiet (raised_in (opening limits) es id) (quiet-from (opening limits) es id sound below) (given-from (opening limits) es id sound below)
+  watches-end-once t es id is =
+      let sound = sound-watches t is in
+      let below = is.counted.opened in
+      EndsOnce-Quiet (waiting_of (instance_of t.instances id)) (raised_in t es id) (waiting-quiet t is es id (instance_of t.instances id) refl) (waiting-over t is es id (instance_of t.instances id) refl)
+      (quiet-from t es id sound below) (given-from t es id sound below)
 
   -- ---- descriptors that are given
 
@@ -337,15 +342,8 @@ module _ (laws : EndLaws) where
       (subst (λ (r : Reply). All (λ (given : ℤ). given ≢ wd) (wds_of id e.call r)) (sym lawful.0) (wds-one t e.call id wd sound h))
       (wds-from (after t e.call) es id wd lawful.1 (WatchesAreSound-after laws.sound t e.call sound) (IsOver-after t e.call id wd h))
 
-  lawful-rest : (t : Tree) (front rest : List Entry) → IsLawfulFrom t (front ++ rest) → IsLawfulFrom (tree_after t front) rest
-  lawful-rest t [] rest h = h
-  lawful-rest t (e ∷ front) rest h = lawful-rest (after t e.call) front rest h.1
-
   pub descriptors-end-for-good : DescriptorsEndForGood
-  unfolding IsLawful stands_for
-  descriptors-end-for-good limits front rest id i wd lawful there ended =
-      let t = tree_after (opening limits) front in
-      let sound = WatchesAreSound-tree_after laws.sound (opening limits) front (WatchesAreSound-opening limits) in
-      let below = AreBelow-tree_after (opening limits) front (AreBelow-opening limits) in
-      let over : IsOver t id wd = record { made = below id (ap is_some there); over = subst (OverIn wd) (sym there) ended } in
-      (wds-from t rest id wd (lawful-rest (opening limits) front rest lawful) sound over, silent-from t rest id wd sound over)
+  descriptors-end-for-good t es id i wd is lawful there ended =
+      let sound = sound-watches t is in
+      let over : IsOver t id wd = record { made = is.counted.opened id (ap is_some there); over = subst (OverIn wd) (sym there) ended } in
+      (wds-from t es id wd lawful sound over, silent-from t es id wd sound over)

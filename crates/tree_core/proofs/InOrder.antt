@@ -5,7 +5,6 @@ use Rattle.std.proofs.lemmas.Grind.{flat_map-append}
 use Rattle.std.proofs.lemmas.List.{take-append-drop}
 use Rattle.std.specs.Prelude.{ℤ, fold, option_map}
 use Rattle.record_codec.specs.declared.event.Event.{Event}
-use Rattle.tree_paths.specs.declared.limits.Limits.{Limits}
 use Rattle.tree_paths.specs.declared.refusal.Refusal.{Refusal}
 use Rattle.inode_table.specs.World.{look}
 use Rattle.watch_table.specs.Masks.{known}
@@ -15,16 +14,17 @@ use Rattle.event_rules.specs.Raised.{events_of, ignored}
 use Rattle.event_rules.specs.Table.{notices_of}
 use Rattle.instance_table.specs.declared.instance.Instance.{Instance}
 use Rattle.event_rules.specs.declared.notice.Notice.{Notice}
-use Rattle.instance_table.specs.Instances.{instance_of, new_instance, told, watching, unwatching}
+use Rattle.instance_table.specs.Instances.{instance_of, new_instance, told, unwatching, waiting_of, watching}
 use Rattle.tree_core.specs.declared.call.Call.{Call}
 use Rattle.tree_core.specs.declared.call.Call.TheVariants as call
 use Rattle.tree_core.specs.declared.reply.Entry.{Entry}
-use Rattle.tree_core.specs.Tree.{Tree, opening, cookie_now, number_seen, refusal_of, accepted, tree_by, after, after_reading}
-use Rattle.tree_core.specs.Journal.{tree_after, stands_for}
+use Rattle.tree_core.specs.Tree.{Tree, cookie_now, number_seen, refusal_of, accepted, tree_by, after, after_reading}
+use Rattle.tree_core.specs.Journal.{tree_after}
 use Rattle.tree_core.specs.Histories.{Raised, where_open, oldest, events_for, records_for, raised_to, raised_by, raised_in, read_by, read_in, fate, joined}
 use Rattle.tree_core.specs.QueueLaws.{IsInOrder, ReadsAreInOrder}
 use Rattle.tree_core.proofs.Opened.{eqb-swap, left_of, instance_of-accepted}
-use Rattle.tree_core.proofs.Untouched.{none-after, none-tree_after, next-after, none-opening, untouched}
+use Rattle.tree_core.proofs.SoundTrees.{sound-ahead}
+use Rattle.tree_core.proofs.Untouched.{none-after, none-tree_after, next-after, untouched}
 
 -- ---- queues
 
@@ -37,24 +37,19 @@ waiting-joined b (e ∷ es) =
 pub joined-append : (rs ss : List Raised) → joined (rs ++ ss) ≡ joined rs ++ joined ss
 joined-append rs ss = flat_map-append (λ (r : Raised). joining (fate r) r.event) rs ss
 
--- what waits in an instance, if it is open
-abbrev pub waiting_of : Option Instance → List Event
-waiting_of None = []
-waiting_of (Some i) = i.queue.waiting
-
 -- ---- one call
 
 -- an instance goes on: what waited, and what joined, is what was read, and what waits
-abbrev GoesOn : Option Instance → List Raised → List Event → Option Instance → Type 0
+abbrev pub GoesOn : Option Instance → List Raised → List Event → Option Instance → Type 0
 GoesOn old raised read new = waiting_of old ++ joined raised ≡ read ++ waiting_of new
 
 -- an open instance is closed, and hears nothing and is not read by that
-record IsClosing (old : Option Instance) (raised : List Raised) (read : List Event) (new : Option Instance) : Type 0 where
-  instance : Instance
-  was_open : old ≡ Some instance
-  hears_nothing : raised ≡ []
-  reads_nothing : read ≡ []
-  is_gone : new ≡ None
+pub record IsClosing (old : Option Instance) (raised : List Raised) (read : List Event) (new : Option Instance) : Type 0 where
+  pub instance : Instance
+  pub was_open : old ≡ Some instance
+  pub hears_nothing : raised ≡ []
+  pub reads_nothing : read ≡ []
+  pub is_gone : new ≡ None
 
 -- no instance is open under a number that was not given yet
 abbrev pub NoneAhead : Tree → Type 0
@@ -62,9 +57,6 @@ NoneAhead t = (id : ℕ) → t.next_id ≤ id → instance_of t.instances id ≡
 
 pub NoneAhead-after : (t : Tree) (c : Call) → NoneAhead t → NoneAhead (after t c)
 NoneAhead-after t c ahead = λ id h. let more = next-after t c in none-after t c id (ahead id (omega arith)) (inr h)
-
-pub NoneAhead-opening : (limits : Limits) → NoneAhead (opening limits)
-NoneAhead-opening limits = λ id h. none-opening limits id
 
 -- the number of an open instance was given
 given : (t : Tree) (id : ℕ) (i : Instance) → NoneAhead t → instance_of t.instances id ≡ Some i → id < t.next_id
@@ -114,7 +106,7 @@ quiet : (o new : Option Instance) → waiting_of o ≡ waiting_of new → GoesOn
 quiet None new e = e
 quiet (Some i) new e = append-nil i.queue.waiting ∙ e
 
-abbrev Leads : Option Instance → List Raised → List Event → Option Instance → Type 0
+abbrev pub Leads : Option Instance → List Raised → List Event → Option Instance → Type 0
 Leads old raised read new = GoesOn old raised read new ⊎ IsClosing old raised read new
 
 is_closed : (b : Bool) (o : Option Instance) → Leads o (where_open None o (λ i. raised_to i.queue [])) (where_open None o (λ i. [])) (cond b None o)
@@ -152,7 +144,7 @@ module _ (t : Tree) (ahead : NoneAhead t) (id : ℕ) where
       subst (Leads (instance_of t.instances id) (RaisedOf c (instance_of t.instances id)) (where_open None (instance_of t.instances id) (records_for c id)))
       (sym (instance_of-accepted t c id)) (accepted-leads c (instance_of t.instances id) refl)
 
-  leads : (c : Call) → Leads (instance_of t.instances id) (raised_by t c id) (read_by t c id) (instance_of (after t c).instances id)
+  pub leads : (c : Call) → Leads (instance_of t.instances id) (raised_by t c id) (read_by t c id) (instance_of (after t c).instances id)
   unfolding raised_by read_by
   leads c = leads-by c (refusal_of t c)
 
@@ -201,7 +193,4 @@ module _ (id : ℕ) where
       ]
 
 pub reads_are_in_order : ReadsAreInOrder
-unfolding stands_for
-reads_are_in_order limits es id =
-    subst (λ (xs : List Event). IsInOrder (read_in (opening limits) es id) (xs ++ joined (raised_in (opening limits) es id)) (instance_of (tree_after (opening limits) es).instances id))
-    (ap waiting_of (none-opening limits id)) (in-order id (opening limits) es (NoneAhead-opening limits))
+reads_are_in_order t es id sound = in-order id t es (sound-ahead t sound)

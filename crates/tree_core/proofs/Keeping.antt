@@ -1,31 +1,85 @@
 -- What a state knows of its journal, over its changes.
-use Rattle.std.proofs.Common.{◌≡◌, ◌<◌, ◌≤◌, [], ◌∷◌, ◌++◌, length, sym, subst, arith, length-append}
+use Rattle.std.proofs.Common.{◌≡◌, ℕ, ◌+◌, ◌^◌, ◌<◌, ◌≤◌, List, [], ◌∷◌, ◌++◌, length, sym, ap, subst, ◌∙◌, arith, length-append}
+use Rattle.tree_paths.specs.declared.limits.Limits.{Limits}
+use Rattle.tree_core.specs.declared.machine.Machine.{Machine}
 use Rattle.tree_core.specs.declared.reply.Entry.{Entry}
+use Rattle.tree_core.specs.declared.snapshot.Snapshot.{Snapshot}
 use Rattle.tree_core.specs.declared.state.State.TheInside.{Inside}
-use Rattle.tree_core.specs.Tree.{Tree, reply_of, after}
-use Rattle.tree_core.specs.Journal.{Journaled, IsLawful, stands_for, with_entry}
+use Rattle.tree_core.specs.Tree.{Tree, opening, reply_of, after}
+use Rattle.tree_core.specs.Journal.{Journaled, HasPast, IsLawfulFrom, cut_off, last_place, now, opened, with_entry}
 use Rattle.tree_core.specs.Machines.{IsMachineOf}
-use Rattle.tree_core.specs.Kept.{IsKept, journal_of}
-use Rattle.tree_core.proofs.Lawful.{IsLawful-append, stands_for-append}
+use Rattle.tree_core.specs.Kept.{IsKept, journal_of, tree_of}
+use Rattle.tree_core.specs.Snapshots.{IsSnapshotOf}
+use Rattle.tree_core.specs.TurnLaws.{TreesAreSound}
+use Rattle.tree_core.proofs.Lawful.{HasPast-cut, HasPast-opening, lawful-entry, limits-now, now-cut, now-entry, now-opened, pasts-make-whole, sound-now}
+use Rattle.tree_core.proofs.Shown.{tree_of-snapshot}
 
--- the same journal, and another machine that stands for it
-pub IsKept-same : (a b : Inside) → IsKept a → b.machine.limits ≡ a.machine.limits → b.journal.items ≡ a.journal.items → IsMachineOf (stands_for a.machine.limits a.journal.items) b.machine → IsKept b
-IsKept-same a b is limits items stands =
-    let same : journal_of a ≡ journal_of b = λ i. record { limits = sym limits i; entries = sym items i } in
-    record {
-      lawful = subst (λ (s : Journaled). IsLawful s.limits s.entries) same is.lawful;
-      stands = subst (λ (s : Journaled). IsMachineOf (stands_for s.limits s.entries) b.machine) same stands;
-      few = subst (λ (s : Journaled). length s.entries ≤ s.limits.journal) same is.few;
-    }
+module _ (a b : Inside) (is : IsKept a) (snapshot : b.snapshot ≡ a.snapshot) (limits : b.machine.limits ≡ a.machine.limits) where
+  shown-still : IsSnapshotOf (journal_of b).start (journal_of b).place b.snapshot
+  shown-still = subst (λ (p : Limits × Snapshot). IsSnapshotOf (tree_of p.0 p.1) p.1.place p.1) (λ i. (sym limits i, sym snapshot i)) is.shown
 
--- one entry more, and a machine that stands for the tree after its call
-pub IsKept-more : (a b : Inside) (e : Entry) → IsKept a → b.machine.limits ≡ a.machine.limits → b.journal.items ≡ a.journal.items ++ e ∷ [] → length a.journal.items < a.machine.limits.journal
-    → e.reply ≡ reply_of (stands_for a.machine.limits a.journal.items) e.call → IsMachineOf (after (stands_for a.machine.limits a.journal.items) e.call) b.machine → IsKept b
-IsKept-more a b e is limits items room reply stands =
-    let same : with_entry (journal_of a) e ≡ journal_of b = λ i. record { limits = sym limits i; entries = sym items i } in
-    let few : length (a.journal.items ++ e ∷ []) ≤ a.machine.limits.journal = omega (arith, length-append a.journal.items (e ∷ [])) in
-    record {
-      lawful = subst (λ (s : Journaled). IsLawful s.limits s.entries) same (IsLawful-append a.machine.limits a.journal.items e is.lawful reply);
-      stands = subst (λ (s : Journaled). IsMachineOf (stands_for s.limits s.entries) b.machine) same (subst (λ (t : Tree). IsMachineOf t b.machine) (sym (stands_for-append a.machine.limits a.journal.items e)) stands);
-      few = subst (λ (s : Journaled). length s.entries ≤ s.limits.journal) same few;
-    }
+  -- the same journal, and another machine that stands for it
+  pub IsKept-same : b.journal.items ≡ a.journal.items → IsMachineOf (now (journal_of a)) b.machine → IsKept b
+  IsKept-same items stands =
+      let same : journal_of a ≡ journal_of b = λ i. record { start = tree_of (sym limits i) (sym snapshot i); place = (sym snapshot i).place; entries = sym items i } in
+      record {
+        shown = shown-still;
+        past = subst (λ (s : Journaled). HasPast s.start s.place) same is.past;
+        lawful = subst (λ (s : Journaled). IsLawfulFrom s.start s.entries) same is.lawful;
+        stands = subst (λ (s : Journaled). IsMachineOf (now s) b.machine) same stands;
+        few = subst (λ (p : Limits × List Entry). length p.1 ≤ p.0.journal) (λ i. (sym limits i, sym items i)) is.few;
+        small = subst (λ (s : Journaled). last_place s < 2 ^ 64) same is.small;
+      }
+
+  -- one entry more, and a machine that stands for the tree after its call
+  pub IsKept-more : (e : Entry) → b.journal.items ≡ a.journal.items ++ e ∷ [] → length a.journal.items < a.machine.limits.journal → last_place (journal_of a) + 1 < 2 ^ 64
+      → e.reply ≡ reply_of (now (journal_of a)) e.call → IsMachineOf (after (now (journal_of a)) e.call) b.machine → IsKept b
+  IsKept-more e items room small reply stands =
+      let same : with_entry (journal_of a) e ≡ journal_of b = λ i. record { start = tree_of (sym limits i) (sym snapshot i); place = (sym snapshot i).place; entries = sym items i } in
+      let more : length (a.journal.items ++ e ∷ []) ≡ length a.journal.items + 1 = length-append a.journal.items (e ∷ []) in
+      record {
+        shown = shown-still;
+        past = subst (λ (s : Journaled). HasPast s.start s.place) same is.past;
+        lawful = subst (λ (s : Journaled). IsLawfulFrom s.start s.entries) same (lawful-entry (journal_of a) e is.lawful reply);
+        stands = subst (λ (s : Journaled). IsMachineOf (now s) b.machine) same (subst (λ (t : Tree). IsMachineOf t b.machine) (sym (now-entry (journal_of a) e)) stands);
+        few = subst (λ (p : Limits × List Entry). length p.1 ≤ p.0.journal) (λ i. (sym limits i, sym items i)) (omega (arith, more, room));
+        small = subst (λ (s : Journaled). last_place s < 2 ^ 64) same (omega (arith, more, small));
+      }
+
+-- a cut: the snapshot of the tree, and no entry
+pub IsKept-cut : TreesAreSound → (a b : Inside) → IsKept a → b.machine ≡ a.machine → b.journal.items ≡ [] → (place : ℕ) → place ≡ last_place (journal_of a) → IsSnapshotOf (now (journal_of a)) place b.snapshot
+    → (journal_of b ≡ cut_off (journal_of a)) × IsKept b
+IsKept-cut sound a b is machine none place at given =
+    let s = journal_of a in
+    let shows : IsSnapshotOf (now s) (last_place s) b.snapshot = subst (λ p. IsSnapshotOf (now s) p b.snapshot) at given in
+    let whole = pasts-make-whole sound s is.past.0 is.past.1 is.lawful in
+    let limits : (now s).limits ≡ b.machine.limits = limits-now s ∙ sym (ap (λ (m : Machine). m.limits) machine) in
+    let told : tree_of b.machine.limits b.snapshot ≡ now s = ap (λ l. tree_of l b.snapshot) (sym limits) ∙ tree_of-snapshot (now s) (last_place s) b.snapshot (sound-now sound s whole.sound) shows in
+    let same : journal_of b ≡ cut_off s = λ i. record { start = told i; place = shows.last_place i; entries = none i } in (
+      same,
+      record {
+        shown = subst (λ (j : Journaled). IsSnapshotOf j.start j.place b.snapshot) (sym same) shows;
+        past = subst (λ (j : Journaled). HasPast j.start j.place) (sym same) (HasPast-cut sound s is.past is.lawful);
+        lawful = subst (λ (j : Journaled). IsLawfulFrom j.start j.entries) (sym same) tt;
+        stands = subst (λ (j : Journaled). IsMachineOf (now j) b.machine) (sym same) (now-cut s b.machine (subst (IsMachineOf (now s)) (sym machine) is.stands));
+        few = let least = b.machine.limits.journal_in.0 in omega (arith, ap length none);
+        small = subst (λ (j : Journaled). last_place j < 2 ^ 64) (sym same) (let h = is.small in omega arith);
+      },
+    )
+
+-- a new state: the snapshot of the opening tree, and no entry
+pub IsKept-new : TreesAreSound → (limits : Limits) (b : Inside) → IsMachineOf (opening limits) b.machine → b.journal.items ≡ [] → IsSnapshotOf (opening limits) 0 b.snapshot → (journal_of b ≡ opened limits) × IsKept b
+IsKept-new sound limits b machine none shows =
+    let same_limits : b.machine.limits ≡ (opening limits).limits = machine.limits in
+    let told : tree_of b.machine.limits b.snapshot ≡ opening limits = ap (λ l. tree_of l b.snapshot) same_limits ∙ tree_of-snapshot (opening limits) 0 b.snapshot (sound.opened limits) shows in
+    let same : journal_of b ≡ opened limits = λ i. record { start = told i; place = shows.last_place i; entries = none i } in (
+      same,
+      record {
+        shown = subst (λ (j : Journaled). IsSnapshotOf j.start j.place b.snapshot) (sym same) shows;
+        past = subst (λ (j : Journaled). HasPast j.start j.place) (sym same) (HasPast-opening limits);
+        lawful = subst (λ (j : Journaled). IsLawfulFrom j.start j.entries) (sym same) tt;
+        stands = subst (λ (j : Journaled). IsMachineOf (now j) b.machine) (sym same) (now-opened limits b.machine machine);
+        few = let least = b.machine.limits.journal_in.0 in omega (arith, ap length none);
+        small = subst (λ (j : Journaled). last_place j < 2 ^ 64) (sym same) (omega arith);
+      },
+    )

@@ -1,41 +1,129 @@
--- Lawful journals, of no entry and of one more, and what waits in what they stand for.
-use Rattle.std.proofs.Common.{◌≡◌, ℕ, List, [], ◌∷◌, ◌++◌, length, Option, option_map, refl, ap, ◌∙◌}
+-- Lawful journals: their parts, one entry more, what they stand for, and what waits in it.
+use Rattle.std.proofs.Common.{◌≡◌, ℕ, ◌+◌, List, [], ◌∷◌, ◌++◌, length, Option, Some, None, option_map, refl, sym, ap, subst, ◌∙◌, length-append}
 use Rattle.tree_paths.specs.declared.limits.Limits.{Limits}
+use Rattle.tree_paths.specs.declared.refusal.Refusal.{Refusal}
 use Rattle.instance_table.specs.declared.instance.Instance.{Instance}
 use Rattle.instance_table.specs.Instances.{Instances, instance_of}
+use Rattle.tree_core.specs.declared.call.Call.{Call}
+use Rattle.tree_core.specs.declared.call.Call.TheVariants as call
 use Rattle.tree_core.specs.declared.reply.Entry.{Entry}
 use Rattle.tree_core.specs.declared.machine.Machine.{Machine}
-use Rattle.tree_core.specs.Tree.{Tree, opening, reply_of, after}
-use Rattle.tree_core.specs.Journal.{tree_after, IsLawfulFrom, IsLawful, stands_for, waiting_in}
+use Rattle.tree_core.specs.CutLaws.{GoesOn, IsWhole}
+use Rattle.tree_core.specs.Journal.{Journaled, HasPast, IsLawfulFrom, IsLawful, IsPast, cut_off, last_place, now, opened, stands_for, tree_after, waiting_in, with_entry}
 use Rattle.tree_core.specs.Machines.{IsMachineOf}
+use Rattle.tree_core.specs.Sound.{IsSoundTree}
+use Rattle.tree_core.specs.Tree.{Tree, opening, refusal_of, reply_of, accepted, after, after_file, after_init, after_add_watch, after_rm_watch, after_accepted_read, after_close, tree_by}
+use Rattle.tree_core.specs.TurnLaws.{TreesAreSound}
 
-tree_after-append : (t : Tree) (es : List Entry) (e : Entry) → tree_after t (es ++ e ∷ []) ≡ after (tree_after t es) e.call
-tree_after-append t [] e = refl
-tree_after-append t (d ∷ es) e = tree_after-append (after t d.call) es e
+-- ---- two parts
 
-lawful_from-append : (t : Tree) (es : List Entry) (e : Entry) → IsLawfulFrom t es → e.reply ≡ reply_of (tree_after t es) e.call → IsLawfulFrom t (es ++ e ∷ [])
-lawful_from-append t [] e h r = (r, tt)
-lawful_from-append t (d ∷ es) e h r = (h.0, lawful_from-append (after t d.call) es e h.1 r)
+pub tree_after-append : (t : Tree) (es fs : List Entry) → tree_after t (es ++ fs) ≡ tree_after (tree_after t es) fs
+tree_after-append t [] fs = refl
+tree_after-append t (e ∷ es) fs = tree_after-append (after t e.call) es fs
 
-pub stands_for-append : (limits : Limits) (es : List Entry) (e : Entry) → stands_for limits (es ++ e ∷ []) ≡ after (stands_for limits es) e.call
-unfolding stands_for
-stands_for-append limits es e = tree_after-append (opening limits) es e
+pub lawful-front : (t : Tree) (es fs : List Entry) → IsLawfulFrom t (es ++ fs) → IsLawfulFrom t es
+lawful-front t [] fs h = tt
+lawful-front t (e ∷ es) fs h = (h.0, lawful-front (after t e.call) es fs h.1)
 
-pub IsLawful-append : (limits : Limits) (es : List Entry) (e : Entry) → IsLawful limits es → e.reply ≡ reply_of (stands_for limits es) e.call → IsLawful limits (es ++ e ∷ [])
-unfolding stands_for IsLawful
-IsLawful-append limits es e h r = lawful_from-append (opening limits) es e h r
+pub lawful-rest : (t : Tree) (es fs : List Entry) → IsLawfulFrom t (es ++ fs) → IsLawfulFrom (tree_after t es) fs
+lawful-rest t [] fs h = h
+lawful-rest t (e ∷ es) fs h = lawful-rest (after t e.call) es fs h.1
 
-pub IsLawful-nil : (limits : Limits) → IsLawful limits []
-unfolding IsLawful
-IsLawful-nil limits = tt
+pub lawful-join : (t : Tree) (es fs : List Entry) → IsLawfulFrom t es → IsLawfulFrom (tree_after t es) fs → IsLawfulFrom t (es ++ fs)
+lawful-join t [] fs h g = g
+lawful-join t (e ∷ es) fs h g = (h.0, lawful-join (after t e.call) es fs h.1 g)
 
-pub stands_for-nil : (limits : Limits) → stands_for limits [] ≡ opening limits
-unfolding stands_for
-stands_for-nil limits = refl
+-- ---- one entry more
+
+pub now-entry : (s : Journaled) (e : Entry) → now (with_entry s e) ≡ after (now s) e.call
+unfolding now
+now-entry s e = tree_after-append s.start s.entries (e ∷ [])
+
+pub lawful-entry : (s : Journaled) (e : Entry) → IsLawfulFrom s.start s.entries → e.reply ≡ reply_of (now s) e.call → IsLawfulFrom s.start (s.entries ++ e ∷ [])
+unfolding now
+lawful-entry s e h r = lawful-join s.start s.entries (e ∷ []) h (r, tt)
 
 pub limits-opening : (limits : Limits) → (opening limits).limits ≡ limits
 unfolding opening
 limits-opening limits = refl
+
+-- ---- a tree keeps its limits
+
+limits-accepted : (t : Tree) (c : Call) → (accepted t c).limits ≡ t.limits
+unfolding after_file after_init after_add_watch after_rm_watch after_accepted_read after_close
+limits-accepted t (call.File f) = refl
+limits-accepted t (call.Init limit is_piped) = refl
+limits-accepted t (call.AddWatch id p mask) = refl
+limits-accepted t (call.RmWatch id wd) = refl
+limits-accepted t (call.Read id bytes) = refl
+limits-accepted t (call.Pump id bytes) = refl
+limits-accepted t (call.Close id) = refl
+
+limits-by : (t : Tree) (c : Call) (o : Option Refusal) → (tree_by o t (accepted t c)).limits ≡ t.limits
+limits-by t c None = limits-accepted t c
+limits-by t c (Some r) = refl
+
+pub limits-tree_after : (t : Tree) (es : List Entry) → (tree_after t es).limits ≡ t.limits
+limits-tree_after t [] = refl
+limits-tree_after t (e ∷ es) = limits-tree_after (after t e.call) es ∙ limits-by t e.call (refusal_of t e.call)
+
+-- ---- cuts
+
+pub cuts-keep-answers : TreesAreSound → (limits : Limits) (front rest : List Entry) → IsLawful limits (front ++ rest) → GoesOn limits front rest (stands_for limits front)
+unfolding IsLawful stands_for
+cuts-keep-answers sound limits front rest lawful = record {
+  sound = sound.stay (opening limits) front (sound.opened limits);
+  lawful = lawful-front (opening limits) front rest lawful;
+  goes_on = lawful-rest (opening limits) front rest lawful;
+  leads = sym (tree_after-append (opening limits) front rest);
+}
+
+-- a state's tree, and each before it, is one that a journal leads to from the opening
+pub pasts-make-whole : TreesAreSound → (s : Journaled) (past : List Entry) → IsPast s.start s.place past → IsLawfulFrom s.start s.entries → IsWhole s past
+unfolding IsLawful stands_for now
+pasts-make-whole sound s past is lawful =
+    let limits = s.start.limits in
+    record {
+      lawful = lawful-join (opening limits) past s.entries is.lawful (subst (λ t. IsLawfulFrom t s.entries) (sym is.leads) lawful);
+      leads = tree_after-append (opening limits) past s.entries ∙ ap (λ t. tree_after t s.entries) is.leads;
+      places = length-append past s.entries ∙ ap (λ (n : ℕ). n + length s.entries) is.places;
+      sound = subst IsSoundTree is.leads (sound.stay (opening limits) past (sound.opened limits));
+    }
+
+pub limits-now : (s : Journaled) → (now s).limits ≡ s.start.limits
+unfolding now
+limits-now s = limits-tree_after s.start s.entries
+
+pub sound-now : TreesAreSound → (s : Journaled) → IsSoundTree s.start → IsSoundTree (now s)
+unfolding now
+sound-now sound s is = sound.stay s.start s.entries is
+
+-- a cut leaves the tree as it is
+pub now-cut : (s : Journaled) (m : Machine) → IsMachineOf (now s) m → IsMachineOf (now (cut_off s)) m
+unfolding now
+now-cut s m is = is
+
+pub now-opened : (limits : Limits) (m : Machine) → IsMachineOf (opening limits) m → IsMachineOf (now (opened limits)) m
+unfolding now
+now-opened limits m is = is
+
+-- the past of a state that is cut has the entries that were cut off
+pub HasPast-cut : TreesAreSound → (s : Journaled) → HasPast s.start s.place → IsLawfulFrom s.start s.entries → HasPast (now s) (last_place s)
+unfolding now
+HasPast-cut sound s has lawful =
+    let whole = pasts-make-whole sound s has.0 has.1 lawful in
+    let limits : (now s).limits ≡ s.start.limits = limits-tree_after s.start s.entries in (
+      has.0 ++ s.entries,
+      record {
+        lawful = subst (λ l. IsLawful l (has.0 ++ s.entries)) (sym limits) whole.lawful;
+        places = whole.places;
+        leads = ap (λ l. stands_for l (has.0 ++ s.entries)) limits ∙ whole.leads;
+      },
+    )
+
+pub HasPast-opening : (limits : Limits) → HasPast (opening limits) 0
+unfolding IsLawful stands_for opening
+HasPast-opening limits = ([], record { lawful = tt; places = refl; leads = refl })
 
 -- what waits, by the open instance of a machine that stands for the tree
 pub waiting_in-machine : (t : Tree) (m : Machine) (id : ℕ) (o : Option Instance) → IsMachineOf t m → o ≡ instance_of m.instances id → option_map (λ (i : Instance). length i.queue.waiting) o ≡ waiting_in t id

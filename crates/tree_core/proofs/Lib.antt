@@ -7,6 +7,7 @@ pub mod Pumping
 mod Instances
 pub mod Opened
 pub mod SoundWatches
+pub mod SoundTrees
 pub mod Untouched
 pub mod BytesRead
 pub mod InOrder
@@ -16,4 +17,6 @@ mod Turns
 mod Cookies
 mod Quiet
 mod Ends
+mod Waiting
+pub mod Shown
 pub mod Soundness

@@ -9,7 +9,8 @@ use Rattle.event_queue.specs.declared.offered.Offered.TheVariants.{Kept, Merged,
 use Rattle.event_queue.specs.Backlogs.{joining, overflow_mark}
 use Rattle.event_rules.specs.Laws.{TellsNothing, says_ended}
 use Rattle.tree_core.specs.Histories.{Raised, events, fate, joined}
-use Rattle.tree_core.specs.TurnLaws.{NothingFollowsIgnored, EndsOnce}
+use Rattle.tree_core.specs.Sound.{NothingFollowsIgnored}
+use Rattle.tree_core.specs.TurnLaws.{EndsOnce}
 
 -- ---- one list
 
@@ -62,7 +63,7 @@ mark-apart wd given same =
     let h : pos 1 ≤ℤ negsuc 0 = subst IsGiven (sym same) given in
     absurd (omega (arith, ints))
 
-mark-goes-on : IsTrue (says_ended overflow_mark) → ⊥
+pub mark-goes-on : IsTrue (says_ended overflow_mark) → ⊥
 unfolding overflow_mark
 mark-goes-on said = cc
 
@@ -73,7 +74,7 @@ module _ (wd : ℤ) (given : IsGiven wd) where
   joining-silent Marked e h = All-cons (λ (x : Event). x.wd ≢ wd) overflow_mark [] (mark-apart wd given) (All-nil (λ (x : Event). x.wd ≢ wd))
   joining-silent Lost e h = All-nil (λ (x : Event). x.wd ≢ wd)
 
-  joined-silent : (rs : List Raised) → TellsNothing wd (events rs) → TellsNothing wd (joined rs)
+  pub joined-silent : (rs : List Raised) → TellsNothing wd (events rs) → TellsNothing wd (joined rs)
   joined-silent [] h = All-nil (λ (x : Event). x.wd ≢ wd)
   joined-silent (r ∷ rs) h =
       All-append (λ (x : Event). x.wd ≢ wd) (joining (fate r) r.event) (joined rs)
@@ -86,11 +87,12 @@ joining-Quiet Merged e rest over q = q
 joining-Quiet Marked e rest over q = ((λ said. absurd (mark-goes-on said)), q)
 joining-Quiet Lost e rest over q = q
 
-joined-Quiet : (rs : List Raised) → Quiet (events rs) → All (Ends IsGiven) (events rs) → Quiet (joined rs)
+pub joined-Quiet : (rs : List Raised) → Quiet (events rs) → All (Ends IsGiven) (events rs) → Quiet (joined rs)
 joined-Quiet [] q given = tt
 joined-Quiet (r ∷ rs) q given =
     joining-Quiet (fate r) r.event (joined rs) (λ said. joined-silent r.event.wd (All-head (Ends IsGiven) r.event (events rs) given said) rs (q.0 said))
     (joined-Quiet rs q.1 (All-tail (Ends IsGiven) r.event (events rs) given))
 
-pub EndsOnce-Quiet : (rs : List Raised) → Quiet (events rs) → All (Ends IsGiven) (events rs) → EndsOnce rs
-EndsOnce-Quiet rs q given = record { raised = nothing-behind (events rs) q; joined = nothing-behind (joined rs) (joined-Quiet rs q given) }
+pub EndsOnce-Quiet : (waiting : List Event) (rs : List Raised) → Quiet waiting → All (Ends (λ wd. TellsNothing wd (joined rs))) waiting → Quiet (events rs) → All (Ends IsGiven) (events rs) → EndsOnce waiting rs
+EndsOnce-Quiet waiting rs waits over q given =
+    record { raised = nothing-behind (events rs) q; joined = nothing-behind (waiting ++ joined rs) (Quiet-append waiting (joined rs) waits (joined-Quiet rs q given) over) }

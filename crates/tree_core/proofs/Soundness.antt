@@ -25,7 +25,7 @@ use Rattle.tree_ops.specs.Refused.{refused}
 use Rattle.tree_ops.specs.After as ops
 use Rattle.tree_ops.proofs.Worlds.{standing}
 use Rattle.watch_table.specs.Masks.{known, mask_fault}
-use Rattle.watch_table.specs.Watching.{Watch, Watching, IsSound, added, added_to, removed, without, number_of, no_watches, watch_of}
+use Rattle.watch_table.specs.Watching.{Watch, Watching, IsSound, added, added_to, dropped, removed, without, number_of, no_watches, watch_of}
 use Rattle.event_queue.specs.Backlogs.{Backlog, after_offer, overflow_mark}
 use Rattle.event_queue.specs.Fates.{IsBounded, KeepsBounds}
 use Rattle.event_rules.specs.declared.notice.Notice.{Notice}
@@ -40,14 +40,17 @@ use Rattle.tree_core.specs.declared.call.Call.{Call}
 use Rattle.tree_core.specs.declared.call.Call.TheVariants as call
 use Rattle.tree_core.specs.declared.reply.Entry.{Entry}
 use Rattle.tree_core.specs.Tree.{Tree, opening, cookie_now, counts_of, refusal_of, accepted, after, tree_by, add_watch_rows, seen_fault, number_seen, after_reading, after_file, after_init, after_add_watch, after_rm_watch, after_accepted_read, after_close}
-use Rattle.tree_core.specs.Journal.{tree_after, stands_for}
+use Rattle.tree_core.specs.Journal.{tree_after}
 use Rattle.tree_core.specs.Sound.{IsCounted, IsSoundInstance, IsSoundTree}
 use Rattle.tree_core.specs.TurnLaws.{TreesAreSound}
 use Rattle.tree_core.proofs.Counted.{IsCounted-filed}
 use Rattle.tree_core.proofs.Instances.{opened-put, opened-cut, opened-changed, init-passes, at-instance, none-opened}
 use Rattle.tree_core.proofs.Opened.{left_of, instance_of-accepted}
 use Rattle.tree_core.proofs.Serving.{after-accepted}
+use Rattle.tree_core.proofs.SoundTrees.{sound-if-open, sound-watches}
 use Rattle.tree_core.proofs.SoundWatches.{WatchLaws, WatchesAreSound, WatchesAreSound-after, found-there}
+use Rattle.tree_core.proofs.Quiet.{nothing-behind}
+use Rattle.tree_core.proofs.Waiting.{WaitLaws, Waits, cookies-rise, waits-after}
 
 -- the laws of the crates below on which the soundness of trees rests
 pub record TreeLaws : Type 0 where
@@ -62,6 +65,7 @@ pub record TreeLaws : Type 0 where
   pub part : (w : Watching) (ns : List Notice) → IsPartOf (watches_after w ns) w
   pub of_watches : (w : Watching) (ns : List Notice) → All (λ e. HasWatch w e.wd) (events_of w ns)
   pub bounds : (b : Backlog) → KeepsBounds b
+  pub waits : WaitLaws
 
 -- ---- counts
 
@@ -153,10 +157,32 @@ seen-file t from p mask none = by (instance_of t.instances from) none
         let path_passes = first (find (look t.world) p) (seen_fault i (known mask) (look t.world p) ∷ []) mask_passes.1 in
         there (look t.world p) refl (found-there (look t.world) p path_passes.0)
 
+-- the limits of the watches of an instance
+record HasLimits (limits : Limits) (w : Watching) : Type 0 where
+  most : w.most_watches ≡ limits.watches
+  last : w.last_wd ≡ limits.wds
+
+limits-added : (limits : Limits) (w : Watching) (number mask : ℕ) → HasLimits limits w → HasLimits limits (added w number mask)
+unfolding added
+limits-added limits w number mask has = by (watch_of w number)
+  where
+    by : (o : Option Watch) → HasLimits limits (added_to w number mask o)
+    by None = record { most = has.most; last = has.last }
+    by (Some watch) = record { most = has.most; last = has.last }
+
+limits-removed : (limits : Limits) (w : Watching) (wd : ℤ) → HasLimits limits w → HasLimits limits (removed w wd)
+unfolding dropped
+limits-removed limits w wd has = by (number_of w wd)
+  where
+    by : (o : Option ℕ) → HasLimits limits (without w o)
+    by None = has
+    by (Some number) = record { most = has.most; last = has.last }
+
 -- ---- instances
 
--- the files that an instance watches are there, and its queue keeps its bounds
+-- the files that an instance watches are there, it has the limits of the tree, and its queue keeps its bounds
 record IsKeeping (t : Tree) (i : Instance) : Type 0 where
+  has_limits : HasLimits t.limits i.watches
   watched : (number : ℕ) → IsSome (watch_of i.watches number) → IsSome (finmap.get t.world.files number)
   bounded : IsBounded i.queue
   limited : i.queue.limit ≤ t.limits.queue
@@ -199,7 +225,9 @@ module _ (laws : TreeLaws) (t : Tree) (is : IsSoundTree t) where
   unfolding after_file
   keeps-told f none i sound =
       let es = events_of i.watches (notices_of t.world f (cookie_now t.next_cookie)) in
+      let part = laws.part i.watches (notices_of t.world f (cookie_now t.next_cookie)) in
       record {
+        has_limits = record { most = part.most_watches ∙ sound.most_watches; last = part.last_wd ∙ sound.last_wd };
         watched = still-there f none i sound;
         bounded = bounded-all laws.bounds i.queue es (All-weaker (λ (e : Event). HasWatch i.watches e.wd) (λ (e : Event). e ≢ overflow_mark) (watch-no_mark i.watches sound.watches) es (laws.of_watches i.watches (notices_of t.world f (cookie_now t.next_cookie)))) sound.bounded;
         limited = subst (λ n. n ≤ t.limits.queue) (sym (limit-all i.queue es)) sound.limited;
@@ -209,6 +237,7 @@ module _ (laws : TreeLaws) (t : Tree) (is : IsSoundTree t) where
 
   keeps-same : (c : Call) (i : Instance) → (accepted t c).world ≡ t.world → (accepted t c).limits ≡ t.limits → IsSoundInstance t i → IsKeeping (accepted t c) i
   keeps-same c i world limits sound = record {
+    has_limits = record { most = sound.most_watches ∙ sym (ap (λ (l : Limits). l.watches) limits); last = sound.last_wd ∙ sym (ap (λ (l : Limits). l.wds) limits) };
     watched = λ number h. subst (λ (w : World). IsSome (finmap.get w.files number)) (sym world) (sound.watched number h);
     bounded = sound.bounded;
     limited = subst (λ (l : Limits). i.queue.limit ≤ l.queue) (sym limits) sound.limited;
@@ -216,6 +245,7 @@ module _ (laws : TreeLaws) (t : Tree) (is : IsSoundTree t) where
 
   keeps-read : (c : Call) (bytes : ℕ) (i : Instance) → (accepted t c).world ≡ t.world → (accepted t c).limits ≡ t.limits → IsSoundInstance t i → IsKeeping (accepted t c) (after_reading bytes i)
   keeps-read c bytes i world limits sound = let same = keeps-same c i world limits sound in record {
+    has_limits = same.has_limits;
     watched = same.watched;
     bounded = (laws.bounds i.queue).reads _ sound.bounded;
     limited = same.limited;
@@ -232,6 +262,7 @@ module _ (laws : TreeLaws) (t : Tree) (is : IsSoundTree t) where
     where
       by : (b : Bool) → IfSome (cond b (Some (new_instance t.limits limit is_piped)) o) (IsKeeping (after_init t limit is_piped))
       by true = record {
+        has_limits = record { most = refl; last = refl };
         watched = λ number g. absurd (no-watch number g);
         bounded = (laws.bounds (record { limit = limit; waiting = [] })).begins;
         limited = (init-passes t.limits t.instances t.next_id limit (sym none)).1;
@@ -241,6 +272,7 @@ module _ (laws : TreeLaws) (t : Tree) (is : IsSoundTree t) where
       keeping-if (IsSoundInstance t) (IsKeeping (accepted t (call.AddWatch from p mask))) (eqb id from) (watching (number_seen (look t.world p)) (known mask))
       (λ i g. keeps-same (call.AddWatch from p mask) i refl refl g)
       (λ i g. record {
+        has_limits = limits-added t.limits i.watches (number_seen (look t.world p)) (known mask) (record { most = g.most_watches; last = g.last_wd });
         watched = λ number there. by i g number (watched-added i.watches (number_seen (look t.world p)) (known mask) number there);
         bounded = g.bounded;
         limited = g.limited;
@@ -253,6 +285,7 @@ module _ (laws : TreeLaws) (t : Tree) (is : IsSoundTree t) where
       keeping-if (IsSoundInstance t) (IsKeeping (accepted t (call.RmWatch from wd))) (eqb id from) (unwatching wd)
       (λ i g. keeps-same (call.RmWatch from wd) i refl refl g)
       (λ i g. record {
+        has_limits = limits-removed t.limits i.watches wd (record { most = g.most_watches; last = g.last_wd });
         watched = λ number there. g.watched number (watched-removed i.watches wd number there);
         bounded = (laws.bounds i.queue).offers (ignored wd) (ignored-no_mark wd) g.bounded;
         limited = g.limited;
@@ -307,28 +340,28 @@ module _ (laws : TreeLaws) (t : Tree) (is : IsSoundTree t) where
 
   -- ---- the tree
 
-  of-open : (P : Instance → Type 0) (o : Option Instance) → ((i : Instance) → o ≡ Some i → P i) → IfSome o P
-  of-open P None h = tt
-  of-open P (Some i) h = h i refl
-
-  watches-sound : WatchesAreSound t
-  watches-sound id = of-open (λ i. IsSound i.watches) (instance_of t.instances id) (λ i at. (is.instances id i at).watches)
-
   IsSoundTree-accepted : (c : Call) → refusal_of t c ≡ None → IsSoundTree (accepted t c)
   IsSoundTree-accepted c none = record {
     counted = IsCounted-accepted t c is.counted none;
     world = world-accepted c none;
     whole = whole-accepted c none;
     given = given-accepted c;
+    cookies = let more = cookies-rise t c in let first = is.cookies in let same = ap (λ (u : Tree). u.next_cookie) (after-accepted t c none) in omega arith;
     instances = λ id i at.
         let left : left_of t c id (instance_of t.instances id) ≡ Some i = sym (instance_of-accepted t c id) ∙ at in
-        let keeping = at-instance (IsKeeping (accepted t c)) (left_of t c id (instance_of t.instances id)) i left (keeps-left c id (instance_of t.instances id) none (of-open (IsSoundInstance t) (instance_of t.instances id) (is.instances id))) in
-        let sound = subst WatchesAreSound (after-accepted t c none) (WatchesAreSound-after laws.watches t c watches-sound) in
+        let keeping = at-instance (IsKeeping (accepted t c)) (left_of t c id (instance_of t.instances id)) i left (keeps-left c id (instance_of t.instances id) none (sound-if-open t is id)) in
+        let sound = subst WatchesAreSound (after-accepted t c none) (WatchesAreSound-after laws.watches t c (sound-watches t is)) in
+        let waits = subst (λ (u : Tree). Waits u i) (after-accepted t c none) (waits-after laws.waits t is c id i (ap (λ (u : Tree). instance_of u.instances id) (after-accepted t c none) ∙ at)) in
         record {
           watches = at-instance (λ x. IsSound x.watches) (instance_of (accepted t c).instances id) i at (sound id);
+          most_watches = keeping.has_limits.most;
+          last_wd = keeping.has_limits.last;
           watched = keeping.watched;
           bounded = keeping.bounded;
           limited = keeping.limited;
+          given = waits.given;
+          quiet = nothing-behind i.queue.waiting waits.quiet;
+          over = waits.over;
         };
   }
 
@@ -368,9 +401,9 @@ module _ (laws : TreeLaws) where
     world = laws.opened;
     whole = laws.opened_whole;
     given = given-opening;
+    cookies = omega arith;
     instances = λ id i at. absurd (none-opened id (ap is_some at));
   }
 
   pub trees-sound : TreesAreSound
-  unfolding stands_for
-  trees-sound limits es = IsSoundTree-tree_after (opening limits) es (IsSoundTree-opening limits)
+  trees-sound = record { opened = IsSoundTree-opening; stay = IsSoundTree-tree_after }

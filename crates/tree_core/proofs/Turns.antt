@@ -13,8 +13,8 @@ use Rattle.tree_core.specs.declared.call.Call.TheVariants as call
 use Rattle.tree_core.specs.declared.reply.Entry.{Entry}
 use Rattle.tree_core.specs.declared.reply.Reply.{Reply}
 use Rattle.tree_core.specs.declared.reply.Reply.TheVariants as reply
-use Rattle.tree_core.specs.Journal.{IsLawfulFrom, IsLawful}
-use Rattle.tree_core.specs.Tree.{Tree, opening, counts_of, refusal_of, after_file, after_init, after_add_watch, after_rm_watch, after_accepted_read, after_close, accepted, watch_answer, read_answer, number_seen, answer_of, reply_by, tree_by, after}
+use Rattle.tree_core.specs.Journal.{IsLawfulFrom}
+use Rattle.tree_core.specs.Tree.{Tree, counts_of, refusal_of, after_file, after_init, after_add_watch, after_rm_watch, after_accepted_read, after_close, accepted, watch_answer, read_answer, number_seen, answer_of, reply_by, tree_by, after}
 use Rattle.tree_core.specs.TurnLaws.{AreInTurn, number_in, numbers_given, NumbersAreInTurn, id_in, ids_given, IdsAreInTurn}
 
 -- what a call gives is in turn: what is in turn from the number that comes next after it is so behind it too
@@ -82,8 +82,7 @@ numbers-from t (e ∷ es) h =
     ((step-numbers t e.call (refusal_of t e.call)).all (numbers_given es) (numbers-from (after t e.call) es h.1))
 
 pub numbers-in-turn : NumbersAreInTurn
-unfolding IsLawful opening
-numbers-in-turn limits es h = numbers-from (opening limits) es h
+numbers-in-turn = numbers-from
 
 -- ---- numbers of instances
 
@@ -116,5 +115,4 @@ ids-from t (e ∷ es) h =
     ((step-ids t e.call (refusal_of t e.call)).all (ids_given es) (ids-from (after t e.call) es h.1))
 
 pub ids-in-turn : IdsAreInTurn
-unfolding IsLawful opening
-ids-in-turn limits es h = ids-from (opening limits) es h
+ids-in-turn = ids-from

@@ -10,10 +10,11 @@ use Rattle.tree_core.specs.declared.call.Call.{Call}
 use Rattle.tree_core.specs.declared.call.Call.TheVariants as call
 use Rattle.tree_core.specs.declared.reply.Entry.{Entry}
 use Rattle.tree_core.specs.Tree.{Tree, opening, refusal_of, accepted, tree_by, after, after_file, after_init, after_add_watch, after_rm_watch, after_accepted_read, after_close}
-use Rattle.tree_core.specs.Journal.{tree_after, stands_for}
+use Rattle.tree_core.specs.Journal.{tree_after}
 use Rattle.tree_core.specs.Histories.{where_open, events_for, records_for, raised_to, raised_by, raised_in, read_by, read_in}
 use Rattle.tree_core.specs.QueueLaws.{IsUntouched, UnmadeInstancesHearNothing, ClosedInstancesHearNothing}
 use Rattle.tree_core.proofs.Opened.{eqb-other, left_of, instance_of-accepted}
+use Rattle.tree_core.proofs.SoundTrees.{sound-ahead}
 
 -- ---- one call
 
@@ -110,8 +111,7 @@ unfolding opening
 none-opening limits id = get-empty {X = Instance} nat_cmp id
 
 pub unmade_hear_nothing : UnmadeInstancesHearNothing
-unfolding stands_for
-unmade_hear_nothing limits es id h = untouched (opening limits) es id (none-opening limits id) (inr h)
+unmade_hear_nothing t es id sound h = let more = next-tree_after t es in untouched t es id (sound-ahead t sound id (omega arith)) (inr h)
 
 pub closed_hear_nothing : ClosedInstancesHearNothing
-closed_hear_nothing limits front rest id none h = untouched (stands_for limits front) rest id none (inl (omega arith))
+closed_hear_nothing t es id none h = untouched t es id none (inl (omega arith))

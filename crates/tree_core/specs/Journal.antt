@@ -1,5 +1,5 @@
 -- Journals, and what they stand for.
-use Rattle.std.specs.Prelude.{◌≡◌, ℕ, List, [], ◌∷◌, ◌++◌, ⊤, Option, option_map, length}
+use Rattle.std.specs.Prelude.{◌≡◌, ℕ, ◌+◌, ◌^◌, ◌≤◌, ◌⊎◌, List, [], ◌∷◌, ◌++◌, ⊤, Option, option_map, length}
 use Rattle.tree_paths.specs.declared.limits.Limits.{Limits}
 use Rattle.instance_table.specs.Instances.{instance_of}
 use Rattle.tree_core.specs.declared.reply.Entry.{Entry}
@@ -15,25 +15,52 @@ abbrev pub IsLawfulFrom : Tree → List Entry → Type 0
 IsLawfulFrom t [] = ⊤
 IsLawfulFrom t (e ∷ es) = (e.reply ≡ reply_of t e.call) × IsLawfulFrom (after t e.call) es
 
--- what a journal stands for
+-- what a whole journal stands for
 unfoldable pub stands_for : Limits → List Entry → Tree
 stands_for limits es = tree_after (opening limits) es
 
 unfoldable pub IsLawful : Limits → List Entry → Type 0
 IsLawful limits es = IsLawfulFrom (opening limits) es
 
--- a state, as its callers see it
+-- a state, as its callers see it: the tree at the last cut, at first the opening tree; the place of the last entry before
+-- it; and the entries since
 pub record Journaled : Type 0 where
-  pub limits : Limits
+  pub start : Tree
+  pub place : ℕ
   pub entries : List Entry
 
 -- the tree that a state stands for
-abbrev pub now : Journaled → Tree
-now s = stands_for s.limits s.entries
+unfoldable pub now : Journaled → Tree
+now s = tree_after s.start s.entries
+
+-- the place of the last entry
+abbrev pub last_place : Journaled → ℕ
+last_place s = s.place + length s.entries
+
+-- a state with no entry yet
+abbrev pub opened : Limits → Journaled
+opened limits = record { start = opening limits; place = 0; entries = [] }
 
 -- a state after one more entry
 abbrev pub with_entry : Journaled → Entry → Journaled
 with_entry s e = record s { entries = s.entries ++ e ∷ [] }
+
+-- a state whose journal is cut
+abbrev pub cut_off : Journaled → Journaled
+cut_off s = record { start = now s; place = last_place s; entries = [] }
+
+-- no entry more is taken: there are as many since the cut as the limit says, or all places were given
+abbrev pub IsSpent : Journaled → Type 0
+IsSpent s = (s.start.limits.journal ≤ length s.entries) ⊎ (2 ^ 64 ≤ last_place s + 1)
+
+-- the entries that were cut off: a lawful journal that leads to the tree at the cut, its last entry at this place
+pub record IsPast (start : Tree) (place : ℕ) (past : List Entry) : Type 0 where
+  pub lawful : IsLawful start.limits past
+  pub places : length past ≡ place
+  pub leads : stands_for start.limits past ≡ start
+
+abbrev pub HasPast : Tree → ℕ → Type 0
+HasPast start place = (past : List Entry) × IsPast start place past
 
 -- how many records wait in the instance of a number
 unfoldable pub waiting_in : Tree → ℕ → Option ℕ

@@ -1,33 +1,35 @@
--- Laws of all lawful journals: what is raised for an instance, what joins its queue, and what is read of it.
+-- Laws of all lawful journals, from any sound tree on: what is raised for an instance, what joins its queue, and what is
+-- read of it.
 use Rattle.std.specs.Prelude.{◌≡◌, ℕ, ◌+◌, ◌≤◌, not, List, [], ◌∷◌, ◌++◌, Option, Some, None, All, length, count_by}
 use Rattle.std.specs.List.{filter}
 use Rattle.record_codec.specs.declared.event.Event.{Event}
 use Rattle.record_codec.specs.Records.{spelling}
-use Rattle.tree_paths.specs.declared.limits.Limits.{Limits}
 use Rattle.event_queue.specs.Backlogs.{is_mark}
 use Rattle.event_queue.specs.Fates.{HasFate}
 use Rattle.instance_table.specs.declared.instance.Instance.{Instance}
-use Rattle.instance_table.specs.Instances.{instance_of}
+use Rattle.instance_table.specs.Instances.{instance_of, waiting_of}
 use Rattle.tree_core.specs.declared.call.Call.{Call}
 use Rattle.tree_core.specs.declared.call.Call.TheVariants as call
 use Rattle.tree_core.specs.declared.reply.Entry.{Entry}
 use Rattle.tree_core.specs.declared.reply.Reply.{Reply}
 use Rattle.tree_core.specs.declared.reply.Reply.TheVariants as reply
-use Rattle.tree_core.specs.Tree.{Tree, opening}
-use Rattle.tree_core.specs.Journal.{IsLawful, stands_for}
+use Rattle.tree_core.specs.Tree.{Tree}
+use Rattle.tree_core.specs.Journal.{IsLawfulFrom, tree_after}
+use Rattle.tree_core.specs.Sound.{IsSoundTree}
 use Rattle.tree_core.specs.Histories.{Raised, raised_in, read_in, fate, is_keeping, is_merging, is_losing, joined, kept, where_same}
 
 -- ---- what was read, and what waits
 
--- what was read of an instance, followed by what waits, is all that joined. What waited at its close was given up
+-- what was read of an instance, followed by what waits, is what waited at first and all that joined. What waited at its
+-- close was given up
 abbrev pub IsInOrder : List Event → List Event → Option Instance → Type 0
 IsInOrder read joined (Some i) = read ++ i.queue.waiting ≡ joined
 IsInOrder read joined None = (given_up : List Event) × (read ++ given_up ≡ joined)
 
 abbrev pub ReadsAreInOrder : Type 0
 ReadsAreInOrder =
-    (limits : Limits) (es : List Entry) (id : ℕ)
-    → IsInOrder (read_in (opening limits) es id) (joined (raised_in (opening limits) es id)) (instance_of (stands_for limits es).instances id)
+    (t : Tree) (es : List Entry) (id : ℕ) → IsSoundTree t
+    → IsInOrder (read_in t es id) (waiting_of (instance_of t.instances id) ++ joined (raised_in t es id)) (instance_of (tree_after t es).instances id)
 
 abbrev pub bytes_in : Reply → List ℕ
 bytes_in (reply.Records bytes) = bytes
@@ -46,8 +48,7 @@ bytes_read id (e ∷ es) = bytes_of id e.call e.reply ++ bytes_read id es
 
 -- the bytes of the replies are those of the records that were read
 abbrev pub BytesAreOfRecords : Type 0
-BytesAreOfRecords =
-    (limits : Limits) (es : List Entry) (id : ℕ) → IsLawful limits es → bytes_read id es ≡ spelling (read_in (opening limits) es id)
+BytesAreOfRecords = (t : Tree) (es : List Entry) (id : ℕ) → IsLawfulFrom t es → bytes_read id es ≡ spelling (read_in t es id)
 
 -- ---- what becomes of an event
 
@@ -58,7 +59,7 @@ pub record AreAccountedFor (rs : List Raised) : Type 0 where
   pub order : filter (λ e. not (is_mark e)) (joined rs) ≡ kept rs
 
 abbrev pub EventsAreAccountedFor : Type 0
-EventsAreAccountedFor = (limits : Limits) (es : List Entry) (id : ℕ) → AreAccountedFor (raised_in (opening limits) es id)
+EventsAreAccountedFor = (t : Tree) (es : List Entry) (id : ℕ) → IsSoundTree t → AreAccountedFor (raised_in t es id)
 
 -- ---- instances that are not open
 
@@ -68,11 +69,8 @@ pub record IsUntouched (t : Tree) (es : List Entry) (id : ℕ) : Type 0 where
   pub read : read_in t es id ≡ []
 
 abbrev pub UnmadeInstancesHearNothing : Type 0
-UnmadeInstancesHearNothing =
-    (limits : Limits) (es : List Entry) (id : ℕ) → (stands_for limits es).next_id ≤ id → IsUntouched (opening limits) es id
+UnmadeInstancesHearNothing = (t : Tree) (es : List Entry) (id : ℕ) → IsSoundTree t → (tree_after t es).next_id ≤ id → IsUntouched t es id
 
 -- an instance that is closed stays closed: nothing is raised for it any more, and nothing is read of it
 abbrev pub ClosedInstancesHearNothing : Type 0
-ClosedInstancesHearNothing =
-    (limits : Limits) (front rest : List Entry) (id : ℕ)
-    → instance_of (stands_for limits front).instances id ≡ None → id + 1 ≤ (stands_for limits front).next_id → IsUntouched (stands_for limits front) rest id
+ClosedInstancesHearNothing = (t : Tree) (es : List Entry) (id : ℕ) → instance_of t.instances id ≡ None → id + 1 ≤ t.next_id → IsUntouched t es id

@@ -1,30 +1,31 @@
--- Laws of all lawful journals: numbers, descriptors and cookies are given once, and nothing follows the end of a watch.
+-- Laws of all lawful journals, from any sound tree on: numbers, descriptors and cookies are given once, and nothing follows
+-- the end of a watch.
 use Rattle.std.specs.Prelude.{◌≡◌, ◌≢◌, ℕ, ℤ, ◌+◌, ◌≤◌, ◌==◌, List, [], ◌∷◌, ◌++◌, Option, Some, None, All, IsTrue, not, if◌then◌else◌}
 use Rattle.record_codec.specs.declared.event.Event.{Event}
 use Rattle.tree_paths.specs.declared.limits.Limits.{Limits}
 use Rattle.tree_paths.specs.declared.refusal.Refusal.{Refusal}
-use Rattle.inode_table.specs.World.{root_number}
 use Rattle.tree_ops.specs.declared.answer.Answer.TheVariants.{Number}
 use Rattle.tree_ops.specs.Refused.{cookies_of}
 use Rattle.watch_table.specs.Watching.{HasEnded}
 use Rattle.event_rules.specs.Raised.{event_bit}
-use Rattle.event_rules.specs.Laws.{TellsNothing, cookie_for, says_ended}
+use Rattle.event_rules.specs.Laws.{TellsNothing, cookie_for}
 use Rattle.event_rules.specs.declared.notice.TheConstants.{NO_COOKIE}
 use Rattle.instance_table.specs.declared.instance.Instance.{Instance}
-use Rattle.instance_table.specs.Instances.{instance_of}
+use Rattle.instance_table.specs.Instances.{instance_of, waiting_of}
 use Rattle.tree_core.specs.declared.call.Call.{Call}
 use Rattle.tree_core.specs.declared.call.Call.TheVariants as call
 use Rattle.tree_core.specs.declared.reply.Entry.{Entry}
 use Rattle.tree_core.specs.declared.reply.Reply.{Reply}
 use Rattle.tree_core.specs.declared.reply.Reply.TheVariants as reply
-use Rattle.tree_core.specs.Sound.{IsSoundTree}
+use Rattle.tree_core.specs.Sound.{IsSoundTree, NothingFollowsIgnored}
 use Rattle.tree_core.specs.Tree.{Tree, opening, cookie_now, refusal_of, reply_of, after}
-use Rattle.tree_core.specs.Journal.{IsLawful, stands_for}
+use Rattle.tree_core.specs.Journal.{IsLawfulFrom, tree_after}
 use Rattle.tree_core.specs.Histories.{Raised, raised_by, raised_in, events, joined, where_same}
 
--- each tree that a journal stands for is sound
-abbrev pub TreesAreSound : Type 0
-TreesAreSound = (limits : Limits) (es : List Entry) → IsSoundTree (stands_for limits es)
+-- the opening tree is sound, and a sound tree stays so
+pub record TreesAreSound : Type 0 where
+  pub opened : (limits : Limits) → IsSoundTree (opening limits)
+  pub stay : (t : Tree) (es : List Entry) → IsSoundTree t → IsSoundTree (tree_after t es)
 
 -- ---- numbers that are given
 
@@ -43,7 +44,7 @@ numbers_given [] = []
 numbers_given (e ∷ es) = number_in e.reply ++ numbers_given es
 
 abbrev pub NumbersAreInTurn : Type 0
-NumbersAreInTurn = (limits : Limits) (es : List Entry) → IsLawful limits es → AreInTurn (root_number + 1) (numbers_given es)
+NumbersAreInTurn = (t : Tree) (es : List Entry) → IsLawfulFrom t es → AreInTurn t.next_number (numbers_given es)
 
 abbrev pub id_in : Reply → List ℕ
 id_in (reply.Instance id) = id ∷ []
@@ -55,7 +56,7 @@ ids_given [] = []
 ids_given (e ∷ es) = id_in e.reply ++ ids_given es
 
 abbrev pub IdsAreInTurn : Type 0
-IdsAreInTurn = (limits : Limits) (es : List Entry) → IsLawful limits es → AreInTurn 1 (ids_given es)
+IdsAreInTurn = (t : Tree) (es : List Entry) → IsLawfulFrom t es → AreInTurn t.next_id (ids_given es)
 
 -- ---- cookies
 
@@ -78,7 +79,7 @@ cookies_in t (e ∷ es) = cookies_used t e.call ++ cookies_in (after t e.call) e
 
 -- cookies are used in turn, so no two renames share one, and none is 0
 abbrev pub CookiesAreInTurn : Type 0
-CookiesAreInTurn = (limits : Limits) (es : List Entry) → AreInTurn 1 (cookies_in (opening limits) es)
+CookiesAreInTurn = (t : Tree) (es : List Entry) → AreInTurn t.next_cookie (cookies_in t es)
 
 abbrev pub only : List ℕ → ℕ
 only [] = NO_COOKIE
@@ -90,17 +91,14 @@ CookiesTieMoves = (t : Tree) (c : Call) (id : ℕ) → All (λ e. e.cookie ≡ c
 
 -- ---- the end of a watch
 
--- nothing of a watch follows its IN_IGNORED, so there is one at most
-abbrev pub NothingFollowsIgnored : List Event → Type 0
-NothingFollowsIgnored es = (before after : List Event) (e : Event) → es ≡ before ++ e ∷ after → IsTrue (says_ended e) → TellsNothing e.wd after
-
--- neither of what is raised for an instance, nor of what joins its queue
-pub record EndsOnce (rs : List Raised) : Type 0 where
+-- neither of what is raised for an instance does anything of a watch follow its IN_IGNORED, so there is one at most, nor of
+-- what waited at first and joins its queue
+pub record EndsOnce (waiting : List Event) (rs : List Raised) : Type 0 where
   pub raised : NothingFollowsIgnored (events rs)
-  pub joined : NothingFollowsIgnored (joined rs)
+  pub joined : NothingFollowsIgnored (waiting ++ joined rs)
 
 abbrev pub WatchesEndOnce : Type 0
-WatchesEndOnce = (limits : Limits) (es : List Entry) (id : ℕ) → EndsOnce (raised_in (opening limits) es id)
+WatchesEndOnce = (t : Tree) (es : List Entry) (id : ℕ) → IsSoundTree t → EndsOnce (waiting_of (instance_of t.instances id)) (raised_in t es id)
 
 abbrev pub wd_in : Reply → List ℤ
 wd_in (reply.Wd wd) = wd ∷ []
@@ -118,9 +116,9 @@ wds_given id (e ∷ es) = wds_of id e.call e.reply ++ wds_given id es
 -- a descriptor whose watch has ended is never given again, and nothing of it is raised
 abbrev pub DescriptorsEndForGood : Type 0
 DescriptorsEndForGood =
-    (limits : Limits) (front rest : List Entry) (id : ℕ) (i : Instance) (wd : ℤ)
-    → IsLawful limits (front ++ rest) → instance_of (stands_for limits front).instances id ≡ Some i → HasEnded i.watches wd
-    → All (λ given. given ≢ wd) (wds_given id rest) × TellsNothing wd (events (raised_in (stands_for limits front) rest id))
+    (t : Tree) (es : List Entry) (id : ℕ) (i : Instance) (wd : ℤ)
+    → IsSoundTree t → IsLawfulFrom t es → instance_of t.instances id ≡ Some i → HasEnded i.watches wd
+    → All (λ given. given ≢ wd) (wds_given id es) × TellsNothing wd (events (raised_in t es id))
 
 -- ---- what a reply tells of its tree
 

@@ -1,5 +1,6 @@
 //! The files and the instances: what they answer to each call.
 ghost use Rattle.std.specs.Prelude.{◌≡◌, ◌≤◌, true, IfOk, IfErr, IfSome, OnOk, OnErr, IsSome, length, option_map, take};
+ghost use Rattle.tree_core.specs.Snapshots.{IsSnapshotOf};
 ghost use Rattle.std.specs.Option.{option_copied};
 ghost use Rattle.record_codec.specs.Records.{AreEvents, spelling};
 ghost use Rattle.tree_paths.specs.Rows.{first_row};
@@ -13,6 +14,7 @@ ghost use Rattle.tree_core.specs.Tree.{Tree, opening, counts_of, init_rows, rm_w
 
 use crate::call::Call;
 use crate::reply::Reply;
+use crate::snapshot::Snapshot;
 use event_queue::Queue;
 use event_rules::notices;
 use inode_table::{Kind, Table};
@@ -112,6 +114,22 @@ impl Machine {
             next_cookie: 1,
             next_id: 1,
             instances: Instances::new(alloc),
+        })
+    }
+
+    /// A snapshot of the tree, behind an entry at this place.
+    pub fn snapshot(&self, place: u64) -> Result<Snapshot, Refusal>
+        ensures ok { (t : Tree) → IsMachineOf t self.now → IfOk result (IsSnapshotOf t place) }
+        ensures err { IfErr result (λ refusal. refusal ≡ Enomem) }
+    {
+        Ok(Snapshot {
+            paths: self.table.flat()?,
+            files: self.table.files()?,
+            instances: self.instances.rows()?,
+            next_number: self.next_number,
+            next_cookie: u32::try_from(self.next_cookie).unwrap_or(0),
+            next_id: self.next_id,
+            place,
         })
     }
 

@@ -1,5 +1,5 @@
 //! A tree with the journal of its calls.
-ghost use Rattle.std.specs.Prelude.{◌≡◌, ◌↔◌, ◌-◌, ◌<◌, ◌≤◌, [], ◌∷◌, ◌++◌, ◌⊎◌, IfOk, IfErr, IfSome, OnOk, OnErr, length, true, vec_len, vec_capacity};
+ghost use Rattle.std.specs.Prelude.{◌≡◌, ◌↔◌, ◌-◌, ◌+◌, ◌^◌, ◌<◌, ◌≤◌, [], ◌∷◌, ◌++◌, ◌⊎◌, IfOk, IfErr, IfSome, OnOk, OnErr, length, true, vec_len, vec_capacity};
 ghost use Rattle.record_codec.specs.Records.{AreEvents, spelling};
 ghost use Rattle.instance_table.specs.Instances.{watchers_of};
 ghost use Rattle.tree_core.specs.Histories.{pumped};
@@ -7,11 +7,15 @@ ghost use Rattle.tree_core.specs.Machines.{copies_of};
 ghost use Rattle.tree_core.specs.Tree.{reply_of};
 ghost use Rattle.tree_core.specs.Calls.{IsKeptAs};
 ghost use Rattle.tree_core.specs.declared.reply.Reply.{Reply as ReplyValue};
-ghost use Rattle.tree_core.specs.Journal.{IsLawful, now, with_entry, waiting_in};
+ghost use Rattle.tree_core.specs.Journal.{HasPast, IsLawfulFrom, IsSpent, cut_off, last_place, now, opened, with_entry, waiting_in};
+ghost use Rattle.tree_core.specs.Snapshots.{IsSnapshotOf};
+ghost use Rattle.tree_core.specs.Sound.{IsSoundTree};
 
 use crate::call::Call;
 use crate::machine::{Machine, Pumped, Replies};
 use crate::reply::{Entry, Kept, Receipt, Reply};
+use crate::snapshot::Snapshot;
+use crate::turn_laws::trees_are_sound;
 use record_codec::Events;
 use std::alloc::{AllocError, Global};
 use std::marker::Model;
@@ -19,10 +23,12 @@ use tree_paths::{Limits, Refusal};
 
 /// A tree of files with its instances, and the journal of the calls that it answered.
 ///
-/// Contracts see it as its limits and its journal: the files, the watches and what waits are what the journal stands
-/// for. The journal is lawful at each moment: each reply in it is the one that the tree gives after the calls before.
+/// Contracts see it as the tree at the last cut, the place of the last entry before it, and its journal, which are the
+/// entries since: the files, the watches and what waits are what these stand for. The journal is lawful at each moment:
+/// each reply in it is the one that the tree gives after the calls before.
 pub struct State {
     machine: Machine,
+    snapshot: Snapshot,
     journal: Vec<Entry>,
 }
 
@@ -30,6 +36,7 @@ impl Drop for State {
     fn drop(self) {
         let State {
             machine: _,
+            snapshot: _,
             journal: _,
         } = self;
     }
@@ -56,11 +63,15 @@ impl State {
     /// # Errors
     /// `ENOMEM`, where there is no memory for it.
     pub fn new(alloc: Global, limits: Limits) -> Result<State, Refusal>
-        ensures ok { IfOk result (λ s. s ≡ record { limits = limits; entries = [] }) }
+        ensures ok { IfOk result (λ s. s ≡ opened limits) }
         ensures err { IfErr result (λ refusal. refusal ≡ Refusal.Enomem) }
     {
+        trees_are_sound();
+        let machine = Machine::new(alloc, limits)?;
+        let snapshot = machine.snapshot(0)?;
         Ok(State {
-            machine: Machine::new(alloc, limits)?,
+            machine,
+            snapshot,
             journal: Vec::new(alloc),
         })
     }
@@ -69,18 +80,18 @@ impl State {
     ///
     /// # Errors
     /// The first that holds; the state is then as before, the journal too.
-    /// - `JournalFull`, where the journal has as many entries as its limit.
+    /// - `JournalFull`, where the journal has as many entries since the last cut as its limit, or the last place is 2^64 - 1.
     /// - `ENOMEM`, where there is no memory for the call.
     pub fn apply(&mut self, caller: u32, call: Call) -> Result<Receipt, Refusal>
         ensures entry { IfOk result (λ r. self.new ≡ with_entry self.old (record { caller = caller; call = call; reply = r.reply })) }
-        ensures place { IfOk result (λ r. r.place ≡ length self.new.entries) }
+        ensures place { IfOk result (λ r. r.place ≡ last_place self.new) }
         ensures reply { IfOk result (λ r. r.reply ≡ reply_of (now self.old) call) }
-        ensures lawful { IsLawful self.new.limits self.new.entries }
+        ensures lawful { IsLawfulFrom self.new.start self.new.entries }
         ensures err { OnErr result (self.new ≡ self.old) }
-        ensures full { (result ≡ Err Refusal.JournalFull) ↔ (self.old.limits.journal ≤ length self.old.entries) }
+        ensures full { (result ≡ Err Refusal.JournalFull) ↔ IsSpent self.old }
         ensures errors { IfErr result (λ e. (e ≡ Refusal.JournalFull) ⊎ (e ≡ Refusal.Enomem)) }
     {
-        make_room(&mut self.journal, &self.machine.limits)?;
+        make_room(&mut self.journal, &self.machine.limits, self.snapshot.place)?;
         let replies = self.machine.answer(&call, false)?;
         let Replies {
             journaled,
@@ -93,7 +104,7 @@ impl State {
             reply: journaled,
         });
         Ok(Receipt {
-            place: self.journal.len() as u64,
+            place: self.snapshot.place + self.journal.len() as u64,
             reply: given,
         })
     }
@@ -106,17 +117,17 @@ impl State {
     pub fn keep(&mut self, caller: u32, call: Call) -> Result<(Receipt, Kept), Refusal>
         ensures kept { IfOk result (λ r. IsKeptAs r.0 r.1 call) }
         ensures entry { IfOk result (λ r. self.new ≡ with_entry self.old (record { caller = caller; call = call; reply = r.0.reply })) }
-        ensures place { IfOk result (λ r. r.0.place ≡ length self.new.entries) }
+        ensures place { IfOk result (λ r. r.0.place ≡ last_place self.new) }
         ensures reply { IfOk result (λ r. r.0.reply ≡ reply_of (now self.old) call) }
-        ensures lawful { IsLawful self.new.limits self.new.entries }
+        ensures lawful { IsLawfulFrom self.new.start self.new.entries }
         ensures err { OnErr result (self.new ≡ self.old) }
-        ensures full { (result ≡ Err Refusal.JournalFull) ↔ (self.old.limits.journal ≤ length self.old.entries) }
+        ensures full { (result ≡ Err Refusal.JournalFull) ↔ IsSpent self.old }
         ensures errors { IfErr result (λ e. (e ≡ Refusal.JournalFull) ⊎ (e ≡ Refusal.Enomem)) }
     {
-        make_room(&mut self.journal, &self.machine.limits)?;
+        make_room(&mut self.journal, &self.machine.limits, self.snapshot.place)?;
         let copy = call.copy()?;
         let replies = self.machine.answer(&call, true)?;
-        let place = self.journal.len() as u64 + 1;
+        let place = self.snapshot.place + self.journal.len() as u64 + 1;
         let (receipt, reply, kept) = taken_apart(replies, place, copy);
         self.journal.push_reserved(Entry {
             caller,
@@ -141,16 +152,16 @@ impl State {
         ensures spelled { IfOk result (λ r. IfSome r.2 (λ records. AreEvents records × (r.0.reply ≡ Reply.Records (spelling records)))) }
         ensures kept { IfOk result (λ r. IsKeptAs r.0 r.1 (Call.Pump instance bytes)) }
         ensures entry { IfOk result (λ r. self.new ≡ with_entry self.old (record { caller = caller; call = Call.Pump instance bytes; reply = r.0.reply })) }
-        ensures place { IfOk result (λ r. r.0.place ≡ length self.new.entries) }
+        ensures place { IfOk result (λ r. r.0.place ≡ last_place self.new) }
         ensures reply { IfOk result (λ r. r.0.reply ≡ reply_of (now self.old) (Call.Pump instance bytes)) }
-        ensures lawful { IsLawful self.new.limits self.new.entries }
+        ensures lawful { IsLawfulFrom self.new.start self.new.entries }
         ensures err { OnErr result (self.new ≡ self.old) }
-        ensures full { (result ≡ Err Refusal.JournalFull) ↔ (self.old.limits.journal ≤ length self.old.entries) }
+        ensures full { (result ≡ Err Refusal.JournalFull) ↔ IsSpent self.old }
         ensures errors { IfErr result (λ e. (e ≡ Refusal.JournalFull) ⊎ (e ≡ Refusal.Enomem)) }
     {
-        make_room(&mut self.journal, &self.machine.limits)?;
+        make_room(&mut self.journal, &self.machine.limits, self.snapshot.place)?;
         let Pumped { replies, records } = self.machine.pump_out(instance, bytes)?;
-        let place = self.journal.len() as u64 + 1;
+        let place = self.snapshot.place + self.journal.len() as u64 + 1;
         let (receipt, reply, kept) = taken_apart(replies, place, Call::Pump { instance, bytes });
         self.journal.push_reserved(Entry {
             caller,
@@ -160,12 +171,46 @@ impl State {
         Ok((receipt, kept, records))
     }
 
-    /// The calls so far in order, each with who made it and what it answered.
+    /// The calls since the last cut in order, each with who made it and what it answered.
     pub fn journal(&self) -> &[Entry]
         ensures entries { result.now ≡ self.now.entries }
-        ensures lawful { IsLawful self.now.limits self.now.entries }
+        ensures lawful { IsLawfulFrom self.now.start self.now.entries }
+        ensures past { HasPast self.now.start self.now.place }
     {
         self.journal.as_slice()
+    }
+
+    /// The place of the last entry, whether it was cut off or not: 0 where there is none.
+    pub fn last_place(&self) -> u64
+        ensures { result ≡ last_place self.now }
+    {
+        self.snapshot.place + self.journal.len() as u64
+    }
+
+    /// What the last cut kept of the tree, and the place of the last entry before it. Before any cut it is the opening tree,
+    /// and the place is 0.
+    pub fn snapshot(&self) -> &Snapshot
+        ensures { IsSnapshotOf self.now.start self.now.place result.now }
+    {
+        &self.snapshot
+    }
+
+    /// Puts a snapshot of the tree in the place of the journal, and answers the place of the last entry. The tree stays as it
+    /// is, and places go on. It takes time and memory in proportion to the tree.
+    ///
+    /// # Errors
+    /// `ENOMEM`, where there is no memory for it. The state is then as before.
+    pub fn cut(&mut self) -> Result<u64, Refusal>
+        ensures place { IfOk result (λ place. place ≡ last_place self.old) }
+        ensures cut { OnOk result (self.new ≡ cut_off self.old) }
+        ensures err { OnErr result (self.new ≡ self.old) }
+        ensures errors { IfErr result (λ e. e ≡ Refusal.Enomem) }
+    {
+        trees_are_sound();
+        let place = self.snapshot.place + self.journal.len() as u64;
+        self.snapshot = self.machine.snapshot(place)?;
+        self.journal.clear();
+        Ok(place)
     }
 
     /// How many records wait in an open instance, marks of lost events counted. `None` for any other number.
@@ -183,23 +228,28 @@ impl State {
         self.machine.instances.watchers(number)
     }
 
-    /// How many more calls the journal takes: its limit less its entries.
+    /// How many more calls the journal takes before the next cut: its limit less its entries.
     pub fn free_entries(&self) -> u64
-        ensures { result ≡ self.now.limits.journal - length self.now.entries }
+        ensures { result ≡ self.now.start.limits.journal - length self.now.entries }
     {
         (self.machine.limits.journal as u64).saturating_sub(self.journal.len() as u64)
     }
 }
 
-// Room for one more entry.
-fn make_room(journal: &mut Vec<Entry>, limits: &Limits) -> Result<(), Refusal>
+// Room for one more entry of a journal that begins behind this place.
+fn make_room(journal: &mut Vec<Entry>, limits: &Limits, place: u64) -> Result<(), Refusal>
+    requires { place + length journal.old.items < 2 ^ 64 }
     ensures items { journal.new.items ≡ journal.old.items }
     ensures room { OnOk result (vec_len journal.new < vec_capacity journal.new) }
     ensures free { OnOk result (length journal.old.items < limits.now.journal) }
-    ensures full { (result ≡ Err Refusal.JournalFull) ↔ (limits.now.journal ≤ length journal.old.items) }
+    ensures small { OnOk result (place + length journal.old.items + 1 < 2 ^ 64) }
+    ensures full { (result ≡ Err Refusal.JournalFull) ↔ ((limits.now.journal ≤ length journal.old.items) ⊎ (2 ^ 64 ≤ place + length journal.old.items + 1)) }
     ensures errors { IfErr result (λ e. (e ≡ Refusal.JournalFull) ⊎ (e ≡ Refusal.Enomem)) }
 {
     if journal.len() >= limits.journal as usize {
+        return Err(Refusal::JournalFull);
+    }
+    if place == u64::MAX - journal.len() as u64 {
         return Err(Refusal::JournalFull);
     }
     journal.reserve(1)?;

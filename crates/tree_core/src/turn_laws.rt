@@ -13,8 +13,9 @@ use event_rules::{
 use tree_ops::{files_get_numbers, worlds_stay_worlds};
 use watch_table::{descriptors_end_for_good, descriptors_tell_files, watches_stay_sound};
 
-/// A law: in each tree that a journal stands for, the numbers that come next are behind all that were given, watches are
-/// of files that are there, and queues keep their bounds.
+/// A law: the opening tree is sound, and each call leaves a sound tree sound: the numbers that come next are behind all that
+/// were given, watches are of files that are there, queues keep their bounds, and of a watch whose `IN_IGNORED` waits nothing
+/// is left and nothing waits behind it.
 pub fn trees_are_sound()
     ensures { TreesAreSound }
 {
@@ -25,6 +26,10 @@ pub fn trees_are_sound()
     other_watches_stay();
     events_are_of_watches();
     bounds_are_kept();
+    cookies_tie_moves();
+    descriptors_end_for_good();
+    descriptors_tell_files();
+    nothing_follows_ignored();
 }
 
 /// A law: numbers of files and of instances are given in turn, so none is given twice.

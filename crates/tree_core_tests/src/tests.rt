@@ -3,6 +3,7 @@
 //! A step that lacks memory is made once more, and must then answer as if nothing had happened.
 
 mod calls;
+mod cuts;
 mod instances;
 mod keeping;
 mod limits;

@@ -1,3 +1,4 @@
 pub mod Index
 pub mod Masks
 pub mod Watching
+pub mod Rows

@@ -3,10 +3,12 @@
 
 mod laws;
 mod mask;
+mod rows;
 mod watches;
 
 pub use laws::{descriptors_end_for_good, descriptors_tell_files, watches_stay_sound};
 pub use mask::Mask;
+pub use rows::WatchRows;
 pub use watches::Watches;
 
 #[cfg(test)]

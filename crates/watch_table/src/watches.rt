@@ -5,9 +5,10 @@ ghost use Rattle.std.specs.Map.Iter.{ShowsInOrder, deref};
 ghost use Rattle.tree_paths.specs.declared.refusal.Refusal.{Refusal};
 ghost use Rattle.tree_paths.specs.declared.refusal.Refusal.TheVariants.{Einval, Enomem};
 ghost use Rattle.watch_table.specs.Masks.{mask_fault};
+ghost use Rattle.watch_table.specs.Rows.{bits_in, watch_rows};
 ghost use Rattle.watch_table.specs.Watching.{IsSound, added, add_refusal, dropped, is_barred, is_full, next_bits, no_watches, number_of, removed, watch_of, wd_added, wd_of, with_new_watch};
 
-use crate::Mask;
+use crate::{Mask, WatchRows};
 use bitflags::Flags;
 use std::alloc::{AllocError, Global};
 use std::collections::BTreeMap;
@@ -108,6 +109,25 @@ impl Watches {
         ensures runs { ShowsInOrder (deref {X = ℕ}) }
     {
         self.by_number.keys()
+    }
+
+    /// The watches in the order of their descriptors: the number of the file, the descriptor and the bits of each.
+    pub fn rows(&self, alloc: Global) -> Result<WatchRows, Refusal>
+        ensures rows { IfOk result (λ rows. rows ≡ watch_rows self.now) }
+        ensures err { IfErr result (λ refusal. refusal ≡ Enomem) }
+    {
+        let mut rows = Vec::new(alloc);
+        for (wd, number) in &self.by_wd {
+            rows.push((*number, *wd, self.bits(*number)))?;
+        }
+        Ok(WatchRows::from_vec(rows))
+    }
+
+    // The bits of a file's watch. No bits where it has none.
+    fn bits(&self, number: u32) -> u32
+        ensures { result ≡ bits_in (watch_of self.now number) }
+    {
+        self.of(number).map_or(0, |watch| watch.1)
     }
 }
 

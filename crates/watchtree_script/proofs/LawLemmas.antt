@@ -1,63 +1,56 @@
 -- The journals of printed texts are lawful, and texts are one.
-use Rattle.std.proofs.Common.{◌≡◌, ℕ, List, [], ◌∷◌, Result, Ok, Err, ◌++◌, ◌∙◌, ap, arith, sym, subst, inl, inr}
+use Rattle.std.proofs.Common.{◌≡◌, ℕ, List, [], ◌∷◌, Result, Ok, Err, ◌++◌, ◌∙◌, ap, sym, subst, inl, inr}
 use Rattle.std.specs.List.{flat_map}
 use Rattle.std.specs.Prelude.{length, decimal}
 use Rattle.record_codec.specs.declared.event.Event.{Event}
 use Rattle.record_codec.proofs.DecodeLemmas.{one_spelling}
 use Rattle.tree_paths.specs.Bounds.{full}
-use Rattle.tree_paths.specs.declared.limits.Limits.{Limits}
-use Rattle.tree_core.specs.Journal.{Journaled, IsLawful, IsLawfulFrom, tree_after, stands_for, with_entry}
-use Rattle.tree_core.specs.Tree.{Tree, opening as opened, after, reply_of}
+use Rattle.tree_core.specs.Journal.{Journaled, HasPast, IsLawfulFrom, with_entry}
+use Rattle.tree_core.specs.TurnLaws.{TreesAreSound}
+use Rattle.tree_core.proofs.Lawful.{HasPast-cut, HasPast-opening, lawful-entry}
 use Rattle.tree_core.specs.declared.call.Call.{Call}
-use Rattle.tree_core.specs.declared.reply.Entry.{Entry}
 use Rattle.tree_core.specs.declared.reply.Reply.{Reply}
 use Rattle.tree_core.specs.declared.reply.Reply.TheVariants as replies
 use Rattle.watchtree_script.specs.declared.line.Line.{Line}
-use Rattle.watchtree_script.specs.declared.line.Line.TheVariants.{Silent, Run}
+use Rattle.watchtree_script.specs.declared.line.Line.TheVariants.{Silent, Cut, Run}
 use Rattle.watchtree_script.specs.declared.line.LineError.{LineError}
 use Rattle.watchtree_script.specs.declared.line.LineError.TheVariants.{Fault, Refused, Memory}
 use Rattle.watchtree_script.specs.declared.line.Shown.{Shown}
 use Rattle.watchtree_script.specs.declared.line.Shown.TheVariants as shown
 use Rattle.watchtree_script.specs.Replies.{AreEventsIn, IsReadText, IsReplyText, event_line, ok_line}
 use Rattle.watchtree_script.specs.Commands.{line_of}
-use Rattle.watchtree_script.specs.Script.{caller, Prints, PrintsLine, Replies, PrintsLineBy, PrintsBy, AmpleReplies}
+use Rattle.watchtree_script.specs.Script.{caller, Prints, PrintsLine, Replies, Cuts, PrintsLineBy, PrintsBy, AmpleReplies, AmpleCuts}
 use Rattle.watchtree_script.specs.Laws.{JournalsAreLawful, TextsAreOne}
 
+-- a state as a script leaves it: its entries are lawful, and so are those that were cut off
 abbrev IsLawfulState : Journaled → Type 0
-IsLawfulState s = IsLawful s.limits s.entries
-
-lawful_from-append : (t : Tree) (es : List Entry) (e : Entry) → IsLawfulFrom t es → e.reply ≡ reply_of (tree_after t es) e.call → IsLawfulFrom t (es ++ e ∷ [])
-lawful_from-append t [] e h r = (r, tt)
-lawful_from-append t (d ∷ es) e h r = (h.0, lawful_from-append (after t d.call) es e h.1 r)
-
-lawful-append : (limits : Limits) (es : List Entry) (e : Entry) → IsLawful limits es → e.reply ≡ reply_of (stands_for limits es) e.call → IsLawful limits (es ++ e ∷ [])
-unfolding IsLawful stands_for
-lawful-append limits es e h r = lawful_from-append (opened limits) es e h r
-
-lawful-nil : (limits : Limits) → IsLawful limits []
-unfolding IsLawful
-lawful-nil limits = tt
+IsLawfulState s = IsLawfulFrom s.start s.entries × HasPast s.start s.place
 
 reply-lawful : (old : Journaled) (call : Call) (reply : Reply) (new : Journaled) → IsLawfulState old → Replies old call reply new → IsLawfulState new
 reply-lawful old call reply new h (inl (inl answered)) =
-    subst IsLawfulState (sym answered.entry) (lawful-append old.limits old.entries (record { caller = caller; call = call; reply = reply }) h answered.answer)
+    subst IsLawfulState (sym answered.entry) (lawful-entry old (record { caller = caller; call = call; reply = reply }) h.0 answered.answer, h.1)
 reply-lawful old call reply new h (inl (inr full)) = subst IsLawfulState (sym full.same) h
 reply-lawful old call reply new h (inr spent) = subst IsLawfulState (sym spent.same) h
 
-line-lawful : (old : Journaled) (asked : Result Line LineError) (text : List ℕ) (new : Journaled) → IsLawfulState old → PrintsLine old asked text new → IsLawfulState new
-line-lawful old (Ok Silent) text new h printed = subst IsLawfulState (sym printed.1) h
-line-lawful old (Ok (Run call how)) text new h printed = reply-lawful old call printed.0 new h printed.1
-line-lawful old (Err (Refused refusal)) text new h printed = subst IsLawfulState (sym printed.1) h
-line-lawful old (Err (Fault fault)) text new h printed = absurd printed
-line-lawful old (Err Memory) text new h printed = absurd printed
+cut-lawful : TreesAreSound → (old : Journaled) (text : List ℕ) (new : Journaled) → IsLawfulState old → Cuts old text new → IsLawfulState new
+cut-lawful sound old text new h (inl cut) = subst IsLawfulState (sym cut.1) (tt, HasPast-cut sound old h.1 h.0)
+cut-lawful sound old text new h (inr spent) = subst IsLawfulState (sym spent.1) h
 
-lines-lawful : (queue : ℕ) (old new : Journaled) (lines : List (List ℕ)) (text : List ℕ) → IsLawfulState old → Prints queue old lines text new → IsLawfulState new
-lines-lawful queue old new [] text h printed = subst IsLawfulState (sym printed.1) h
-lines-lawful queue old new (line ∷ lines) text h printed =
-    lines-lawful queue printed.0 new lines printed.2 (line-lawful old (line_of queue line) printed.1 printed.0 h printed.3) printed.4
+line-lawful : TreesAreSound → (old : Journaled) (asked : Result Line LineError) (text : List ℕ) (new : Journaled) → IsLawfulState old → PrintsLine old asked text new → IsLawfulState new
+line-lawful sound old (Ok Silent) text new h printed = subst IsLawfulState (sym printed.1) h
+line-lawful sound old (Ok Cut) text new h printed = cut-lawful sound old text new h printed
+line-lawful sound old (Ok (Run call how)) text new h printed = reply-lawful old call printed.0 new h printed.1
+line-lawful sound old (Err (Refused refusal)) text new h printed = subst IsLawfulState (sym printed.1) h
+line-lawful sound old (Err (Fault fault)) text new h printed = absurd printed
+line-lawful sound old (Err Memory) text new h printed = absurd printed
 
-pub journals_are_lawful : JournalsAreLawful
-journals_are_lawful queue lines text journal printed = lines-lawful queue _ journal lines text (lawful-nil full) printed
+lines-lawful : TreesAreSound → (queue : ℕ) (old new : Journaled) (lines : List (List ℕ)) (text : List ℕ) → IsLawfulState old → Prints queue old lines text new → IsLawfulState new
+lines-lawful sound queue old new [] text h printed = subst IsLawfulState (sym printed.1) h
+lines-lawful sound queue old new (line ∷ lines) text h printed =
+    lines-lawful sound queue printed.0 new lines printed.2 (line-lawful sound old (line_of queue line) printed.1 printed.0 h printed.3) printed.4
+
+pub journals_are_lawful : TreesAreSound → JournalsAreLawful
+journals_are_lawful sound queue lines text journal printed = lines-lawful sound queue _ journal lines text (tt, HasPast-opening full) printed
 
 reply-one : (old : Journaled) (call : Call) (reply other : Reply) (new after : Journaled) → AmpleReplies old call reply new → AmpleReplies old call other after
     → (reply ≡ other) × (new ≡ after)
@@ -65,8 +58,8 @@ reply-one old call reply other new after (inl a) (inl b) =
     let same = a.answer ∙ sym b.answer in
     let E : Reply → Journaled = λ r. with_entry old (record { caller = caller; call = call; reply = r }) in
     (same, a.entry ∙ ap E same ∙ sym b.entry)
-reply-one old call reply other new after (inl a) (inr b) = let room = a.room in let full = b.full in absurd (omega (arith, room, full))
-reply-one old call reply other new after (inr a) (inl b) = let room = b.room in let full = a.full in absurd (omega (arith, room, full))
+reply-one old call reply other new after (inl a) (inr b) = absurd (a.room b.full)
+reply-one old call reply other new after (inr a) (inl b) = absurd (b.room a.full)
 reply-one old call reply other new after (inr a) (inr b) = (a.answer ∙ sym b.answer, a.same ∙ sym b.same)
 
 -- bytes are the records of one list of events alone
@@ -92,8 +85,9 @@ text-one how replies.Done text other p q = p ∙ sym q
 text-one how (replies.Refused refusal) text other p q = p ∙ sym q
 
 line-one : (old : Journaled) (asked : Result Line LineError) (text other : List ℕ) (new after : Journaled)
-    → PrintsLineBy AmpleReplies old asked text new → PrintsLineBy AmpleReplies old asked other after → (text ≡ other) × (new ≡ after)
+    → PrintsLineBy AmpleReplies AmpleCuts old asked text new → PrintsLineBy AmpleReplies AmpleCuts old asked other after → (text ≡ other) × (new ≡ after)
 line-one old (Ok Silent) text other new after p q = (p.0 ∙ sym q.0, p.1 ∙ sym q.1)
+line-one old (Ok Cut) text other new after p q = (p.0 ∙ sym q.0, p.1 ∙ sym q.1)
 line-one old (Ok (Run call how)) text other new after p q =
     let one = reply-one old call p.0 q.0 new after p.1 q.1 in
     let P : Reply → Type 0 = λ reply. IsReplyText how reply other in
@@ -106,6 +100,6 @@ pub texts_are_one : TextsAreOne
 texts_are_one queue old [] text other new after p q = (p.0 ∙ sym q.0, p.1 ∙ sym q.1)
 texts_are_one queue old (line ∷ lines) text other new after p q =
     let here = line-one old (line_of queue line) p.1 q.1 p.0 q.0 p.3 q.3 in
-    let P : Journaled → Type 0 = λ mid. PrintsBy AmpleReplies queue mid lines q.2 after in
+    let P : Journaled → Type 0 = λ mid. PrintsBy AmpleReplies AmpleCuts queue mid lines q.2 after in
     let rest = texts_are_one queue p.0 lines p.2 q.2 new after p.4 (subst P (sym here.1) q.4) in
     (p.5 ∙ ap (λ (t : List ℕ). t ++ p.2) here.0 ∙ ap (λ (t : List ℕ). q.1 ++ t) rest.0 ∙ sym q.5, rest.1)

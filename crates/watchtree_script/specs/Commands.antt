@@ -14,7 +14,7 @@ use Rattle.watchtree_script.specs.declared.line.Command.TheVariants as command
 use Rattle.watchtree_script.specs.declared.line.Shown.{Shown}
 use Rattle.watchtree_script.specs.declared.line.Shown.TheVariants as shown
 use Rattle.watchtree_script.specs.declared.line.Line.{Line}
-use Rattle.watchtree_script.specs.declared.line.Line.TheVariants.{Silent, Run}
+use Rattle.watchtree_script.specs.declared.line.Line.TheVariants.{Silent, Cut, Run}
 use Rattle.watchtree_script.specs.declared.line.LineError.{LineError}
 use Rattle.watchtree_script.specs.declared.line.LineError.TheVariants.{Fault, Refused, Memory}
 use Rattle.watchtree_script.specs.Lines.{words_of, is_silent, is_line_byte}
@@ -56,7 +56,7 @@ path_command_of word =
     else if bytes_eq word (codes "list") then Some command.List
     else None
 
--- the word of each command on an instance
+-- the word of each command on an instance, and that of the cut
 unfoldable pub instance_command_of : List ℕ → Option Command
 instance_command_of word =
     if bytes_eq word (codes "init") then Some command.Init
@@ -65,6 +65,7 @@ instance_command_of word =
     else if bytes_eq word (codes "read") then Some command.Read
     else if bytes_eq word (codes "hex") then Some command.Hex
     else if bytes_eq word (codes "close") then Some command.Close
+    else if bytes_eq word (codes "cut") then Some command.Cut
     else None
 
 -- the word of each command
@@ -190,6 +191,7 @@ row_of queue command.Unwatch words = asking shown.Plain (λ c. c) (two words unw
 row_of queue command.Read words = asking shown.Records (λ w. call.Read w.0 w.1) (two words id_and_bytes)
 row_of queue command.Hex words = asking shown.Hexadecimal (λ w. call.Read w.0 w.1) (two words id_and_bytes)
 row_of queue command.Close words = asking shown.Plain (λ id. call.Close id) (one words u32_word)
+row_of queue command.Cut words = if length words == 0 then Ok Cut else Err (Fault WrongNumber)
 
 abbrev pub row_of_word : ℕ → Option Command → List (List ℕ) → Result Line LineError
 row_of_word queue None words = Err (Fault UnknownCommand)

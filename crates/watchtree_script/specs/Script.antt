@@ -1,5 +1,5 @@
 -- What a script prints.
-use Rattle.std.specs.Prelude.{◌≡◌, ◌<◌, ◌≤◌, ◌⊎◌, ℕ, ◌+◌, List, [], ◌∷◌, ◌++◌, length, Option, Result, Ok, Err, IfSome}
+use Rattle.std.specs.Prelude.{◌≡◌, ◌<◌, ◌≤◌, ◌⊎◌, ℕ, ◌+◌, List, [], ◌∷◌, ◌++◌, length, decimal, Option, Result, Ok, Err, IfSome}
 use Rattle.std.specs.Io.KnownBytes.{Appends, Keeps}
 use Rattle.record_codec.specs.Ports.{one_more}
 use Rattle.tree_paths.specs.Bounds.{full}
@@ -8,17 +8,17 @@ use Rattle.tree_core.specs.declared.call.Call.{Call}
 use Rattle.tree_core.specs.declared.reply.Reply.{Reply}
 use Rattle.tree_core.specs.declared.reply.Reply.TheVariants as replies
 use Rattle.tree_core.specs.Tree.{reply_of}
-use Rattle.tree_core.specs.Journal.{Journaled, now, with_entry}
+use Rattle.tree_core.specs.Journal.{Journaled, IsSpent, now, last_place, opened, with_entry, cut_off}
 use Rattle.watchtree_script.specs.declared.fault.ScriptFault.{ScriptFault}
 use Rattle.watchtree_script.specs.declared.fault.RunFault.{RunFault}
 use Rattle.watchtree_script.specs.declared.fault.RunFault.TheVariants as faults
 use Rattle.watchtree_script.specs.declared.line.Line.{Line}
-use Rattle.watchtree_script.specs.declared.line.Line.TheVariants.{Silent, Run}
+use Rattle.watchtree_script.specs.declared.line.Line.TheVariants.{Silent, Cut, Run}
 use Rattle.watchtree_script.specs.declared.line.LineError.{LineError}
 use Rattle.watchtree_script.specs.declared.line.LineError.TheVariants.{Fault, Refused, Memory}
 use Rattle.watchtree_script.specs.Lines.{lines_of}
 use Rattle.watchtree_script.specs.Commands.{line_of}
-use Rattle.watchtree_script.specs.Replies.{IsReplyText, refusal_text}
+use Rattle.watchtree_script.specs.Replies.{IsReplyText, ok_line, refusal_text}
 
 -- who makes the calls of a script
 abbrev pub caller : ℕ
@@ -26,19 +26,19 @@ caller = 1
 
 -- the call is answered by the tree that the journal stands for, and joins the journal
 pub record IsAnswered (old : Journaled) (call : Call) (reply : Reply) (new : Journaled) : Type 0 where
-  pub room : length old.entries < old.limits.journal
+  pub room : ¬ IsSpent old
   pub answer : reply ≡ reply_of (now old) call
   pub entry : new ≡ with_entry old (record { caller = caller; call = call; reply = reply })
 
 -- want of memory leaves the journal as it is, and is answered only where the journal has room
 pub record IsOutOfMemory (old : Journaled) (reply : Reply) (new : Journaled) : Type 0 where
-  pub room : length old.entries < old.limits.journal
+  pub room : ¬ IsSpent old
   pub answer : reply ≡ replies.Refused Enomem
   pub same : new ≡ old
 
 -- a full journal stays as it is
 pub record IsFull (old : Journaled) (reply : Reply) (new : Journaled) : Type 0 where
-  pub full : old.limits.journal ≤ length old.entries
+  pub full : IsSpent old
   pub answer : reply ≡ replies.Refused JournalFull
   pub same : new ≡ old
 
@@ -50,30 +50,39 @@ AmpleReplies old call reply new = IsAnswered old call reply new ⊎ IsFull old r
 abbrev pub Replies : Journaled → Call → Reply → Journaled → Type 0
 Replies old call reply new = AmpleReplies old call reply new ⊎ IsOutOfMemory old reply new
 
--- what a line may print, from the old journal to the new one, where calls are replied to so
-abbrev pub PrintsLineBy : (Journaled → Call → Reply → Journaled → Type 0) → Journaled → Result Line LineError → List ℕ → Journaled → Type 0
-PrintsLineBy R old (Ok Silent) text new = (text ≡ []) × (new ≡ old)
-PrintsLineBy R old (Ok (Run call shown)) text new = (reply : Reply) × R old call reply new × IsReplyText shown reply text
-PrintsLineBy R old (Err (Refused refusal)) text new = (text ≡ refusal_text refusal) × (new ≡ old)
-PrintsLineBy R old (Err (Fault fault)) text new = ⊥
-PrintsLineBy R old (Err Memory) text new = ⊥
+-- where memory is ample, a cut may print this and lead from the old journal to the new one. It is no entry itself
+abbrev pub AmpleCuts : Journaled → List ℕ → Journaled → Type 0
+AmpleCuts old text new = (text ≡ ok_line (decimal (last_place old))) × (new ≡ cut_off old)
+
+-- the same, where memory may be spent
+abbrev pub Cuts : Journaled → List ℕ → Journaled → Type 0
+Cuts old text new = AmpleCuts old text new ⊎ ((text ≡ refusal_text Enomem) × (new ≡ old))
+
+-- what a line may print, from the old journal to the new one, where calls and cuts are replied to so
+abbrev pub PrintsLineBy : (Journaled → Call → Reply → Journaled → Type 0) → (Journaled → List ℕ → Journaled → Type 0) → Journaled → Result Line LineError → List ℕ → Journaled → Type 0
+PrintsLineBy R C old (Ok Silent) text new = (text ≡ []) × (new ≡ old)
+PrintsLineBy R C old (Ok Cut) text new = C old text new
+PrintsLineBy R C old (Ok (Run call shown)) text new = (reply : Reply) × R old call reply new × IsReplyText shown reply text
+PrintsLineBy R C old (Err (Refused refusal)) text new = (text ≡ refusal_text refusal) × (new ≡ old)
+PrintsLineBy R C old (Err (Fault fault)) text new = ⊥
+PrintsLineBy R C old (Err Memory) text new = ⊥
 
 -- what lines may print, one after another
-abbrev pub PrintsBy : (Journaled → Call → Reply → Journaled → Type 0) → ℕ → Journaled → List (List ℕ) → List ℕ → Journaled → Type 0
-PrintsBy R queue old [] text new = (text ≡ []) × (new ≡ old)
-PrintsBy R queue old (line ∷ lines) text new =
-    (mid : Journaled) × (first rest : List ℕ) × PrintsLineBy R old (line_of queue line) first mid × PrintsBy R queue mid lines rest new
+abbrev pub PrintsBy : (Journaled → Call → Reply → Journaled → Type 0) → (Journaled → List ℕ → Journaled → Type 0) → ℕ → Journaled → List (List ℕ) → List ℕ → Journaled → Type 0
+PrintsBy R C queue old [] text new = (text ≡ []) × (new ≡ old)
+PrintsBy R C queue old (line ∷ lines) text new =
+    (mid : Journaled) × (first rest : List ℕ) × PrintsLineBy R C old (line_of queue line) first mid × PrintsBy R C queue mid lines rest new
     × (text ≡ first ++ rest)
 
 abbrev pub PrintsLine : Journaled → Result Line LineError → List ℕ → Journaled → Type 0
-PrintsLine = PrintsLineBy Replies
+PrintsLine = PrintsLineBy Replies Cuts
 
 abbrev pub Prints : ℕ → Journaled → List (List ℕ) → List ℕ → Journaled → Type 0
-Prints = PrintsBy Replies
+Prints = PrintsBy Replies Cuts
 
 -- a tree of the greatest limits, with no journal yet
 abbrev pub opening : Journaled
-opening = record { limits = full; entries = [] }
+opening = opened full
 
 -- lines may print this from the opening state. Queue is the limit of each instance that names none
 pub record AreText (queue : ℕ) (lines : List (List ℕ)) (text : List ℕ) : Type 0 where

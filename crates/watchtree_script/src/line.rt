@@ -51,6 +51,8 @@ pub enum Command {
     Hex,
     /// `close ID` closes an instance.
     Close,
+    /// `cut` puts a snapshot in the place of the journal.
+    Cut,
 }
 
 /// How the records of a reply are shown.
@@ -69,6 +71,8 @@ pub enum Shown {
 pub enum Line {
     /// Nothing: the line is empty, or a comment.
     Silent,
+    /// A cut of the journal, whose place is printed.
+    Cut,
     /// A call, whose reply is printed.
     Run { call: Call, shown: Shown },
 }
@@ -185,7 +189,7 @@ fn path_command(word: &[u8]) -> Option<Command>
     }
 }
 
-/// A command on an instance.
+/// A command on an instance, or the cut.
 #[tactic(auto, unfolding(crate::specs::Commands::instance_command_of))]
 fn instance_command(word: &[u8]) -> Option<Command>
     ensures { result ≡ instance_command_of word.now }
@@ -202,6 +206,8 @@ fn instance_command(word: &[u8]) -> Option<Command>
         Some(Command::Hex)
     } else if word == b"close".as_slice() {
         Some(Command::Close)
+    } else if word == b"cut".as_slice() {
+        Some(Command::Cut)
     } else {
         None
     }

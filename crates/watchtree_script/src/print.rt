@@ -155,7 +155,8 @@ fn octal_digit(number: u32) -> u8
     b'0' + (number % 8) as u8
 }
 
-fn push_ok<I: Integer>(text: &mut Vec<u8>, value: I) -> Result<(), AllocError>
+/// Adds ok and a number.
+pub(crate) fn push_ok<I: Integer>(text: &mut Vec<u8>, value: I) -> Result<(), AllocError>
     ensures { OnOk result (text.new.items ≡ text.old.items ++ ok_line (I.text value)) }
 {
     let mut buffer = Buffer::new();

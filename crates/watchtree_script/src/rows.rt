@@ -57,6 +57,7 @@ impl<'a> Parser<'a> {
             Command::Read => self.read(Shown::Records),
             Command::Hex => self.read(Shown::Hexadecimal),
             Command::Close => self.close(),
+            Command::Cut => self.cut(),
         }
     }
 
@@ -225,6 +226,16 @@ impl<'a> Parser<'a> {
     {
         let instance = u32_word(self.one()?)?;
         Ok(plain(Call::Close { instance }))
+    }
+
+    fn cut(&self) -> Result<Line, LineError>
+        ensures { Gives result (row_of self.now.queue Command.Cut self.now.words) }
+    {
+        if self.words.has(0) {
+            Ok(Line::Cut)
+        } else {
+            Err(LineError::Fault(ScriptFault::WrongNumber))
+        }
     }
 
     /// PATH

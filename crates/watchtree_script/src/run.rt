@@ -10,7 +10,7 @@ use crate::fault::RunFault;
 use crate::line::{Line, LineError, read_line};
 use crate::page::Page;
 use crate::pieces::Pieces;
-use crate::print::{push_refusal, push_reply};
+use crate::print::{push_ok, push_refusal, push_reply};
 use record_codec::Port;
 use std::alloc::{AllocError, Global};
 use std::io::{Read, Write};
@@ -154,6 +154,10 @@ fn push_line(text: &mut Vec<u8>, state: &mut State, line: Line) -> Result<(), Al
 {
     match line {
         Line::Silent => Ok(()),
+        Line::Cut => match state.cut() {
+            Ok(place) => push_ok(text, place),
+            Err(refusal) => push_refusal(text, refusal),
+        },
         Line::Run { call, shown } => {
             let reply = reply_to(state, call);
             push_reply(text, shown, &reply)

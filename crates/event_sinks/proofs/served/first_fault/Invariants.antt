@@ -1,5 +1,5 @@
 -- Each number that has no track among those to come was served.
-use Rattle.std.proofs.Common.{ℕ, []}
+use Rattle.std.proofs.Common.{◌≡◌, ℕ, []}
 use Rattle.shared_tree.specs.Calls.{Bound}
 use Rattle.event_sinks.specs.Audited.{outcomes}
 use Rattle.event_sinks.specs.Tracks.{IsTracked, track_at}
@@ -7,4 +7,4 @@ use Rattle.event_sinks.proofs.Walking.{IsWalked}
 use Rattle.event_sinks.proofs.served.first_fault.Given as goal
 
 abbrev pub invariant-loop-number : goal.invariant-loop-number
-invariant-loop-number g l = (b : Bound) → ((n : ℕ) → IsTracked b (outcomes l.ended) [] n (track_at l.tracks n)) → IsWalked b (outcomes l.ended) l.number-iterator
+invariant-loop-number g l = (b : Bound) → b.state.place ≡ l.cut → ((n : ℕ) → IsTracked b (outcomes l.ended) [] n (track_at l.tracks n)) → IsWalked b (outcomes l.ended) l.number-iterator

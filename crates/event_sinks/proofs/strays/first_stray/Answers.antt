@@ -1,31 +1,10 @@
-use Rattle.std.proofs.Common.{◌≡◌, ◌∙◌, ap, subst, length, take, List, Bool}
-use Rattle.event_sinks.specs.Audited.{places}
-use Rattle.event_sinks.specs.Marked.{marked, AreNext}
-use Rattle.event_sinks.proofs.Marks.{length-marked, written_over}
-use Rattle.event_sinks.proofs.KeptCalls.{kept_upto, marks_of, marks_upto, stray_at}
+use Rattle.std.proofs.Common.{ℕ, List, subst}
+use Rattle.std.specs.Prelude.{IfOk, MatchOption}
+use Rattle.tree_core.specs.declared.reply.Entry.{Entry}
+use Rattle.event_sinks.specs.Audited.{AreKept, IsStray}
 use Rattle.event_sinks.proofs.strays.first_stray.Goals as goal
 
-pub returns-then-not-is_clean : goal.returns-then-not-is_clean
-returns-then-not-is_clean c =
-    let journal = c.args.journal.now in
-    let log = c.log-item.result in
-    let marks = c.deref_mut.ensures.value ∙ c.loop-log.invariant.marks in
-    let stray = subst (λ (s : List Bool). AreNext journal s log.number 0 log.kept → ⊥) marks c.if-not-is_clean.ensures.stray in
-    stray_at journal c.args.logs.now c.loop-log.log-index log c.loop-log-test.true c.log-item.is c.loop-log.invariant.kept stray
-
-pub loop-log-preserved : goal.loop-log-preserved
-loop-log-preserved c =
-    let journal = c.args.journal.now in
+pub returns : goal.returns
+returns c =
     let logs = c.args.logs.now in
-    let i = c.loop-log.log-index in
-    let log = c.log-item.result in
-    let old = c.deref_mut.result.now in
-    let new = c.is_clean.new.seen in
-    let marks : old ≡ marks_of journal (take i logs) = c.deref_mut.ensures.value ∙ c.loop-log.invariant.marks in
-    let next = subst (λ (s : List Bool). AreNext journal s log.number 0 log.kept) marks c.if-not-is_clean.ensures.clean in
-    let set = c.if-not-is_clean.ensures.marks in
-    let len : length new ≡ length c.loop-log.seen.items = ap length set ∙ (length-marked old (places log) ∙ ap length c.deref_mut.ensures.value) in
-    record {
-      kept = kept_upto journal logs i log c.loop-log-test.true c.log-item.is c.loop-log.invariant.kept next;
-      marks = written_over new c.loop-log.seen.items c.loop-log.seen.len c.loop-log.seen.ok.0 len ∙ (set ∙ (ap (λ (s : List Bool). marked s (places log)) marks ∙ marks_upto journal logs i log c.loop-log-test.true c.log-item.is));
-    }
+    subst (λ (p : ℕ × List Entry). IfOk c.stray_of.result (λ o. MatchOption o (AreKept p.0 p.1 logs) (λ n. IsStray p.0 p.1 logs n))) (λ i. (c.snapshot.ensures.last_place i, c.journal.ensures i)) c.stray_of.ensures

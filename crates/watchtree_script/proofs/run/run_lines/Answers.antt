@@ -1,17 +1,15 @@
-use Rattle.std.proofs.Common.{◌≤◌, arith, refl, ap, ◌∙◌, []}
+use Rattle.std.proofs.Common.{◌≤◌, arith, refl, ap, ◌∙◌}
 use Rattle.std.proofs.lemmas.Result.{err_from_is_err_and}
 use Rattle.record_codec.specs.Ports.{inner_of}
-use Rattle.tree_core.specs.Journal.{Journaled}
-use Rattle.tree_paths.specs.declared.limits.Limits.{Limits}
+use Rattle.tree_core.specs.Journal.{opened}
 use Rattle.watchtree_script.proofs.Runs.{Progress-start, Progress-next, Progress-count, Progress-fault, Progress-ok, Progress-err}
 use Rattle.watchtree_script.proofs.run.run_lines.Goals as goal
 
 pub loop-line-init : goal.loop-line-init
 loop-line-init g c =
-    let start : Limits → Journaled = λ limits. record { limits = limits; entries = [] } in
     record {
       progress = Progress-start c.args.queue c.args.script.now c.new-lines.result c.in-Ok.state c.in_ok-page.page.text.items (g.W.Write.contents (inner_of c.args.output.now))
-          c.new-lines.ensures (c.in-Ok.ensures.ok ∙ ap start c.full.ensures) c.in_ok-page.ensures;
+          c.new-lines.ensures (c.in-Ok.ensures.ok ∙ ap opened c.full.ensures) c.in_ok-page.ensures;
       faults = refl;
     }
 

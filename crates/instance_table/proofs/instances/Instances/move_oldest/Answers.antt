@@ -1,8 +1,7 @@
-use Rattle.std.proofs.Common.{◌≡◌, ◌++◌, append-nil, ap, sym, ◌∙◌, subst, refl, List, [], Option, Some, None, IsSome, take}
+use Rattle.std.proofs.Common.{◌≡◌, ◌++◌, append-nil, ap, sym, ◌∙◌, subst, refl, [], Some, None, IsSome, take}
 use Rattle.std.proofs.Math.Seq.{take-nil}
 use Rattle.std.specs.BTreeMap as tree
 use Rattle.std.specs.Ordering.{nat_cmp}
-use Rattle.record_codec.specs.declared.event.Event.{Event}
 use Rattle.watch_table.proofs.Maps.{get-from_map}
 use Rattle.instance_table.specs.declared.instance.Instance.{Instance}
 use Rattle.instance_table.specs.Instances.{changed, instance_of, after_read, waiting_of}

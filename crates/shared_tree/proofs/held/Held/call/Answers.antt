@@ -1,21 +1,40 @@
-use Rattle.std.proofs.Common.{List, ℕ, length, ap, ◌∙◌}
-use Rattle.shared_tree.specs.Held.{sents}
-use Rattle.shared_tree.proofs.Keeping.{held-call, looked-length}
+use Rattle.std.proofs.Common.{List, ℕ, length, refl, sym, ap, subst, ◌∙◌}
+use Rattle.shared_tree.specs.Calls.{HandsOver, Holding, holding}
+use Rattle.shared_tree.specs.Held.{deliver, sents}
+use Rattle.std.proofs.Common.{Result}
+use Rattle.std.specs.Prelude.{IfErr}
+use Rattle.std.proofs.lemmas.Result.{err_from_is_err_and}
+use Rattle.tree_core.specs.declared.reply.Receipt.{Receipt}
+use Rattle.tree_paths.specs.declared.refusal.Refusal.{Refusal}
+use Rattle.shared_tree.specs.Calls.{IsWhyNot}
+use Rattle.shared_tree.proofs.Wholes.{close-why, hands-call, held-call, looked-length}
 use Rattle.shared_tree.proofs.held.Held.call.Goals as goal
 
 pub hand_over-requires-clause-len : goal.hand_over-requires-clause-len
 hand_over-requires-clause-len g c =
     ap (λ (xs : List ℕ). length xs) c.as_slice-2.ensures.value
-    ∙ looked-length c.self.inside.core c.self.inside.numbers.items c.self.inside.pipes.items c.look.new.pipes.items c.self.inside.book.total c.self.invariant c.in_ok-at.ensures.sent
+    ∙ looked-length c.self.inside.core c.self.inside.numbers.items c.self.inside.book.total c.self.inside.pipes.items c.look.new.pipes.items c.self.invariant c.in_ok-at.ensures.sent
 
 pub invariant_of-self-2 : goal.invariant_of-self-2
 invariant_of-self-2 g c =
     rw (c.hand_over.ensures, c.as_slice-2.ensures.value, c.in_ok-at.ensures.sent)
-    (held-call c.replies_tell.ensures c.self.inside.core c.enter.new.core c.args.seat.now c.enter.new.seat c.args.call c.in_ok-receipt.receipt c.self.inside.numbers.items (sents c.self.inside.pipes.items) c.self.inside.book.total c.enter.new.book.total
-    c.closed_by-closed.result c.end_batch-batch.result c.self.invariant c.in_ok-receipt.ensures.ok c.requires.plain c.in_ok-receipt.ensures.total c.closed_by-closed.ensures c.end_batch-batch.ensures)
+    (held-call c.replies_tell.ensures c.self.inside.core c.enter.new.core c.args.seat.now c.enter.new.seat c.in_ok-receipt.receipt c.self.inside.numbers.items (sents c.self.inside.pipes.items) c.self.inside.book.total c.enter.new.book.total c.self.invariant
+    c.args.call c.closed_by-closed.result c.end_batch-batch.result c.in_ok-receipt.ensures.ok c.requires.plain c.in_ok-receipt.ensures.total c.closed_by-closed.ensures c.end_batch-batch.ensures)
 
-pub returns-clause-sent : goal.returns-clause-sent
-returns-clause-sent g c =
-    rw (c.hand_over.ensures, c.as_slice-2.ensures.value, c.in_ok-at.ensures.sent)
-    (held-call c.replies_tell.ensures c.self.inside.core c.enter.new.core c.args.seat.now c.enter.new.seat c.args.call c.in_ok-receipt.receipt c.self.inside.numbers.items (sents c.self.inside.pipes.items) c.self.inside.book.total c.enter.new.book.total
-    c.closed_by-closed.result c.end_batch-batch.result c.self.invariant c.in_ok-receipt.ensures.ok c.requires.plain c.in_ok-receipt.ensures.total c.closed_by-closed.ensures c.end_batch-batch.ensures).pushed
+pub returns-clause-hands : goal.returns-clause-hands
+returns-clause-hands g c =
+    let a = c.self.inside in
+    let old : Holding = holding a.core a.numbers.items (sents a.pipes.items) a.book.total in
+    let new : Holding = holding c.enter.new.core a.numbers.items (sents c.hand_over.new.pipes.items) c.enter.new.book.total in
+    subst (λ (h : Holding). HandsOver h c.args.call c.in_ok-receipt.receipt new) c.self.view_is
+    (hands-call old new c.args.seat.now c.enter.new.seat c.args.call c.in_ok-receipt.receipt c.closed_by-closed.result c.end_batch-batch.result c.in_ok-receipt.ensures.ok c.requires.plain c.closed_by-closed.ensures c.end_batch-batch.ensures
+    refl (c.hand_over.ensures ∙ (λ i. deliver c.end_batch-batch.result (c.as_slice-2.ensures.value i) (c.in_ok-at.ensures.sent i))) c.in_ok-receipt.ensures.total)
+
+pub returns-in_err-at-clause-errors : goal.returns-in_err-at-clause-errors
+returns-in_err-at-clause-errors g c =
+    let a = c.self.inside in
+    let p = err_from_is_err_and c.from_residual.result c.from_residual.ensures.1 in
+    subst (λ (h : Holding). IfErr c.from_residual.result (λ e. IsWhyNot h.state c.args.call e)) c.self.view_is
+    (subst (λ (x : Result Receipt Refusal). IfErr x (λ e. IsWhyNot a.core c.args.call e)) (sym p.1)
+    (subst (λ (e : Refusal). IsWhyNot a.core c.args.call e) (sym p.2)
+    (close-why a.core a.numbers.items c.as_slice.result.now (sents a.pipes.items) a.book.total c.args.call c.closed_by-closed.result c.in_err-at.field-0.0 c.self.invariant c.as_slice.ensures.value c.closed_by-closed.ensures c.in_err-at.ensures.err)))

@@ -1,26 +1,60 @@
 use Rattle.std.proofs.Common.{ℕ, List, subst}
 use Rattle.std.specs.Prelude.{◌↔◌, IsTrue}
-use Rattle.shared_tree.specs.Calls.{Holding}
-use Rattle.shared_tree.specs.Held.{IsIn}
-use Rattle.tree_core.specs.Tree.{opening}
-use Rattle.shared_tree.specs.Law.{HasPipesOfPiped, RefusedAddsNothing, TiesMoves}
+use Rattle.instance_table.specs.Instances.{instance_of, waiting_of}
+use Rattle.tree_core.specs.Histories.{raised_in}
+use Rattle.tree_core.specs.Journal.{now}
+use Rattle.tree_core.specs.Sound.{IsSoundTree}
+use Rattle.tree_core.specs.TurnLaws.{EndsOnce}
+use Rattle.shared_tree.specs.Calls.{Holding, IsSent}
+use Rattle.shared_tree.specs.Handed.{AreOfEvents, handed_since}
+use Rattle.shared_tree.specs.Held.{sents}
+use Rattle.shared_tree.specs.Law.{AtEach, HasCookiesInTurn, HasPipesOfPiped, IsTold, RefusedAddsNothing, TiesMoves}
 use Rattle.shared_tree.proofs.EachEntry.{at_each}
+use Rattle.shared_tree.proofs.Wholes.{held-events, held-pipes-of-piped, held-sends}
 use Rattle.shared_tree.proofs.held.Held.law.Goals as goal
+
+pub returns-clause-sound : goal.returns-clause-sound
+returns-clause-sound g c =
+    let a = c.self.inside in
+    subst (λ (h : Holding). IsSoundTree h.state.start) c.self.view_is (c.pasts_make_whole.ensures a.core c.self.invariant.past c.self.invariant.is_past c.journal.ensures.lawful).sound
+
+pub returns-clause-told : goal.returns-clause-told
+unfolding now
+returns-clause-told g c =
+    let a = c.self.inside in
+    let sound = (c.pasts_make_whole.ensures a.core c.self.invariant.past c.self.invariant.is_past c.journal.ensures.lawful).sound in
+    subst (λ (h : Holding). (id : ℕ) → IsTold h.state id) c.self.view_is (λ id. record {
+      order = c.reads_are_in_order.ensures a.core.start a.core.entries id sound;
+      bytes = c.bytes_are_of_records.ensures a.core.start a.core.entries id c.journal.ensures.lawful;
+      accounted = c.events_are_accounted_for.ensures a.core.start a.core.entries id sound;
+    })
 
 pub returns-clause-cookies : goal.returns-clause-cookies
 returns-clause-cookies g c = record {
-  turn = c.cookies_are_in_turn.ensures.turn c.args.self.now.state.limits c.args.self.now.state.entries;
-  ties = at_each TiesMoves (λ t d id. c.cookies_are_in_turn.ensures.tie t d id) (opening c.args.self.now.state.limits) c.args.self.now.state.entries;
+  turn = c.cookies_are_in_turn.ensures.turn c.args.self.now.state.start c.args.self.now.state.entries;
+  ties = at_each TiesMoves (λ t d id. c.cookies_are_in_turn.ensures.tie t d id) c.args.self.now.state.start c.args.self.now.state.entries;
 }
 
 pub returns-clause-ends : goal.returns-clause-ends
-returns-clause-ends g c = λ id. c.watches_end_once.ensures.ends c.args.self.now.state.limits c.args.self.now.state.entries id
+returns-clause-ends g c =
+    let a = c.self.inside in
+    let sound = (c.pasts_make_whole.ensures a.core c.self.invariant.past c.self.invariant.is_past c.journal.ensures.lawful).sound in
+    subst (λ (h : Holding). (id : ℕ) → EndsOnce (waiting_of (instance_of h.state.start.instances id)) (raised_in h.state.start h.state.entries id)) c.self.view_is (λ id. c.watches_end_once.ensures.ends a.core.start a.core.entries id sound)
 
 pub returns-clause-refused : goal.returns-clause-refused
-returns-clause-refused g c =
-    at_each RefusedAddsNothing (λ t d refusal. (c.replies_tell.ensures t d).refused refusal) (opening c.args.self.now.state.limits) c.args.self.now.state.entries
+returns-clause-refused g c = at_each RefusedAddsNothing (λ t d refusal. (c.replies_tell.ensures t d).refused refusal) c.args.self.now.state.start c.args.self.now.state.entries
 
 pub returns-clause-with_pipe : goal.returns-clause-with_pipe
 returns-clause-with_pipe g c =
-    subst (λ (h : Holding). HasPipesOfPiped h.state) c.self.view_is
-    (λ id i there. subst (λ (ns : List ℕ). IsTrue i.is_piped ↔ IsIn ns id) c.self.invariant.piped (c.self.invariant.with_pipe id i there))
+    let a = c.self.inside in
+    subst HasPipesOfPiped c.self.view_is (held-pipes-of-piped a.core a.numbers.items (sents a.pipes.items) a.book.total c.self.invariant)
+
+pub returns-clause-sent : goal.returns-clause-sent
+returns-clause-sent g c =
+    let a = c.self.inside in
+    subst (λ (h : Holding). IsSent h.state h.pipes h.sent) c.self.view_is (held-sends a.core a.numbers.items a.book.total (sents a.pipes.items) c.self.invariant)
+
+pub returns-clause-events : goal.returns-clause-events
+returns-clause-events g c =
+    let a = c.self.inside in
+    subst (λ (h : Holding). (id : ℕ) → AreOfEvents (handed_since h.state id)) c.self.view_is (λ id. held-events a.core a.numbers.items (sents a.pipes.items) a.book.total id c.self.invariant)

@@ -1,5 +1,5 @@
 use Rattle.std.proofs.Common.{ap}
-use Rattle.shared_tree.proofs.Keeping.{held-new}
+use Rattle.shared_tree.proofs.Wholes.{held-new}
 use Rattle.shared_tree.specs.Held.{sents}
 use Rattle.shared_tree.proofs.held.Held.new.Goals as goal
 

@@ -1,15 +1,25 @@
+use Rattle.std.proofs.Common.{ℕ, true, List, [], ◌++◌, map, ap, subst, ◌∙◌}
+use Rattle.tree_core.specs.declared.call.Call.TheVariants as call
+use Rattle.shared_tree.specs.Calls.{HandsOver, Holding, holding}
+use Rattle.shared_tree.specs.Handed.{piped_by}
 use Rattle.shared_tree.specs.Held.{sents}
-use Rattle.shared_tree.proofs.Keeping.{held-open}
+use Rattle.shared_tree.specs.Pipes.{Piped}
+use Rattle.shared_tree.proofs.Wholes.{hands-open, held-lengths, held-open}
 use Rattle.shared_tree.proofs.held.Held.open_piped.Goals as goal
 
 pub invariant_of-self-2 : goal.invariant_of-self-2
 invariant_of-self-2 g c =
     rw (c.keep_pipe-feed.ensures.numbers c.args.limit, c.keep_pipe-feed.ensures.pipes c.args.limit, c.in_ok-pipe.ensures.numbers, c.in_ok-pipe.ensures.pipes)
-    (held-open c.replies_tell.ensures c.self.inside.core c.enter.new.core c.args.seat.now c.enter.new.seat c.args.limit c.in_ok-receipt.receipt c.self.inside.numbers.items (sents c.self.inside.pipes.items) c.self.inside.book.total c.enter.new.book.total
-    c.self.invariant c.in_ok-receipt.ensures.ok c.in_ok-receipt.ensures.total)
+    (held-open c.replies_tell.ensures c.self.inside.core c.enter.new.core c.args.seat.now c.enter.new.seat c.in_ok-receipt.receipt c.self.inside.numbers.items (sents c.self.inside.pipes.items) c.self.inside.book.total c.enter.new.book.total
+    c.self.invariant c.args.limit c.in_ok-receipt.ensures.ok c.in_ok-receipt.ensures.total)
 
-pub returns-clause-sent : goal.returns-clause-sent
-returns-clause-sent g c =
-    rw (c.keep_pipe-feed.ensures.pipes c.args.limit, c.in_ok-pipe.ensures.pipes)
-    (held-open c.replies_tell.ensures c.self.inside.core c.enter.new.core c.args.seat.now c.enter.new.seat c.args.limit c.in_ok-receipt.receipt c.self.inside.numbers.items (sents c.self.inside.pipes.items) c.self.inside.book.total c.enter.new.book.total
-    c.self.invariant c.in_ok-receipt.ensures.ok c.in_ok-receipt.ensures.total).pushed
+pub returns-clause-hands : goal.returns-clause-hands
+returns-clause-hands g c =
+    let a = c.self.inside in
+    let old : Holding = holding a.core a.numbers.items (sents a.pipes.items) a.book.total in
+    let new : Holding = holding c.enter.new.core c.keep_pipe-feed.new.numbers.items (sents c.keep_pipe-feed.new.pipes.items) c.enter.new.book.total in
+    subst (λ (h : Holding). HandsOver h (call.Init c.args.limit true) c.in_ok-receipt.receipt new) c.self.view_is
+    (hands-open old new c.args.limit c.in_ok-receipt.receipt (held-lengths a.core a.numbers.items (sents a.pipes.items) a.book.total c.self.invariant)
+    (c.keep_pipe-feed.ensures.numbers c.args.limit ∙ ap (λ (ns : List ℕ). ns ++ piped_by (call.Init c.args.limit true) c.in_ok-receipt.receipt.reply) c.in_ok-pipe.ensures.numbers)
+    (c.keep_pipe-feed.ensures.pipes c.args.limit ∙ ap (λ (ps : List Piped). sents ps ++ map (λ (id : ℕ). []) (piped_by (call.Init c.args.limit true) c.in_ok-receipt.receipt.reply)) c.in_ok-pipe.ensures.pipes)
+    c.in_ok-receipt.ensures.total)

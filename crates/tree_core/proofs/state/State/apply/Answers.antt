@@ -1,7 +1,8 @@
-use Rattle.std.proofs.Common.{◌≡◌, [], ◌∷◌, ◌++◌, false, Ok, Err, sym, ap, ◌∙◌}
+use Rattle.std.proofs.Common.{refl, ◌≡◌, [], ◌∷◌, ◌++◌, false, Ok, Err, sym, ap, ◌∙◌}
 use Rattle.tree_core.specs.declared.reply.Entry.{Entry}
 use Rattle.tree_core.specs.declared.machine.Replies.{Replies}
-use Rattle.tree_core.specs.Journal.{now, stands_for, with_entry}
+use Rattle.tree_core.specs.Journal.{now, with_entry}
+use Rattle.tree_core.specs.Kept.{journal_of, tree_of}
 use Rattle.tree_core.specs.Tree.{reply_of}
 use Rattle.tree_core.specs.Machines.{Serves}
 use Rattle.tree_core.proofs.Keeping.{IsKept-same, IsKept-more}
@@ -11,30 +12,30 @@ pub invariant_of-self-in_err-replies : goal.invariant_of-self-in_err-replies
 invariant_of-self-in_err-replies c =
     let a = c.self.inside in
     let served : Serves a.machine c.args.call false (Err c.in_err-replies.field-0.0) c.answer.new.self = c.in_err-replies.ensures in
-    IsKept-same a (record { machine = c.answer.new.self; journal = c.make_room.new.journal }) c.self.invariant served.limits c.make_room.ensures.items
-    (served.err (stands_for a.machine.limits a.journal.items) c.self.invariant.stands)
+    IsKept-same a (record { machine = c.answer.new.self; snapshot = a.snapshot; journal = c.make_room.new.journal }) c.self.invariant refl served.limits c.make_room.ensures.items
+    (served.err (now (journal_of a)) c.self.invariant.stands)
 
 pub invariant_of-self-2 : goal.invariant_of-self-2
 invariant_of-self-2 c =
     let a = c.self.inside in
-    let t = stands_for a.machine.limits a.journal.items in
+    let t = now (journal_of a) in
     let replies = c.in_ok-replies.replies in
     let served : Serves a.machine c.args.call false (Ok replies) c.answer.new.self = c.in_ok-replies.ensures in
     let entry : Entry = record { caller = c.args.caller; call = c.args.call; reply = replies.journaled } in
-    IsKept-more a (record { machine = c.answer.new.self; journal = c.push_reserved.new.self }) entry c.self.invariant served.limits
-    (c.push_reserved.ensures.items ∙ ap (λ es. es ++ entry ∷ []) c.make_room.ensures.items) c.in_ok-make_room.ensures.free
+    IsKept-more a (record { machine = c.answer.new.self; snapshot = a.snapshot; journal = c.push_reserved.new.self }) c.self.invariant refl served.limits entry
+    (c.push_reserved.ensures.items ∙ ap (λ es. es ++ entry ∷ []) c.make_room.ensures.items) c.in_ok-make_room.ensures.free c.in_ok-make_room.ensures.small
     (ap (λ (r : Replies). r.journaled) (served.replies t c.self.invariant.stands)) (served.tree t c.self.invariant.stands)
 
 pub returns-clause-entry : goal.returns-clause-entry
 returns-clause-entry c =
     let a = c.self.inside in
-    let t = stands_for a.machine.limits a.journal.items in
+    let t = now (journal_of a) in
     let replies = c.in_ok-replies.replies in
     let served : Serves a.machine c.args.call false (Ok replies) c.answer.new.self = c.in_ok-replies.ensures in
     let entry : Entry = record { caller = c.args.caller; call = c.args.call; reply = replies.journaled } in
     let items : c.push_reserved.new.self.items ≡ a.journal.items ++ entry ∷ [] = c.push_reserved.ensures.items ∙ ap (λ es. es ++ entry ∷ []) c.make_room.ensures.items in
     let same : replies.journaled ≡ replies.given = ap (λ (r : Replies). r.journaled) (served.replies t c.self.invariant.stands) ∙ sym (ap (λ (r : Replies). r.given) (served.replies t c.self.invariant.stands)) in
-    (λ i. record { limits = served.limits i; entries = items i })
+    (λ i. record { start = tree_of (served.limits i) a.snapshot; place = a.snapshot.place; entries = items i })
     ∙ (λ i. with_entry (c.self.view_is i) (record { caller = c.args.caller; call = c.args.call; reply = same i }))
 
 pub returns-clause-lawful : goal.returns-clause-lawful
@@ -44,4 +45,4 @@ pub returns-clause-reply : goal.returns-clause-reply
 returns-clause-reply c =
     let a = c.self.inside in
     let served : Serves a.machine c.args.call false (Ok c.in_ok-replies.replies) c.answer.new.self = c.in_ok-replies.ensures in
-    ap (λ (r : Replies). r.given) (served.replies (stands_for a.machine.limits a.journal.items) c.self.invariant.stands) ∙ ap (λ s. reply_of (now s) c.args.call) c.self.view_is
+    ap (λ (r : Replies). r.given) (served.replies (now (journal_of a)) c.self.invariant.stands) ∙ ap (λ s. reply_of (now s) c.args.call) c.self.view_is

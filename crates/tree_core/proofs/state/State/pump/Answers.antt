@@ -1,9 +1,10 @@
-use Rattle.std.proofs.Common.{◌≡◌, [], ◌∷◌, ◌++◌, true, Ok, Err, sym, ap, ◌∙◌}
+use Rattle.std.proofs.Common.{refl, ◌≡◌, [], ◌∷◌, ◌++◌, true, Ok, Err, sym, ap, ◌∙◌}
 use Rattle.tree_core.specs.declared.call.Call.TheVariants as call
 use Rattle.tree_core.specs.declared.reply.Entry.{Entry}
 use Rattle.tree_core.specs.declared.reply.Receipt.{Receipt}
 use Rattle.tree_core.specs.declared.machine.Replies.{Replies}
-use Rattle.tree_core.specs.Journal.{now, stands_for, with_entry}
+use Rattle.tree_core.specs.Journal.{now, with_entry}
+use Rattle.tree_core.specs.Kept.{journal_of, tree_of}
 use Rattle.tree_core.specs.Machines.{Serves}
 use Rattle.tree_core.specs.Tree.{reply_of}
 use Rattle.tree_core.proofs.Keeping.{IsKept-same, IsKept-more}
@@ -15,30 +16,30 @@ pub invariant_of-self-in_err-replies : goal.invariant_of-self-in_err-replies
 invariant_of-self-in_err-replies c =
     let a = c.self.inside in
     let served : Serves a.machine (call.Pump c.args.instance c.args.bytes) true (Err c.in_err-replies.field-0.0) c.pump_out.new.self = c.in_err-replies.ensures.served in
-    IsKept-same a (record { machine = c.pump_out.new.self; journal = c.make_room.new.journal }) c.self.invariant served.limits c.make_room.ensures.items
-    (served.err (stands_for a.machine.limits a.journal.items) c.self.invariant.stands)
+    IsKept-same a (record { machine = c.pump_out.new.self; snapshot = a.snapshot; journal = c.make_room.new.journal }) c.self.invariant refl served.limits c.make_room.ensures.items
+    (served.err (now (journal_of a)) c.self.invariant.stands)
 
 pub taken_apart-receipt-requires : goal.taken_apart-receipt-requires
 taken_apart-receipt-requires c =
     let a = c.self.inside in
-    let t = stands_for a.machine.limits a.journal.items in
+    let t = now (journal_of a) in
     let served : Serves a.machine (call.Pump c.args.instance c.args.bytes) true (Ok c.in_ok-replies.field-0.replies) c.pump_out.new.self = c.in_ok-replies.ensures.served in
     (reply_of t (call.Pump c.args.instance c.args.bytes), served.replies t c.self.invariant.stands)
 
 pub invariant_of-self-2 : goal.invariant_of-self-2
 invariant_of-self-2 c =
     let a = c.self.inside in
-    let t = stands_for a.machine.limits a.journal.items in
+    let t = now (journal_of a) in
     let served : Serves a.machine (call.Pump c.args.instance c.args.bytes) true (Ok c.in_ok-replies.field-0.replies) c.pump_out.new.self = c.in_ok-replies.ensures.served in
     let entry : Entry = record { caller = c.args.caller; call = (call.Pump c.args.instance c.args.bytes); reply = c.taken_apart-receipt.result.1 } in
-    IsKept-more a (record { machine = c.pump_out.new.self; journal = c.push_reserved.new.self }) entry c.self.invariant served.limits
-    (c.push_reserved.ensures.items ∙ ap (λ es. es ++ entry ∷ []) c.make_room.ensures.items) c.in_ok-make_room.ensures.free
+    IsKept-more a (record { machine = c.pump_out.new.self; snapshot = a.snapshot; journal = c.push_reserved.new.self }) c.self.invariant refl served.limits entry
+    (c.push_reserved.ensures.items ∙ ap (λ es. es ++ entry ∷ []) c.make_room.ensures.items) c.in_ok-make_room.ensures.free c.in_ok-make_room.ensures.small
     (c.taken_apart-receipt.ensures.journaled ∙ ap (λ (r : Replies). r.journaled) (served.replies t c.self.invariant.stands)) (served.tree t c.self.invariant.stands)
 
 pub returns-clause-entry : goal.returns-clause-entry
 returns-clause-entry c =
     let a = c.self.inside in
-    let t = stands_for a.machine.limits a.journal.items in
+    let t = now (journal_of a) in
     let served : Serves a.machine (call.Pump c.args.instance c.args.bytes) true (Ok c.in_ok-replies.field-0.replies) c.pump_out.new.self = c.in_ok-replies.ensures.served in
     let said = c.taken_apart-receipt.ensures in
     let entry : Entry = record { caller = c.args.caller; call = (call.Pump c.args.instance c.args.bytes); reply = c.taken_apart-receipt.result.1 } in
@@ -46,7 +47,7 @@ returns-clause-entry c =
     let same : c.taken_apart-receipt.result.1 ≡ c.taken_apart-receipt.result.0.reply =
     said.journaled ∙ ap (λ (r : Replies). r.journaled) (served.replies t c.self.invariant.stands)
     ∙ sym (ap (λ (r : Receipt). r.reply) said.receipt ∙ ap (λ (r : Replies). r.given) (served.replies t c.self.invariant.stands)) in
-    (λ i. record { limits = served.limits i; entries = items i })
+    (λ i. record { start = tree_of (served.limits i) a.snapshot; place = a.snapshot.place; entries = items i })
     ∙ (λ i. with_entry (c.self.view_is i) (record { caller = c.args.caller; call = (call.Pump c.args.instance c.args.bytes); reply = same i }))
 
 pub returns-clause-reply : goal.returns-clause-reply
@@ -54,7 +55,7 @@ returns-clause-reply c =
     let a = c.self.inside in
     let served : Serves a.machine (call.Pump c.args.instance c.args.bytes) true (Ok c.in_ok-replies.field-0.replies) c.pump_out.new.self = c.in_ok-replies.ensures.served in
     ap (λ (r : Receipt). r.reply) c.taken_apart-receipt.ensures.receipt
-    ∙ ap (λ (r : Replies). r.given) (served.replies (stands_for a.machine.limits a.journal.items) c.self.invariant.stands) ∙ ap (λ s. reply_of (now s) (call.Pump c.args.instance c.args.bytes)) c.self.view_is
+    ∙ ap (λ (r : Replies). r.given) (served.replies (now (journal_of a)) c.self.invariant.stands) ∙ ap (λ s. reply_of (now s) (call.Pump c.args.instance c.args.bytes)) c.self.view_is
 
 pub returns-clause-lawful : goal.returns-clause-lawful
 returns-clause-lawful c = (invariant_of-self-2 c).lawful
@@ -62,12 +63,12 @@ returns-clause-lawful c = (invariant_of-self-2 c).lawful
 pub returns-clause-records : goal.returns-clause-records
 returns-clause-records c =
     let a = c.self.inside in
-    c.in_ok-replies.ensures.records (stands_for a.machine.limits a.journal.items) c.self.invariant.stands ∙ ap (λ s. pumped (now s) c.args.instance c.args.bytes) c.self.view_is
+    c.in_ok-replies.ensures.records (now (journal_of a)) c.self.invariant.stands ∙ ap (λ s. pumped (now s) c.args.instance c.args.bytes) c.self.view_is
 
 pub returns-clause-spelled : goal.returns-clause-spelled
 returns-clause-spelled c =
     let a = c.self.inside in
-    let t = stands_for a.machine.limits a.journal.items in
+    let t = now (journal_of a) in
     let served : Serves a.machine (call.Pump c.args.instance c.args.bytes) true (Ok c.in_ok-replies.field-0.replies) c.pump_out.new.self = c.in_ok-replies.ensures.served in
     records-spelled t c.args.instance c.args.bytes c.in_ok-replies.field-0.records c.taken_apart-receipt.result.0.reply
     (c.in_ok-replies.ensures.records t c.self.invariant.stands) c.in_ok-replies.ensures.events

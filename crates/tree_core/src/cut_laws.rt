@@ -1,0 +1,25 @@
+//! Laws of journals that are cut. Each is a function that does nothing, and its contract is the law.
+
+ghost use Rattle.tree_core.specs.CutLaws.{CutsKeepAnswers, PastsMakeWhole, SnapshotsTellAll};
+
+use crate::turn_laws::trees_are_sound;
+
+/// A law: where a lawful journal is cut, the tree at the cut is sound, and the rest is lawful from it, with the replies that
+/// it had, and leads where the whole journal leads.
+pub fn cuts_keep_answers()
+    ensures { CutsKeepAnswers }
+{
+    trees_are_sound();
+}
+
+/// A law: a snapshot tells its tree, limits aside, and its place.
+pub fn snapshots_tell_all()
+    ensures { SnapshotsTellAll }
+{}
+
+/// A law: a state stands for what its whole journal stands for: the entries that were cut off, and those since.
+pub fn pasts_make_whole()
+    ensures { PastsMakeWhole }
+{
+    trees_are_sound();
+}
