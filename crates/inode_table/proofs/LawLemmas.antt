@@ -1,5 +1,5 @@
 -- What is true of the world of a table.
-use Rattle.std.proofs.Common.{◌≡◌, ℕ, zero, suc, ◌≤◌, arith, true, false, List, [], ◌∷◌, ◌++◌, Option, Some, None, IsSome, is_some, is_none, refl, sym, ap, ◌∙◌, subst}
+use Rattle.std.proofs.Common.{◌≡◌, ℕ, zero, suc, ◌≤◌, arith, true, false, List, [], ◌∷◌, ◌++◌, Option, Some, None, IsSome, is_some, is_none, unwrap_or, refl, sym, ap, ◌∙◌, subst}
 use Rattle.std.specs.Option.{option_and_then, option_map, option_map_or, IsSomeAnd}
 use Rattle.std.specs.FinMap as finmap
 use Rattle.inode_table.specs.Count.{IsCount}
@@ -75,6 +75,16 @@ module _ {t : Tree} {w : World} (stands : Stands t w) where
       let number : v.number ≡ n = same_some v.number n (sym (number-at stands p k.0 v k.1 there) ∙ is) in
       ap is_some (ap (finmap.get w.files) (sym number) ∙ stands.files k.0 v there)
 
+  no_bytes-of : (n : ℕ) (f : world.File) → finmap.get w.files n ≡ Some f → f.kind ≡ Directory → f.bytes ≡ []
+  no_bytes-of n f is kind =
+      let found = stands.no_more n f is in
+      let same : file_of found.1 ≡ f = same_some (file_of found.1) f (sym (stands.files found.0 found.1 found.2) ∙ ap (finmap.get w.files) found.3 ∙ is) in
+      sym (ap (λ (g : world.File). g.bytes) same) ∙ bytes-none found.1.bytes (ap (λ (g : world.File). g.kind) same ∙ kind)
+    where
+      bytes-none : (o : Option (List ℕ)) → kind_of o ≡ Directory → unwrap_or o [] ≡ []
+      bytes-none None e = refl
+      bytes-none (Some x) e = absurd (cc)
+
   pub IsWorld-of : IsWorld w
   IsWorld-of = record {
     root = stands.paths [] ∙ stands.table.root;
@@ -82,6 +92,7 @@ module _ {t : Tree} {w : World} (stands : Stands t w) where
     files = files-of;
     fronts = fronts-of;
     one_path = one_path-of;
+    no_bytes = no_bytes-of;
   }
 
   -- a number that the world has not is no node's

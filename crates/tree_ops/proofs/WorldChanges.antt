@@ -21,6 +21,10 @@ use Rattle.tree_ops.proofs.Worlds.{directory-of, directory-by, directory-there, 
 abbrev kind_in : Option File → Option Kind
 kind_in o = option_map (λ (f : File). f.kind) o
 
+-- a directory has no bytes
+abbrev IsBlank : File → Type 0
+IsBlank f = f.kind ≡ Directory → f.bytes ≡ []
+
 -- ---- other files under the same paths
 
 module _ (w : World) (is : IsWorld w) (fs : FinMap nat_cmp File) (same : (p : List Label) (n : ℕ) → finmap.get w.paths p ≡ Some n → kind_in (finmap.get fs n) ≡ kind_in (finmap.get w.files n)) where
@@ -47,13 +51,14 @@ module _ (w : World) (is : IsWorld w) (fs : FinMap nat_cmp File) (same : (p : Li
   directory-was : (p : List Label) → IsDirectoryAt filed p → IsDirectoryAt w p
   directory-was p h = kind-same (file_at w p) (file_at filed p) (sym (at-same p (finmap.get w.paths p) refl)) h
 
-  pub IsWorld-files : IsWorld (record w { files = fs })
-  IsWorld-files = record {
+  pub IsWorld-files : ((n : ℕ) (f : File) → finmap.get fs n ≡ Some f → IsBlank f) → IsWorld (record w { files = fs })
+  IsWorld-files blank = record {
     root = is.root;
     root_directory = directory-now [] is.root_directory;
     files = λ p n there. some-kind (finmap.get fs n) (finmap.get w.files n) (same p n there) (is.files p n there);
     fronts = λ p l s there. directory-now p (is.fronts p l s there);
     one_path = λ p q h e. is.one_path p q (directory-was p h) e;
+    no_bytes = blank;
   }
 
 -- ---- one path more
@@ -128,6 +133,7 @@ module _ (w : World) (p : List Label) (n : ℕ) where
       ]);
       fronts = fronts;
       one_path = one_path;
+      no_bytes = λ k f at. is.no_bytes k f (ap (λ fs. finmap.get fs k) (sym same-files) ∙ at);
     }
 
   pub IsWhole-with_path : finmap.get w.paths p ≡ None → ((k : ℕ) → IsSome (finmap.get w.files k) → k ≢ n → (x : List Label) × (finmap.get w.paths x ≡ Some k)) → IsWhole (with_path w p n)
@@ -151,15 +157,22 @@ module _ (w : World) (is : IsWorld w) (n : ℕ) (unused : finmap.get w.files n �
   unfolding with_content
   content-other k off = get-insert_other nat_cmp_total nat_cmp-IsAntisymmetric w.files n f k off
 
-  filled : IsWorld (with_content w n f)
-  unfolding with_content
-  filled = IsWorld-files w is (finmap.insert w.files n f) (λ p k at. ap kind_in (content-other k (λ e. unled p (at ∙ ap Some e))))
+  filled-blank : IsBlank f → (k : ℕ) (g : File) → finmap.get (with_content w n f).files k ≡ Some g → IsBlank g
+  filled-blank blank k g at =
+      elim (cases_eq k n) [
+        | inl e ↦ subst IsBlank (same_some f g (sym content-here ∙ sym (ap (finmap.get (with_content w n f).files) e) ∙ at)) blank
+        | inr off ↦ is.no_bytes k g (sym (content-other k off) ∙ at)
+      ]
 
-  pub IsWorld-with_file : (p : List Label) → finmap.get w.paths p ≡ None → (q : List Label) (l : Label) → p ≡ q ++ l ∷ [] → IsDirectoryAt w q → IsWorld (with_file w p n f)
+  filled : IsBlank f → IsWorld (with_content w n f)
+  unfolding with_content
+  filled blank = IsWorld-files w is (finmap.insert w.files n f) (λ p k at. ap kind_in (content-other k (λ e. unled p (at ∙ ap Some e)))) (filled-blank blank)
+
+  pub IsWorld-with_file : IsBlank f → (p : List Label) → finmap.get w.paths p ≡ None → (q : List Label) (l : Label) → p ≡ q ++ l ∷ [] → IsDirectoryAt w q → IsWorld (with_file w p n f)
   unfolding with_file with_path with_content
-  IsWorld-with_file p free q l parts directory =
+  IsWorld-with_file blank p free q l parts directory =
       let d = directory-of w q directory in
-      IsWorld-with_path (with_content w n f) p n filled free q l parts
+      IsWorld-with_path (with_content w n f) p n (filled blank) free q l parts
       (directory-by (with_content w n f) q d.number d.file d.there (content-other d.number (λ e. some_none unused (ap (finmap.get w.files) (sym e) ∙ d.is)) ∙ d.is) d.kind)
       (ap is_some content-here) (λ g at kind x. unled x)
 
@@ -170,21 +183,25 @@ module _ (w : World) (is : IsWorld w) (n : ℕ) (unused : finmap.get w.files n �
 
 -- ---- another content
 
-pub IsWorld-changed : (w : World) → IsWorld w → (p : List Label) (change : File → File) → ((f : File) → (change f).kind ≡ f.kind) → IsWorld (changed_at w p change)
+pub IsWorld-changed : (w : World) → IsWorld w → (p : List Label) (change : File → File) → ((f : File) → (change f).kind ≡ f.kind) → ((f : File) → file_at w p ≡ Some f → IsBlank f → IsBlank (change f)) → IsWorld (changed_at w p change)
 unfolding changed_at with_content
-IsWorld-changed w is p change keeps =
-    elim (finmap.get w.paths p) as (λ o. IsWorld (content_by w change o (option_and_then (finmap.get w.files) o))) [
-      | None ↦ is
-      | Some n ↦ elim (finmap.get w.files n) as (λ o. finmap.get w.files n ≡ o → IsWorld (content_by w change (Some n) o)) [
+IsWorld-changed w is p change keeps blank =
+    elim (finmap.get w.paths p) as (λ o. finmap.get w.paths p ≡ o → IsWorld (content_by w change o (option_and_then (finmap.get w.files) o))) [
+      | None ↦ λ _. is
+      | Some n ↦ λ there. elim (finmap.get w.files n) as (λ o. finmap.get w.files n ≡ o → IsWorld (content_by w change (Some n) o)) [
         | None ↦ λ _. is
         | Some f ↦ λ at. IsWorld-files w is (finmap.insert w.files n (change f)) (λ q k _. elim (cases_eq k n) [
           | inl e ↦
               ap kind_in (ap (finmap.get (finmap.insert w.files n (change f))) e ∙ get-insert_here nat_cmp_total nat_cmp-IsAntisymmetric w.files n (change f))
               ∙ ap Some (keeps f) ∙ sym (ap kind_in (ap (finmap.get w.files) e ∙ at))
           | inr off ↦ ap kind_in (get-insert_other nat_cmp_total nat_cmp-IsAntisymmetric w.files n (change f) k off)
+        ]) (λ k g is_there. elim (cases_eq k n) [
+          | inl e ↦ subst IsBlank (same_some (change f) g (sym (get-insert_here nat_cmp_total nat_cmp-IsAntisymmetric w.files n (change f)) ∙ sym (ap (finmap.get (finmap.insert w.files n (change f))) e) ∙ is_there))
+            (blank f (ap (option_and_then (finmap.get w.files)) there ∙ at) (is.no_bytes n f at))
+          | inr off ↦ is.no_bytes k g (sym (get-insert_other nat_cmp_total nat_cmp-IsAntisymmetric w.files n (change f) k off) ∙ is_there)
         ])
       ] refl
-    ]
+    ] refl
 
 -- a change keeps the numbers of files, and all paths
 pub numbers-changed : (w : World) (p : List Label) (change : File → File) (k : ℕ) → is_some (finmap.get (changed_at w p change).files k) ≡ is_some (finmap.get w.files k)
@@ -262,6 +279,7 @@ module _ (w : World) (p : List Label) where
         let x_was = left-was x d.number d.there in
         let y_was = left-was y d.number (sym e ∙ d.there) in
         is.one_path x y (left-directory x x_was.0 h) (x_was.1 ∙ sym y_was.1);
+    no_bytes = λ k f at. is.no_bytes k f (ap (λ fs. finmap.get fs k) (sym files-left) ∙ at);
   }
 
 -- ---- a file with no path left
@@ -311,7 +329,8 @@ module _ (w : World) (n : ℕ) where
   IsWorld-without_file : IsWorld w → ((p : List Label) → finmap.get w.paths p ≢ Some n) → IsWorld (without_file w n)
   unfolding without_file
   IsWorld-without_file is none =
-      IsWorld-files w is (finmap.remove w.files n) (λ p k at. ap kind_in (removed-other k (λ e. none p (at ∙ ap Some e))))
+      IsWorld-files w is (finmap.remove w.files n) (λ p k at. ap kind_in (removed-other k (λ e. none p (at ∙ ap Some e)))) (λ k f at.
+      is.no_bytes k f (sym (removed-other k (λ e. some_none (ap (finmap.get (without_file w n).files) e ∙ removed-here) at)) ∙ at))
 
 pub IsWorld-lost : (w : World) (o : Option ℕ) → IsWorld w → IsWorld (without_lost w o)
 IsWorld-lost w None is = subst IsWorld (sym (lost-none w)) is

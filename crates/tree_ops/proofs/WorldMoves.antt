@@ -128,4 +128,5 @@ module _ (w : World) (from to : List Label) (apart : Avoids from to) (empty : (l
       files = λ x n at. subst (λ fs. IsSome (finmap.get fs n)) (sym (moved-files w from to)) (files-there x n at);
       fronts = fronts;
       one_path = one_path;
+      no_bytes = λ k f at. is.no_bytes k f (ap (λ fs. finmap.get fs k) (sym (moved-files w from to)) ∙ at);
     }

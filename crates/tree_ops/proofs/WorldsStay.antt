@@ -1,8 +1,8 @@
 -- The files stay a world over each call that no row refuses, each with a path.
-use Rattle.std.proofs.Common.{◌≡◌, ◌≢◌, inl, inr, ℕ, ◌==◌, true, false, List, [], ◌∷◌, ◌++◌, Option, Some, None, IsSome, is_some, refl, sym, ap, ◌∙◌, subst, if◌then◌else◌}
+use Rattle.std.proofs.Common.{◌≡◌, ◌≢◌, inl, inr, ℕ, ◌==◌, true, false, List, [], ◌∷◌, ◌++◌, Option, Some, None, IsSome, is_some, length, refl, sym, ap, ◌∙◌, subst, if◌then◌else◌}
 use Rattle.std.proofs.lemmas.Bool.{cases_eq}
 use borrow.Author.Tests.{eq-eqb}
-use Rattle.std.specs.Option.{option_map}
+use Rattle.std.specs.Option.{option_map, IsSomeAnd}
 use Rattle.std.specs.Ordering.{nat_cmp}
 use Rattle.std.specs.Cmp.{nat_cmp_total}
 use Rattle.std.specs.FinMap as finmap
@@ -15,7 +15,7 @@ use Rattle.inode_table.specs.Walk.{Avoids}
 use Rattle.inode_table.specs.Rows.{Label}
 use Rattle.inode_table.specs.Paths.{path_cmp}
 use Rattle.inode_table.specs.Refusals.{parent_of}
-use Rattle.inode_table.specs.World.{World, File, IsWorld, IsWhole, IsDirectoryAt, look, seen_as, linked, opening_world, root_number, root_mode, without_path, with_move, without_lost}
+use Rattle.inode_table.specs.World.{World, File, IsWorld, IsWhole, IsDirectoryAt, file_at, look, seen_as, linked, opening_world, root_number, root_mode, without_path, with_move, without_lost}
 use Rattle.inode_table.proofs.TreeLemmas.{some_none, same_some}
 use Rattle.inode_table.proofs.SeenLemmas.{is_value}
 use Rattle.inode_table.proofs.WorldLemmas.{decide_path, path_total, path_exact, get-insert_here, get-insert_other}
@@ -24,7 +24,7 @@ use Rattle.tree_ops.specs.declared.call.FileCall.{FileCall}
 use Rattle.tree_ops.specs.declared.call.FileCall.TheVariants.{Create, Write, ReadFile, Truncate, Chmod, Mkdir, Link, Unlink, Rmdir, Rename, Stat as Status, List as Listed}
 use Rattle.tree_ops.specs.Refused.{refused, refusal_of, are_same_seen}
 use Rattle.tree_ops.specs.After.{after, after_unlink, after_rename, are_same}
-use Rattle.tree_ops.proofs.Rows.{make-known, link-known, unlink-known, rmdir-known, rename-known, MakeKnown, LinkKnown, FileKnown, RmdirKnown, RenameKnown}
+use Rattle.tree_ops.proofs.Rows.{make-known, write-known, truncate-known, link-known, unlink-known, rmdir-known, rename-known, MakeKnown, LinkKnown, FileKnown, RmdirKnown, RenameKnown}
 use Rattle.tree_ops.proofs.Worlds.{parted, directory-of, directory-by, directory-seen, regular-seen, standing, unseen, seen-some, nothing-below, nothing-under, apart-from}
 use Rattle.tree_ops.proofs.WorldChanges.{IsWorld-with_path, IsWhole-with_path, IsWorld-with_file, IsWhole-with_file, IsWorld-changed, IsWhole-changed, dropped-other, files-left, IsWorld-without_path, IsWorld-lost, IsWhole-lost}
 use Rattle.tree_ops.proofs.WorldMoves.{IsWorld-with_move, path-moved, moved-files}
@@ -66,6 +66,10 @@ IsWorld-opening = record {
       ap is_some (ap (finmap.get opening_world.files) (sym e) ∙ opening-file);
   fronts = λ p l s h. let n = is_value (finmap.get opening_world.paths (p ++ l ∷ s)) h in absurd (only-root p l s (at-root (p ++ l ∷ s) n.0 n.1));
   one_path = λ p q h e. let d = directory-of opening_world p h in at-root p d.number d.there ∙ sym (at-root q d.number (sym e ∙ d.there));
+  no_bytes = λ n f at kind. elim (cases_eq n root_number) [
+    | inl e ↦ sym (ap (λ (g : File). g.bytes) (same_some root_file f (sym opening-file ∙ sym (ap (finmap.get opening_world.files) e) ∙ at)))
+    | inr off ↦ absurd (some_none (opening-no_file n off) at)
+  ];
 }
 
 pub IsWhole-opening : IsWhole opening_world
@@ -212,17 +216,27 @@ linking-whole w is whole limits old new known =
     let s = (seen-some w old known.file.there).1 in
     subst (λ o. IsWhole (linked w new o)) (sym s.there) (IsWhole-with_path w new s.number (link-path w is limits old new known).free (λ k h off. whole k h))
 
+-- ---- another content
+
+-- a file that is no directory may get bytes
+writing : (w : World) (p : List Label) → FileKnown (look w) p → (change : File → File) (f : File) → file_at w p ≡ Some f → f.kind ≡ Directory → (change f).bytes ≡ []
+writing w p known change f at kind = absurd (regular-seen w p known.regular (subst (λ o. IsSomeAnd o (λ (g : File). g.kind ≡ Directory)) (sym at) kind))
+
 -- ---- every call
 
 module _ (w : World) (limits : Limits) (counts : Counts) (is : IsWorld w) where
   pub IsWorld-after : (call : FileCall) → refused w limits counts call ≡ None → finmap.get w.files counts.next_number ≡ None → IsWorld (after w counts call)
   unfolding refusal_of
-  IsWorld-after (Create p mode) e unused = let k = new-path w is p (make-known (look w) limits counts p mode e) in IsWorld-with_file w is counts.next_number unused _ p k.free (parent_of p) k.name k.parts k.directory
-  IsWorld-after (Mkdir p mode) e unused = let k = new-path w is p (make-known (look w) limits counts p mode e) in IsWorld-with_file w is counts.next_number unused _ p k.free (parent_of p) k.name k.parts k.directory
-  IsWorld-after (Write p offset bytes) e unused = IsWorld-changed w is p (λ f. record f { bytes = written offset bytes f.bytes }) (λ f. refl)
+  IsWorld-after (Create p mode) e unused = let k = new-path w is p (make-known (look w) limits counts p mode e) in IsWorld-with_file w is counts.next_number unused _ (λ _. refl) p k.free (parent_of p) k.name k.parts k.directory
+  IsWorld-after (Mkdir p mode) e unused = let k = new-path w is p (make-known (look w) limits counts p mode e) in IsWorld-with_file w is counts.next_number unused _ (λ _. refl) p k.free (parent_of p) k.name k.parts k.directory
+  IsWorld-after (Write p offset bytes) e unused =
+      IsWorld-changed w is p (λ f. record f { bytes = written offset bytes f.bytes }) (λ f. refl)
+      (λ f at _. writing w p (write-known (look w) limits p offset (length bytes) e).0 (λ f. record f { bytes = written offset bytes f.bytes }) f at)
   IsWorld-after (ReadFile p offset count) e unused = is
-  IsWorld-after (Truncate p len) e unused = IsWorld-changed w is p (λ f. record f { bytes = resized len f.bytes }) (λ f. refl)
-  IsWorld-after (Chmod p mode) e unused = IsWorld-changed w is p (λ f. record f { mode = mode }) (λ f. refl)
+  IsWorld-after (Truncate p len) e unused =
+      IsWorld-changed w is p (λ f. record f { bytes = resized len f.bytes }) (λ f. refl)
+      (λ f at _. writing w p (truncate-known (look w) limits p len e) (λ f. record f { bytes = resized len f.bytes }) f at)
+  IsWorld-after (Chmod p mode) e unused = IsWorld-changed w is p (λ f. record f { mode = mode }) (λ f. refl) (λ f at blank. blank)
   IsWorld-after (Link old new) e unused = linking w is limits old new (link-known (look w) limits old new e)
   IsWorld-after (Unlink p) e unused = IsWorld-going w is p (unlinked w is p (unlink-known (look w) p e))
   IsWorld-after (Rmdir p) e unused = IsWorld-going w is p (rmdir-going w is p (rmdir-known (look w) p e))
