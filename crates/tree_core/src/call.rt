@@ -24,9 +24,9 @@ pub enum Call {
     /// Watches a file, as `inotify_add_watch`. A file that is watched already keeps its watch descriptor, and the mask
     /// takes the place of the old one, or is joined with it under `IN_MASK_ADD`.
     ///
-    /// The first that holds: `EBADF`, no such instance; `EINVAL`, the mask has `IN_MASK_CREATE`, or no bit of an event;
-    /// `ENOENT` or `ENOTDIR`, no such file; `ENOTDIR`, `IN_ONLYDIR` and no directory; `ENOSPC`, too many watches, or no
-    /// watch descriptor is left.
+    /// The first that holds: `EBADF`, no such instance; `EINVAL`, the mask has `IN_MASK_CREATE` and `IN_MASK_ADD`, or no
+    /// bit of an event; `ENOENT` or `ENOTDIR`, no such file; `ENOTDIR`, `IN_ONLYDIR` and no directory; `EEXIST`,
+    /// `IN_MASK_CREATE` and the file is watched already; `ENOSPC`, too many watches, or no watch descriptor is left.
     AddWatch {
         /// The instance that is to watch.
         instance: u32,

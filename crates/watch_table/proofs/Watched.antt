@@ -10,10 +10,11 @@ use Rattle.std.proofs.lemmas.Int.{ints}
 use Rattle.std.proofs.lemmas.Bool.{false≢true}
 use borrow.Author.Tests.{leb-false, ltb-false}
 use Rattle.tree_paths.specs.declared.limits.Limits.{Limits}
-use Rattle.tree_paths.specs.declared.refusal.Refusal.TheVariants.{Enotdir, Enospc}
-use Rattle.watch_table.specs.Masks.{stored}
+use Rattle.tree_paths.specs.declared.refusal.Refusal.TheVariants.{Eexist, Enotdir, Enospc}
+use Rattle.watch_table.specs.Masks.{has_any, stored}
+use Rattle.record_codec.specs.declared.bits.TheConstants.{IN_MASK_CREATE}
 use Rattle.tree_paths.specs.Rows.{row, first_row}
-use Rattle.watch_table.specs.Watching.{Watch, Watching, IsSound, added, added_to, add_refusal, dropped, has_wd, is_barred, is_full, next_bits, no_watches, number_of, watch_of, wd_added, wd_of, wd_or, with_bits, with_new_watch}
+use Rattle.watch_table.specs.Watching.{Watch, Watching, IsSound, added, added_to, add_refusal, dropped, has_wd, is_barred, is_full, is_taken, next_bits, no_watches, number_of, watch_of, wd_added, wd_of, wd_or, with_bits, with_new_watch}
 use Rattle.watch_table.proofs.Maps.{tie, get-insert_here, get-insert_other, get-remove_here, get-remove_other}
 
 pub some_none : {A : Type 0} {o : Option A} {x : A} → o ≡ None → o ≡ Some x → ⊥
@@ -236,22 +237,32 @@ none_and true = refl
 none_and false = refl
 
 module _ (w : Watching) (number mask : ℕ) (is_directory : Bool) where
-  by_tests : (a b : Bool) → is_barred mask is_directory ≡ a → (is_none (watch_of w number) && is_full w) ≡ b
-      → add_refusal w number mask is_directory ≡ first_row (row a Enotdir ∷ row b Enospc ∷ [])
+  by_tests : (a b d : Bool) → is_barred mask is_directory ≡ a → is_taken mask (watch_of w number) ≡ b → (is_none (watch_of w number) && is_full w) ≡ d
+      → add_refusal w number mask is_directory ≡ first_row (row a Enotdir ∷ row b Eexist ∷ row d Enospc ∷ [])
   unfolding add_refusal
-  by_tests a b e f = ap (λ x. first_row (row x Enotdir ∷ row (is_none (watch_of w number) && is_full w) Enospc ∷ [])) e ∙ ap (λ x. first_row (row a Enotdir ∷ row x Enospc ∷ [])) f
+  by_tests a b d e f g =
+      ap (λ x. first_row (row x Enotdir ∷ row (is_taken mask (watch_of w number)) Eexist ∷ row (is_none (watch_of w number) && is_full w) Enospc ∷ [])) e
+      ∙ ap (λ x. first_row (row a Enotdir ∷ row x Eexist ∷ row (is_none (watch_of w number) && is_full w) Enospc ∷ [])) f
+      ∙ ap (λ x. first_row (row a Enotdir ∷ row b Eexist ∷ row x Enospc ∷ [])) g
 
   pub refused_as_barred : is_barred mask is_directory ≡ true → add_refusal w number mask is_directory ≡ Some Enotdir
-  refused_as_barred barred = by_tests true (is_none (watch_of w number) && is_full w) barred refl
+  refused_as_barred barred = by_tests true (is_taken mask (watch_of w number)) (is_none (watch_of w number) && is_full w) barred refl refl
+
+  pub refused_as_taken : is_barred mask is_directory ≡ false → is_taken mask (watch_of w number) ≡ true → add_refusal w number mask is_directory ≡ Some Eexist
+  refused_as_taken may taken = by_tests false true (is_none (watch_of w number) && is_full w) may taken refl
+
+  -- a file without a watch is not taken
+  not_taken : wd_of w number ≡ None → is_taken mask (watch_of w number) ≡ false
+  not_taken none = ap (is_taken mask) (no_watch (watch_of w number) none) ∙ none_and (has_any mask IN_MASK_CREATE)
 
   pub refused_as_full : is_barred mask is_directory ≡ false → wd_of w number ≡ None → is_full w ≡ true → add_refusal w number mask is_directory ≡ Some Enospc
-  refused_as_full may none full = by_tests false true may (ap (λ o. is_none o && is_full w) (no_watch (watch_of w number) none) ∙ full)
+  refused_as_full may none full = by_tests false false true may (not_taken none) (ap (λ o. is_none o && is_full w) (no_watch (watch_of w number) none) ∙ full)
 
-  pub not_refused_watched : is_barred mask is_directory ≡ false → (wd : ℤ) → wd_of w number ≡ Some wd → add_refusal w number mask is_directory ≡ None
-  not_refused_watched may wd there = by_tests false false may (ap (λ o. is_none o && is_full w) (a_watch (watch_of w number) wd there).1)
+  pub not_refused_watched : is_barred mask is_directory ≡ false → is_taken mask (watch_of w number) ≡ false → (wd : ℤ) → wd_of w number ≡ Some wd → add_refusal w number mask is_directory ≡ None
+  not_refused_watched may free wd there = by_tests false false false may free (ap (λ o. is_none o && is_full w) (a_watch (watch_of w number) wd there).1)
 
-  pub not_refused_room : is_barred mask is_directory ≡ false → is_full w ≡ false → add_refusal w number mask is_directory ≡ None
-  not_refused_room may room = by_tests false false may (ap (λ b. is_none (watch_of w number) && b) room ∙ none_and (is_none (watch_of w number)))
+  pub not_refused_room : is_barred mask is_directory ≡ false → wd_of w number ≡ None → is_full w ≡ false → add_refusal w number mask is_directory ≡ None
+  not_refused_room may none room = by_tests false false false may (not_taken none) (ap (λ b. is_none (watch_of w number) && b) room ∙ none_and (is_none (watch_of w number)))
 
 -- ---- what a call to watch a file makes
 

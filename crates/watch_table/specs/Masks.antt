@@ -1,5 +1,5 @@
 -- The mask of a watch call: inotify(7), "inotify events", and inotify_add_watch(2).
-use Rattle.std.specs.Prelude.{ℕ, Bool, not, ◌==◌, List, [], ◌∷◌, Option, bit_and, bit_or, codes}
+use Rattle.std.specs.Prelude.{ℕ, Bool, not, ◌&&◌, ◌==◌, List, [], ◌∷◌, Option, bit_and, bit_or, codes}
 use Rattle.tree_paths.specs.declared.refusal.Refusal.{Refusal}
 use Rattle.tree_paths.specs.declared.refusal.Refusal.TheVariants.{Einval}
 use Rattle.record_codec.specs.declared.bits.TheConstants.{IN_ACCESS, IN_MODIFY, IN_ATTRIB, IN_CLOSE_WRITE, IN_CLOSE_NOWRITE, IN_OPEN, IN_MOVED_FROM, IN_MOVED_TO, IN_CREATE, IN_DELETE, IN_DELETE_SELF, IN_MOVE_SELF, IN_ALL_EVENTS, IN_ONLYDIR, IN_DONT_FOLLOW, IN_EXCL_UNLINK, IN_MASK_CREATE, IN_MASK_ADD, IN_ONESHOT}
@@ -25,7 +25,7 @@ stored mask = bit_and mask (joined (IN_ALL_EVENTS ∷ IN_ONESHOT ∷ []))
 -- why a mask is refused whatever is to be watched
 abbrev pub mask_fault : ℕ → Option Refusal
 mask_fault mask =
-    first_row (row (has_any mask IN_MASK_CREATE) Einval
+    first_row (row (has_any mask IN_MASK_CREATE && has_any mask IN_MASK_ADD) Einval
     ∷ row (not (has_any mask IN_ALL_EVENTS)) Einval
     ∷ [])
 

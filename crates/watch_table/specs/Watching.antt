@@ -1,13 +1,13 @@
 -- The watches of one instance: inotify_add_watch(2) and inotify_rm_watch(2).
-use Rattle.std.specs.Prelude.{◌≡◌, ℕ, ◌+◌, ◌^◌, ◌<◌, ◌≤◌, ℤ, pos, ◌≤ℤ◌, ◌<ℤ◌, Bool, false, not, ◌&&◌, ◌||◌, [], ◌∷◌, Option, Some, None, option_map, is_none, bit_or, nat_le, nat_lt, if◌then◌else◌, refl}
+use Rattle.std.specs.Prelude.{◌≡◌, ℕ, ◌+◌, ◌^◌, ◌<◌, ◌≤◌, ℤ, pos, ◌≤ℤ◌, ◌<ℤ◌, Bool, false, not, ◌&&◌, ◌||◌, [], ◌∷◌, Option, Some, None, option_map, is_none, is_some, bit_or, nat_le, nat_lt, if◌then◌else◌, refl}
 use Rattle.std.specs.Coded.{Coded, code_by, coded×, coded_ℕ, coded_ℤ}
 use Rattle.std.specs.FinMap as map
 use Rattle.std.specs.List.{find}
 use Rattle.std.specs.Ordering.{nat_cmp, int_eq}
-use Rattle.record_codec.specs.declared.bits.TheConstants.{IN_ONLYDIR, IN_MASK_ADD}
+use Rattle.record_codec.specs.declared.bits.TheConstants.{IN_ONLYDIR, IN_MASK_CREATE, IN_MASK_ADD}
 use Rattle.tree_paths.specs.declared.limits.Limits.{Limits}
 use Rattle.tree_paths.specs.declared.refusal.Refusal.{Refusal}
-use Rattle.tree_paths.specs.declared.refusal.Refusal.TheVariants.{Enotdir, Enospc}
+use Rattle.tree_paths.specs.declared.refusal.Refusal.TheVariants.{Eexist, Enotdir, Enospc}
 use Rattle.watch_table.specs.Masks.{has_any, stored}
 use Rattle.tree_paths.specs.Rows.{row, first_row}
 
@@ -85,10 +85,15 @@ is_full w = nat_le w.most_watches (map.len w.watches) || nat_lt w.last_wd w.next
 abbrev pub is_barred : ℕ → Bool → Bool
 is_barred mask is_directory = has_any mask IN_ONLYDIR && not is_directory
 
--- why a call to watch a file is refused, where its mask has no fault
+-- whether a mask asks for a new watch, and the file has one
+abbrev pub is_taken : ℕ → Option Watch → Bool
+is_taken mask watch = has_any mask IN_MASK_CREATE && is_some watch
+
+-- why a call to watch a file is refused, where its mask has no fault: inotify_add_watch(2), "ERRORS"
 unfoldable pub add_refusal : Watching → ℕ → ℕ → Bool → Option Refusal
 add_refusal w number mask is_directory =
     first_row (row (is_barred mask is_directory) Enotdir
+    ∷ row (is_taken mask (watch_of w number)) Eexist
     ∷ row (is_none (watch_of w number) && is_full w) Enospc
     ∷ [])
 

@@ -46,7 +46,7 @@ bitflag_items! {
         const DONT_FOLLOW = bits::IN_DONT_FOLLOW;
         /// Tell nothing of names that were removed. It has no effect.
         const EXCL_UNLINK = bits::IN_EXCL_UNLINK;
-        /// Make a new watch or none.
+        /// Make a new watch or none: a file that is watched already is refused.
         const MASK_CREATE = bits::IN_MASK_CREATE;
         /// Join the bits with those of the watch that is there.
         const MASK_ADD = bits::IN_MASK_ADD;
@@ -92,11 +92,11 @@ impl Mask {
         self.0 & (bits::IN_ALL_EVENTS | bits::IN_ONESHOT)
     }
 
-    /// Why no watch call takes this mask. `EINVAL` where it has MASK_CREATE, and else where it has no event.
+    /// Why no watch call takes this mask. `EINVAL` where it has both MASK_CREATE and MASK_ADD, and where it has no event.
     pub fn fault(self) -> Option<Refusal>
         ensures { result ≡ mask_fault self.0 }
     {
-        if self.intersects(Mask::MASK_CREATE) {
+        if self.intersects(Mask::MASK_CREATE) && self.intersects(Mask::MASK_ADD) {
             return Some(Refusal::Einval);
         }
         if !self.intersects(Mask::ALL_EVENTS) {

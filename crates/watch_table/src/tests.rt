@@ -48,7 +48,9 @@ fn masks(rt: HostRuntime) {
         (0xa100_0100, 0xa100_0100, 0x8000_0100, None),
         (0x4000_f000, 0, 0, Some(Refusal::Einval)),
         (0x8000_0000, 0x8000_0000, 0x8000_0000, Some(Refusal::Einval)),
-        (0x1000_0100, 0x1000_0100, 0x100, Some(Refusal::Einval)),
+        (0x1000_0100, 0x1000_0100, 0x100, None),
+        (0x3000_0100, 0x3000_0100, 0x100, Some(Refusal::Einval)),
+        (0x1000_0000, 0x1000_0000, 0, Some(Refusal::Einval)),
         (0x0600_0002, 0x0600_0002, 0x002, None),
     ] {
         let mask = Mask::of(bits);
@@ -92,6 +94,19 @@ fn joins_and_replaces(rt: HostRuntime) {
     equal(
         &rt,
         watch(&rt, &mut watches, 3, 0x0100_0fff, false),
+        Err(Refusal::Enotdir),
+    );
+    equal(&rt, watches.of(3), Some((2, 0x2)));
+
+    // Under MASK_CREATE a file that is watched already is refused, once ONLYDIR was looked at, and keeps its bits.
+    equal(
+        &rt,
+        watch(&rt, &mut watches, 3, 0x1000_0001, false),
+        Err(Refusal::Eexist),
+    );
+    equal(
+        &rt,
+        watch(&rt, &mut watches, 3, 0x1100_0001, false),
         Err(Refusal::Enotdir),
     );
     equal(&rt, watches.of(3), Some((2, 0x2)));

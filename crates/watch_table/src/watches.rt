@@ -6,7 +6,7 @@ ghost use Rattle.tree_paths.specs.declared.refusal.Refusal.{Refusal};
 ghost use Rattle.tree_paths.specs.declared.refusal.Refusal.TheVariants.{Einval, Enomem};
 ghost use Rattle.watch_table.specs.Masks.{mask_fault};
 ghost use Rattle.watch_table.specs.Rows.{bits_in, watch_rows};
-ghost use Rattle.watch_table.specs.Watching.{IsSound, added, add_refusal, dropped, is_barred, is_full, next_bits, no_watches, number_of, removed, watch_of, wd_added, wd_of, with_new_watch};
+ghost use Rattle.watch_table.specs.Watching.{IsSound, added, add_refusal, dropped, is_barred, is_full, is_taken, next_bits, no_watches, number_of, removed, watch_of, wd_added, wd_of, with_new_watch};
 
 use crate::{Mask, WatchRows};
 use bitflags::Flags;
@@ -134,8 +134,9 @@ impl Watches {
 impl Watches {
     /// Watches a file, and answers the descriptor of its watch.
     ///
-    /// `ENOTDIR` where the mask has ONLYDIR and it is no directory; `ENOSPC` where it is not watched yet and as many
-    /// files are watched as the limit allows, or all descriptors were given; `ENOMEM`.
+    /// `ENOTDIR` where the mask has ONLYDIR and it is no directory; `EEXIST` where the mask has MASK_CREATE and it is
+    /// watched already; `ENOSPC` where it is not watched yet and as many files are watched as the limit allows, or all
+    /// descriptors were given; `ENOMEM`.
     pub fn add(&mut self, number: u32, mask: Mask, is_directory: bool) -> Result<i32, Refusal>
         requires { mask_fault mask.0 ≡ None }
         ensures wd { IfOk result (λ wd. wd ≡ wd_added self.old number) }
@@ -149,6 +150,9 @@ impl Watches {
         if is_barred(mask, is_directory) {
             return Err(Refusal::Enotdir);
         }
+        if self.is_taken(number, mask) {
+            return Err(Refusal::Eexist);
+        }
         if let Some(wd) = self.watch_again(number, mask) {
             return Ok(wd);
         }
@@ -156,6 +160,13 @@ impl Watches {
             return Err(Refusal::Enospc);
         }
         Ok(self.insert(number, mask.stored())?)
+    }
+
+    // Whether the mask asks for a new watch, and the file has one.
+    fn is_taken(&self, number: u32, mask: Mask) -> bool
+        ensures { result ≡ is_taken mask.0 (watch_of self.now number) }
+    {
+        mask.intersects(Mask::MASK_CREATE) && self.of(number).is_some()
     }
 
     // Gives the watch of a file, if it has one, the bits of another call, and answers its descriptor.

@@ -3,7 +3,7 @@ use Rattle.std.specs.Prelude.{pos}
 use Rattle.std.proofs.lemmas.Int.{to_z-of_z}
 use mir.Val.{SFits}
 use Rattle.watch_table.specs.Watching.{is_full, wd_of, with_new_watch}
-use Rattle.watch_table.proofs.Watched.{added-new, refused_as_barred, refused_as_full, not_refused_watched, not_refused_room, some_none, same_some, wd_added-new, wd_added-watched}
+use Rattle.watch_table.proofs.Watched.{added-new, refused_as_barred, refused_as_full, refused_as_taken, not_refused_watched, not_refused_room, some_none, same_some, wd_added-new, wd_added-watched}
 use Rattle.watch_table.proofs.watches.Watches.add.Goals as goal
 
 pub returns-then-is_barred-clause-refused : goal.returns-then-is_barred-clause-refused
@@ -15,6 +15,15 @@ pub returns-then-is_barred-clause-refusals : goal.returns-then-is_barred-clause-
 returns-then-is_barred-clause-refusals c =
     inl (refused_as_barred c.args.self.now c.args.number c.args.mask.0 c.args.is_directory (sym c.is_barred.ensures ∙ c.if-is_barred.true))
 
+pub returns-then-is_taken-clause-refused : goal.returns-then-is_taken-clause-refused
+returns-then-is_taken-clause-refused c =
+    let e = refused_as_taken c.args.self.now c.args.number c.args.mask.0 c.args.is_directory (sym c.is_barred.ensures ∙ c.if-is_barred.false) (sym c.is_taken.ensures ∙ c.if-is_taken.true) in
+    λ r is. ap (λ x. Err x) (same_some (sym e ∙ is))
+
+pub returns-then-is_taken-clause-refusals : goal.returns-then-is_taken-clause-refusals
+returns-then-is_taken-clause-refusals c =
+    inl (refused_as_taken c.args.self.now c.args.number c.args.mask.0 c.args.is_directory (sym c.is_barred.ensures ∙ c.if-is_barred.false) (sym c.is_taken.ensures ∙ c.if-is_taken.true))
+
 pub returns-in-Some-clause-wd : goal.returns-in-Some-clause-wd
 returns-in-Some-clause-wd c =
     let fits : SFits w32 c.in-Some.wd = search rules in
@@ -22,7 +31,7 @@ returns-in-Some-clause-wd c =
 
 pub returns-in-Some-clause-refused : goal.returns-in-Some-clause-refused
 returns-in-Some-clause-refused c =
-    let e = not_refused_watched c.args.self.now c.args.number c.args.mask.0 c.args.is_directory (sym c.is_barred.ensures ∙ c.if-is_barred.false) c.in-Some.wd (sym c.in-Some.ensures.wd) in
+    let e = not_refused_watched c.args.self.now c.args.number c.args.mask.0 c.args.is_directory (sym c.is_barred.ensures ∙ c.if-is_barred.false) (sym c.is_taken.ensures ∙ c.if-is_taken.false) c.in-Some.wd (sym c.in-Some.ensures.wd) in
     λ r is. absurd (some_none e is)
 
 pub returns-then-is_full-clause-refused : goal.returns-then-is_full-clause-refused
@@ -40,8 +49,9 @@ returns-then-is_full-clause-refusals c =
 
 pub returns-in_err-insert-clause-refused : goal.returns-in_err-insert-clause-refused
 returns-in_err-insert-clause-refused c =
+    let none : wd_of c.args.self.now c.args.number ≡ None = sym c.in_default.ensures.wd in
     let room = ap is_full (sym c.in_default.ensures.none) ∙ sym c.is_full.ensures ∙ c.if-is_full.false in
-    let e = not_refused_room c.args.self.now c.args.number c.args.mask.0 c.args.is_directory (sym c.is_barred.ensures ∙ c.if-is_barred.false) room in
+    let e = not_refused_room c.args.self.now c.args.number c.args.mask.0 c.args.is_directory (sym c.is_barred.ensures ∙ c.if-is_barred.false) none room in
     λ r is. absurd (some_none e is)
 
 pub returns-clause-wd : goal.returns-clause-wd
@@ -61,6 +71,7 @@ returns-clause-watches c =
 
 pub returns-clause-refused : goal.returns-clause-refused
 returns-clause-refused c =
+    let none : wd_of c.args.self.now c.args.number ≡ None = sym c.in_default.ensures.wd in
     let room = ap is_full (sym c.in_default.ensures.none) ∙ sym c.is_full.ensures ∙ c.if-is_full.false in
-    let e = not_refused_room c.args.self.now c.args.number c.args.mask.0 c.args.is_directory (sym c.is_barred.ensures ∙ c.if-is_barred.false) room in
+    let e = not_refused_room c.args.self.now c.args.number c.args.mask.0 c.args.is_directory (sym c.is_barred.ensures ∙ c.if-is_barred.false) none room in
     λ r is. absurd (some_none e is)
