@@ -32,7 +32,7 @@ pub(crate) fn row(alloc: Global, id: u32, instance: &Instance) -> Result<Instanc
         id,
         limit: instance.queue.limit(),
         piped: instance.is_piped,
-        watches: instance.watches.rows(alloc)?,
+        watches: instance.watches.rows()?,
         next_wd: instance.watches.next_wd(),
         waiting: waiting(alloc, &instance.queue)?,
     })

@@ -7,6 +7,7 @@ use Rattle.std.specs.FinMap as map
 use Rattle.std.specs.FinMap.{from_entries, int_cmp-IsAntisymmetric}
 use Rattle.std.specs.Map.{lookup}
 use Rattle.std.specs.Ordering.{nat_cmp, int_cmp, is_eq}
+use Rattle.std.specs.declared.alloc.Global.{Global}
 use Rattle.std.specs.Cmp.{int_cmp_total}
 use Rattle.tree_paths.specs.declared.limits.Limits.{Limits}
 use Rattle.watch_table.specs.declared.watches.Watches.TheInside.{Inside}
@@ -15,9 +16,9 @@ use Rattle.watch_table.specs.Index.{IsIndexed, watching_of}
 use Rattle.watch_table.proofs.Maps.{tie, from_map-insert, from_map-remove}
 use Rattle.watch_table.proofs.Watched.{no_watches-IsSound, number_of-by, some_none, same_some, wd_of-dropped, wd_of-dropped_other, dropped-IsSound, kept-IsSound, wd_of-kept, new-IsSound, wd_of-new, new-apart, wd_of-put_here, wd_of-put_other}
 
-pub no_watches-IsIndexed : (limits : Limits) (m : BTreeMap ℕ Watch) (n : BTreeMap ℤ ℕ) → tree.IsEmpty m → tree.IsEmpty n
-    → IsIndexed (record { by_number = m; by_wd = n; next_wd = 1; most_watches = limits.watches; last_wd = limits.wds })
-no_watches-IsIndexed limits m n e f =
+pub no_watches-IsIndexed : (limits : Limits) (alloc : Global) (m : BTreeMap ℕ Watch) (n : BTreeMap ℤ ℕ) → tree.IsEmpty m → tree.IsEmpty n
+    → IsIndexed (record { alloc = alloc; by_number = m; by_wd = n; next_wd = 1; most_watches = limits.watches; last_wd = limits.wds })
+no_watches-IsIndexed limits alloc m n e f =
     let opened : map.FinMap nat_cmp Watch → Watching = λ x. record { watches = x; next_wd = 1; most_watches = limits.watches; last_wd = limits.wds } in
     let same : map.empty ≡ from_entries {R = nat_cmp} m.entries = ap (λ es. from_entries {R = nat_cmp} es) (sym e) in
     let sound : IsSound (opened (from_entries m.entries)) = subst (λ x. IsSound (opened x)) same (no_watches-IsSound limits) in

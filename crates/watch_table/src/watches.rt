@@ -20,6 +20,7 @@ use tree_paths::{Limits, Refusal};
 ///
 /// Descriptors are given in turn, 1, 2, 3, .., and none is given again.
 pub struct Watches {
+    alloc: Global,
     by_number: BTreeMap<u32, (i32, u32)>,
     by_wd: BTreeMap<i32, u32>,
     next_wd: u32,
@@ -30,6 +31,7 @@ pub struct Watches {
 impl Drop for Watches {
     fn drop(self) {
         let Watches {
+            alloc: _,
             by_number: _,
             by_wd: _,
             next_wd: _,
@@ -59,6 +61,7 @@ impl Watches {
         ensures { result ≡ no_watches limits.now }
     {
         Watches {
+            alloc,
             by_number: BTreeMap::new(alloc),
             by_wd: BTreeMap::new(alloc),
             next_wd: 1,
@@ -112,11 +115,11 @@ impl Watches {
     }
 
     /// The watches in the order of their descriptors: the number of the file, the descriptor and the bits of each.
-    pub fn rows(&self, alloc: Global) -> Result<WatchRows, Refusal>
+    pub fn rows(&self) -> Result<WatchRows, Refusal>
         ensures rows { IfOk result (λ rows. rows ≡ watch_rows self.now) }
         ensures err { IfErr result (λ refusal. refusal ≡ Enomem) }
     {
-        let mut rows = Vec::new(alloc);
+        let mut rows = Vec::new(self.alloc);
         for (wd, number) in &self.by_wd {
             rows.push((*number, *wd, self.bits(*number)))?;
         }
