@@ -12,6 +12,7 @@ ghost use Rattle.tree_core.specs.Snapshots.{IsSnapshotOf};
 ghost use Rattle.tree_core.specs.Sound.{IsSoundTree};
 
 use crate::call::Call;
+use crate::cut_laws::pasts_make_whole;
 use crate::machine::{Machine, Pumped, Replies};
 use crate::reply::{Entry, Kept, Receipt, Reply};
 use crate::snapshot::Snapshot;
@@ -190,8 +191,10 @@ impl State {
     /// What the last cut kept of the tree, and the place of the last entry before it. Before any cut it is the opening tree,
     /// and the place is 0.
     pub fn snapshot(&self) -> &Snapshot
-        ensures { IsSnapshotOf self.now.start self.now.place result.now }
+        ensures tells { IsSnapshotOf self.now.start self.now.place result.now }
+        ensures sound { IsSoundTree self.now.start }
     {
+        pasts_make_whole();
         &self.snapshot
     }
 
