@@ -199,7 +199,7 @@ impl State {
     }
 
     /// Puts a snapshot of the tree in the place of the journal, and answers the place of the last entry. The tree stays as it
-    /// is, and places go on. It takes time and memory in proportion to the tree.
+    /// is, and places go on. It takes time and memory in proportion to the tree, and gives back all that the entries held.
     ///
     /// # Errors
     /// `ENOMEM`, where there is no memory for it. The state is then as before.
@@ -212,7 +212,8 @@ impl State {
         trees_are_sound();
         let place = self.snapshot.place + self.journal.len() as u64;
         self.snapshot = self.machine.snapshot(place)?;
-        self.journal.clear();
+        // The room goes back with the entries, so that memory is bounded by what stands since the cut.
+        self.journal = Vec::new(self.machine.alloc);
         Ok(place)
     }
 
