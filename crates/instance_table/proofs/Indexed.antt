@@ -1,6 +1,7 @@
 -- The map of instances and the index of watchers, changed together.
 use Rattle.std.proofs.Common.{◌≡◌, ℕ, Bool, true, false, not, cond, ◌||◌, ◌&&◌, eqb, Option, Some, None, is_some, refl, sym, ap, ◌∙◌, subst}
 use Rattle.std.specs.Prelude.{pos, ℤ, Result, Ok, Err, OnOk, OnErr}
+use Rattle.record_codec.specs.Records.{AreEvents}
 use Rattle.tree_paths.specs.declared.refusal.Refusal.{Refusal}
 use Rattle.std.specs.BTreeMap as tree
 use Rattle.std.specs.BTreeMap.{BTreeMap}
@@ -8,13 +9,14 @@ use Rattle.std.specs.FinMap as map
 use Rattle.std.specs.FinMap.{get-insert, get-remove, same_map, nat_cmp-IsAntisymmetric}
 use Rattle.std.specs.Ordering.{nat_cmp, eq_by_cmp}
 use Rattle.std.specs.Cmp.{nat_cmp_total, unsigned_tied}
+use Rattle.event_queue.specs.Backlogs.{Backlog}
 use Rattle.watch_table.specs.Watching.{Watch, Watching, watch_of, added, dropped}
 use Rattle.watch_table.proofs.Maps.{get-from_map, from_map-insert, from_map-remove}
 use Rattle.instance_table.specs.declared.index.Index.{Index}
 use Rattle.instance_table.specs.declared.instance.Instance.{Instance}
 use Rattle.instance_table.specs.declared.instances.Instances.TheInside.{Inside}
 use Rattle.instance_table.specs.Index.{is_noted}
-use Rattle.instance_table.specs.Instances.{Instances, instance_of, changed, watches_file}
+use Rattle.instance_table.specs.Instances.{Instances, WaitingAreEvents, instance_of, changed, waiting_of, watches_file}
 use Rattle.instance_table.specs.Views.{instances_of, IsIndexed}
 
 -- ---- one instance changes
@@ -78,11 +80,31 @@ watched-added w number mask n = by (watch_of w number)
     by None = watched-inserted w.watches number n (pos w.next_wd, Rattle.watch_table.specs.Masks.stored mask)
     by (Some watch) = watched-inserted w.watches number n (watch.0, Rattle.watch_table.specs.Watching.next_bits mask watch.1)
 
+-- ---- what waits
+
+pub waiting-put : (m : Instances) (id : ℕ) (i : Instance) → WaitingAreEvents m → AreEvents i.queue.waiting → WaitingAreEvents (map.insert m id i)
+waiting-put m id i all new q = subst (λ o. AreEvents (waiting_of o)) (sym (get-put m id i q)) (by (eqb q id))
+  where
+    by : (b : Bool) → AreEvents (waiting_of (cond b (Some i) (instance_of m q)))
+    by true = new
+    by false = all q
+
+pub waiting-cut : (m : Instances) (id : ℕ) → WaitingAreEvents m → WaitingAreEvents (map.remove m id)
+waiting-cut m id all q = subst (λ o. AreEvents (waiting_of o)) (sym (get-cut m id q)) (by (eqb q id))
+  where
+    by : (b : Bool) → AreEvents (waiting_of (cond b None (instance_of m q)))
+    by true = tt
+    by false = all q
+
 -- ---- the fields
 
 module _ (a : Inside) (whole : IsIndexed a) where
   there : (id : ℕ) (i : Instance) → tree.get nat_cmp a.opened id ≡ Some i → instance_of (instances_of a) id ≡ Some i
   there id i h = get-from_map a.opened id ∙ h
+
+  -- what waits in an instance are events
+  pub events-at : (id : ℕ) (i : Instance) → tree.get nat_cmp a.opened id ≡ Some i → AreEvents i.queue.waiting
+  events-at id i h = subst (λ o. AreEvents (waiting_of o)) (there id i h) (whole.records id)
 
   -- an instance where the same files are watched
   module _ (m : BTreeMap ℕ Instance) (id : ℕ) (i j : Instance) (put : tree.Updates nat_cmp a.opened m id (Some j)) (was : tree.get nat_cmp a.opened id ≡ Some i) where
@@ -96,8 +118,8 @@ module _ (a : Inside) (whole : IsIndexed a) where
     pub instances_of-changed : (change : Instance → Instance) → change i ≡ j → instances_of with_instance ≡ changed (instances_of a) id change
     instances_of-changed change is = instances_of-put ∙ ap (map.insert (instances_of a) id) (sym is) ∙ sym (changed-there (instances_of a) id change i (there id i was))
 
-    pub IsIndexed-kept : i.watches ≡ j.watches → IsIndexed with_instance
-    IsIndexed-kept same = record {
+    pub IsIndexed-kept : i.watches ≡ j.watches → AreEvents j.queue.waiting → IsIndexed with_instance
+    IsIndexed-kept same events = record {
       noted = λ n q.
           whole.noted n q
           ∙ sym (ap (λ x. watches_file n (instance_of x q)) instances_of-put ∙ watched-put (instances_of a) id j n q
@@ -105,14 +127,18 @@ module _ (a : Inside) (whole : IsIndexed a) where
             | true ↦ λ t. ap (λ w. is_some (watch_of w n)) (sym same) ∙ ap (watches_file n) (sym (there id i was)) ∙ ap (λ x. watches_file n (instance_of (instances_of a) x)) (sym (is-same q id t))
             | false ↦ λ t. refl
           ] refl);
+      records = subst WaitingAreEvents (sym instances_of-put) (waiting-put (instances_of a) id j whole.records events);
     }
 
     -- an instance whose watches change as the index does
-    pub IsIndexed-changed : (index : Index) → ((n q : ℕ) → is_noted index n q ≡ cond (eqb q id) (is_some (watch_of j.watches n)) (is_noted a.index n q)) → IsIndexed (record a { opened = m; index = index })
-    IsIndexed-changed index same = record {
+    pub IsIndexed-changed : (index : Index) → ((n q : ℕ) → is_noted index n q ≡ cond (eqb q id) (is_some (watch_of j.watches n)) (is_noted a.index n q)) → j.queue ≡ i.queue → IsIndexed (record a { opened = m; index = index })
+    IsIndexed-changed index same queue = record {
       noted = λ n q.
           same n q ∙ ap (cond (eqb q id) (is_some (watch_of j.watches n))) (whole.noted n q)
           ∙ sym (ap (λ x. watches_file n (instance_of x q)) instances_of-put ∙ watched-put (instances_of a) id j n q);
+      records =
+          subst WaitingAreEvents (sym instances_of-put)
+          (waiting-put (instances_of a) id j whole.records (subst (λ (q : Backlog). AreEvents q.waiting) (sym queue) (events-at id i was)));
     }
 
   -- a map with the same entries
@@ -121,8 +147,8 @@ module _ (a : Inside) (whole : IsIndexed a) where
 
   -- a new instance, which watches nothing
   pub IsIndexed-new : (m : BTreeMap ℕ Instance) (id : ℕ) (i : Instance) → tree.Updates nat_cmp a.opened m id (Some i) → instance_of (instances_of a) id ≡ None
-      → ((n : ℕ) → watch_of i.watches n ≡ None) → IsIndexed (record a { opened = m })
-  IsIndexed-new m id i put free none = record {
+      → ((n : ℕ) → watch_of i.watches n ≡ None) → AreEvents i.queue.waiting → IsIndexed (record a { opened = m })
+  IsIndexed-new m id i put free none events = record {
     noted = λ n q.
         whole.noted n q
         ∙ sym (ap (λ x. watches_file n (instance_of x q)) (from_map-insert a.opened m id i put) ∙ watched-put (instances_of a) id i n q
@@ -130,6 +156,7 @@ module _ (a : Inside) (whole : IsIndexed a) where
           | true ↦ λ t. ap is_some (none n) ∙ ap (watches_file n) (sym free) ∙ ap (λ x. watches_file n (instance_of (instances_of a) x)) (sym (is-same q id t))
           | false ↦ λ t. refl
         ] refl);
+    records = subst WaitingAreEvents (sym (from_map-insert a.opened m id i put)) (waiting-put (instances_of a) id i whole.records events);
   }
 
   -- an instance less, which the index forgets
@@ -146,6 +173,7 @@ module _ (a : Inside) (whole : IsIndexed a) where
           | false ↦ λ t. on (is_some (watch_of i.watches n)) (watches_file n (instance_of (instances_of a) q))
         ] refl
         ∙ sym (ap (λ x. watches_file n (instance_of x q)) (from_map-remove a.opened m id cut) ∙ watched-cut (instances_of a) id n q);
+    records = subst WaitingAreEvents (sym (from_map-remove a.opened m id cut)) (waiting-cut (instances_of a) id whole.records);
   }
     where
       off : (b : Bool) → (not (b && true) && b) ≡ false

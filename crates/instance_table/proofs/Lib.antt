@@ -3,4 +3,5 @@ mod Indexed
 mod Noted
 mod Rising
 mod Staged
+mod Waiting
 mod Watchers

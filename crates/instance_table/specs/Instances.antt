@@ -4,6 +4,7 @@ use Rattle.std.specs.FinMap as finmap
 use Rattle.std.specs.List.{filter}
 use Rattle.std.specs.Ordering.{nat_cmp}
 use Rattle.record_codec.specs.declared.event.Event.{Event}
+use Rattle.record_codec.specs.Records.{AreEvents}
 use Rattle.tree_paths.specs.declared.limits.Limits.{Limits}
 use Rattle.watch_table.specs.Watching.{no_watches, watch_of, added, removed}
 use Rattle.event_queue.specs.Backlogs.{after_offer}
@@ -23,6 +24,10 @@ instance_of m id = finmap.get m id
 abbrev pub waiting_of : Option Instance → List Event
 waiting_of None = []
 waiting_of (Some i) = i.queue.waiting
+
+-- what waits in each instance are events: their values fit their types, and their names are names
+abbrev pub WaitingAreEvents : Instances → Type 0
+WaitingAreEvents m = (id : ℕ) → AreEvents (waiting_of (instance_of m id))
 
 -- ---- changes of one instance
 

@@ -9,12 +9,12 @@ ghost use Rattle.watch_table.specs.Masks.{mask_fault};
 ghost use Rattle.watch_table.specs.Watching.{add_refusal, added, removed, watch_of, wd_added};
 ghost use Rattle.instance_table.specs.Index.{is_noted};
 ghost use Rattle.instance_table.specs.Rows.{instance_row};
-ghost use Rattle.instance_table.specs.Instances.{after_read, changed, instance_of, new_instance, unwatching, waiting_of, watchers_of, watching};
+ghost use Rattle.instance_table.specs.Instances.{WaitingAreEvents, after_read, changed, instance_of, new_instance, unwatching, waiting_of, watchers_of, watching};
 
 use crate::index::Index;
 use crate::instance::Instance;
 use crate::rows::{InstanceRow, row};
-use crate::staging::offer_each;
+use crate::staging::{offer_each, offer_one};
 use event_queue::Queue;
 use event_rules::ignored;
 use record_codec::{Event, Events};
@@ -66,6 +66,13 @@ impl Instances {
             opened: BTreeMap::new(alloc),
             index: Index::new(alloc),
         }
+    }
+
+    /// What waits in the instances are events: their values fit their types, and their names are names.
+    pub fn law(&self)
+        ensures { WaitingAreEvents self.now }
+    {
+        let _alloc = self.alloc;
     }
 
     /// How many instances are open.
@@ -205,7 +212,7 @@ impl Instances {
         let Some(instance) = self.opened.get_mut(&id) else {
             return;
         };
-        instance.queue.offer(event);
+        offer_one(&mut instance.queue, event);
     }
 
     // Raises events, one after the other.

@@ -3,6 +3,7 @@ ghost use Rattle.std.specs.Prelude.{◌≡◌, ℕ, ◌==◌, ◌||◌, is_some,
 ghost use Rattle.std.specs.FinMap as map;
 ghost use Rattle.std.specs.List.{list_any};
 ghost use Rattle.tree_paths.specs.declared.refusal.Refusal.TheVariants.{Enomem};
+ghost use Rattle.record_codec.specs.Records.{AreEvents, IsEvent};
 ghost use Rattle.event_queue.specs.Backlogs.{after_offer};
 ghost use Rattle.event_rules.specs.Raised.{told_number};
 ghost use Rattle.instance_table.specs.Instances.{all_changed, changed, instance_of, told, watches_file};
@@ -12,7 +13,7 @@ use crate::ids::Ids;
 use crate::instances::Instances;
 use event_queue::Queue;
 use event_rules::{Notice, Staged, stage, unwatched_files_raise_nothing};
-use record_codec::Events;
+use record_codec::{Event, Events};
 use std::alloc::AllocError;
 use std::marker::Model;
 use tree_paths::Refusal;
@@ -124,11 +125,31 @@ fn add_all(ids: &mut Ids, more: &[u32]) -> Result<(), AllocError>
     Ok(())
 }
 
+// An event's values fit their types, and its name is a name.
+fn fits(event: &Event)
+    ensures { IsEvent event.now }
+{
+    let (_wd, _mask, _cookie) = (event.wd, event.mask, event.cookie);
+    if let Some(name) = &event.name {
+        let _bytes = name.bytes();
+    }
+}
+
+// Raises an event. What waits stays events.
+pub(crate) fn offer_one(queue: &mut Queue, event: Event)
+    ensures queue { queue.new ≡ after_offer queue.old event }
+    ensures events { AreEvents queue.old.waiting → AreEvents queue.new.waiting }
+{
+    fits(&event);
+    queue.offer(event);
+}
+
 // Raises events, one after the other.
 pub(crate) fn offer_each(queue: &mut Queue, events: Events)
-    ensures { queue.new ≡ fold after_offer queue.old events }
+    ensures queue { queue.new ≡ fold after_offer queue.old events }
+    ensures events { AreEvents queue.old.waiting → AreEvents queue.new.waiting }
 {
     for event in events.into_vec() {
-        queue.offer(event);
+        offer_one(queue, event);
     }
 }

@@ -1,6 +1,8 @@
 -- What a state knows of its journal, over its changes.
 use Rattle.std.proofs.Common.{◌≡◌, ℕ, ◌+◌, ◌^◌, ◌<◌, ◌≤◌, List, [], ◌∷◌, ◌++◌, length, sym, ap, subst, ◌∙◌, arith, length-append}
+use Rattle.record_codec.specs.Records.{AreEvents}
 use Rattle.tree_paths.specs.declared.limits.Limits.{Limits}
+use Rattle.instance_table.specs.Instances.{WaitingAreEvents}
 use Rattle.tree_core.specs.declared.machine.Machine.{Machine}
 use Rattle.tree_core.specs.declared.reply.Entry.{Entry}
 use Rattle.tree_core.specs.declared.snapshot.Snapshot.{Snapshot}
@@ -8,11 +10,13 @@ use Rattle.tree_core.specs.declared.state.State.TheInside.{Inside}
 use Rattle.tree_core.specs.Tree.{Tree, opening, reply_of, after}
 use Rattle.tree_core.specs.Journal.{Journaled, HasPast, IsLawfulFrom, cut_off, last_place, now, opened, with_entry}
 use Rattle.tree_core.specs.Machines.{IsMachineOf}
+use Rattle.tree_core.specs.Histories.{read_in}
 use Rattle.tree_core.specs.Kept.{IsKept, journal_of, tree_of}
 use Rattle.tree_core.specs.Snapshots.{IsSnapshotOf}
 use Rattle.tree_core.specs.TurnLaws.{TreesAreSound}
 use Rattle.tree_core.proofs.Lawful.{HasPast-cut, HasPast-opening, lawful-entry, limits-now, now-cut, now-entry, now-opened, pasts-make-whole, sound-now}
 use Rattle.tree_core.proofs.Shown.{tree_of-snapshot}
+use Rattle.tree_core.proofs.Spelled.{events-of-machine, read-events, read-more}
 
 module _ (a b : Inside) (is : IsKept a) (snapshot : b.snapshot ≡ a.snapshot) (limits : b.machine.limits ≡ a.machine.limits) where
   shown-still : IsSnapshotOf (journal_of b).start (journal_of b).place b.snapshot
@@ -27,21 +31,27 @@ module _ (a b : Inside) (is : IsKept a) (snapshot : b.snapshot ≡ a.snapshot) (
         past = subst (λ (s : Journaled). HasPast s.start s.place) same is.past;
         lawful = subst (λ (s : Journaled). IsLawfulFrom s.start s.entries) same is.lawful;
         stands = subst (λ (s : Journaled). IsMachineOf (now s) b.machine) same stands;
+        read = subst (λ (s : Journaled). (id : ℕ) → AreEvents (read_in s.start s.entries id)) same is.read;
         few = subst (λ (p : Limits × List Entry). length p.1 ≤ p.0.journal) (λ i. (sym limits i, sym items i)) is.few;
         small = subst (λ (s : Journaled). last_place s < 2 ^ 64) same is.small;
       }
 
   -- one entry more, and a machine that stands for the tree after its call
   pub IsKept-more : (e : Entry) → b.journal.items ≡ a.journal.items ++ e ∷ [] → length a.journal.items < a.machine.limits.journal → last_place (journal_of a) + 1 < 2 ^ 64
-      → e.reply ≡ reply_of (now (journal_of a)) e.call → IsMachineOf (after (now (journal_of a)) e.call) b.machine → IsKept b
-  IsKept-more e items room small reply stands =
+      → e.reply ≡ reply_of (now (journal_of a)) e.call → IsMachineOf (after (now (journal_of a)) e.call) b.machine → WaitingAreEvents a.machine.instances → IsKept b
+  unfolding now
+  IsKept-more e items room small reply stands waits =
       let same : with_entry (journal_of a) e ≡ journal_of b = λ i. record { start = tree_of (sym limits i) (sym snapshot i); place = (sym snapshot i).place; entries = sym items i } in
       let more : length (a.journal.items ++ e ∷ []) ≡ length a.journal.items + 1 = length-append a.journal.items (e ∷ []) in
+      let t = now (journal_of a) in
+      let more-read : (id : ℕ) → AreEvents (read_in (journal_of a).start (a.journal.items ++ e ∷ []) id) =
+      λ id. read-more (journal_of a).start a.journal.items e id (is.read id) (read-events t (events-of-machine t a.machine is.stands waits) e.call id) in
       record {
         shown = shown-still;
         past = subst (λ (s : Journaled). HasPast s.start s.place) same is.past;
         lawful = subst (λ (s : Journaled). IsLawfulFrom s.start s.entries) same (lawful-entry (journal_of a) e is.lawful reply);
         stands = subst (λ (s : Journaled). IsMachineOf (now s) b.machine) same (subst (λ (t : Tree). IsMachineOf t b.machine) (sym (now-entry (journal_of a) e)) stands);
+        read = subst (λ (s : Journaled). (id : ℕ) → AreEvents (read_in s.start s.entries id)) same more-read;
         few = subst (λ (p : Limits × List Entry). length p.1 ≤ p.0.journal) (λ i. (sym limits i, sym items i)) (omega (arith, more, room));
         small = subst (λ (s : Journaled). last_place s < 2 ^ 64) same (omega (arith, more, small));
       }
@@ -62,6 +72,7 @@ IsKept-cut sound a b is machine none place at given =
         past = subst (λ (j : Journaled). HasPast j.start j.place) (sym same) (HasPast-cut sound s is.past is.lawful);
         lawful = subst (λ (j : Journaled). IsLawfulFrom j.start j.entries) (sym same) tt;
         stands = subst (λ (j : Journaled). IsMachineOf (now j) b.machine) (sym same) (now-cut s b.machine (subst (IsMachineOf (now s)) (sym machine) is.stands));
+        read = subst (λ (j : Journaled). (id : ℕ) → AreEvents (read_in j.start j.entries id)) (sym same) (λ id. tt);
         few = let least = b.machine.limits.journal_in.0 in omega (arith, ap length none);
         small = subst (λ (j : Journaled). last_place j < 2 ^ 64) (sym same) (let h = is.small in omega arith);
       },
@@ -79,6 +90,7 @@ IsKept-new sound limits b machine none shows =
         past = subst (λ (j : Journaled). HasPast j.start j.place) (sym same) (HasPast-opening limits);
         lawful = subst (λ (j : Journaled). IsLawfulFrom j.start j.entries) (sym same) tt;
         stands = subst (λ (j : Journaled). IsMachineOf (now j) b.machine) (sym same) (now-opened limits b.machine machine);
+        read = subst (λ (j : Journaled). (id : ℕ) → AreEvents (read_in j.start j.entries id)) (sym same) (λ id. tt);
         few = let least = b.machine.limits.journal_in.0 in omega (arith, ap length none);
         small = subst (λ (j : Journaled). last_place j < 2 ^ 64) (sym same) (omega arith);
       },

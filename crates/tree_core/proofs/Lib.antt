@@ -2,6 +2,7 @@ pub mod Serving
 pub mod Counted
 pub mod Filed
 pub mod Lawful
+pub mod Spelled
 pub mod Keeping
 pub mod Pumping
 mod Instances

@@ -1,5 +1,7 @@
 -- Calls that pipes are for, replies that take memory, and what is kept of a call.
-use Rattle.std.specs.Prelude.{◌≡◌, Bool, true, false, not}
+use Rattle.std.specs.Prelude.{◌≡◌, ⊤, Bool, true, false, not, List}
+use Rattle.record_codec.specs.declared.event.Event.{Event}
+use Rattle.record_codec.specs.Records.{AreEvents, spelling}
 use Rattle.tree_ops.specs.declared.answer.Answer.{Answer}
 use Rattle.tree_ops.specs.declared.answer.Answer.TheVariants as answer
 use Rattle.tree_core.specs.declared.call.Call.{Call}
@@ -26,6 +28,11 @@ abbrev pub takes_memory : Reply → Bool
 takes_memory (reply.File a) = has_list a
 takes_memory (reply.Records bytes) = true
 takes_memory _ = false
+
+-- where a reply has bytes of records, these are the records of events
+abbrev pub IsSpelled : Reply → Type 0
+IsSpelled (reply.Records bytes) = (events : List Event) × AreEvents events × (bytes ≡ spelling events)
+IsSpelled _ = ⊤
 
 -- what is kept of a call is its place, the call and its reply
 abbrev pub IsKeptAs : Receipt → Kept → Call → Type 0

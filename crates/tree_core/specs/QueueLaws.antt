@@ -3,18 +3,18 @@
 use Rattle.std.specs.Prelude.{◌≡◌, ℕ, ◌+◌, ◌≤◌, not, List, [], ◌∷◌, ◌++◌, Option, Some, None, All, length, count_by}
 use Rattle.std.specs.List.{filter}
 use Rattle.record_codec.specs.declared.event.Event.{Event}
-use Rattle.record_codec.specs.Records.{spelling}
+use Rattle.record_codec.specs.Records.{AreEvents, spelling}
 use Rattle.event_queue.specs.Backlogs.{is_mark}
 use Rattle.event_queue.specs.Fates.{HasFate}
 use Rattle.instance_table.specs.declared.instance.Instance.{Instance}
-use Rattle.instance_table.specs.Instances.{instance_of, waiting_of}
+use Rattle.instance_table.specs.Instances.{WaitingAreEvents, instance_of, waiting_of}
 use Rattle.tree_core.specs.declared.call.Call.{Call}
 use Rattle.tree_core.specs.declared.call.Call.TheVariants as call
 use Rattle.tree_core.specs.declared.reply.Entry.{Entry}
 use Rattle.tree_core.specs.declared.reply.Reply.{Reply}
 use Rattle.tree_core.specs.declared.reply.Reply.TheVariants as reply
 use Rattle.tree_core.specs.Tree.{Tree}
-use Rattle.tree_core.specs.Journal.{IsLawfulFrom, tree_after}
+use Rattle.tree_core.specs.Journal.{IsLawfulFrom, Journaled, now, tree_after}
 use Rattle.tree_core.specs.Sound.{IsSoundTree}
 use Rattle.tree_core.specs.Histories.{Raised, raised_in, read_in, fate, is_keeping, is_merging, is_losing, joined, kept, where_same}
 
@@ -49,6 +49,12 @@ bytes_read id (e ∷ es) = bytes_of id e.call e.reply ++ bytes_read id es
 -- the bytes of the replies are those of the records that were read
 abbrev pub BytesAreOfRecords : Type 0
 BytesAreOfRecords = (t : Tree) (es : List Entry) (id : ℕ) → IsLawfulFrom t es → bytes_read id es ≡ spelling (read_in t es id)
+
+-- what was read of each instance since the cut, and what waits in it, are events: their values fit their types, and their
+-- names are names. So the bytes that were read are the records of these events alone
+pub record RecordsAreEvents (s : Journaled) : Type 0 where
+  pub read : (id : ℕ) → AreEvents (read_in s.start s.entries id)
+  pub waiting : WaitingAreEvents (now s).instances
 
 -- ---- what becomes of an event
 

@@ -5,7 +5,8 @@ ghost use Rattle.instance_table.specs.Instances.{watchers_of};
 ghost use Rattle.tree_core.specs.Histories.{pumped};
 ghost use Rattle.tree_core.specs.Machines.{copies_of};
 ghost use Rattle.tree_core.specs.Tree.{reply_of};
-ghost use Rattle.tree_core.specs.Calls.{IsKeptAs};
+ghost use Rattle.tree_core.specs.Calls.{IsKeptAs, IsSpelled};
+ghost use Rattle.tree_core.specs.QueueLaws.{RecordsAreEvents};
 ghost use Rattle.tree_core.specs.declared.reply.Reply.{Reply as ReplyValue};
 ghost use Rattle.tree_core.specs.Journal.{HasPast, IsLawfulFrom, IsSpent, cut_off, last_place, now, opened, with_entry, waiting_in};
 ghost use Rattle.tree_core.specs.Snapshots.{IsSnapshotOf};
@@ -87,12 +88,14 @@ impl State {
         ensures entry { IfOk result (λ r. self.new ≡ with_entry self.old (record { caller = caller; call = call; reply = r.reply })) }
         ensures place { IfOk result (λ r. r.place ≡ last_place self.new) }
         ensures reply { IfOk result (λ r. r.reply ≡ reply_of (now self.old) call) }
+        ensures spelled { IfOk result (λ r. IsSpelled r.reply) }
         ensures lawful { IsLawfulFrom self.new.start self.new.entries }
         ensures err { OnErr result (self.new ≡ self.old) }
         ensures full { (result ≡ Err Refusal.JournalFull) ↔ IsSpent self.old }
         ensures errors { IfErr result (λ e. (e ≡ Refusal.JournalFull) ⊎ (e ≡ Refusal.Enomem)) }
     {
         make_room(&mut self.journal, &self.machine.limits, self.snapshot.place)?;
+        self.machine.instances.law();
         let replies = self.machine.answer(&call, false)?;
         let Replies {
             journaled,
@@ -120,6 +123,7 @@ impl State {
         ensures entry { IfOk result (λ r. self.new ≡ with_entry self.old (record { caller = caller; call = call; reply = r.0.reply })) }
         ensures place { IfOk result (λ r. r.0.place ≡ last_place self.new) }
         ensures reply { IfOk result (λ r. r.0.reply ≡ reply_of (now self.old) call) }
+        ensures spelled { IfOk result (λ r. IsSpelled r.0.reply) }
         ensures lawful { IsLawfulFrom self.new.start self.new.entries }
         ensures err { OnErr result (self.new ≡ self.old) }
         ensures full { (result ≡ Err Refusal.JournalFull) ↔ IsSpent self.old }
@@ -127,6 +131,7 @@ impl State {
     {
         make_room(&mut self.journal, &self.machine.limits, self.snapshot.place)?;
         let copy = call.copy()?;
+        self.machine.instances.law();
         let replies = self.machine.answer(&call, true)?;
         let place = self.snapshot.place + self.journal.len() as u64 + 1;
         let (receipt, reply, kept) = taken_apart(replies, place, copy);
@@ -161,6 +166,7 @@ impl State {
         ensures errors { IfErr result (λ e. (e ≡ Refusal.JournalFull) ⊎ (e ≡ Refusal.Enomem)) }
     {
         make_room(&mut self.journal, &self.machine.limits, self.snapshot.place)?;
+        self.machine.instances.law();
         let Pumped { replies, records } = self.machine.pump_out(instance, bytes)?;
         let place = self.snapshot.place + self.journal.len() as u64 + 1;
         let (receipt, reply, kept) = taken_apart(replies, place, Call::Pump { instance, bytes });
@@ -177,7 +183,9 @@ impl State {
         ensures entries { result.now ≡ self.now.entries }
         ensures lawful { IsLawfulFrom self.now.start self.now.entries }
         ensures past { HasPast self.now.start self.now.place }
+        ensures events { RecordsAreEvents self.now }
     {
+        self.machine.instances.law();
         self.journal.as_slice()
     }
 

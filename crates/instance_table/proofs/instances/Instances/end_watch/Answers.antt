@@ -5,7 +5,7 @@ use Rattle.watch_table.proofs.Maps.{get-from_map}
 use Rattle.instance_table.specs.declared.instance.Instance.{Instance}
 use Rattle.instance_table.specs.Instances.{changed, instance_of}
 use Rattle.instance_table.specs.Views.{instances_of}
-use Rattle.instance_table.proofs.Indexed.{IsIndexed-kept, IsIndexed-changed, instances_of-changed, instances_of-same, changed-none}
+use Rattle.instance_table.proofs.Indexed.{IsIndexed-kept, events-at, IsIndexed-changed, instances_of-changed, instances_of-same, changed-none}
 use Rattle.watch_table.specs.Watching.{removed, without}
 use Rattle.instance_table.proofs.Indexed.{noted-dropped}
 use Rattle.std.specs.Int.{w32}
@@ -24,7 +24,7 @@ invariant_of-self-in_default-number_of c =
     let i : Instance = c.in-Some.instance.now in
     let was : tree.get nat_cmp a.opened c.args.id ≡ Some i = sym c.in-Some.ensures.value in
     let put = (c.get_mut.follows.holds i).3 (subst (λ o. IsSome o) (sym was) refl) in
-    IsIndexed-kept a c.self.invariant (c.get_mut.follows.lender i) c.args.id i i put was refl
+    IsIndexed-kept a c.self.invariant (c.get_mut.follows.lender i) c.args.id i i put was refl (events-at a c.self.invariant c.args.id i was)
 
 pub returns-in_default-number_of : goal.returns-in_default-number_of
 returns-in_default-number_of c =
@@ -43,7 +43,7 @@ invariant_of-self-2 c =
     let was : tree.get nat_cmp a.opened c.args.id ≡ Some i = sym c.in-Some.ensures.value in
     let put = (c.get_mut.follows.holds j).3 (subst (λ o. IsSome o) (sym was) refl) in
     IsIndexed-changed a c.self.invariant (c.get_mut.follows.lender j) c.args.id i j put was c.remove.new.self
-    (noted-dropped a c.self.invariant c.args.id i was c.in-Some-number_of.number c.drop_file.new.self c.drop_file.ensures.watches c.remove.new.self c.remove.ensures)
+    (noted-dropped a c.self.invariant c.args.id i was c.in-Some-number_of.number c.drop_file.new.self c.drop_file.ensures.watches c.remove.new.self c.remove.ensures) refl
 
 pub returns : goal.returns
 returns c =

@@ -3,10 +3,12 @@ use Rattle.std.proofs.Math.Seq.{take-nil}
 use Rattle.std.specs.BTreeMap as tree
 use Rattle.std.specs.Ordering.{nat_cmp}
 use Rattle.watch_table.proofs.Maps.{get-from_map}
+use Rattle.record_codec.specs.Records.{AreEvents}
 use Rattle.instance_table.specs.declared.instance.Instance.{Instance}
 use Rattle.instance_table.specs.Instances.{changed, instance_of, after_read, waiting_of}
 use Rattle.instance_table.specs.Views.{instances_of}
-use Rattle.instance_table.proofs.Indexed.{IsIndexed-kept, instances_of-changed, instances_of-same, changed-none}
+use Rattle.instance_table.proofs.Waiting.{events-drop}
+use Rattle.instance_table.proofs.Indexed.{IsIndexed-kept, events-at, instances_of-changed, instances_of-same, changed-none}
 use Rattle.instance_table.proofs.instances.Instances.move_oldest.Goals as goal
 
 pub returns-in_default-clause-instances : goal.returns-in_default-clause-instances
@@ -31,6 +33,7 @@ invariant_of-self-2 c =
     let was : tree.get nat_cmp a.opened c.args.id ≡ Some i = sym c.in-Some.ensures.value in
     let put = (c.get_mut.follows.holds j).3 (subst (λ o. IsSome o) (sym was) refl) in
     IsIndexed-kept a c.self.invariant (c.get_mut.follows.lender j) c.args.id i j put was refl
+    (subst (λ q. AreEvents q.waiting) (sym c.move_oldest.ensures.queue) (events-drop c.args.count i.queue.waiting (events-at a c.self.invariant c.args.id i was)))
 
 pub returns-clause-instances : goal.returns-clause-instances
 returns-clause-instances c =

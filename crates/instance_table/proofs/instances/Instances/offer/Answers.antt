@@ -5,7 +5,7 @@ use Rattle.watch_table.proofs.Maps.{get-from_map}
 use Rattle.instance_table.specs.declared.instance.Instance.{Instance}
 use Rattle.instance_table.specs.Instances.{changed, instance_of}
 use Rattle.instance_table.specs.Views.{instances_of}
-use Rattle.instance_table.proofs.Indexed.{IsIndexed-kept, instances_of-changed, instances_of-same, changed-none}
+use Rattle.instance_table.proofs.Indexed.{IsIndexed-kept, events-at, instances_of-changed, instances_of-same, changed-none}
 use Rattle.event_queue.specs.Backlogs.{after_offer}
 use Rattle.instance_table.proofs.instances.Instances.offer.Goals as goal
 
@@ -19,17 +19,18 @@ pub invariant_of-self-2 : goal.invariant_of-self-2
 invariant_of-self-2 c =
     let a = c.self.inside in
     let i : Instance = c.in-Some.instance.now in
-    let j : Instance = record i { queue = c.offer.new.self } in
+    let j : Instance = record i { queue = c.offer_one.new.queue } in
     let was : tree.get nat_cmp a.opened c.args.id ≡ Some i = sym c.in-Some.ensures.value in
     let put = (c.get_mut.follows.holds j).3 (subst (λ o. IsSome o) (sym was) refl) in
     IsIndexed-kept a c.self.invariant (c.get_mut.follows.lender j) c.args.id i j put was refl
+    (c.offer_one.ensures.events (events-at a c.self.invariant c.args.id i was))
 
 pub returns : goal.returns
 returns c =
     let a = c.self.inside in
     let i : Instance = c.in-Some.instance.now in
-    let j : Instance = record i { queue = c.offer.new.self } in
+    let j : Instance = record i { queue = c.offer_one.new.queue } in
     let change : Instance → Instance = (λ i. record i { queue = after_offer i.queue c.args.event }) in
     let was : tree.get nat_cmp a.opened c.args.id ≡ Some i = sym c.in-Some.ensures.value in
     let put = (c.get_mut.follows.holds j).3 (subst (λ o. IsSome o) (sym was) refl) in
-    instances_of-changed a c.self.invariant (c.get_mut.follows.lender j) c.args.id i j put was change (ap (λ q. record i { queue = q }) (sym c.offer.ensures.queue)) ∙ ap (λ m. changed m c.args.id change) c.self.view_is
+    instances_of-changed a c.self.invariant (c.get_mut.follows.lender j) c.args.id i j put was change (ap (λ q. record i { queue = q }) (sym c.offer_one.ensures.queue)) ∙ ap (λ m. changed m c.args.id change) c.self.view_is

@@ -6,7 +6,7 @@ use Rattle.watch_table.proofs.Maps.{get-from_map}
 use Rattle.instance_table.specs.declared.instance.Instance.{Instance}
 use Rattle.instance_table.specs.Instances.{changed, instance_of}
 use Rattle.instance_table.specs.Views.{instances_of}
-use Rattle.instance_table.proofs.Indexed.{IsIndexed-kept, instances_of-changed, instances_of-same, changed-none}
+use Rattle.instance_table.proofs.Indexed.{IsIndexed-kept, events-at, instances_of-changed, instances_of-same, changed-none}
 use Rattle.event_queue.specs.Backlogs.{after_offer}
 use Rattle.instance_table.proofs.instances.Instances.offer_all.Goals as goal
 
@@ -24,6 +24,7 @@ invariant_of-self-2 c =
     let was : tree.get nat_cmp a.opened c.args.id ≡ Some i = sym c.in-Some.ensures.value in
     let put = (c.get_mut.follows.holds j).3 (subst (λ o. IsSome o) (sym was) refl) in
     IsIndexed-kept a c.self.invariant (c.get_mut.follows.lender j) c.args.id i j put was refl
+    (c.offer_each.ensures.events (events-at a c.self.invariant c.args.id i was))
 
 pub returns : goal.returns
 returns c =
@@ -33,4 +34,4 @@ returns c =
     let change : Instance → Instance = (λ i. record i { queue = fold after_offer i.queue c.args.events }) in
     let was : tree.get nat_cmp a.opened c.args.id ≡ Some i = sym c.in-Some.ensures.value in
     let put = (c.get_mut.follows.holds j).3 (subst (λ o. IsSome o) (sym was) refl) in
-    instances_of-changed a c.self.invariant (c.get_mut.follows.lender j) c.args.id i j put was change (ap (λ q. record i { queue = q }) (sym c.offer_each.ensures)) ∙ ap (λ m. changed m c.args.id change) c.self.view_is
+    instances_of-changed a c.self.invariant (c.get_mut.follows.lender j) c.args.id i j put was change (ap (λ q. record i { queue = q }) (sym c.offer_each.ensures.queue)) ∙ ap (λ m. changed m c.args.id change) c.self.view_is

@@ -1,6 +1,7 @@
-use Rattle.std.proofs.Common.{◌≡◌, ap, ◌∙◌}
+use Rattle.std.proofs.Common.{◌≡◌, ap, sym, subst, ◌∙◌}
 use Rattle.std.specs.FinMap as map
 use Rattle.std.specs.Ordering.{nat_cmp}
+use Rattle.record_codec.specs.Records.{AreEvents}
 use Rattle.watch_table.specs.Watching.{watch_of, no_watches}
 use Rattle.watch_table.proofs.Maps.{from_map-insert}
 use Rattle.instance_table.specs.declared.instance.Instance.{Instance}
@@ -12,7 +13,7 @@ pub invariant_of-self : goal.invariant_of-self
 invariant_of-self c =
     let i : Instance = record { is_piped = c.args.is_piped; watches = c.new.result; queue = c.in_ok-with_limit.field-0 } in
     IsIndexed-new c.self.inside c.self.invariant c.insert.new.self c.args.id i c.in-Ok.ensures.updates (ap (λ m. instance_of m c.args.id) c.self.view_is ∙ c.requires.free)
-    (λ n. ap (λ w. watch_of w n) c.new.ensures ∙ map.get-empty nat_cmp n)
+    (λ n. ap (λ w. watch_of w n) c.new.ensures ∙ map.get-empty nat_cmp n) (subst (λ q. AreEvents q.waiting) (sym c.in_ok-with_limit.ensures.queue) tt)
 
 pub returns-in-Ok-clause-ok : goal.returns-in-Ok-clause-ok
 returns-in-Ok-clause-ok c =

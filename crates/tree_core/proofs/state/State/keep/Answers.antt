@@ -1,4 +1,4 @@
-use Rattle.std.proofs.Common.{refl, ◌≡◌, [], ◌∷◌, ◌++◌, true, Ok, Err, sym, ap, ◌∙◌}
+use Rattle.std.proofs.Common.{refl, ◌≡◌, [], ◌∷◌, ◌++◌, true, Ok, Err, sym, ap, subst, ◌∙◌}
 use Rattle.tree_core.specs.declared.reply.Entry.{Entry}
 use Rattle.tree_core.specs.declared.reply.Receipt.{Receipt}
 use Rattle.tree_core.specs.declared.machine.Replies.{Replies}
@@ -6,6 +6,8 @@ use Rattle.tree_core.specs.Journal.{now, with_entry}
 use Rattle.tree_core.specs.Kept.{journal_of, tree_of}
 use Rattle.tree_core.specs.Machines.{Serves}
 use Rattle.tree_core.specs.Tree.{reply_of}
+use Rattle.tree_core.specs.Calls.{IsSpelled}
+use Rattle.tree_core.proofs.Spelled.{events-of-machine, reply-spelled}
 use Rattle.tree_core.proofs.Keeping.{IsKept-same, IsKept-more}
 use Rattle.tree_core.proofs.state.State.keep.Goals as goal
 
@@ -31,7 +33,7 @@ invariant_of-self-2 c =
     let entry : Entry = record { caller = c.args.caller; call = c.args.call; reply = c.taken_apart-receipt.result.1 } in
     IsKept-more a (record { machine = c.answer.new.self; snapshot = a.snapshot; journal = c.push_reserved.new.self }) c.self.invariant refl served.limits entry
     (c.push_reserved.ensures.items ∙ ap (λ es. es ++ entry ∷ []) c.make_room.ensures.items) c.in_ok-make_room.ensures.free c.in_ok-make_room.ensures.small
-    (c.taken_apart-receipt.ensures.journaled ∙ ap (λ (r : Replies). r.journaled) (served.replies t c.self.invariant.stands)) (served.tree t c.self.invariant.stands)
+    (c.taken_apart-receipt.ensures.journaled ∙ ap (λ (r : Replies). r.journaled) (served.replies t c.self.invariant.stands)) (served.tree t c.self.invariant.stands) c.law.ensures
 
 pub returns-clause-entry : goal.returns-clause-entry
 returns-clause-entry c =
@@ -56,3 +58,11 @@ returns-clause-reply c =
 
 pub returns-clause-lawful : goal.returns-clause-lawful
 returns-clause-lawful c = (invariant_of-self-2 c).lawful
+
+pub returns-clause-spelled : goal.returns-clause-spelled
+returns-clause-spelled c =
+    let a = c.self.inside in
+    let t = now (journal_of a) in
+    let served : Serves a.machine c.args.call true (Ok c.in_ok-replies.replies) c.answer.new.self = c.in_ok-replies.ensures in
+    subst IsSpelled (sym (ap (λ (r : Receipt). r.reply) c.taken_apart-receipt.ensures.receipt ∙ ap (λ (r : Replies). r.given) (served.replies t c.self.invariant.stands)))
+    (reply-spelled t (events-of-machine t a.machine c.self.invariant.stands c.law.ensures) c.args.call)

@@ -34,7 +34,7 @@ invariant_of-self-2 c =
     let entry : Entry = record { caller = c.args.caller; call = (call.Pump c.args.instance c.args.bytes); reply = c.taken_apart-receipt.result.1 } in
     IsKept-more a (record { machine = c.pump_out.new.self; snapshot = a.snapshot; journal = c.push_reserved.new.self }) c.self.invariant refl served.limits entry
     (c.push_reserved.ensures.items ∙ ap (λ es. es ++ entry ∷ []) c.make_room.ensures.items) c.in_ok-make_room.ensures.free c.in_ok-make_room.ensures.small
-    (c.taken_apart-receipt.ensures.journaled ∙ ap (λ (r : Replies). r.journaled) (served.replies t c.self.invariant.stands)) (served.tree t c.self.invariant.stands)
+    (c.taken_apart-receipt.ensures.journaled ∙ ap (λ (r : Replies). r.journaled) (served.replies t c.self.invariant.stands)) (served.tree t c.self.invariant.stands) c.law.ensures
 
 pub returns-clause-entry : goal.returns-clause-entry
 returns-clause-entry c =
