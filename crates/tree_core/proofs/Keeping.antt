@@ -31,6 +31,7 @@ module _ (a b : Inside) (is : IsKept a) (snapshot : b.snapshot ≡ a.snapshot) (
         past = subst (λ (s : Journaled). HasPast s.start s.place) same is.past;
         lawful = subst (λ (s : Journaled). IsLawfulFrom s.start s.entries) same is.lawful;
         stands = subst (λ (s : Journaled). IsMachineOf (now s) b.machine) same stands;
+        waited = subst (λ (s : Journaled). WaitingAreEvents s.start.instances) same is.waited;
         read = subst (λ (s : Journaled). (id : ℕ) → AreEvents (read_in s.start s.entries id)) same is.read;
         few = subst (λ (p : Limits × List Entry). length p.1 ≤ p.0.journal) (λ i. (sym limits i, sym items i)) is.few;
         small = subst (λ (s : Journaled). last_place s < 2 ^ 64) same is.small;
@@ -51,6 +52,7 @@ module _ (a b : Inside) (is : IsKept a) (snapshot : b.snapshot ≡ a.snapshot) (
         past = subst (λ (s : Journaled). HasPast s.start s.place) same is.past;
         lawful = subst (λ (s : Journaled). IsLawfulFrom s.start s.entries) same (lawful-entry (journal_of a) e is.lawful reply);
         stands = subst (λ (s : Journaled). IsMachineOf (now s) b.machine) same (subst (λ (t : Tree). IsMachineOf t b.machine) (sym (now-entry (journal_of a) e)) stands);
+        waited = subst (λ (s : Journaled). WaitingAreEvents s.start.instances) same is.waited;
         read = subst (λ (s : Journaled). (id : ℕ) → AreEvents (read_in s.start s.entries id)) same more-read;
         few = subst (λ (p : Limits × List Entry). length p.1 ≤ p.0.journal) (λ i. (sym limits i, sym items i)) (omega (arith, more, room));
         small = subst (λ (s : Journaled). last_place s < 2 ^ 64) same (omega (arith, more, small));
@@ -58,8 +60,8 @@ module _ (a b : Inside) (is : IsKept a) (snapshot : b.snapshot ≡ a.snapshot) (
 
 -- a cut: the snapshot of the tree, and no entry
 pub IsKept-cut : TreesAreSound → (a b : Inside) → IsKept a → b.machine ≡ a.machine → b.journal.items ≡ [] → (place : ℕ) → place ≡ last_place (journal_of a) → IsSnapshotOf (now (journal_of a)) place b.snapshot
-    → (journal_of b ≡ cut_off (journal_of a)) × IsKept b
-IsKept-cut sound a b is machine none place at given =
+    → WaitingAreEvents a.machine.instances → (journal_of b ≡ cut_off (journal_of a)) × IsKept b
+IsKept-cut sound a b is machine none place at given waits =
     let s = journal_of a in
     let shows : IsSnapshotOf (now s) (last_place s) b.snapshot = subst (λ p. IsSnapshotOf (now s) p b.snapshot) at given in
     let whole = pasts-make-whole sound s is.past.0 is.past.1 is.lawful in
@@ -72,6 +74,7 @@ IsKept-cut sound a b is machine none place at given =
         past = subst (λ (j : Journaled). HasPast j.start j.place) (sym same) (HasPast-cut sound s is.past is.lawful);
         lawful = subst (λ (j : Journaled). IsLawfulFrom j.start j.entries) (sym same) tt;
         stands = subst (λ (j : Journaled). IsMachineOf (now j) b.machine) (sym same) (now-cut s b.machine (subst (IsMachineOf (now s)) (sym machine) is.stands));
+        waited = subst (λ (j : Journaled). WaitingAreEvents j.start.instances) (sym same) (events-of-machine (now s) a.machine is.stands waits);
         read = subst (λ (j : Journaled). (id : ℕ) → AreEvents (read_in j.start j.entries id)) (sym same) (λ id. tt);
         few = let least = b.machine.limits.journal_in.0 in omega (arith, ap length none);
         small = subst (λ (j : Journaled). last_place j < 2 ^ 64) (sym same) (let h = is.small in omega arith);
@@ -79,8 +82,8 @@ IsKept-cut sound a b is machine none place at given =
     )
 
 -- a new state: the snapshot of the opening tree, and no entry
-pub IsKept-new : TreesAreSound → (limits : Limits) (b : Inside) → IsMachineOf (opening limits) b.machine → b.journal.items ≡ [] → IsSnapshotOf (opening limits) 0 b.snapshot → (journal_of b ≡ opened limits) × IsKept b
-IsKept-new sound limits b machine none shows =
+pub IsKept-new : TreesAreSound → (limits : Limits) (b : Inside) → IsMachineOf (opening limits) b.machine → b.journal.items ≡ [] → IsSnapshotOf (opening limits) 0 b.snapshot → WaitingAreEvents b.machine.instances → (journal_of b ≡ opened limits) × IsKept b
+IsKept-new sound limits b machine none shows waits =
     let same_limits : b.machine.limits ≡ (opening limits).limits = machine.limits in
     let told : tree_of b.machine.limits b.snapshot ≡ opening limits = ap (λ l. tree_of l b.snapshot) same_limits ∙ tree_of-snapshot (opening limits) 0 b.snapshot (sound.opened limits) shows in
     let same : journal_of b ≡ opened limits = λ i. record { start = told i; place = shows.last_place i; entries = none i } in (
@@ -90,6 +93,7 @@ IsKept-new sound limits b machine none shows =
         past = subst (λ (j : Journaled). HasPast j.start j.place) (sym same) (HasPast-opening limits);
         lawful = subst (λ (j : Journaled). IsLawfulFrom j.start j.entries) (sym same) tt;
         stands = subst (λ (j : Journaled). IsMachineOf (now j) b.machine) (sym same) (now-opened limits b.machine machine);
+        waited = subst (λ (j : Journaled). WaitingAreEvents j.start.instances) (sym same) (events-of-machine (opening limits) b.machine machine waits);
         read = subst (λ (j : Journaled). (id : ℕ) → AreEvents (read_in j.start j.entries id)) (sym same) (λ id. tt);
         few = let least = b.machine.limits.journal_in.0 in omega (arith, ap length none);
         small = subst (λ (j : Journaled). last_place j < 2 ^ 64) (sym same) (omega arith);

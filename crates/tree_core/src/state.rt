@@ -1,7 +1,7 @@
 //! A tree with the journal of its calls.
 ghost use Rattle.std.specs.Prelude.{◌≡◌, ◌↔◌, ◌-◌, ◌+◌, ◌^◌, ◌<◌, ◌≤◌, [], ◌∷◌, ◌++◌, ◌⊎◌, IfOk, IfErr, IfSome, OnOk, OnErr, length, true, vec_len, vec_capacity};
 ghost use Rattle.record_codec.specs.Records.{AreEvents, spelling};
-ghost use Rattle.instance_table.specs.Instances.{watchers_of};
+ghost use Rattle.instance_table.specs.Instances.{WaitingAreEvents, watchers_of};
 ghost use Rattle.tree_core.specs.Histories.{pumped};
 ghost use Rattle.tree_core.specs.Machines.{copies_of};
 ghost use Rattle.tree_core.specs.Tree.{reply_of};
@@ -71,6 +71,7 @@ impl State {
         trees_are_sound();
         let machine = Machine::new(alloc, limits)?;
         let snapshot = machine.snapshot(0)?;
+        machine.instances.law();
         Ok(State {
             machine,
             snapshot,
@@ -201,6 +202,7 @@ impl State {
     pub fn snapshot(&self) -> &Snapshot
         ensures tells { IsSnapshotOf self.now.start self.now.place result.now }
         ensures sound { IsSoundTree self.now.start }
+        ensures events { WaitingAreEvents self.now.start.instances }
     {
         pasts_make_whole();
         &self.snapshot
@@ -218,6 +220,7 @@ impl State {
         ensures errors { IfErr result (λ e. e ≡ Refusal.Enomem) }
     {
         trees_are_sound();
+        self.machine.instances.law();
         let place = self.snapshot.place + self.journal.len() as u64;
         self.snapshot = self.machine.snapshot(place)?;
         // The room goes back with the entries, so that memory is bounded by what stands since the cut.

@@ -8,11 +8,11 @@ pub invariant_of-self : goal.invariant_of-self
 invariant_of-self c =
     let a = c.self.inside in
     (IsKept-cut c.trees_are_sound.ensures a (record { machine = a.machine; snapshot = c.in_ok-self-inside.field-0; journal = c.new.result }) c.self.invariant refl c.new.ensures.items _ (omega arith)
-    (c.in_ok-self-inside.ensures.ok (now (journal_of a)) c.self.invariant.stands)).1
+    (c.in_ok-self-inside.ensures.ok (now (journal_of a)) c.self.invariant.stands) c.law.ensures).1
 
 pub returns-clause-cut : goal.returns-clause-cut
 returns-clause-cut c =
     let a = c.self.inside in
     (IsKept-cut c.trees_are_sound.ensures a (record { machine = a.machine; snapshot = c.in_ok-self-inside.field-0; journal = c.new.result }) c.self.invariant refl c.new.ensures.items _ (omega arith)
-    (c.in_ok-self-inside.ensures.ok (now (journal_of a)) c.self.invariant.stands)).0
+    (c.in_ok-self-inside.ensures.ok (now (journal_of a)) c.self.invariant.stands) c.law.ensures).0
     ∙ ap cut_off c.self.view_is
