@@ -1,6 +1,7 @@
 pub mod Pipes
 pub mod Steps
 pub mod Keeping
+pub mod Unable
 pub mod Wholes
 pub mod EachEntry
 pub mod Answered

@@ -25,6 +25,7 @@ use Rattle.shared_tree.specs.Held.{IsFilled, IsHeld, IsHeldWhole, closed_of, del
 use Rattle.shared_tree.specs.Law.{HasPipesOfPiped}
 use Rattle.shared_tree.specs.Pipes.{Piped}
 use Rattle.shared_tree.specs.Seats.{Seated}
+use Rattle.shared_tree.proofs.Unable.{why-full}
 use Rattle.shared_tree.proofs.Answered.{answered}
 use Rattle.shared_tree.proofs.Keeping as keeping
 use Rattle.shared_tree.proofs.Keeping.{deliver-none, held-length}
@@ -149,10 +150,10 @@ held-cut-either law s new ns xss total (Err e) lawful held done same = subst (λ
 -- ---- why a call is not carried out
 
 pub pump-why : (s : Journaled) (ns ms : List ℕ) (xss : List (List Batch)) (total id bytes : ℕ) (e : Refusal) → IsHeld s ns xss total → ms ≡ ns → (e ≡ PipeFull) × IsFilled ms (now s) (Some id) → IsWhyNot s (call.Pump id bytes) e
-pump-why s ns ms xss total id bytes e held same full = inl (full.0, pump-full s ns total xss id bytes held (subst (λ ks. IsFilled ks (now s) (Some id)) same full.1))
+pump-why s ns ms xss total id bytes e held same full = why-full s (call.Pump id bytes) e full.0 (pump-full s ns total xss id bytes held (subst (λ ks. IsFilled ks (now s) (Some id)) same full.1))
 
 pub close-why : (s : Journaled) (ns ms : List ℕ) (xss : List (List Batch)) (total : ℕ) (c : Call) (closed : Option ℕ) (e : Refusal) → IsHeld s ns xss total → ms ≡ ns → closed ≡ closed_of c → (e ≡ PipeFull) × IsFilled ms (now s) closed → IsWhyNot s c e
-close-why s ns ms xss total c closed e held same shut full = inl (full.0, close-full s ns total xss c held (subst (λ ks. IsFilled ks (now s) (closed_of c)) same (subst (IsFilled ms (now s)) shut full.1)))
+close-why s ns ms xss total c closed e held same shut full = why-full s c e full.0 (close-full s ns total xss c held (subst (λ ks. IsFilled ks (now s) (closed_of c)) same (subst (IsFilled ms (now s)) shut full.1)))
 
 -- ---- what was handed before the cut, and since
 

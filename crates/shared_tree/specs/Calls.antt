@@ -1,5 +1,6 @@
 -- What contracts see of a tree behind a lock, and what a call by a seat does to it.
-use Rattle.std.specs.Prelude.{◌≡◌, ◌+◌, ◌⊎◌, ℕ, List, [], ◌∷◌, ◌++◌, Option, Some, None, IsTrue, map}
+use Rattle.std.specs.Prelude.{◌≡◌, ◌+◌, ◌^◌, ◌||◌, ℕ, nat_le, Bool, true, false, List, [], ◌∷◌, ◌++◌, Option, Some, None, IsTrue, length, map}
+use Rattle.tree_paths.specs.Rows.{first_row, row}
 use Rattle.tree_paths.specs.declared.refusal.Refusal.{Refusal}
 use Rattle.tree_paths.specs.declared.refusal.Refusal.TheVariants.{Enomem, JournalFull, PipeFull}
 use Rattle.instance_table.specs.declared.instance.Instance.{Instance}
@@ -9,7 +10,7 @@ use Rattle.tree_core.specs.declared.call.Call.TheVariants as call
 use Rattle.tree_core.specs.declared.reply.Receipt.{Receipt}
 use Rattle.tree_core.specs.Tree.{Tree, reply_of}
 use Rattle.tree_core.specs.declared.reply.Entry.{Entry}
-use Rattle.tree_core.specs.Journal.{Journaled, IsPast, IsSpent, last_place, now, with_entry}
+use Rattle.tree_core.specs.Journal.{Journaled, IsPast, last_place, now, with_entry}
 use Rattle.shared_tree.specs.declared.pipe.Batch.{Batch}
 use Rattle.shared_tree.specs.Seats.{Seated, seated}
 use Rattle.shared_tree.specs.Handed.{handed_all, handed_by, piped_by, piped_of}
@@ -59,13 +60,23 @@ IsForPipe t (call.Pump id bytes) = HasPipe (instance_of t.instances id)
 IsForPipe t (call.Close id) = HasPipe (instance_of t.instances id)
 IsForPipe t _ = ⊥
 
--- the journal is full; or it is not, and there is no memory
-abbrev pub IsUnable : Journaled → Refusal → Type 0
-IsUnable old e = ((e ≡ JournalFull) × IsSpent old) ⊎ ((e ≡ Enomem) × ¬ IsSpent old)
+-- whether no entry more is taken, as IsSpent
+abbrev pub is_spent : Journaled → Bool
+is_spent s = nat_le s.start.limits.journal (length s.entries) || nat_le (2 ^ 64) (last_place s + 1)
 
--- why a call is not carried out. A pipe without a free place is looked for first
-abbrev pub IsWhyNot : Journaled → Call → Refusal → Type 0
-IsWhyNot old c e = ((e ≡ PipeFull) × IsForPipe (now old) c) ⊎ IsUnable old e
+-- why a call is not carried out: its pipe has no free place, the journal is full, or there is no memory
+abbrev pub unable_rows : Bool → Journaled → List (Option Refusal)
+unable_rows is_full old = row is_full PipeFull ∷ row (is_spent old) JournalFull ∷ Some Enomem ∷ []
+
+-- a call for which no pipe is looked for
+abbrev pub IsUnable : Journaled → Refusal → Type 0
+IsUnable old e = first_row (unable_rows false old) ≡ Some e
+
+-- a call for which one may be: what is full is the pipe of an open instance, which is pumped or closed
+pub record IsWhyNot (old : Journaled) (c : Call) (e : Refusal) : Type 0 where
+  pub is_full : Bool
+  pub for_pipe : is_full ≡ true → IsForPipe (now old) c
+  pub first : first_row (unable_rows is_full old) ≡ Some e
 
 -- what contracts see of a journal that has ended: the state, the place of its last entry, the numbers of its pipes, and what
 -- each was sent

@@ -1,6 +1,8 @@
 -- What the value behind the lock keeps, and what its own functions say to one another.
 use Rattle.std.specs.Prelude.{◌≡◌, ◌≢◌, ◌<◌, ◌≤◌, ◌+◌, ◌↔◌, ◌⊎◌, ⊤, ℕ, zero, suc, List, [], ◌∷◌, ◌++◌, Option, Some, None, IsSome, IsTrue, length, map, slice_get}
 use Rattle.record_codec.specs.declared.event.Event.{Event}
+use Rattle.tree_paths.specs.declared.refusal.Refusal.{Refusal}
+use Rattle.tree_paths.specs.declared.refusal.Refusal.TheVariants.{Enomem, JournalFull}
 use Rattle.instance_table.specs.declared.instance.Instance.{Instance}
 use Rattle.instance_table.specs.Instances.{instance_of}
 use Rattle.tree_core.specs.declared.call.Call.{Call}
@@ -8,10 +10,16 @@ use Rattle.tree_core.specs.declared.call.Call.TheVariants as call
 use Rattle.tree_core.specs.declared.reply.Reply.{Reply}
 use Rattle.tree_core.specs.declared.reply.Entry.{Entry}
 use Rattle.tree_core.specs.Tree.{Tree, opening}
-use Rattle.tree_core.specs.Journal.{IsPast, Journaled, last_place, now}
+use Rattle.tree_core.specs.Journal.{IsPast, IsSpent, Journaled, last_place, now}
 use Rattle.shared_tree.specs.declared.pipe.Batch.{Batch}
 use Rattle.shared_tree.specs.Pipes.{Piped}
 use Rattle.shared_tree.specs.Handed.{AreOfEvents, batch, handed_since, hands, piped_of, where_done}
+
+-- ---- what is wanting
+
+-- the journal is full; or it is not, and there is no memory
+abbrev pub IsLacking : Journaled → Refusal → Type 0
+IsLacking old e = ((e ≡ JournalFull) × IsSpent old) ⊎ ((e ≡ Enomem) × ¬ IsSpent old)
 
 -- ---- numbers that rise
 

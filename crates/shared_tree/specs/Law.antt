@@ -12,8 +12,8 @@ use Rattle.tree_core.specs.declared.reply.Reply.TheVariants as reply
 use Rattle.tree_core.specs.Tree.{Tree, reply_of, after}
 use Rattle.tree_core.specs.Journal.{Journaled, now}
 use Rattle.tree_core.specs.Histories.{events, joined, raised_by, raised_in, read_in}
-use Rattle.tree_core.specs.QueueLaws.{AreAccountedFor, IsInOrder, bytes_read}
-use Rattle.tree_core.specs.TurnLaws.{AreInTurn, EndsOnce, cookies_in, cookies_used, only}
+use Rattle.tree_core.specs.QueueLaws.{AreAccountedFor, FindsTheUnread, IsInOrder, bytes_read}
+use Rattle.tree_core.specs.TurnLaws.{AddsNothing, AreInTurn, EndsOnce, cookies_in, cookies_used, only}
 use Rattle.shared_tree.specs.Calls.{Holding}
 use Rattle.shared_tree.specs.Held.{IsIn}
 
@@ -26,17 +26,19 @@ AtEach P t (e ∷ es) = P t e.call × AtEach P (after t e.call) es
 abbrev pub TiesMoves : Tree → Call → Type 0
 TiesMoves t c = (id : ℕ) → All (λ e. e.cookie ≡ cookie_for (event_bit e.mask) (only (cookies_used t c))) (events (raised_by t c id))
 
--- a call that is refused leaves the files, the watches and what waits as they were
+-- a call that is refused leaves the files, the watches and what waits as they were; what joined and what was read of each
+-- instance are as before it
 abbrev pub RefusedAddsNothing : Tree → Call → Type 0
-RefusedAddsNothing t c = (refusal : Refusal) → reply_of t c ≡ reply.Refused refusal → after t c ≡ t
+RefusedAddsNothing t c = (refusal : Refusal) → reply_of t c ≡ reply.Refused refusal → AddsNothing t c
 
 -- the records that were read of an instance since the cut, followed by those that wait, are those that waited at the cut and the
 -- events that the journal raises for it, in order, each once, but for those merged into an equal unread neighbour and those
--- lost behind a mark
+-- lost behind a mark. The queue that each event found is what had joined and was not read yet
 pub record IsTold (s : Journaled) (id : ℕ) : Type 0 where
   pub order : IsInOrder (read_in s.start s.entries id) (waiting_of (instance_of s.start.instances id) ++ joined (raised_in s.start s.entries id)) (instance_of (now s).instances id)
   pub bytes : bytes_read id s.entries ≡ spelling (read_in s.start s.entries id)
   pub accounted : AreAccountedFor (raised_in s.start s.entries id)
+  pub found : FindsTheUnread s.start s.entries id
 
 -- no two renames share a cookie, and only the events of a rename have one
 pub record HasCookiesInTurn (s : Journaled) : Type 0 where

@@ -12,15 +12,16 @@ pub record Piped : Type 0 where
 abbrev pub piped : List Batch → ℕ → Piped
 piped sent free = record { sent = sent; free = free }
 
--- the end that takes: whose batches it takes, and those that it has received
+-- the end that takes: whose batches it takes, those that it has received, and how many places its pipe has
 pub record Fed : Type 0 where
   pub instance : ℕ
   pub received : List Batch
+  pub slots : ℕ
 
-abbrev pub fed : ℕ → List Batch → Fed
-fed instance received = record { instance = instance; received = received }
+abbrev pub fed : ℕ → List Batch → ℕ → Fed
+fed instance received slots = record { instance = instance; received = received; slots = slots }
 
--- the feed of a new instance
-abbrev pub feed_of : Reply → Option Fed
-feed_of (reply.Instance id) = Some (fed id [])
-feed_of _ = None
+-- the feed of a new instance, with so many places
+abbrev pub feed_of : Reply → ℕ → Option Fed
+feed_of (reply.Instance id) slots = Some (fed id [] slots)
+feed_of _ slots = None

@@ -8,6 +8,7 @@ ghost use Rattle.tree_core.specs.declared.call.Call.TheVariants.{Init, Pump};
 ghost use Rattle.tree_core.specs.Calls.{is_plain};
 ghost use Rattle.tree_core.specs.Histories.{pumped, raised_in};
 ghost use Rattle.tree_core.specs.Journal.{IsLawfulFrom, IsSpent, cut_off, last_place, now, opened};
+ghost use Rattle.tree_core.specs.QueueLaws.{RecordsAreEvents};
 ghost use Rattle.tree_core.specs.Sound.{IsSoundTree};
 ghost use Rattle.tree_core.specs.TurnLaws.{EndsOnce};
 ghost use Rattle.shared_tree.specs.Pipes.{feed_of};
@@ -15,7 +16,7 @@ ghost use Rattle.shared_tree.specs.Seats.{passing};
 ghost use Rattle.shared_tree.specs.Handed.{AreOfEvents, batch, handed_since, piped_by};
 ghost use Rattle.shared_tree.specs.Calls.{holding, Enters, HandsOver, IsSent, HasPipe, IsUnable, IsWhyNot};
 ghost use Rattle.shared_tree.specs.Law.{AtEach, HasCookiesInTurn, HasPipesOfPiped, IsTold, RefusedAddsNothing};
-ghost use Rattle.shared_tree.specs.Held.{sents, pushed_at, deliver, closed_of, end_of, FreeAt, IsFilled, IsLooked, IsPlaceOf, IsReady, IsRising};
+ghost use Rattle.shared_tree.specs.Held.{sents, pushed_at, deliver, closed_of, end_of, FreeAt, IsFilled, IsLacking, IsLooked, IsPlaceOf, IsReady, IsRising};
 
 use crate::book::Book;
 use crate::pipe::{Batch, Feed, Pipe, open_pipe};
@@ -88,7 +89,7 @@ fn make_room(core: &State, kept: &mut Vec<Kept>) -> Result<(), Refusal>
     ensures items { kept.new.items ≡ kept.old.items }
     ensures room { OnOk result (vec_len kept.new < vec_capacity kept.new) }
     ensures free { OnOk result (¬ IsSpent core.now) }
-    ensures errors { IfErr result (λ e. IsUnable core.now e) }
+    ensures errors { IfErr result (λ e. IsLacking core.now e) }
 {
     check_room(core)?;
     kept.reserve(1)?;
@@ -106,7 +107,7 @@ fn enter<L: Ledger>(
     ensures total { OnOk result (book.new.total ≡ book.old.total + 1) }
     ensures room { OnOk result (¬ IsSpent core.old) }
     ensures err { OnErr result ((core.new ≡ core.old) × (seat.new ≡ seat.old) × (book.new.total ≡ book.old.total)) }
-    ensures errors { IfErr result (λ e. IsUnable core.old e) }
+    ensures errors { IfErr result (λ e. IsLacking core.old e) }
 {
     let Seat {
         number,
@@ -134,7 +135,7 @@ fn enter_pump<L: Ledger>(
     ensures total { OnOk result (book.new.total ≡ book.old.total + 1) }
     ensures room { OnOk result (¬ IsSpent core.old) }
     ensures err { OnErr result ((core.new ≡ core.old) × (seat.new ≡ seat.old) × (book.new.total ≡ book.old.total)) }
-    ensures errors { IfErr result (λ e. IsUnable core.old e) }
+    ensures errors { IfErr result (λ e. IsLacking core.old e) }
 {
     let Seat {
         number,
@@ -269,8 +270,8 @@ fn make_pipe(
     ensures numbers { numbers.new.items ≡ numbers.old.items }
     ensures pipes { pipes.new.items ≡ pipes.old.items }
     ensures room { OnOk result ((vec_len numbers.new < vec_capacity numbers.new) × (vec_len pipes.new < vec_capacity pipes.new)) }
-    ensures empty { IfOk result (λ r. (r.0.sent ≡ []) × (r.1.received ≡ [])) }
-    ensures errors { IfErr result (λ e. IsUnable core.now e) }
+    ensures empty { IfOk result (λ r. (r.0.sent ≡ []) × (r.1.received ≡ []) × (r.1.slots ≡ slots)) }
+    ensures errors { IfErr result (λ e. IsLacking core.now e) }
 {
     check_room(core)?;
     numbers.reserve(1)?;
@@ -291,7 +292,7 @@ fn keep_pipe(
     requires room { (vec_len numbers.old < vec_capacity numbers.old) × (vec_len pipes.old < vec_capacity pipes.old) }
     ensures numbers { (limit : ℕ) → numbers.new.items ≡ numbers.old.items ++ piped_by (Init limit true) reply.now }
     ensures pipes { (limit : ℕ) → sents pipes.new.items ≡ sents pipes.old.items ++ map (λ (id : ℕ). []) (piped_by (Init limit true) reply.now) }
-    ensures feed { result ≡ feed_of reply.now }
+    ensures feed { result ≡ feed_of reply.now feed.slots }
 {
     match reply {
         Reply::Instance(id) => {
@@ -344,13 +345,15 @@ impl<L: Ledger> Held<L> {
     ///
     /// Of each instance the records that were read, followed by those that wait, are the events that the journal raises
     /// for it, in order, each once, but for those that are merged into an equal unread neighbour and those that are lost
-    /// behind a mark. No two renames share a cookie. Nothing of a watch follows its `IN_IGNORED`. A refused call adds
-    /// nothing. An open instance has a pipe exactly where it was made with one. Each pipe was sent what the journal hands
+    /// behind a mark; all of them are events, so that the bytes that were read are the records of these alone. No two renames
+    /// share a cookie. Nothing of a watch follows its `IN_IGNORED`. A refused call adds nothing: what joined, what was read
+    /// and the tree are as before it. An open instance has a pipe exactly where it was made with one. Each pipe was sent what the journal hands
     /// to its instance, and that are events. The ledger's total is the number of entries.
     pub fn law(&self)
         ensures lawful { IsLawfulFrom self.now.state.start self.now.state.entries }
         ensures sound { IsSoundTree self.now.state.start }
         ensures told { (id : ℕ) → IsTold self.now.state id }
+        ensures records { RecordsAreEvents self.now.state }
         ensures cookies { HasCookiesInTurn self.now.state }
         ensures ends { (id : ℕ) → EndsOnce (waiting_of (instance_of self.now.state.start.instances id)) (raised_in self.now.state.start self.now.state.entries id) }
         ensures refused { AtEach RefusedAddsNothing self.now.state.start self.now.state.entries }
@@ -436,7 +439,7 @@ impl<L: Ledger> Held<L> {
     }
 
     /// Makes an instance with a pipe of 1 to 65,536 places, for a seat. The feed is there exactly where the reply is an
-    /// instance, and has its number. `limit` is how many records may wait in the queue, as in [`Call::Init`].
+    /// instance, and has its number and just so many places. `limit` is how many records may wait in the queue, as in [`Call::Init`].
     ///
     /// # Errors
     /// The first that holds; all is then as before, and nothing is journalled.
@@ -450,7 +453,7 @@ impl<L: Ledger> Held<L> {
     ) -> Result<(Receipt, Option<Feed>), Refusal>
         requires slots { (1 ≤ slots) × (slots ≤ 65536) }
         ensures ok { IfOk result (λ r. Enters self.old.state seat.old (Init limit true) self.new.state seat.new r.0) }
-        ensures feed { IfOk result (λ r. r.1 ≡ feed_of r.0.reply) }
+        ensures feed { IfOk result (λ r. r.1 ≡ feed_of r.0.reply slots) }
         ensures hands { IfOk result (λ r. HandsOver self.old (Init limit true) r.0 self.new) }
         ensures room { OnOk result (¬ IsSpent self.old.state) }
         ensures err { OnErr result ((self.new ≡ self.old) × (seat.new ≡ seat.old)) }

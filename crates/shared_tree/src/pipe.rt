@@ -68,7 +68,7 @@ impl Pipe {
 
 /// The end of a pipe that takes. It belongs to a listener, who needs neither the tree nor its lock.
 ///
-/// Contracts see the number of its instance, and the batches that it has received.
+/// Contracts see the number of its instance, the batches that it has received, and how many places the pipe has.
 pub struct Feed {
     instance: u32,
     consumer: Consumer<Batch>,
@@ -84,18 +84,19 @@ impl Drop for Feed {
 }
 
 impl Model for Feed {
-    ghost use Rattle.rtrb.specs.Ring.{received};
+    ghost use Rattle.rtrb.specs.Ring.{consumer_capacity, received};
     ghost use Rattle.shared_tree.specs.Pipes.{Fed, fed};
 
     ghost Value = { Fed };
 
-    ghost view = { λ f. fed f.instance (received f.consumer) };
+    ghost view = { λ f. fed f.instance (received f.consumer) (consumer_capacity f.consumer) };
 }
 
 impl Feed {
     /// The next batch, if one has come. It does not wait, and takes no memory.
     pub fn take(&mut self) -> Option<Batch>
         ensures instance { self.new.instance ≡ self.old.instance }
+        ensures slots { self.new.slots ≡ self.old.slots }
         ensures some { IfSome result (λ b. self.new.received ≡ self.old.received ++ b ∷ []) }
         ensures none { IfNone result (self.new ≡ self.old) }
     {
@@ -111,7 +112,7 @@ impl Feed {
 
     // The same end, for the instance of a number.
     pub(crate) fn numbered(self, instance: u32) -> Feed
-        ensures { result ≡ fed instance self.received }
+        ensures { result ≡ fed instance self.received self.slots }
     {
         let Feed {
             instance: _,
@@ -121,9 +122,9 @@ impl Feed {
     }
 }
 
-// A pipe with so many places. Its feed has no number yet.
+// A pipe with just so many places. Its feed has no number yet.
 pub(crate) fn open_pipe(alloc: Global, slots: usize) -> Result<(Pipe, Feed), AllocError>
-    ensures { IfOk result (λ r. (r.0.sent ≡ []) × (r.1 ≡ fed 0 [])) }
+    ensures { IfOk result (λ r. (r.0.sent ≡ []) × (r.1 ≡ fed 0 [] slots)) }
 {
     let (producer, consumer) = RingBuffer::new(alloc, slots)?;
     Ok((

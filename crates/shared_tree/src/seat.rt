@@ -1,6 +1,6 @@
 //! Who may call, and what each was told.
 
-ghost use Rattle.std.specs.Prelude.{◌≡◌, ◌+◌, ◌≤◌, [], length, IfOk, IfErr};
+ghost use Rattle.std.specs.Prelude.{◌≡◌, ◌+◌, ◌<◌, ◌≤◌, [], length, IfOk, IfErr, OnOk};
 ghost use Rattle.tree_paths.specs.declared.refusal.Refusal.TheVariants.{SeatsSpent};
 ghost use Rattle.shared_tree.specs.Seats.{seated, passing};
 
@@ -138,10 +138,11 @@ impl<L: Ledger> Pass<L> {
     /// The next seat. Seats have the numbers 1, 2, 3 and so on, up to the limit of the tree. It takes no memory.
     ///
     /// # Errors
-    /// `SeatsSpent`, where as many seats were given as the limit says.
+    /// `SeatsSpent`, exactly where as many seats were given as the limit says.
     pub fn seat(&mut self) -> Result<Seat<L>, Refusal>
         ensures seat { IfOk result (λ s. s ≡ seated (self.old.given + 1) []) }
         ensures pass { IfOk result (λ s. (self.new.parts + 1 ≡ self.old.parts) × (self.new.amount ≡ self.old.amount) × (self.new.given ≡ self.old.given + 1) × (self.new.seats ≡ self.old.seats)) }
+        ensures left { OnOk result (self.old.given < self.old.seats) }
         ensures err { IfErr result (λ e. (e ≡ SeatsSpent) × (self.old.given ≡ self.old.seats) × (self.new ≡ self.old)) }
     {
         let Pass {

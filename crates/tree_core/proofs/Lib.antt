@@ -13,11 +13,14 @@ pub mod Untouched
 pub mod BytesRead
 pub mod InOrder
 pub mod Accounts
+mod Found
+mod OfTree
 mod Replies
 mod Turns
 mod Cookies
 mod Quiet
 mod Ends
+mod Descriptors
 mod Waiting
 pub mod Shown
 pub mod Soundness

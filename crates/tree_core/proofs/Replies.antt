@@ -1,5 +1,5 @@
 -- What a reply tells of the tree that gave it.
-use Rattle.std.proofs.Common.{◌≡◌, ℕ, Bool, true, false, not, IsTrue, List, Option, Some, None, refl, sym, ap, ◌∙◌}
+use Rattle.std.proofs.Common.{◌≡◌, ℕ, Bool, true, false, not, IsTrue, List, [], Option, Some, None, refl, sym, ap, ◌∙◌}
 use Rattle.tree_paths.specs.Rows.{first_row}
 use Rattle.tree_paths.specs.declared.refusal.Refusal.{Refusal}
 use Rattle.inode_table.specs.Refusals.{Look}
@@ -12,7 +12,9 @@ use Rattle.tree_core.specs.declared.call.Call.TheVariants as call
 use Rattle.tree_core.specs.declared.reply.Reply.TheVariants as reply
 use Rattle.tree_core.specs.Tree.{Tree, refusal_of, add_watch_rows, read_rows, way_row, close_rows, accepted, watch_answer, read_answer, number_seen, answer_of, reply_by, tree_by, reply_of}
 use Rattle.tree_core.specs.TurnLaws.{RepliesTell}
+use Rattle.tree_core.specs.Histories.{events_for, raised_by, raised_to, read_by, records_for, where_open}
 use Rattle.tree_core.proofs.Counted.{first-passes}
+use Rattle.tree_core.proofs.OfTree.{of-tree}
 use Rattle.tree_core.proofs.Untouched.{next-after}
 
 -- ---- where the instance of a call is open
@@ -88,6 +90,19 @@ refused-same : (t : Tree) (c : Call) (r : Refusal) (o : Option Refusal) → refu
 refused-same t c r None passes e = absurd (no-refusal t c r passes e)
 refused-same t c r (Some s) passes e = refl
 
+nothing-raised : (t : Tree) (c : Call) (r : Refusal) → refusal_of t c ≡ Some r → (id : ℕ) → raised_by t c id ≡ []
+unfolding raised_by
+nothing-raised t c r e id = ap (λ o. where_open o (instance_of t.instances id) (λ i. raised_to i.queue (events_for t c id i))) e
+
+nothing-read : (t : Tree) (c : Call) (r : Refusal) → refusal_of t c ≡ Some r → (id : ℕ) → read_by t c id ≡ []
+unfolding read_by
+nothing-read t c r e id = ap (λ o. where_open o (instance_of t.instances id) (records_for c id)) e
+
+-- the refusal in a reply is the call's
+refusal-is : (t : Tree) (c : Call) (r : Refusal) (o : Option Refusal) → refusal_of t c ≡ o → reply_by o (answer_of t c) ≡ reply.Refused r → refusal_of t c ≡ Some r
+refusal-is t c r None passes e = absurd (no-refusal t c r passes e)
+refusal-is t c r (Some s) passes e = passes ∙ ap Some cc
+
 pub replies-tell : (t : Tree) (c : Call) → RepliesTell t c
 replies-tell t c = record {
   read = λ id count bytes is e. piped-not (given-open false count bytes (instance_of t.instances id) (refusal_of t (call.Read id count)) refl (ap (reply_of t) (sym is) ∙ e));
@@ -95,5 +110,8 @@ replies-tell t c = record {
   opened = λ id e. opened-by t c id (refusal_of t c) e;
   closed = λ id is e. closed-open (instance_of t.instances id) (refusal_of t (call.Close id)) refl (ap (reply_of t) (sym is) ∙ e);
   rising = next-after t c;
-  refused = λ refusal e. refused-same t c refusal (refusal_of t c) refl e;
+  refused = λ refusal e.
+      let is = refusal-is t c refusal (refusal_of t c) refl e in
+      record { tree = refused-same t c refusal (refusal_of t c) refl e; raised = nothing-raised t c refusal is; read = nothing-read t c refusal is };
+  of_tree = λ refusal e. of-tree t c refusal (refusal-is t c refusal (refusal_of t c) refl e);
 }

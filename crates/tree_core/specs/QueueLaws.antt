@@ -16,7 +16,7 @@ use Rattle.tree_core.specs.declared.reply.Reply.TheVariants as reply
 use Rattle.tree_core.specs.Tree.{Tree}
 use Rattle.tree_core.specs.Journal.{IsLawfulFrom, Journaled, now, tree_after}
 use Rattle.tree_core.specs.Sound.{IsSoundTree}
-use Rattle.tree_core.specs.Histories.{Raised, raised_in, read_in, fate, is_keeping, is_merging, is_losing, joined, kept, where_same}
+use Rattle.tree_core.specs.Histories.{Raised, raised_by, raised_in, read_in, fate, is_keeping, is_merging, is_losing, joined, kept, where_same}
 
 -- ---- what was read, and what waits
 
@@ -63,6 +63,17 @@ pub record AreAccountedFor (rs : List Raised) : Type 0 where
   pub fates : All (λ r. HasFate r.queue r.event (fate r)) rs
   pub count : length rs ≡ count_by (λ r. is_keeping (fate r)) rs + (count_by (λ r. is_merging (fate r)) rs + count_by (λ r. is_losing (fate r)) rs)
   pub order : filter (λ e. not (is_mark e)) (joined rs) ≡ kept rs
+
+-- the queue that each raised event found is what had joined, or waited at first, and was not read yet. So a lost event has an
+-- unread mark behind it, or before it, and a mark joins only where all earlier ones were read
+abbrev pub FindsTheUnread : Tree → List Entry → ℕ → Type 0
+FindsTheUnread t es id =
+    (front rest : List Entry) (e : Entry) (before later : List Raised) (r : Raised)
+    → es ≡ front ++ e ∷ rest → raised_by (tree_after t front) e.call id ≡ before ++ r ∷ later
+    → read_in t front id ++ r.queue.waiting ≡ waiting_of (instance_of t.instances id) ++ joined (raised_in t front id ++ before)
+
+abbrev pub EventsFindTheUnread : Type 0
+EventsFindTheUnread = (t : Tree) (es : List Entry) (id : ℕ) → IsSoundTree t → FindsTheUnread t es id
 
 abbrev pub EventsAreAccountedFor : Type 0
 EventsAreAccountedFor = (t : Tree) (es : List Entry) (id : ℕ) → IsSoundTree t → AreAccountedFor (raised_in t es id)

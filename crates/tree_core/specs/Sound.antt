@@ -11,7 +11,8 @@ use Rattle.instance_table.specs.declared.instance.Instance.{Instance}
 use Rattle.instance_table.specs.Instances.{instance_of}
 use Rattle.tree_core.specs.Tree.{Tree}
 
--- the numbers that come next are those behind all that were given, and within the limits
+-- each number that comes next is within its limit, or the one above it, where all were given; open instances have numbers below
+-- the next
 pub record IsCounted (t : Tree) : Type 0 where
   pub numbers : t.next_number ≤ t.limits.numbers + 1
   pub cookies : t.next_cookie ≤ t.limits.cookies + 1

@@ -1,9 +1,10 @@
 -- Laws of all lawful journals, from any sound tree on: numbers, descriptors and cookies are given once, and nothing follows
 -- the end of a watch.
-use Rattle.std.specs.Prelude.{◌≡◌, ◌≢◌, ℕ, ℤ, ◌+◌, ◌≤◌, ◌==◌, List, [], ◌∷◌, ◌++◌, Option, Some, None, All, IsTrue, not, if◌then◌else◌}
+use Rattle.std.specs.Prelude.{◌≡◌, ◌≢◌, ◌⊎◌, ⊤, ℕ, ℤ, pos, ◌≤ℤ◌, ◌<ℤ◌, ◌+◌, ◌≤◌, ◌==◌, List, [], ◌∷◌, ◌++◌, Option, Some, None, All, IsTrue, not, if◌then◌else◌}
 use Rattle.record_codec.specs.declared.event.Event.{Event}
 use Rattle.tree_paths.specs.declared.limits.Limits.{Limits}
 use Rattle.tree_paths.specs.declared.refusal.Refusal.{Refusal}
+use Rattle.tree_paths.specs.declared.refusal.Refusal.TheVariants.{Enomem, JournalFull, PipeFull}
 use Rattle.tree_ops.specs.declared.answer.Answer.TheVariants.{Number}
 use Rattle.tree_ops.specs.Refused.{cookies_of}
 use Rattle.watch_table.specs.Watching.{HasEnded}
@@ -20,7 +21,7 @@ use Rattle.tree_core.specs.declared.reply.Reply.TheVariants as reply
 use Rattle.tree_core.specs.Sound.{IsSoundTree, NothingFollowsIgnored}
 use Rattle.tree_core.specs.Tree.{Tree, opening, cookie_now, refusal_of, reply_of, after}
 use Rattle.tree_core.specs.Journal.{IsLawfulFrom, tree_after}
-use Rattle.tree_core.specs.Histories.{Raised, raised_by, raised_in, events, joined, where_same}
+use Rattle.tree_core.specs.Histories.{Raised, raised_by, raised_in, read_by, events, joined, where_same}
 
 -- the opening tree is sound, and a sound tree stays so
 pub record TreesAreSound : Type 0 where
@@ -113,6 +114,20 @@ abbrev pub wds_given : ℕ → List Entry → List ℤ
 wds_given id [] = []
 wds_given id (e ∷ es) = wds_of id e.call e.reply ++ wds_given id es
 
+-- descriptors in the order in which they were answered: each is one that was given before, or the next
+abbrev pub RunOn : ℕ → List ℤ → Type 0
+RunOn next [] = ⊤
+RunOn next (wd ∷ wds) = (((pos 1 ≤ℤ wd) × (wd <ℤ pos next)) × RunOn next wds) ⊎ ((wd ≡ pos next) × RunOn (next + 1) wds)
+
+-- the descriptor that an instance gives next. A new instance gives 1 first
+abbrev pub next_wd_of : Option Instance → ℕ
+next_wd_of None = 1
+next_wd_of (Some i) = i.watches.next_wd
+
+-- the descriptors of an instance run 1, 2, 3 and so on; those of one that was open at first run on from its next one
+abbrev pub DescriptorsRunOn : Type 0
+DescriptorsRunOn = (t : Tree) (es : List Entry) (id : ℕ) → IsSoundTree t → IsLawfulFrom t es → RunOn (next_wd_of (instance_of t.instances id)) (wds_given id es)
+
 -- a descriptor whose watch has ended is never given again, and nothing of it is raised
 abbrev pub DescriptorsEndForGood : Type 0
 DescriptorsEndForGood =
@@ -122,12 +137,23 @@ DescriptorsEndForGood =
 
 -- ---- what a reply tells of its tree
 
+-- it is none of those that no tree gives: want of memory, a full journal, a full pipe. A call that is refused so is no entry
+abbrev pub IsOfTree : Refusal → Type 0
+IsOfTree refusal = (refusal ≢ Enomem) × (refusal ≢ JournalFull) × (refusal ≢ PipeFull)
+
+-- what a refused call adds: the tree is as before, and so is for each instance what was raised, so what joined, and what was read
+pub record AddsNothing (t : Tree) (c : Call) : Type 0 where
+  pub tree : after t c ≡ t
+  pub raised : (id : ℕ) → raised_by t c id ≡ []
+  pub read : (id : ℕ) → read_by t c id ≡ []
+
 -- records are read of open instances without a pipe, and pumped of those with one; a new instance has the next number;
--- numbers of instances never fall; a closed instance was open; a refused call changes nothing
+-- numbers of instances never fall; a closed instance was open; a refused call adds nothing, and its refusal is one of the tree's
 pub record RepliesTell (t : Tree) (c : Call) : Type 0 where
   pub read : (id count : ℕ) (bytes : List ℕ) → c ≡ call.Read id count → reply_of t c ≡ reply.Records bytes → (i : Instance) × (instance_of t.instances id ≡ Some i) × IsTrue (not i.is_piped)
   pub pumped : (id count : ℕ) (bytes : List ℕ) → c ≡ call.Pump id count → reply_of t c ≡ reply.Records bytes → (i : Instance) × (instance_of t.instances id ≡ Some i) × IsTrue i.is_piped
   pub opened : (id : ℕ) → reply_of t c ≡ reply.Instance id → id ≡ t.next_id
   pub closed : (id : ℕ) → c ≡ call.Close id → reply_of t c ≡ reply.Done → (i : Instance) × (instance_of t.instances id ≡ Some i)
   pub rising : t.next_id ≤ (after t c).next_id
-  pub refused : (refusal : Refusal) → reply_of t c ≡ reply.Refused refusal → after t c ≡ t
+  pub refused : (refusal : Refusal) → reply_of t c ≡ reply.Refused refusal → AddsNothing t c
+  pub of_tree : (refusal : Refusal) → reply_of t c ≡ reply.Refused refusal → IsOfTree refusal

@@ -16,7 +16,7 @@ pub enum Call {
     /// The first that holds: `EINVAL`, a limit of 0 or above that of queues; `EMFILE`, too many instances, or no number
     /// is left.
     Init {
-        /// How many records may wait, marks of lost events not counted.
+        /// How many records may wait before events are lost, marks of lost events counted. One mark more may wait.
         limit: u32,
         /// Whether its records go through a pipe: they are pumped, and not read.
         piped: bool,

@@ -1,7 +1,7 @@
 //! Laws of what is raised for an instance, what joins its queue, and what is read of it, over all lawful journals. Each
 //! is a function that does nothing, and its contract is the law.
 
-ghost use Rattle.tree_core.specs.QueueLaws.{BytesAreOfRecords, ClosedInstancesHearNothing, EventsAreAccountedFor, ReadsAreInOrder, UnmadeInstancesHearNothing};
+ghost use Rattle.tree_core.specs.QueueLaws.{BytesAreOfRecords, ClosedInstancesHearNothing, EventsAreAccountedFor, EventsFindTheUnread, ReadsAreInOrder, UnmadeInstancesHearNothing};
 
 use event_queue::nothing_is_lost_unsaid;
 use event_rules::{events_are_of_watches, other_watches_stay};
@@ -19,9 +19,11 @@ pub fn bytes_are_of_records()
 {}
 
 /// A law: each event that is raised is kept, merged into an equal record that waits last, or lost behind a mark that
-/// waits; a mark joins where none waits; and what joined, without marks, is what was kept, in order.
+/// waits; a mark joins where none waits; and what joined, without marks, is what was kept, in order. The queue that an event
+/// finds is what had joined and was not read yet.
 pub fn events_are_accounted_for()
-    ensures { EventsAreAccountedFor }
+    ensures fates { EventsAreAccountedFor }
+    ensures found { EventsFindTheUnread }
 {
     nothing_is_lost_unsaid();
     events_are_of_watches();

@@ -7,6 +7,7 @@ use Rattle.std.proofs.lemmas.Result.{err_from_is_err_and}
 use Rattle.tree_core.specs.declared.reply.Receipt.{Receipt}
 use Rattle.tree_paths.specs.declared.refusal.Refusal.{Refusal}
 use Rattle.shared_tree.specs.Calls.{IsWhyNot}
+use Rattle.shared_tree.proofs.Unable.{why-not}
 use Rattle.shared_tree.proofs.Wholes.{close-why, hands-call, held-call, looked-length}
 use Rattle.shared_tree.proofs.held.Held.call.Goals as goal
 
@@ -38,3 +39,12 @@ returns-in_err-at-clause-errors g c =
     (subst (λ (x : Result Receipt Refusal). IfErr x (λ e. IsWhyNot a.core c.args.call e)) (sym p.1)
     (subst (λ (e : Refusal). IsWhyNot a.core c.args.call e) (sym p.2)
     (close-why a.core a.numbers.items c.as_slice.result.now (sents a.pipes.items) a.book.total c.args.call c.closed_by-closed.result c.in_err-at.field-0.0 c.self.invariant c.as_slice.ensures.value c.closed_by-closed.ensures c.in_err-at.ensures.err)))
+
+pub returns-in_err-receipt-clause-errors : goal.returns-in_err-receipt-clause-errors
+returns-in_err-receipt-clause-errors g c =
+    let a = c.self.inside in
+    let p = err_from_is_err_and c.from_residual-in_err-receipt.result c.from_residual-in_err-receipt.ensures.1 in
+    subst (λ (h : Holding). IfErr c.from_residual-in_err-receipt.result (λ e. IsWhyNot h.state c.args.call e)) c.self.view_is
+    (subst (λ (x : Result Receipt Refusal). IfErr x (λ e. IsWhyNot a.core c.args.call e)) (sym p.1)
+    (subst (λ (e : Refusal). IsWhyNot a.core c.args.call e) (sym p.2)
+    (why-not a.core c.args.call c.in_err-receipt.field-0.0 c.in_err-receipt.ensures.errors)))

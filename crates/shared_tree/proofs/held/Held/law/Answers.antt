@@ -3,6 +3,7 @@ use Rattle.std.specs.Prelude.{◌↔◌, IsTrue}
 use Rattle.instance_table.specs.Instances.{instance_of, waiting_of}
 use Rattle.tree_core.specs.Histories.{raised_in}
 use Rattle.tree_core.specs.Journal.{now}
+use Rattle.tree_core.specs.QueueLaws.{RecordsAreEvents}
 use Rattle.tree_core.specs.Sound.{IsSoundTree}
 use Rattle.tree_core.specs.TurnLaws.{EndsOnce}
 use Rattle.shared_tree.specs.Calls.{Holding, IsSent}
@@ -26,8 +27,12 @@ returns-clause-told g c =
     subst (λ (h : Holding). (id : ℕ) → IsTold h.state id) c.self.view_is (λ id. record {
       order = c.reads_are_in_order.ensures a.core.start a.core.entries id sound;
       bytes = c.bytes_are_of_records.ensures a.core.start a.core.entries id c.journal.ensures.lawful;
-      accounted = c.events_are_accounted_for.ensures a.core.start a.core.entries id sound;
+      accounted = c.events_are_accounted_for.ensures.fates a.core.start a.core.entries id sound;
+      found = c.events_are_accounted_for.ensures.found a.core.start a.core.entries id sound;
     })
+
+pub returns-clause-records : goal.returns-clause-records
+returns-clause-records g c = subst (λ (h : Holding). RecordsAreEvents h.state) c.self.view_is c.journal.ensures.events
 
 pub returns-clause-cookies : goal.returns-clause-cookies
 returns-clause-cookies g c = record {

@@ -1,9 +1,15 @@
 use Rattle.std.proofs.Common.{ℕ, true, List, [], ◌++◌, map, ap, subst, ◌∙◌}
 use Rattle.tree_core.specs.declared.call.Call.TheVariants as call
-use Rattle.shared_tree.specs.Calls.{HandsOver, Holding, holding}
+use Rattle.std.proofs.Common.{Option, Result, sym}
+use Rattle.std.specs.Prelude.{IfErr}
+use Rattle.std.proofs.lemmas.Result.{err_from_is_err_and}
+use Rattle.tree_paths.specs.declared.refusal.Refusal.{Refusal}
+use Rattle.tree_core.specs.declared.reply.Receipt.{Receipt}
+use Rattle.shared_tree.specs.Calls.{HandsOver, Holding, IsUnable, holding}
 use Rattle.shared_tree.specs.Handed.{piped_by}
 use Rattle.shared_tree.specs.Held.{sents}
-use Rattle.shared_tree.specs.Pipes.{Piped}
+use Rattle.shared_tree.specs.Pipes.{Fed, Piped}
+use Rattle.shared_tree.proofs.Unable.{unable}
 use Rattle.shared_tree.proofs.Wholes.{hands-open, held-lengths, held-open}
 use Rattle.shared_tree.proofs.held.Held.open_piped.Goals as goal
 
@@ -23,3 +29,21 @@ returns-clause-hands g c =
     (c.keep_pipe-feed.ensures.numbers c.args.limit ∙ ap (λ (ns : List ℕ). ns ++ piped_by (call.Init c.args.limit true) c.in_ok-receipt.receipt.reply) c.in_ok-pipe.ensures.numbers)
     (c.keep_pipe-feed.ensures.pipes c.args.limit ∙ ap (λ (ps : List Piped). sents ps ++ map (λ (id : ℕ). []) (piped_by (call.Init c.args.limit true) c.in_ok-receipt.receipt.reply)) c.in_ok-pipe.ensures.pipes)
     c.in_ok-receipt.ensures.total)
+
+pub returns-in_err-pipe-clause-errors : goal.returns-in_err-pipe-clause-errors
+returns-in_err-pipe-clause-errors g c =
+    let a = c.self.inside in
+    let p = err_from_is_err_and c.from_residual.result c.from_residual.ensures.1 in
+    subst (λ (h : Holding). IfErr c.from_residual.result (λ e. IsUnable h.state e)) c.self.view_is
+    (subst (λ (x : Result (Receipt × Option Fed) Refusal). IfErr x (λ e. IsUnable a.core e)) (sym p.1)
+    (subst (λ (e : Refusal). IsUnable a.core e) (sym p.2)
+    (unable a.core c.in_err-pipe.field-0.0 c.in_err-pipe.ensures.errors)))
+
+pub returns-in_err-receipt-clause-errors : goal.returns-in_err-receipt-clause-errors
+returns-in_err-receipt-clause-errors g c =
+    let a = c.self.inside in
+    let p = err_from_is_err_and c.from_residual-in_err-receipt.result c.from_residual-in_err-receipt.ensures.1 in
+    subst (λ (h : Holding). IfErr c.from_residual-in_err-receipt.result (λ e. IsUnable h.state e)) c.self.view_is
+    (subst (λ (x : Result (Receipt × Option Fed) Refusal). IfErr x (λ e. IsUnable a.core e)) (sym p.1)
+    (subst (λ (e : Refusal). IsUnable a.core e) (sym p.2)
+    (unable a.core c.in_err-receipt.field-0.0 c.in_err-receipt.ensures.errors)))

@@ -8,6 +8,7 @@ use Rattle.std.proofs.lemmas.Result.{err_from_is_err_and}
 use Rattle.tree_core.specs.declared.reply.Receipt.{Receipt}
 use Rattle.tree_paths.specs.declared.refusal.Refusal.{Refusal}
 use Rattle.shared_tree.specs.Calls.{IsWhyNot}
+use Rattle.shared_tree.proofs.Unable.{why-not}
 use Rattle.shared_tree.proofs.Wholes.{pump-why, hands-pump, held-pump, looked-length}
 use Rattle.shared_tree.proofs.held.Held.pump.Goals as goal
 
@@ -39,3 +40,12 @@ returns-in_err-at-clause-errors g c =
     (subst (λ (x : Result Receipt Refusal). IfErr x (λ e. IsWhyNot a.core (call.Pump c.args.instance c.args.bytes) e)) (sym p.1)
     (subst (λ (e : Refusal). IsWhyNot a.core (call.Pump c.args.instance c.args.bytes) e) (sym p.2)
     (pump-why a.core a.numbers.items c.as_slice.result.now (sents a.pipes.items) a.book.total c.args.instance c.args.bytes c.in_err-at.field-0.0 c.self.invariant c.as_slice.ensures.value c.in_err-at.ensures.err)))
+
+pub returns-in_err-receipt-clause-errors : goal.returns-in_err-receipt-clause-errors
+returns-in_err-receipt-clause-errors g c =
+    let a = c.self.inside in
+    let p = err_from_is_err_and c.from_residual-in_err-receipt.result c.from_residual-in_err-receipt.ensures.1 in
+    subst (λ (h : Holding). IfErr c.from_residual-in_err-receipt.result (λ e. IsWhyNot h.state (call.Pump c.args.instance c.args.bytes) e)) c.self.view_is
+    (subst (λ (x : Result Receipt Refusal). IfErr x (λ e. IsWhyNot a.core (call.Pump c.args.instance c.args.bytes) e)) (sym p.1)
+    (subst (λ (e : Refusal). IsWhyNot a.core (call.Pump c.args.instance c.args.bytes) e) (sym p.2)
+    (why-not a.core (call.Pump c.args.instance c.args.bytes) c.in_err-receipt.field-0.0 c.in_err-receipt.ensures.errors)))
