@@ -19,7 +19,7 @@ use Rattle.shared_tree.specs.Held.{IsIn, Lacks}
 use Rattle.shared_tree.proofs.Ends.{front-is-all}
 use Rattle.event_sinks.specs.declared.audit.SettleFault.{SettleFault}
 use Rattle.event_sinks.specs.declared.audit.SettleFault.TheVariants.{CountDiffers, Stray, NotEnded, HandedDiffers, Memory}
-use Rattle.event_sinks.specs.Audited.{AreKept, AuditsAgree, Differs, FaultsContradictTheAudit, FrontsAreWhole, IsFaultAt, IsSentTo, IsServed, IsServedAt, IsServedOtherwise, IsStray, IsUnended, Outcome, batches_of, past, calls_of, of_instance, places}
+use Rattle.event_sinks.specs.Audited.{AreKept, AuditsAgree, Differs, FaultsContradictTheAudit, FrontsAreWhole, IsFaultAt, IsSentTo, IsServed, IsServedAt, IsServedOtherwise, IsStray, IsUnended, Outcome, batches_of, since, calls_of, of_instance, places}
 use Rattle.event_sinks.proofs.Pairs.{PairsByRecursion, all_weaker}
 use Rattle.event_sinks.proofs.KeptCalls.{by_recursion, kept_front, places_in}
 
@@ -132,17 +132,17 @@ audits-agree b logs es counted audited p positive within =
 
 -- ---- fronts
 
-past-early : (cut : ℕ) (bs : List Batch) → AllByRecursion (λ b. b.place ≤ cut) bs → past cut bs ≡ []
-past-early cut [] early = refl
-past-early cut (b ∷ bs) early =
+since-early : (cut : ℕ) (bs : List Batch) → AllByRecursion (λ b. b.place ≤ cut) bs → since cut bs ≡ []
+since-early cut [] early = refl
+since-early cut (b ∷ bs) early =
     let no : nat_lt cut b.place ≡ false = (let h = early.0 in grind (arith, nat_tests)) in
-    ap (λ t. cond t (b ∷ past cut bs) (past cut bs)) no ∙ past-early cut bs early.1
+    ap (λ t. cond t (b ∷ since cut bs) (since cut bs)) no ∙ since-early cut bs early.1
 
-past-late : (cut : ℕ) (bs : List Batch) → AllByRecursion (λ b. cut < b.place) bs → past cut bs ≡ bs
-past-late cut [] late = refl
-past-late cut (b ∷ bs) late =
+since-late : (cut : ℕ) (bs : List Batch) → AllByRecursion (λ b. cut < b.place) bs → since cut bs ≡ bs
+since-late cut [] late = refl
+since-late cut (b ∷ bs) late =
     let yes : nat_lt cut b.place ≡ true = (let h = late.0 in grind (arith, nat_tests)) in
-    ap (λ t. cond t (b ∷ past cut bs) (past cut bs)) yes ∙ ap (λ (xs : List Batch). b ∷ xs) (past-late cut bs late.1)
+    ap (λ t. cond t (b ∷ since cut bs) (since cut bs)) yes ∙ ap (λ (xs : List Batch). b ∷ xs) (since-late cut bs late.1)
 
 -- what the pipe of a number was sent is what the whole journal hands to its instance
 sent-whole : (f : ℕ → List Batch) (ns : List ℕ) (k n : ℕ) (bs : List Batch) → slice_get ns k ≡ Some n → slice_get (map f ns) k ≡ Some bs → bs ≡ f n
@@ -153,9 +153,9 @@ sent-whole f (m ∷ ns) zero n bs at there =
     sym sent ∙ ap f same
 sent-whole f (m ∷ ns) (suc k) n bs at there = sent-whole f ns k n bs at there
 
--- a front that ends with an end batch is all, and past the cut it is what the journal hands over
+-- a front that ends with an end batch is all, and since the cut it is what the journal hands over
 all_of_it : EndBatchesComeLast → CutsPartBatches → (b : Bound) (n : ℕ) (handed before rest : List Batch) (last : Batch) → (sends : IsSent b.state b.pipes b.sent) → handed ≡ before ++ last ∷ [] → last.records ≡ [] → IsSentTo b n (handed ++ rest)
-    → past b.state.place handed ≡ batches_of b n
+    → since b.state.place handed ≡ batches_of b n
 all_of_it come_last parts b n given before rest last sends is none (k, at, sent) =
     let es = sends.past ++ b.state.entries in
     let limits = b.state.start.limits in
@@ -164,11 +164,11 @@ all_of_it come_last parts b n given before rest last sends is none (k, at, sent)
     let none_left : rest ≡ [] = front-is-all come_last limits es n before rest last (sym whole ∙ ap (λ (xs : List Batch). xs ++ rest) is) none in
     let part = parts b.state sends.past n sends.is_past in
     let all : given ≡ handed limits sends.past n ++ handed_since b.state n = sym (append-nil given) ∙ ap (λ (xs : List Batch). given ++ xs) (sym none_left) ∙ whole ∙ part.parted in
-    ap (past b.state.place) all ∙ filter-append (λ (x : Batch). nat_lt b.state.place x.place) (handed limits sends.past n) (handed_since b.state n)
-    ∙ ap (λ (xs : List Batch). xs ++ past b.state.place (handed_since b.state n)) (past-early b.state.place (handed limits sends.past n) part.early)
-    ∙ past-late b.state.place (handed_since b.state n) part.late
+    ap (since b.state.place) all ∙ filter-append (λ (x : Batch). nat_lt b.state.place x.place) (handed limits sends.past n) (handed_since b.state n)
+    ∙ ap (λ (xs : List Batch). xs ++ since b.state.place (handed_since b.state n)) (since-early b.state.place (handed limits sends.past n) part.early)
+    ∙ since-late b.state.place (handed_since b.state n) part.late
 
-not_different : (cut : ℕ) (batches : List Batch) (e : Outcome) (more : List Outcome) (p : ℕ) → past cut e.handed ≡ batches → IsServedOtherwise cut batches (e ∷ more) p → p ≡ 0
+not_different : (cut : ℕ) (batches : List Batch) (e : Outcome) (more : List Outcome) (p : ℕ) → since cut e.handed ≡ batches → IsServedOtherwise cut batches (e ∷ more) p → p ≡ 0
 not_different cut batches e more p same (why, inl differs) = absurd (differs_from_itself batches p (subst (λ (bs : List Batch). Differs batches bs p) same differs))
 not_different cut batches e more p same (why, inr second) = second.2
 

@@ -23,8 +23,8 @@ use Rattle.event_sinks.specs.declared.listener.Ended.{Ended}
 abbrev pub calls_of : List SeatLog → ℕ
 calls_of logs = sum_by (λ (l : SeatLog). length l.kept) logs
 
--- the place of a kept call, the first being 1, is one of the whole journal; where it is past the cut, the entry at it is this
--- call of the seat, with this reply. The entries are those past the cut
+-- the place of a kept call, the first being 1, is one of the whole journal; where it is since the cut, the entry at it is this
+-- call of the seat, with this reply. The entries are those since the cut
 pub record Stands (cut : ℕ) (entries : List Entry) (number : ℕ) (k : Kept) : Type 0 where
   pub low : 0 < k.place
   pub high : k.place ≤ cut + length entries
@@ -62,16 +62,16 @@ abbrev pub of_instance : ℕ → List Outcome → List Outcome
 of_instance n [] = []
 of_instance n (e ∷ es) = where_same e.instance n (e ∷ []) ++ of_instance n es
 
--- the batches whose places are past the cut
-abbrev pub past : ℕ → List Batch → List Batch
-past cut bs = filter (λ (b : Batch). nat_lt cut b.place) bs
+-- the batches whose places are since the cut
+abbrev pub since : ℕ → List Batch → List Batch
+since cut bs = filter (λ (b : Batch). nat_lt cut b.place) bs
 
 -- one listener ended for the pipe, by the end batch, and was handed the journal's batches, in order, each once, as far as they
--- are past the cut
+-- are since the cut
 abbrev pub IsServed : ℕ → List Batch → List Outcome → Type 0
-IsServed cut batches es = (e : Outcome) × (es ≡ e ∷ []) × (e.cause ≡ Last) × (past cut e.handed ≡ batches)
+IsServed cut batches es = (e : Outcome) × (es ≡ e ∷ []) × (e.cause ≡ Last) × (since cut e.handed ≡ batches)
 
--- what the entries of the book, which are those past the cut, hand to an instance
+-- what the entries of the book, which are those since the cut, hand to an instance
 abbrev pub batches_of : Bound → ℕ → List Batch
 batches_of b n = handed_since b.state n
 
@@ -99,7 +99,7 @@ IsUnended (e ∷ es) = e.cause ≢ Last
 -- which is told as place 0
 abbrev pub IsServedOtherwise : ℕ → List Batch → List Outcome → ℕ → Type 0
 IsServedOtherwise cut batches [] p = ⊥
-IsServedOtherwise cut batches (e ∷ es) p = (e.cause ≡ Last) × (Differs batches (past cut e.handed) p ⊎ ((past cut e.handed ≡ batches) × (es ≢ []) × (p ≡ 0)))
+IsServedOtherwise cut batches (e ∷ es) p = (e.cause ≡ Last) × (Differs batches (since cut e.handed) p ⊎ ((since cut e.handed ≡ batches) × (es ≢ []) × (p ≡ 0)))
 
 -- what is wrong with a number. A listener for a number that is no pipe of the book is told as place 0
 abbrev pub IsFaultAt : Bound → List Outcome → ℕ → SettleFault → Type 0

@@ -16,7 +16,7 @@ use Rattle.shared_tree.specs.Held.{IsIn, Lacks}
 use Rattle.event_sinks.specs.declared.listener.Cause.TheVariants.{Last}
 use Rattle.event_sinks.specs.declared.served.Progress.{Progress}
 use Rattle.event_sinks.specs.declared.served.Track.{Track}
-use Rattle.event_sinks.specs.Audited.{Outcome, Differs, batches_of, of_instance, past}
+use Rattle.event_sinks.specs.Audited.{Outcome, Differs, batches_of, of_instance, since}
 
 -- ---- what an entry hands over
 
@@ -51,7 +51,7 @@ ComesBy None left handed o = IsDifference left handed o
 ComesBy (Some p) left handed o = o ≡ Some p
 
 abbrev pub Comes : ℕ → List Batch → List Batch → Progress → Option ℕ → Type 0
-Comes cut left handed p o = ComesBy p.differs left (past cut (drop p.taken handed)) o
+Comes cut left handed p o = ComesBy p.differs left (since cut (drop p.taken handed)) o
 
 -- nothing is compared yet
 abbrev pub start : Progress
@@ -120,7 +120,7 @@ IsNoted pipes es found n (Some t) = IsPiped pipes n t.is_piped × IsFirst es fou
 -- what comes of the rest tells what is to be told of all batches of the number
 abbrev pub Tells : Bound → List Outcome → List Batch → ℕ → Option Track → Type 0
 Tells b es left n None = ⊤
-Tells b es left n (Some t) = (o : Option ℕ) → Comes b.state.place left (handed_at es t.first) t.progress o → IsDifference (batches_of b n) (past b.state.place (handed_at es t.first)) o
+Tells b es left n (Some t) = (o : Option ℕ) → Comes b.state.place left (handed_at es t.first) t.progress o → IsDifference (batches_of b n) (since b.state.place (handed_at es t.first)) o
 
 -- what is known of a number while these batches are still to be handed to it
 pub record IsTracked (b : Bound) (es : List Outcome) (left : List Batch) (n : ℕ) (o : Option Track) : Type 0 where

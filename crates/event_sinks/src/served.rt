@@ -6,7 +6,7 @@ ghost use Rattle.shared_tree.specs.Calls.{Bound};
 ghost use Rattle.shared_tree.specs.Held.{IsIn, Lacks};
 ghost use Rattle.std.specs.Prelude.{◌<◌, drop, get_or, length};
 ghost use Rattle.shared_tree.specs.Handed.{batch};
-ghost use Rattle.event_sinks.specs.Audited.{IsFaultAt, IsFirstFault, IsServedAt, batches_of, outcomes, past};
+ghost use Rattle.event_sinks.specs.Audited.{IsFaultAt, IsFirstFault, IsServedAt, batches_of, outcomes, since};
 ghost use Rattle.event_sinks.specs.Tracks.{Comes, EndsLastAt, Follows, HandsOn, HandsOver, IsSpelled, IsTracked, blank, given_by, handed_at, noted, track_at};
 
 use crate::audit::SettleFault;
@@ -163,9 +163,9 @@ fn given(entry: &Entry) -> Option<(u32, &[u8])>
     }
 }
 
-// Where the next batch past the cut stands, from here on.
-fn next_past(handed: &[Batch], cut: u64, from: usize) -> usize
-    ensures same { past cut (drop result handed.now) ≡ past cut (drop from handed.now) }
+// Where the next batch since the cut stands, from here on.
+fn next_since(handed: &[Batch], cut: u64, from: usize) -> usize
+    ensures same { since cut (drop result handed.now) ≡ since cut (drop from handed.now) }
     ensures later { result < length handed.now → cut < (get_or handed.now result (batch 0 0 [])).place }
 {
     for at in from..handed.len() {
@@ -294,7 +294,7 @@ impl Progress {
         if self.differs.is_some() {
             return self;
         }
-        let taken = next_past(handed, cut, self.taken);
+        let taken = next_since(handed, cut, self.taken);
         if taken < handed.len() && is_batch(&handed[taken], instance, place, bytes) {
             Progress {
                 taken: taken + 1,
@@ -315,7 +315,7 @@ impl Progress {
         if self.differs.is_some() {
             return self.differs;
         }
-        let taken = next_past(handed, cut, self.taken);
+        let taken = next_since(handed, cut, self.taken);
         if taken < handed.len() {
             Some(handed[taken].place)
         } else {

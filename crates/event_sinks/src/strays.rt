@@ -52,7 +52,7 @@ fn is_next(cut: u64, journal: &[Entry], seen: &[bool], number: u32, last: u64, k
     stands(cut, journal, number, kept)
 }
 
-// Whether a call whose place is one of the whole journal is the journal's entry there, where that is past the cut.
+// Whether a call whose place is one of the whole journal is the journal's entry there, where that is since the cut.
 fn stands(cut: u64, journal: &[Entry], number: u32, kept: &Kept) -> bool
     requires low { 0 < kept.now.place }
     requires high { kept.now.place ≤ cut + length journal.now }
@@ -90,7 +90,7 @@ fn is_clean(cut: u64, journal: &[Entry], seen: &mut [bool], log: &SeatLog) -> bo
 
 /// The first seat whose kept calls are not the book's.
 ///
-/// It takes time in proportion to the places and the kept calls.
+/// It takes time in proportion to the places and the kept calls. Where they are as many, there is a mark for each kept call.
 ///
 /// # Errors
 /// Want of memory for a mark at each place.
@@ -106,7 +106,7 @@ pub(crate) fn first_stray(
     stray_of(alloc, book.snapshot().place, book.journal(), logs)
 }
 
-// The same of a cut and the entries past it.
+// The same of a cut and the entries since it.
 fn stray_of(
     alloc: Global,
     cut: u64,

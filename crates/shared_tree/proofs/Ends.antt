@@ -17,6 +17,7 @@ use Rattle.tree_core.specs.declared.reply.Reply.{Reply}
 use Rattle.tree_core.specs.declared.reply.Reply.TheVariants as reply
 use Rattle.tree_core.specs.Tree.{Tree, opening, accepted, after, read_rows, refusal_of, reply_by, reply_of, tree_by}
 use Rattle.tree_core.specs.Histories.{oldest, pumped}
+use Rattle.tree_core.specs.Journal.{tree_after}
 use Rattle.tree_core.proofs.Counted.{each-passes, row-passes}
 use Rattle.tree_core.proofs.Opened.{instance_of-accepted}
 use Rattle.tree_core.proofs.Pumping.{pumped-accepted, pumped-refused}
@@ -164,6 +165,28 @@ ends-from tells t place (e ∷ es) id below =
 pub ends-last : (tells : Told) → EndBatchesComeLast
 unfolding handed
 ends-last tells = λ limits es id. ends-from tells (opening limits) 1 es id (below-opening limits)
+
+-- ---- an end batch tells that the instance is gone
+
+gone-stays : (tells : Told) (t : Tree) (es : List Entry) (id : ℕ) → IsGone t id → IsGone (tree_after t es) id
+gone-stays tells t [] id gone = gone
+gone-stays tells t (e ∷ es) id gone = gone-stays tells (after t e.call) es id (gone-after tells t e.call id gone)
+
+-- one call more before the others: where either has an end batch, this is so
+one-ends : (bs later : List Batch) (A B : Type 0) → HandsOne bs A → (A → B) → ((before rest : List Batch) (b : Batch) → later ≡ before ++ b ∷ rest → b.records ≡ [] → B)
+    → (before rest : List Batch) (b : Batch) → bs ++ later ≡ before ++ b ∷ rest → b.records ≡ [] → B
+one-ends bs later A B (inl nothing) stays ends before rest b e none = ends before rest b (sym (ap (λ (xs : List Batch). xs ++ later) nothing) ∙ e) none
+one-ends bs later A B (inr (x, one, last)) stays ends [] rest b e none =
+    let whole : x ∷ later ≡ b ∷ rest = sym (ap (λ (xs : List Batch). xs ++ later) one) ∙ e in
+    stays (last (ap (λ (y : Batch). y.records) (first-is x b later rest whole) ∙ none))
+one-ends bs later A B (inr (x, one, last)) stays ends (y ∷ before) rest b e none =
+    ends before rest b (rest-is x y later (before ++ b ∷ rest) (sym (ap (λ (xs : List Batch). xs ++ later) one) ∙ e)) none
+
+pub gone-from : (tells : Told) (t : Tree) (place : ℕ) (es : List Entry) (id : ℕ) → AreBelow t → (before rest : List Batch) (b : Batch) → handed_from t place es id ≡ before ++ b ∷ rest → b.records ≡ [] → IsGone (tree_after t es) id
+gone-from tells t place [] id below = λ before rest b e none. absurd (none-split before rest b e)
+gone-from tells t place (e ∷ es) id below =
+    one-ends (hands (handed_by t place e.call) id) (handed_from (after t e.call) (place + 1) es id) (IsGone (after t e.call) id) (IsGone (tree_after (after t e.call) es) id) (hands-one tells t place id below e.call)
+    (gone-stays tells (after t e.call) es id) (gone-from tells (after t e.call) (place + 1) es id (below-after tells t e.call below))
 
 -- a front of what an instance is handed that ends with the end batch is all of it
 pub front-is-all : EndBatchesComeLast → (limits : Limits) (es : List Entry) (id : ℕ) (front rest : List Batch) (b : Batch) → handed limits es id ≡ (front ++ b ∷ []) ++ rest → b.records ≡ [] → rest ≡ []

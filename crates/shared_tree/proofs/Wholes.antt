@@ -20,13 +20,14 @@ use Rattle.tree_core.specs.Tree.{Tree, opening, reply_of, after}
 use Rattle.tree_core.proofs.Lawful.{limits-now, tree_after-append}
 use Rattle.shared_tree.specs.declared.pipe.Batch.{Batch}
 use Rattle.shared_tree.specs.Calls.{Enters, HandsOver, Holding, IsForPipe, IsSent, IsWhyNot, holding}
-use Rattle.shared_tree.specs.Handed.{AreOfEvents, batch, handed, handed_by, handed_from, handed_since, hands, piped_by, CutsPartBatches, IsParted}
+use Rattle.shared_tree.specs.Handed.{AreOfEvents, batch, handed, handed_by, handed_from, handed_since, hands, piped_by, CutsPartBatches}
 use Rattle.shared_tree.specs.Held.{IsFilled, IsHeld, IsHeldWhole, closed_of, deliver, end_of, sents, whole}
 use Rattle.shared_tree.specs.Law.{HasPipesOfPiped}
 use Rattle.shared_tree.specs.Pipes.{Piped}
 use Rattle.shared_tree.specs.Seats.{Seated}
 use Rattle.shared_tree.proofs.Unable.{why-full}
 use Rattle.shared_tree.proofs.Answered.{answered}
+use Rattle.shared_tree.proofs.Ends.{below-opening, ends-last, gone-from}
 use Rattle.shared_tree.proofs.Keeping as keeping
 use Rattle.shared_tree.proofs.Keeping.{deliver-none, held-length}
 use Rattle.shared_tree.proofs.Steps.{Told, end_of-handed, plain-makes-none}
@@ -197,20 +198,29 @@ places-from t place (e ∷ es) id =
     all-both (IsBetween place (place + length (e ∷ es))) (hands (handed_by t place e.call) id) (handed_from (after t e.call) (place + 1) es id) (hands-at t place e.call id (place + length (e ∷ es)) (omega arith))
     (all-weaker (IsBetween (place + 1) (place + 1 + length es)) (IsBetween place (place + length (e ∷ es))) (λ b h. (omega (arith, h.0), omega (arith, h.1))) (handed_from (after t e.call) (place + 1) es id) (places-from (after t e.call) (place + 1) es id))
 
-pub cuts-part-batches : CutsPartBatches
+parted-is : (s : Journaled) (past : List Entry) (id : ℕ) → IsPast s.start s.place past → handed s.start.limits (past ++ s.entries) id ≡ handed s.start.limits past id ++ handed_since s id
 unfolding handed handed_since stands_for
-cuts-part-batches s past id is =
+parted-is s past id is =
     let t = opening s.start.limits in
-    record {
-      parted =
-          handed_from-append t 1 past s.entries id
-          ∙ (λ i. handed_from t 1 past id ++ handed_from (is.leads i) (next is.places i) s.entries id);
-      early = all-weaker (IsBetween 1 (1 + length past)) (λ b. b.place ≤ s.place) (λ b h. omega (arith, h.1, is.places)) (handed_from t 1 past id) (places-from t 1 past id);
-      late = all-weaker (IsBetween (s.place + 1) (s.place + 1 + length s.entries)) (λ b. s.place < b.place) (λ b h. omega (arith, h.0)) (handed_from s.start (s.place + 1) s.entries id) (places-from s.start (s.place + 1) s.entries id);
-    }
+    handed_from-append t 1 past s.entries id
+    ∙ (λ i. handed_from t 1 past id ++ handed_from (is.leads i) (next is.places i) s.entries id)
   where
     next : length past ≡ s.place → 1 + length past ≡ s.place + 1
     next e = omega (arith, e)
+
+pub cuts-part-batches : Told → CutsPartBatches
+unfolding handed handed_since stands_for
+cuts-part-batches tells s past id is =
+    let t = opening s.start.limits in
+    record {
+      parted = parted-is s past id is;
+      early = all-weaker (IsBetween 1 (1 + length past)) (λ b. b.place ≤ s.place) (λ b h. omega (arith, h.1, is.places)) (handed_from t 1 past id) (places-from t 1 past id);
+      late = all-weaker (IsBetween (s.place + 1) (s.place + 1 + length s.entries)) (λ b. s.place < b.place) (λ b h. omega (arith, h.0)) (handed_from s.start (s.place + 1) s.entries id) (places-from s.start (s.place + 1) s.entries id);
+      ended = λ before rest b e none. (
+        ends-last tells s.start.limits past id before rest b e none,
+        ap (λ (u : Tree). instance_of u.instances id) (sym is.leads) ∙ (gone-from tells t 1 past id (below-opening s.start.limits) before rest b e none).none,
+      );
+    }
 
 handed-whole : (s : Journaled) (past : List Entry) (id : ℕ) → handed_since (whole s past) id ≡ handed s.start.limits (past ++ s.entries) id
 unfolding handed handed_since
@@ -220,7 +230,7 @@ handed-whole s past id = refl
 pub held-events : (s : Journaled) (ns : List ℕ) (xss : List (List Batch)) (total id : ℕ) → IsHeld s ns xss total → AreOfEvents (handed_since s id)
 held-events s ns xss total id held =
     all-right (λ (b : Batch). AreEvents b.records) (handed s.start.limits held.past id) (handed_since s id)
-    (subst AreOfEvents (handed-whole s held.past id ∙ (cuts-part-batches s held.past id held.is_past).parted) (held.held.events id))
+    (subst AreOfEvents (handed-whole s held.past id ∙ parted-is s held.past id held.is_past) (held.held.events id))
 
 -- ---- what a call does beside its entry
 

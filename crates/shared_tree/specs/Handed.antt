@@ -4,6 +4,7 @@ use Rattle.std.specs.List.{AllByRecursion}
 use Rattle.record_codec.specs.declared.event.Event.{Event}
 use Rattle.record_codec.specs.Records.{AreEvents, spelling}
 use Rattle.tree_paths.specs.declared.limits.Limits.{Limits}
+use Rattle.instance_table.specs.Instances.{instance_of}
 use Rattle.tree_core.specs.declared.call.Call.{Call}
 use Rattle.tree_core.specs.declared.call.Call.TheVariants as call
 use Rattle.tree_core.specs.declared.reply.Entry.{Entry}
@@ -84,11 +85,12 @@ abbrev pub records_of : List Batch → List Event
 records_of bs = flat_map (λ b. b.records) bs
 
 -- what a state and its past hand to an instance is what the past hands, at places up to the cut, and then what the entries
--- since hand, at later places
+-- since hand, at later places. Where an end batch is among the first, it is their last, and the instance is closed at the cut
 pub record IsParted (s : Journaled) (past : List Entry) (id : ℕ) : Type 0 where
   pub parted : handed s.start.limits (past ++ s.entries) id ≡ handed s.start.limits past id ++ handed_since s id
   pub early : AllByRecursion (λ b. b.place ≤ s.place) (handed s.start.limits past id)
   pub late : AllByRecursion (λ b. s.place < b.place) (handed_since s id)
+  pub ended : (before rest : List Batch) (b : Batch) → handed s.start.limits past id ≡ before ++ b ∷ rest → b.records ≡ [] → (rest ≡ []) × (instance_of s.start.instances id ≡ None)
 
 abbrev pub CutsPartBatches : Type 0
 CutsPartBatches = (s : Journaled) (past : List Entry) (id : ℕ) → IsPast s.start s.place past → IsParted s past id

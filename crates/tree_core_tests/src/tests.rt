@@ -4,6 +4,7 @@
 
 mod calls;
 mod cuts;
+mod dice;
 mod instances;
 mod keeping;
 mod limits;
@@ -74,7 +75,7 @@ fn is_last(state: &State, call: &Call, reply: &Reply) -> bool {
 fn answered(state: &mut State, call: Result<Call, Refusal>) -> Result<(Reply, bool), Refusal> {
     let call = call?;
     let receipt = made(state, &call)?;
-    let is_at_its_place = receipt.place == state.journal().len() as u64;
+    let is_at_its_place = receipt.place == state.last_place();
     let is_journaled = is_at_its_place && is_last(state, &call, &receipt.reply);
     Ok((receipt.reply, is_journaled))
 }

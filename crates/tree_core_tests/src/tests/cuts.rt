@@ -1,108 +1,105 @@
 //! Cuts: the tree goes on as if there had been none.
 
+use super::dice::{Dice, guessed};
 use super::*;
 use std::test::Fail;
 
-// Cuts the journal.
-fn cut(state: &mut State) -> Result<u64, Refusal> {
-    match state.cut() {
-        Err(Refusal::Enomem) => state.cut(),
-        place => place,
-    }
-}
-
 // The cut answers this place, and the journal is empty.
 fn cuts(rt: &impl Abort, state: &mut State, place: u64) {
-    let at = cut(state).expect(rt, "a place");
-    assert_eq!(rt; at, place);
+    assert_eq!(rt; state.cut(), Ok(place));
     equal(rt, state.journal().len(), 0);
 }
 
-// The call is not refused, and its place is this one.
-fn does_at(rt: &impl Abort, state: &mut State, call: Result<Call, Refusal>, place: u64) {
-    let call = call.expect(rt, "a call");
-    let receipt = made(state, &call).expect(rt, "a receipt");
-    equal(rt, receipt.place, place);
+// The call answers what is wanted, at this place.
+fn tells_at(
+    rt: &impl Abort,
+    state: &mut State,
+    place: u64,
+    call: Result<Call, Refusal>,
+    wanted: Result<Reply, Refusal>,
+) {
+    tells(rt, state, call, wanted);
+    equal(rt, state.last_place(), place);
 }
 
-// The place, the next numbers, the next cookie and the next instance that the snapshot tells.
+// The place, the next number, the next cookie and the next instance of the snapshot.
 fn counts(state: &State) -> (u64, u32, u32, u32) {
     let kept = state.snapshot();
     (kept.place, kept.next_number, kept.next_cookie, kept.next_id)
 }
 
-// The only instance of the snapshot: its number, its limit, its watches, the next descriptor, and what waits.
-fn has_one(
-    rt: &impl Abort,
-    state: &State,
-    watches: &[(u32, i32, u32)],
-    next_wd: u32,
-    waiting: &[Record],
-) {
-    let kept = state.snapshot();
-    equal(rt, kept.instances.len(), 1);
-    let Some(row) = kept.instances.first() else {
-        return;
-    };
-    assert_eq!(rt; row.watches.as_slice(), watches);
-    equal(rt, row.next_wd, next_wd);
-    equal(rt, row.waiting.as_slice().len(), waiting.len());
+// The limit, the next descriptor and how much waits of the only instance of the snapshot, which is of this number.
+fn only(state: &State, id: u32) -> Option<(u32, u32, usize)> {
+    match state.snapshot().instances.as_slice() {
+        [row] if row.id == id => Some((row.limit, row.next_wd, row.waiting.as_slice().len())),
+        _ => None,
+    }
 }
 
-// Row 8 without its read: a queue of two records takes two of five, and a mark.
+// The watches of the first instance of the snapshot.
+fn watches_kept(state: &State) -> &[(u32, i32, u32)] {
+    match state.snapshot().instances.first() {
+        Some(row) => row.watches.as_slice(),
+        None => &[],
+    }
+}
+
+// Whether a record that waits in the first instance of the snapshot is this one.
+fn keeps(state: &State, at: usize, record: Record) -> bool {
+    let Some(row) = state.snapshot().instances.first() else {
+        return false;
+    };
+    let Some(event) = row.waiting.as_slice().get(at) else {
+        return false;
+    };
+    let name = event
+        .name
+        .as_ref()
+        .map_or(b"".as_slice(), |name| name.bytes());
+    (event.wd, event.mask, event.cookie) == (record.0, record.1, record.2)
+        && name == record.3.as_bytes()
+}
+
+// A queue of two records was offered four: the last two are lost.
 fn overfull(rt: &impl Abort, alloc: Global) -> Result<State, Refusal> {
     let mut tree = opened(alloc, Limits::full())?;
     does(rt, &mut tree, init(2));
     does(rt, &mut tree, mkdir(alloc, "/d"));
     does(rt, &mut tree, watch(alloc, 1, "/d", 0x100));
-    does(rt, &mut tree, create(alloc, "/d/a"));
-    does(rt, &mut tree, create(alloc, "/d/b"));
-    does(rt, &mut tree, create(alloc, "/d/c"));
-    does(rt, &mut tree, create(alloc, "/d/x"));
+    for path in ["/d/a", "/d/b", "/d/c", "/d/d"] {
+        does(rt, &mut tree, create(alloc, path));
+    }
     Ok(tree)
 }
 
 #[test]
 fn a_cut_keeps_what_waits(rt: HostRuntime) -> Result<(), Fail> {
-    let alloc = rt.alloc();
-    let tree = &mut overfull(&rt, alloc)?;
+    let tree = &mut overfull(&rt, rt.alloc())?;
+    equal(&rt, counts(tree), (0, 2, 1, 1));
     cuts(&rt, tree, 7);
     equal(&rt, counts(tree), (7, 7, 1, 2));
-    has_one(
-        &rt,
-        tree,
-        &[(2, 1, 0x100)],
-        2,
-        &[(1, 0x100, 0, "a"), (1, 0x100, 0, "b"), (-1, 0x4000, 0, "")],
-    );
-    does_at(&rt, tree, read(1, 32), 8);
-    does_at(&rt, tree, create(alloc, "/d/e"), 9);
-    tells_cut(
-        &rt,
-        tree,
-        read(1, 32),
-        records(alloc, &[(1, 0x100, 0, "b")]),
-    );
-    tells_cut(&rt, tree, create(alloc, "/d/g"), number(8));
-    tells_cut(
-        &rt,
-        tree,
-        read(1, ALL),
-        records(alloc, &[(-1, 0x4000, 0, ""), (1, 0x100, 0, "g")]),
-    );
+    equal(&rt, only(tree, 1), Some((2, 2, 3)));
+    assert_eq!(&rt; watches_kept(tree), [(2, 1, 0x100)].as_slice());
+    holds(&rt, "a waits", keeps(tree, 0, (1, 0x100, 0, "a")));
+    holds(&rt, "b waits", keeps(tree, 1, (1, 0x100, 0, "b")));
+    holds(&rt, "a mark waits", keeps(tree, 2, (-1, 0x4000, 0, "")));
     Ok(())
 }
 
-// The call answers this, wherever its place is.
-fn tells_cut(
-    rt: &impl Abort,
-    state: &mut State,
-    call: Result<Call, Refusal>,
-    wanted: Result<Reply, Refusal>,
-) {
-    let call = call.expect(rt, "a call");
-    let receipt = made(state, &call).expect(rt, "a receipt");
-    is_wanted(rt, receipt.reply, wanted);
+#[test]
+fn what_waited_at_a_cut_is_read(rt: HostRuntime) -> Result<(), Fail> {
+    let alloc = rt.alloc();
+    let tree = &mut overfull(&rt, alloc)?;
+    cuts(&rt, tree, 7);
+    let a = records(alloc, &[(1, 0x100, 0, "a")]);
+    tells_at(&rt, tree, 8, read(1, 32), a);
+    tells_at(&rt, tree, 9, create(alloc, "/d/e"), number(7));
+    let b = records(alloc, &[(1, 0x100, 0, "b")]);
+    tells_at(&rt, tree, 10, read(1, 32), b);
+    tells_at(&rt, tree, 11, create(alloc, "/d/g"), number(8));
+    let rest = records(alloc, &[(-1, 0x4000, 0, ""), (1, 0x100, 0, "g")]);
+    tells_at(&rt, tree, 12, read(1, ALL), rest);
+    Ok(())
 }
 
 #[test]
@@ -114,8 +111,8 @@ fn events_merge_over_a_cut(rt: HostRuntime) -> Result<(), Fail> {
     does(&rt, tree, watch(alloc, 1, "/f", 0x2));
     does(&rt, tree, write(alloc, "/f", 0, b"a"));
     cuts(&rt, tree, 4);
-    does_at(&rt, tree, write(alloc, "/f", 1, b"b"), 5);
-    tells_cut(&rt, tree, read(1, ALL), records(alloc, &[(1, 0x2, 0, "")]));
+    tells_at(&rt, tree, 5, write(alloc, "/f", 1, b"b"), count(1));
+    hears(&rt, tree, alloc, 1, &[(1, 0x2, 0, "")]);
     Ok(())
 }
 
@@ -131,8 +128,67 @@ fn a_cut_makes_room(rt: HostRuntime) -> Result<(), Fail> {
     equal(&rt, made(tree, &third).err(), Some(Refusal::JournalFull));
     cuts(&rt, tree, 2);
     has_room_for(&rt, tree, 2);
-    does_at(&rt, tree, mkdir(alloc, "/c"), 3);
-    tells_cut(&rt, tree, stat(alloc, "/c"), directory(4, 0o755));
-    equal(&rt, tree.snapshot().paths.len(), 3);
+    tells_at(&rt, tree, 3, mkdir(alloc, "/c"), number(4));
+    has_room_for(&rt, tree, 1);
+    Ok(())
+}
+
+// The call answers the same on both trees, at the same place. Whether it gave records.
+fn both_tell(rt: &impl Abort, one: &mut State, other: &mut State, call: &Call) -> bool {
+    let told = made(one, call);
+    assert_eq!(rt; made(other, call), told);
+    matches!(
+        told,
+        Ok(Receipt {
+            reply: Reply::Records(_),
+            ..
+        })
+    )
+}
+
+// Makes 3,000 calls on both trees, and cuts the one after every seventh. How many gave records.
+fn play(
+    rt: &impl Abort,
+    alloc: Global,
+    one: &mut State,
+    other: &mut State,
+) -> Result<u32, Refusal> {
+    let mut dice = Dice::new(48);
+    let mut reads = 0u32;
+    for turn in 1..3_001u32 {
+        let call = guessed(alloc, &mut dice)?;
+        if both_tell(rt, one, other, &call) {
+            reads = reads.saturating_add(1);
+        }
+        if turn % 7 == 0 {
+            equal(rt, other.cut(), Ok(u64::from(turn)));
+        }
+    }
+    Ok(reads)
+}
+
+// Reads all that waits in both trees. How many instances gave records.
+fn drain(rt: &impl Abort, one: &mut State, other: &mut State) -> Result<u32, Refusal> {
+    let mut reads = 0u32;
+    for id in 1..one.snapshot().next_id {
+        if both_tell(rt, one, other, &read(id, ALL)?)
+            || both_tell(rt, one, other, &pump(id, ALL)?)
+        {
+            reads = reads.saturating_add(1);
+        }
+    }
+    Ok(reads)
+}
+
+#[test]
+fn cuts_change_no_answer(rt: HostRuntime) -> Result<(), Fail> {
+    let alloc = rt.alloc();
+    let one = &mut opened(alloc, Limits::full())?;
+    let other = &mut opened(alloc, Limits::full())?;
+    let reads = play(&rt, alloc, one, other)?;
+    holds(&rt, "records are read", reads > 20);
+    cuts(&rt, one, 3_000);
+    let reads = drain(&rt, one, other)?;
+    holds(&rt, "records wait", reads > 20);
     Ok(())
 }
