@@ -4,7 +4,7 @@ use Rattle.std.proofs.Common.{◌≡◌, ℕ, Bool, true, false, if◌then◌els
 use Rattle.tree_paths.specs.Rows.{row, first_row}
 use Rattle.tree_paths.specs.declared.limits.Limits.{Limits}
 use Rattle.tree_paths.specs.declared.refusal.Refusal.{Refusal}
-use Rattle.tree_paths.specs.declared.refusal.Refusal.TheVariants.{Einval, Enoent, Enospc, Enotdir, Enomem, JournalFull, PipeFull}
+use Rattle.tree_paths.specs.declared.refusal.Refusal.TheVariants.{Eexist, Einval, Enoent, Enospc, Enotdir, Enomem, JournalFull, PipeFull}
 use Rattle.inode_table.specs.declared.seen.Seen.{Seen}
 use Rattle.inode_table.specs.World.{look}
 use Rattle.inode_table.specs.Refusals.{Look, find, is_directory_kind, is_directory_seen, longest_there, parent, parent_of}
@@ -12,9 +12,9 @@ use Rattle.tree_ops.specs.declared.call.Counts.{Counts}
 use Rattle.tree_ops.specs.declared.call.FileCall.{FileCall}
 use Rattle.tree_ops.specs.declared.call.FileCall.TheVariants.{Create, Write, ReadFile, Truncate, Chmod, Mkdir, Link, Unlink, Rmdir, Rename, Stat as Status, List as Listed}
 use Rattle.tree_ops.specs.Refused as ops
-use Rattle.record_codec.specs.declared.bits.TheConstants.{IN_ALL_EVENTS, IN_MASK_CREATE}
+use Rattle.record_codec.specs.declared.bits.TheConstants.{IN_ALL_EVENTS, IN_MASK_ADD, IN_MASK_CREATE}
 use Rattle.watch_table.specs.Masks.{has_any, known}
-use Rattle.watch_table.specs.Watching.{add_refusal, is_barred, is_full, watch_of}
+use Rattle.watch_table.specs.Watching.{add_refusal, is_barred, is_full, is_taken, watch_of}
 use Rattle.instance_table.specs.declared.instance.Instance.{Instance}
 use Rattle.instance_table.specs.Instances.{instance_of}
 use Rattle.tree_core.specs.declared.call.Call.{Call}
@@ -93,13 +93,17 @@ rows-fit at limits counts (Listed p) = (find-fits at p, (one _ _ refl, tt))
 seen-fits : (i : Instance) (mask : ℕ) (o : Option Seen) → Fits (seen_fault i mask o)
 unfolding add_refusal
 seen-fits i mask None = tt
-seen-fits i mask (Some s) = two (is_barred mask (is_directory_kind s.kind)) (is_none (watch_of i.watches s.number) && is_full i.watches) Enotdir Enospc refl refl
+seen-fits i mask (Some s) =
+    first (row (is_barred mask (is_directory_kind s.kind)) Enotdir
+    ∷ row (is_taken mask (watch_of i.watches s.number)) Eexist
+    ∷ row (is_none (watch_of i.watches s.number) && is_full i.watches) Enospc
+    ∷ []) (one _ _ refl, (one _ _ refl, (one _ _ refl, tt)))
 
 watch-fits : (at : Look) (p : List (List ℕ)) (mask : ℕ) (o : Option Instance) → Fits (first_row (add_watch_rows at p mask o))
 unfolding add_watch_rows
 watch-fits at p mask None = refl
 watch-fits at p mask (Some i) =
-    first (add_watch_rows at p mask (Some i)) (two (has_any mask IN_MASK_CREATE) (not (has_any mask IN_ALL_EVENTS)) Einval Einval refl refl, (find-fits at p, (seen-fits i mask (at p), tt)))
+    first (add_watch_rows at p mask (Some i)) (two (has_any mask IN_MASK_CREATE && has_any mask IN_MASK_ADD) (not (has_any mask IN_ALL_EVENTS)) Einval Einval refl refl, (find-fits at p, (seen-fits i mask (at p), tt)))
 
 unwatch-fits : (wd : ℤ) (o : Option Instance) → Fits (first_row (rm_watch_rows wd o))
 unfolding rm_watch_rows

@@ -64,10 +64,7 @@ reply-one old call reply other new after (inr a) (inr b) = (a.answer ∙ sym b.a
 
 -- bytes are the records of one list of events alone
 events-one : (bytes : List ℕ) (es ns : List Event) → AreEventsIn bytes es → AreEventsIn bytes ns → es ≡ ns
-events-one bytes es ns (inl a) (inl b) = sym (one_spelling es ns a.0 b.0 (sym b.1 ∙ a.1))
-events-one bytes es ns (inl a) (inr b) = absurd (b.0 es a.0 a.1)
-events-one bytes es ns (inr a) (inl b) = absurd (a.0 ns b.0 b.1)
-events-one bytes es ns (inr a) (inr b) = a.1 ∙ sym b.1
+events-one bytes es ns a b = sym (one_spelling es ns a.0 b.0 (sym b.1 ∙ a.1))
 
 read-one : (how : Shown) (bytes text other : List ℕ) → IsReadText how bytes text → IsReadText how bytes other → text ≡ other
 read-one shown.Plain bytes text other p q = p ∙ sym q

@@ -1,5 +1,5 @@
 -- How replies are printed.
-use Rattle.std.specs.Prelude.{◌≡◌, ◌≢◌, ◌⊎◌, ℕ, ◌+◌, ◌/◌, ◌%◌, List, [], ◌∷◌, ◌++◌, length, codes, decimal}
+use Rattle.std.specs.Prelude.{◌≡◌, ℕ, ◌+◌, ◌/◌, ◌%◌, List, [], ◌∷◌, ◌++◌, length, codes, decimal}
 use Rattle.std.specs.List.{flat_map}
 use Rattle.std.specs.Fmt.{signed_decimal}
 use Rattle.hex.specs.Hex.{encode_lower}
@@ -65,10 +65,9 @@ answer_text (answer.Stat number kind mode links size) =
 abbrev pub event_line : Event → List ℕ
 event_line e = codes "  " ++ record_line e ++ codes "\n"
 
--- the events whose records the bytes are, and none where the bytes are no records
+-- the events whose records the bytes are
 abbrev pub AreEventsIn : List ℕ → List Event → Type 0
-AreEventsIn bytes events =
-    (AreEvents events × (bytes ≡ spelling events)) ⊎ (((others : List Event) → AreEvents others → bytes ≢ spelling others) × (events ≡ []))
+AreEventsIn bytes events = AreEvents events × (bytes ≡ spelling events)
 
 -- the reply of a read: the number of bytes that were read, and behind it nothing more, a line for each record, or one line of the
 -- bytes in hexadecimal

@@ -3,11 +3,12 @@
 ghost use Rattle.std.specs.Prelude.{◌≡◌, ◌≢◌, ◌++◌, ◌⊎◌, ℕ, List, [], IfOk, OnOk, codes, decimal, length};
 ghost use Rattle.std.specs.List.{flat_map};
 ghost use Rattle.watchtree_script.specs.Replies.{ok_line, done_line, hexadecimal, name_line, event_line, kind_letter, mode_text, octal_digit, refusal_text, answer_text, AreEventsIn, IsReadText, IsReplyText};
+ghost use Rattle.tree_core.specs.Calls.{IsSpelled};
 
 use crate::line::Shown;
 use inode_table::Kind;
 use itoa::{Buffer, Integer};
-use record_codec::{CodecFault, Event, Name, append_name, append_record_line, decode};
+use record_codec::{Event, Name, append_name, append_record_line, decode};
 use std::alloc::{AllocError, Global};
 use tree_core::Reply;
 use tree_ops::Answer;
@@ -15,7 +16,8 @@ use tree_paths::Refusal;
 
 /// Adds a reply to an empty text, as its command shows it.
 pub(crate) fn push_reply(text: &mut Vec<u8>, shown: Shown, reply: &Reply) -> Result<(), AllocError>
-    requires { text.old.items ≡ [] }
+    requires empty { text.old.items ≡ [] }
+    requires spelled { IsSpelled reply.now }
     ensures { OnOk result (IsReplyText shown reply.now text.new.items) }
 {
     match reply {
@@ -167,7 +169,8 @@ pub(crate) fn push_ok<I: Integer>(text: &mut Vec<u8>, value: I) -> Result<(), Al
 
 // The reply of a read, in an empty text: the number of bytes that were read, and their records as they are shown.
 fn push_read(text: &mut Vec<u8>, shown: Shown, bytes: &[u8]) -> Result<(), AllocError>
-    requires { text.old.items ≡ [] }
+    requires empty { text.old.items ≡ [] }
+    requires spelled { IsSpelled (Reply.Records bytes.now) }
     ensures { OnOk result (IsReadText shown bytes.now text.new.items) }
 {
     push_ok(text, bytes.len())?;
@@ -186,14 +189,15 @@ fn push_read(text: &mut Vec<u8>, shown: Shown, bytes: &[u8]) -> Result<(), Alloc
     }
 }
 
-// The events whose records the bytes are, and none where they are no records.
+// The events whose records the bytes are.
 fn events_in(alloc: Global, bytes: &[u8]) -> Result<Vec<Event>, AllocError>
+    requires { IsSpelled (Reply.Records bytes.now) }
     ensures { IfOk result (λ events. AreEventsIn bytes.now events.items) }
 {
     match decode(alloc, bytes) {
         Ok(events) => Ok(events),
-        Err(CodecFault::Memory) => Err(AllocError),
-        Err(_) => Ok(Vec::new(alloc)),
+        // nothing but memory is wanting to bytes that spell events
+        Err(_) => Err(AllocError),
     }
 }
 

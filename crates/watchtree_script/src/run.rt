@@ -2,6 +2,7 @@
 
 ghost use Rattle.std.specs.Prelude.{◌≡◌, ◌<◌, ◌≤◌, [], ℕ, List, Some, IfOk, OnOk, IfErr, IfSome, Ok, length, take};
 ghost use Rattle.record_codec.specs.Ports.{inner_of, faults_of};
+ghost use Rattle.tree_core.specs.Calls.{IsSpelled};
 ghost use Rattle.watchtree_script.specs.Commands.{line_of};
 ghost use Rattle.watchtree_script.specs.Script.{PrintsLine, FaultTells, IsShort, Adds, IsText, Replies, write_faults, read_faults};
 ghost use Rattle.watchtree_script.specs.Running.{PrintsNothing, LineTells, ReadTells, IsRunFault, Passes};
@@ -167,7 +168,8 @@ fn push_line(text: &mut Vec<u8>, state: &mut State, line: Line) -> Result<(), Al
 
 /// A call's reply, which may be that memory or the journal is spent.
 fn reply_to(state: &mut State, call: Call) -> Reply
-    ensures { Replies state.old call result state.new }
+    ensures reply { Replies state.old call result state.new }
+    ensures spelled { IsSpelled result }
 {
     match state.apply(CALLER, call) {
         Ok(receipt) => receipt.reply,
