@@ -1,8 +1,7 @@
 ghost use Rattle.std.specs.Prelude.{◌≡◌, ◌≤◌, IfOk};
 
-use record_codec::bits;
 use record_codec::bits::{IN_CREATE, IN_ISDIR, IN_MOVED_TO, IN_Q_OVERFLOW};
-use record_codec::*;
+use record_codec::{bits, *};
 use std::alloc::Global;
 use std::fmt::Debug;
 use std::io;
@@ -433,7 +432,11 @@ impl Write for Shaky {
 type Told = (Result<usize, ErrorKind>, u64, usize);
 
 fn told(answer: io::Result<usize>, port: &Port<Shaky>) -> Told {
-    (answer.map_err(|e| e.kind()), port.faults(), port.inner().calls)
+    (
+        answer.map_err(|e| e.kind()),
+        port.faults(),
+        port.inner().calls,
+    )
 }
 
 #[test]
