@@ -235,3 +235,33 @@ fn two_of_many_hear(rt: HostRuntime) -> Result<(), Fail> {
     );
     Ok(())
 }
+
+// As many instances as there may be, all of which watch the file.
+fn all_watch(alloc: Global) -> Result<Instances, Refusal> {
+    let mut instances = Instances::new(alloc);
+    for id in 1..MOST + 1 {
+        open(&mut instances, id)?;
+        watch(&mut instances, id, FILE, IN_CREATE)?;
+    }
+    Ok(instances)
+}
+
+// Whether one such record waits in each instance, and no other.
+fn each_heard(instances: &Instances) -> bool {
+    for id in 1..MOST + 1 {
+        if waiting(instances, id) != 1 || !waits(instances, id, 0, 1, IN_CREATE) {
+            return false;
+        }
+    }
+    true
+}
+
+#[test]
+fn all_of_many_hear(rt: HostRuntime) -> Result<(), Fail> {
+    let alloc = rt.alloc();
+    let mut instances = all_watch(alloc)?;
+    equal(&rt, instances.watchers(FILE).len(), MOST as usize);
+    tell(alloc, &mut instances, told(IN_CREATE))?;
+    holds(&rt, "each_heard(&instances)", each_heard(&instances));
+    Ok(())
+}

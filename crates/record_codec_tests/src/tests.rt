@@ -1,7 +1,7 @@
-ghost use Rattle.std.specs.Prelude.{◌≡◌, IfOk};
+ghost use Rattle.std.specs.Prelude.{◌≡◌, ◌≤◌, IfOk};
 
 use record_codec::bits::{IN_CREATE, IN_ISDIR, IN_MOVED_TO, IN_Q_OVERFLOW};
-use record_codec::*;
+use record_codec::{bits, *};
 use std::alloc::Global;
 use std::fmt::Debug;
 use std::io;
@@ -384,4 +384,110 @@ fn writes_all(rt: HostRuntime) -> Result<(), Fail> {
     );
     equal(&rt, full.faults(), 1);
     Ok(())
+}
+
+/// A reader and a writer whose first call fails with `Interrupted`, whose second does nothing, and which then do one byte
+/// at a time.
+#[derive(Drop)]
+struct Shaky {
+    calls: usize,
+}
+
+impl Shaky {
+    fn next(&mut self) -> io::Result<usize>
+        ensures { IfOk result (λ n. n ≤ 1) }
+    {
+        self.calls = self.calls.saturating_add(1);
+        match self.calls {
+            1 => Err(io::Error::from(ErrorKind::Interrupted)),
+            2 => Ok(0),
+            _ => Ok(1),
+        }
+    }
+}
+
+impl Read for Shaky {
+    fn read(&mut self, buf: &mut [u8]) -> io::Result<usize> {
+        if buf.is_empty() {
+            return Ok(0);
+        }
+        self.next()
+    }
+}
+
+impl Write for Shaky {
+    fn write(&mut self, buf: &[u8]) -> io::Result<usize> {
+        if buf.is_empty() {
+            return Ok(0);
+        }
+        self.next()
+    }
+
+    fn flush(&mut self) -> io::Result<()> {
+        Ok(())
+    }
+}
+
+// What a call of a port came to, how many faults the port has counted, and how many calls its reader or writer had.
+type Told = (Result<usize, ErrorKind>, u64, usize);
+
+fn told(answer: io::Result<usize>, port: &Port<Shaky>) -> Told {
+    (
+        answer.map_err(|e| e.kind()),
+        port.faults(),
+        port.inner().calls,
+    )
+}
+
+#[test]
+fn a_port_makes_one_call(rt: HostRuntime) {
+    let mut reader = Port::new(Shaky { calls: 0 });
+    for wanted in [
+        (Err(ErrorKind::Interrupted), 1, 1),
+        (Ok(0), 1, 2),
+        (Ok(1), 1, 3),
+    ] {
+        let read = reader.read(&mut [0; 4]);
+        equal(&rt, told(read, &reader), wanted);
+    }
+    let mut writer = Port::new(Shaky { calls: 0 });
+    for wanted in [
+        (Err(ErrorKind::Interrupted), 1, 1),
+        (Err(ErrorKind::WriteZero), 2, 2),
+        (Ok(1), 2, 3),
+    ] {
+        let written = writer.write(b"abcd");
+        equal(&rt, told(written, &writer), wanted);
+    }
+}
+
+/// Each bit by its name and its value: inotify(7), and inotify_add_watch(2).
+#[test]
+fn bits_have_their_values(rt: HostRuntime) {
+    for (bit, value) in [
+        (bits::IN_ACCESS, 0x0000_0001),
+        (bits::IN_MODIFY, 0x0000_0002),
+        (bits::IN_ATTRIB, 0x0000_0004),
+        (bits::IN_CLOSE_WRITE, 0x0000_0008),
+        (bits::IN_CLOSE_NOWRITE, 0x0000_0010),
+        (bits::IN_OPEN, 0x0000_0020),
+        (bits::IN_MOVED_FROM, 0x0000_0040),
+        (bits::IN_MOVED_TO, 0x0000_0080),
+        (bits::IN_CREATE, 0x0000_0100),
+        (bits::IN_DELETE, 0x0000_0200),
+        (bits::IN_DELETE_SELF, 0x0000_0400),
+        (bits::IN_MOVE_SELF, 0x0000_0800),
+        (bits::IN_ALL_EVENTS, 0x0000_0fff),
+        (bits::IN_Q_OVERFLOW, 0x0000_4000),
+        (bits::IN_IGNORED, 0x0000_8000),
+        (bits::IN_ONLYDIR, 0x0100_0000),
+        (bits::IN_DONT_FOLLOW, 0x0200_0000),
+        (bits::IN_EXCL_UNLINK, 0x0400_0000),
+        (bits::IN_MASK_CREATE, 0x1000_0000),
+        (bits::IN_MASK_ADD, 0x2000_0000),
+        (bits::IN_ISDIR, 0x4000_0000),
+        (bits::IN_ONESHOT, 0x8000_0000),
+    ] {
+        equal(&rt, bit, value);
+    }
 }

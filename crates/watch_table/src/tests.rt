@@ -70,6 +70,35 @@ fn masks(rt: HostRuntime) {
     );
 }
 
+/// Each bit by its name and its value: inotify(7), and inotify_add_watch(2).
+#[test]
+fn masks_have_names(rt: HostRuntime) {
+    for (name, bits) in [
+        ("ACCESS", 0x0000_0001),
+        ("MODIFY", 0x0000_0002),
+        ("ATTRIB", 0x0000_0004),
+        ("CLOSE_WRITE", 0x0000_0008),
+        ("CLOSE_NOWRITE", 0x0000_0010),
+        ("OPEN", 0x0000_0020),
+        ("MOVED_FROM", 0x0000_0040),
+        ("MOVED_TO", 0x0000_0080),
+        ("CREATE", 0x0000_0100),
+        ("DELETE", 0x0000_0200),
+        ("DELETE_SELF", 0x0000_0400),
+        ("MOVE_SELF", 0x0000_0800),
+        ("ALL_EVENTS", 0x0000_0fff),
+        ("ONLYDIR", 0x0100_0000),
+        ("DONT_FOLLOW", 0x0200_0000),
+        ("EXCL_UNLINK", 0x0400_0000),
+        ("MASK_CREATE", 0x1000_0000),
+        ("MASK_ADD", 0x2000_0000),
+        ("ONESHOT", 0x8000_0000),
+    ] {
+        equal(&rt, Mask::from_name(name), Some(Mask::of(bits)));
+    }
+    equal(&rt, Mask::from_name("ISDIR"), None);
+}
+
 #[test]
 fn joins_and_replaces(rt: HostRuntime) {
     let mut watches = Watches::new(rt.alloc(), &Limits::full());
