@@ -19,12 +19,14 @@ pub fn fitting_is_greatest()
     ensures { (n : ℕ) (records : List Event) → IsGreatestFit n records (fitting n records) }
 {}
 
-/// An event is kept, or merged into the last record that waits, or lost, and then a mark waits.
+/// An event is kept, or merged into the last record that waits, or lost, and then a mark waits: of any event, also one
+/// that is itself the mark.
 pub fn nothing_is_lost_unsaid()
     ensures { (b : Backlog) (e : Event) → HasFate b e (offered b.limit b.waiting e) }
 {}
 
-/// At most one record more than the limit waits, and at most one of them is a mark.
+/// At most one record more than the limit waits, and at most one of them is a mark, as long as no event that is offered
+/// is itself the mark. No watch raises one.
 pub fn bounds_are_kept()
     ensures { (b : Backlog) → KeepsBounds b }
 {}

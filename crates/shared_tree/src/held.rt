@@ -344,11 +344,12 @@ impl<L: Ledger> Held<L> {
     /// What holds whenever the lock is free. It does nothing.
     ///
     /// Of each instance the records that were read, followed by those that wait, are the events that the journal raises
-    /// for it, in order, each once, but for those that are merged into an equal unread neighbour and those that are lost
-    /// behind a mark; all of them are events, so that the bytes that were read are the records of these alone. No two renames
-    /// share a cookie. Nothing of a watch follows its `IN_IGNORED`. A refused call adds nothing: what joined, what was read
-    /// and the tree are as before it. An open instance has a pipe exactly where it was made with one. Each pipe was sent what the journal hands
-    /// to its instance, and that are events. The ledger's total is the number of entries.
+    /// for it, in order, each once, but for those that are merged into an equal unread neighbour and those that are
+    /// lost behind a mark; all of them are events, so that the bytes that were read are the records of these alone. No
+    /// two renames share a cookie. Nothing of a watch follows its `IN_IGNORED`. A refused call adds nothing: what
+    /// joined, what was read and the tree are as before it. An open instance has a pipe exactly where it was made with
+    /// one. Each pipe was sent what the journal hands to its instance, and that are events. The ledger's total is the
+    /// number of entries.
     pub fn law(&self)
         ensures lawful { IsLawfulFrom self.now.state.start self.now.state.entries }
         ensures sound { IsSoundTree self.now.state.start }
@@ -403,8 +404,8 @@ impl<L: Ledger> Held<L> {
         Ok(receipt)
     }
 
-    /// Pumps an instance for a seat: the oldest records that fit in so many bytes are read, and handed over as one batch.
-    /// It looks its pipe up by its number, and moves the records.
+    /// Pumps an instance for a seat: the oldest records that fit in so many bytes are read, and handed over as one
+    /// batch. It looks its pipe up by its number, and moves the records.
     ///
     /// # Errors
     /// The first that holds; all is then as before, and nothing is journalled.
@@ -439,7 +440,8 @@ impl<L: Ledger> Held<L> {
     }
 
     /// Makes an instance with a pipe of 1 to 65,536 places, for a seat. The feed is there exactly where the reply is an
-    /// instance, and has its number and just so many places. `limit` is how many records may wait in the queue, as in [`Call::Init`].
+    /// instance, and has its number and just so many places. `limit` is how many records may wait in the queue, as in
+    /// [`Call::Init`].
     ///
     /// # Errors
     /// The first that holds; all is then as before, and nothing is journalled.
@@ -488,8 +490,8 @@ impl<L: Ledger> Held<L> {
         self.core.cut()
     }
 
-    /// What is left once nobody calls any more: the journal, and the ends of all pipes, also of closed instances. It takes
-    /// no memory.
+    /// What is left once nobody calls any more: the journal, and the ends of all pipes, also of closed instances. It
+    /// takes no memory.
     pub fn dissolve(self, pass: Pass<L>) -> Book
         ensures state { result.state ≡ self.state }
         ensures entries { result.entries ≡ last_place self.state }

@@ -46,8 +46,8 @@ pub enum Call {
     },
     /// Reads the oldest records that fit, as `read` of an inotify file descriptor. It does not wait.
     ///
-    /// The first that holds: `EBADF`, no such instance; `Piped`, its records go through a pipe; `EAGAIN`, nothing waits;
-    /// `EINVAL`, the first record does not fit.
+    /// The first that holds: `EBADF`, no such instance; `Piped`, its records go through a pipe; `EAGAIN`, nothing
+    /// waits; `EINVAL`, the first record does not fit.
     Read {
         /// The instance that is read.
         instance: u32,

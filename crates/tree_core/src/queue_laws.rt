@@ -7,8 +7,8 @@ use event_queue::nothing_is_lost_unsaid;
 use event_rules::{events_are_of_watches, other_watches_stay};
 use watch_table::{descriptors_tell_files, watches_stay_sound};
 
-/// A law: what was read of an open instance, followed by what waits, is all that joined its queue, in order. Of a closed
-/// one it is the front of that.
+/// A law: what was read of an open instance, followed by what waits, is all that joined its queue, in order. Of a
+/// closed one it is the front of that.
 pub fn reads_are_in_order()
     ensures { ReadsAreInOrder }
 {}
@@ -19,8 +19,8 @@ pub fn bytes_are_of_records()
 {}
 
 /// A law: each event that is raised is kept, merged into an equal record that waits last, or lost behind a mark that
-/// waits; a mark joins where none waits; and what joined, without marks, is what was kept, in order. The queue that an event
-/// finds is what had joined and was not read yet.
+/// waits; a mark joins where none waits; and what joined, without marks, is what was kept, in order. The queue that an
+/// event finds is what had joined and was not read yet.
 pub fn events_are_accounted_for()
     ensures fates { EventsAreAccountedFor }
     ensures found { EventsFindTheUnread }

@@ -15,8 +15,8 @@ pub enum Reply {
     File(Answer),
     /// The number of the new instance, from 1 on. No number is given twice.
     Instance(u32),
-    /// The watch descriptor of the file, from 1 on. A second call to watch the file answers the same one; an instance gives it
-    /// to no other file, and to no later watch.
+    /// The watch descriptor of the file, from 1 on. A second call to watch the file answers the same one; an instance
+    /// gives it to no other file, and to no later watch.
     Wd(i32),
     /// The bytes of the records that were read.
     Records(Bytes),

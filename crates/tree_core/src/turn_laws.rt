@@ -13,9 +13,9 @@ use event_rules::{
 use tree_ops::{files_get_numbers, worlds_stay_worlds};
 use watch_table::{descriptors_end_for_good, descriptors_tell_files, watches_stay_sound};
 
-/// A law: the opening tree is sound, and each call leaves a sound tree sound: the files and the open instances have numbers
-/// below the next ones, watches are of files that are there, queues keep their bounds, and of a watch whose `IN_IGNORED` waits nothing
-/// is left and nothing waits behind it.
+/// A law: the opening tree is sound, and each call leaves a sound tree sound: the files and the open instances have
+/// numbers below the next ones, watches are of files that are there, queues keep their bounds, and of a watch whose
+/// `IN_IGNORED` waits nothing is left and nothing waits behind it.
 pub fn trees_are_sound()
     ensures { TreesAreSound }
 {
@@ -32,8 +32,8 @@ pub fn trees_are_sound()
     nothing_follows_ignored();
 }
 
-/// A law: numbers of files and of instances are given in turn, so none is given twice. The descriptors of each instance run
-/// 1, 2, 3 and so on, but for those that a second call to watch a file answers again.
+/// A law: numbers of files and of instances are given in turn, so none is given twice. The descriptors of each instance
+/// run 1, 2, 3 and so on, but for those that a second call to watch a file answers again.
 pub fn numbers_are_in_turn()
     ensures files { NumbersAreInTurn }
     ensures instances { IdsAreInTurn }
@@ -63,8 +63,9 @@ pub fn watches_end_once()
     watches_stay_sound();
 }
 
-/// A law: what the reply to a call tells of the tree that gave it. A refused call changes nothing, raises nothing and reads
-/// nothing; and no tree replies `ENOMEM`, `JournalFull` or `PipeFull`, so that none of these stands in a lawful journal.
+/// A law: what the reply to a call tells of the tree that gave it. A refused call changes nothing, raises nothing and
+/// reads nothing; and no tree replies `ENOMEM`, `JournalFull` or `PipeFull`, so that none of these stands in a lawful
+/// journal.
 pub fn replies_tell()
     ensures { (t : Tree) (c : Call) → RepliesTell t c }
 {}

@@ -57,7 +57,7 @@ impl<'a> Ready<'a> {
     }
 }
 
-// What stands at a path, or why nothing does.
+// What stands at a path, if anything does.
 pub(crate) fn seen(table: &Table, path: &Path) -> Option<Seen>
     ensures { result ≡ look_in table.now path.now }
 {

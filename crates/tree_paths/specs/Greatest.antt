@@ -29,7 +29,7 @@ most_watches = 8192
 abbrev pub most_wds : ℕ
 most_wds = 2 ^ 31 - 1
 
--- records that wait in a queue
+-- the limit of a queue, which holds one record more where events were lost
 abbrev pub most_queue : ℕ
 most_queue = 65535
 

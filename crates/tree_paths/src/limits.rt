@@ -22,7 +22,8 @@ pub struct Limits {
     pub watches: u32,
     /// Watch descriptors of an instance, ever: up to 2^31 - 1. Beyond it `ENOSPC`.
     pub wds: u32,
-    /// Records that a queue holds: up to 65,535. Beyond it `EINVAL`.
+    /// The greatest limit of a queue: up to 65,535. Beyond it `EINVAL`. A queue holds as many records as its own limit
+    /// says, and one mark more where events were lost.
     pub queue: u32,
     /// Cookies: up to 2^32 - 1. Beyond it `CookiesSpent`.
     pub cookies: u32,
