@@ -23,8 +23,8 @@ use Rattle.event_sinks.specs.declared.listener.Ended.{Ended}
 abbrev pub calls_of : List SeatLog → ℕ
 calls_of logs = sum_by (λ (l : SeatLog). length l.kept) logs
 
--- the place of a kept call, the first being 1, is one of the whole journal; where it is since the cut, the entry at it is this
--- call of the seat, with this reply. The entries are those since the cut
+-- the place of a kept call, the first being 1, is one of the whole journal; where it is above the cut's, the entry at it is
+-- this call of the seat, with this reply. The entries are those since the cut
 pub record Stands (cut : ℕ) (entries : List Entry) (number : ℕ) (k : Kept) : Type 0 where
   pub low : 0 < k.place
   pub high : k.place ≤ cut + length entries
@@ -62,7 +62,7 @@ abbrev pub of_instance : ℕ → List Outcome → List Outcome
 of_instance n [] = []
 of_instance n (e ∷ es) = where_same e.instance n (e ∷ []) ++ of_instance n es
 
--- the batches whose places are since the cut
+-- the batches since the cut: their places are above its own
 abbrev pub since : ℕ → List Batch → List Batch
 since cut bs = filter (λ (b : Batch). nat_lt cut b.place) bs
 

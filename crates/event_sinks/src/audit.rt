@@ -63,8 +63,8 @@ impl From<AllocError> for SettleFault {
 }
 
 /// Settles a book: each entry is a call that its seat kept, and each pipe's listener was handed what the journal hands
-/// over, whole and in order. It takes time in proportion to the kept calls, entries and batches, and copies none of them. It
-/// takes memory for a mark for each kept call, and for what it knows of each instance.
+/// over, whole and in order. It takes time in proportion to the kept calls, entries and batches, and copies none of them.
+/// It takes memory for a mark for each kept call, and for what it knows of each instance.
 ///
 /// # Errors
 /// The first [`SettleFault`] that holds; `Memory` in the place of any, where memory is wanting.

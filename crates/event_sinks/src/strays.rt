@@ -52,7 +52,7 @@ fn is_next(cut: u64, journal: &[Entry], seen: &[bool], number: u32, last: u64, k
     stands(cut, journal, number, kept)
 }
 
-// Whether a call whose place is one of the whole journal is the journal's entry there, where that is since the cut.
+// Whether a call whose place is one of the whole journal is the journal's entry there, where that is above the cut's.
 fn stands(cut: u64, journal: &[Entry], number: u32, kept: &Kept) -> bool
     requires low { 0 < kept.now.place }
     requires high { kept.now.place ≤ cut + length journal.now }
@@ -90,7 +90,8 @@ fn is_clean(cut: u64, journal: &[Entry], seen: &mut [bool], log: &SeatLog) -> bo
 
 /// The first seat whose kept calls are not the book's.
 ///
-/// It takes time in proportion to the places and the kept calls. Where they are as many, there is a mark for each kept call.
+/// It takes time in proportion to the places and the kept calls. Where they are as many, there is a mark for each kept
+/// call.
 ///
 /// # Errors
 /// Want of memory for a mark at each place.

@@ -25,9 +25,9 @@ pub fn sent_is_read()
     replies_tell();
 }
 
-/// A law: what a state and its past hand to an instance is what the past hands, at places up to the cut, and then what the
-/// entries since hand, at later places. Where an end batch is among the first, it is their last, and the instance is closed at
-/// the cut.
+/// A law: what a state and its past hand to an instance is what the past hands, at places up to the cut, and then what
+/// the entries since hand, at later places. Where an end batch is among the first, it is their last, and the instance is
+/// closed at the cut.
 pub fn cuts_part_batches()
     ensures { CutsPartBatches }
 {

@@ -15,7 +15,7 @@ use std::alloc::Global;
 use std::marker::Brand;
 use std::sync::ledger::{Blank, Ledger};
 use tree_core::{Call, Receipt, Reply};
-use tree_ops::FileCall;
+use tree_ops::{Answer, FileCall};
 use tree_paths::{Limits, Path, Refusal};
 
 /// Room for all that waits, in bytes.
@@ -54,6 +54,12 @@ enum Step {
     Waits(u32, Option<usize>),
     /// How many entries the journal has.
     Counts(usize),
+    /// The journal is cut behind the entry of this place.
+    Cuts(u64),
+    /// How many more calls the journal takes.
+    HasRoomFor(u64),
+    /// A directory is made: the place of the call, and the number of the directory.
+    Makes(&'static str, u64, u32),
 }
 
 /// What a call answers, or why it is not carried out.
@@ -134,6 +140,18 @@ impl<L: Ledger> Stage<L> {
         match call {
             Ok(call) => said(held.call(seat, call)),
             Err(refusal) => Says::Fails(refusal),
+        }
+    }
+
+    // Makes a directory. The place of the call, and the number of the directory.
+    fn makes(&mut self, text: &str) -> Option<(u64, u32)> {
+        let Stage { held, seat, .. } = self;
+        let seat = seat.as_mut()?;
+        let call = mkdir(self.alloc, text).ok()?;
+        let receipt = held.call(seat, call).ok()?;
+        match receipt.reply {
+            Reply::File(Answer::Number(number)) => Some((receipt.place, number)),
+            _ => None,
         }
     }
 
@@ -222,6 +240,9 @@ impl<L: Ledger> Stage<L> {
             Step::Goes(instance) => self.goes(instance),
             Step::Waits(instance, count) => self.held.state().waiting(instance) == count,
             Step::Counts(entries) => self.held.state().journal().len() == entries,
+            Step::Cuts(place) => self.held.cut() == Ok(place),
+            Step::HasRoomFor(calls) => self.held.state().free_entries() == calls,
+            Step::Makes(text, place, number) => self.makes(text) == Some((place, number)),
             _ => false,
         }
     }
@@ -289,6 +310,13 @@ fn create(alloc: Global, text: &str) -> Result<Call, Refusal>
 {
     let path = Path::parse(alloc, text.as_bytes())?;
     Ok(Call::File(FileCall::Create { path, mode: 0o644 }))
+}
+
+fn mkdir(alloc: Global, text: &str) -> Result<Call, Refusal>
+    ensures { IfOk result (λ c. IsTrue (is_plain c)) }
+{
+    let path = Path::parse(alloc, text.as_bytes())?;
+    Ok(Call::File(FileCall::Mkdir { path, mode: 0o755 }))
 }
 
 // Whether it is a batch of this instance, of this place and of so many records.

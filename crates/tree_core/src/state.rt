@@ -208,8 +208,9 @@ impl State {
         &self.snapshot
     }
 
-    /// Puts a snapshot of the tree in the place of the journal, and answers the place of the last entry. The tree stays as it
-    /// is, and places go on. It takes time and memory in proportion to the tree, and gives back all that the entries held.
+    /// Puts a snapshot of the tree in the place of the journal, and answers the place of the last entry. The tree stays
+    /// as it is, and places go on. It takes time and memory in proportion to the tree, and gives back all that the
+    /// entries held.
     ///
     /// # Errors
     /// `ENOMEM`, where there is no memory for it. The state is then as before.

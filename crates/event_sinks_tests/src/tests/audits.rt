@@ -221,6 +221,58 @@ fn books_of_other_listeners(rt: HostRuntime) -> Result<(), Fail> {
     Ok(())
 }
 
+#[test]
+fn books_that_were_cut(rt: HostRuntime) -> Result<(), Fail> {
+    let alloc = rt.alloc();
+    let settled = Ok(Settled {
+        entries: 6,
+        calls: 6,
+    });
+    let (book, log, end) = heard_out(alloc, "f|!.g", 2)?;
+    let whole = settles(alloc, book, [Some(log), None], [Some(end), None])?;
+    equal(&rt, whole, settled);
+    // The pipe was closed before the cut.
+    let (book, log, end) = heard_out(alloc, "f!.|g", 2)?;
+    let whole = settles(alloc, book, [Some(log), None], [Some(end), None])?;
+    equal(&rt, whole, settled);
+    let (book, log, _) = heard_out(alloc, "f!.|g", 2)?;
+    let none = settles(alloc, book, [Some(log), None], [None, None])?;
+    equal(&rt, none, Err(SettleFault::NotEnded(1)));
+    Ok(())
+}
+
+// The answer for a book of four calls that was cut behind the second, where a seat's call at this index is told to be at this
+// place.
+fn misplaced(alloc: Global, index: usize, place: u64) -> Result<Answer, Fail> {
+    let (book, log, end) = heard_out(alloc, "|!.", 2)?;
+    let SeatLog { number, kept } = log;
+    let mut kept = kept.into_vec();
+    if let Some(call) = kept.get_mut(index) {
+        call.place = place;
+    }
+    let log = SeatLog {
+        number,
+        kept: KeptCalls::from_vec(kept),
+    };
+    settles(alloc, book, [Some(log), None], [Some(end), None])
+}
+
+#[test]
+fn a_wrong_place_is_stray(rt: HostRuntime) -> Result<(), Fail> {
+    let alloc = rt.alloc();
+    let stray = Err(SettleFault::Stray(1));
+    let settled = Ok(Settled {
+        entries: 4,
+        calls: 4,
+    });
+    equal(&rt, misplaced(alloc, 0, 1)?, settled);
+    equal(&rt, misplaced(alloc, 0, 0)?, stray);
+    equal(&rt, misplaced(alloc, 1, 1)?, stray);
+    equal(&rt, misplaced(alloc, 3, 4)?, settled);
+    equal(&rt, misplaced(alloc, 3, 5)?, stray);
+    Ok(())
+}
+
 // Makes a hundred files with a pump after each. How many pumps found the pipe full.
 fn crowds<L: Ledger>(
     alloc: Global,

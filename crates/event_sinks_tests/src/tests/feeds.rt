@@ -60,8 +60,8 @@ fn call_of(alloc: Global, letter: u8) -> Result<Call, Refusal>
     Ok(Call::File(FileCall::Create { path, mode: 0o644 }))
 }
 
-/// Makes the calls of a story: a full stop closes the instance, an exclamation mark pumps all that waits, and a letter
-/// makes the file of that name.
+/// Makes the calls of a story: a full stop closes the instance, an exclamation mark pumps all that waits, a stroke cuts the
+/// journal, and a letter makes the file of that name.
 pub(super) fn tells<L: Ledger>(
     alloc: Global,
     held: &mut Held<L>,
@@ -71,6 +71,8 @@ pub(super) fn tells<L: Ledger>(
     for letter in story {
         if *letter == b'!' {
             held.pump(seat, 1, 4096)?;
+        } else if *letter == b'|' {
+            held.cut()?;
         } else {
             held.call(seat, call_of(alloc, *letter)?)?;
         }

@@ -32,3 +32,46 @@ fn a_full_journal_takes_no_call(rt: HostRuntime) {
     limits.journal = 2;
     assert_eq!(rt; plays(rt.alloc(), limits, &steps), Some(steps.len()));
 }
+
+#[test]
+fn a_cut_makes_room(rt: HostRuntime) {
+    let steps = [
+        Step::Sits(Ok(())),
+        Step::Makes("/a", 1, 2),
+        Step::Makes("/b", 2, 3),
+        Step::Creates("/c", Says::Fails(Refusal::JournalFull)),
+        Step::HasRoomFor(0),
+        Step::Cuts(2),
+        Step::HasRoomFor(2),
+        Step::Makes("/c", 3, 4),
+        Step::Counts(1),
+        Step::Stands(1, 3),
+    ];
+    let mut limits = Limits::full();
+    limits.journal = 2;
+    assert_eq!(rt; plays(rt.alloc(), limits, &steps), Some(steps.len()));
+}
+
+#[test]
+fn pipes_go_on_over_a_cut(rt: HostRuntime) {
+    let steps = [
+        Step::Sits(Ok(())),
+        Step::Opens(16, 4, Says::Instance(1)),
+        Step::Watches(1, Says::Wd(1)),
+        Step::Creates("/f", Says::File),
+        Step::Pumps(1, Says::Records),
+        Step::Creates("/g", Says::File),
+        Step::Cuts(5),
+        Step::Waits(1, Some(1)),
+        Step::Pumps(1, Says::Records),
+        Step::Closes(1, Says::Done),
+        Step::Gives(1, 4, 1),
+        Step::Gives(1, 6, 1),
+        Step::Gives(1, 7, 0),
+        Step::GivesNothing(1),
+    ];
+    assert_eq!(rt;
+        plays(rt.alloc(), Limits::full(), &steps),
+        Some(steps.len())
+    );
+}

@@ -2,8 +2,8 @@
 
 use super::*;
 
-/// Numbers that look random: each is 1664525 times the one before it and 1013904223, modulo 2^32. And how many instances were
-/// asked for.
+/// Numbers that look random: each is 1664525 times the one before it and 1013904223, modulo 2^32. And how many
+/// instances were asked for.
 #[derive(Drop)]
 pub(super) struct Dice {
     at: u32,

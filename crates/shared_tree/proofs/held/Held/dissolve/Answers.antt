@@ -7,7 +7,7 @@ invariant_of-result g c =
     let a = c.self.inside in
     record {
       lawful = c.journal.ensures.lawful;
-      counted = c.last_place-entries.ensures;
+      counted = search;
       sends = held-sends a.core a.numbers.items a.book.total (sents a.pipes.items) c.self.invariant;
       events = λ id. held-events a.core a.numbers.items (sents a.pipes.items) a.book.total id c.self.invariant;
     }
