@@ -344,7 +344,7 @@ impl<L: Ledger> Held<L> {
     ///
     /// Of each instance the records that were read, followed by those that wait, are the events that the journal raises
     /// for it, in order, each once, but for those that are merged into an equal unread neighbour and those that are lost
-    /// behind a mark. No two renames share a cookie. Nothing of a watch follows its `IN_IGNORED`. A refused call adds
+    /// behind a mark. No two moves share a cookie. Nothing of a watch follows its `IN_IGNORED`. A refused call adds
     /// nothing. An open instance has a pipe exactly where it was made with one. Each pipe was sent what the journal hands
     /// to its instance, and that are events. The ledger's total is the number of entries.
     pub fn law(&self)
