@@ -70,7 +70,7 @@ numbers-left t (Listed p) none few = omega arith
 -- ---- cookies
 
 -- no cookie is used, or all that are used are there
-pub HasRoom : Limits → ℕ → ℕ → Type 0
+abbrev pub HasRoom : Limits → ℕ → ℕ → Type 0
 HasRoom limits next used = (used ≡ 0) ⊎ ((next + used ≤ limits.cookies + 1) × (cookie_now next ≡ next))
 
 one-room : (limits : Limits) (counts : Counts) (next : ℕ) → counts.next_cookie ≡ cookie_now next → cookies_row limits counts ≡ None → HasRoom limits next 1

@@ -85,13 +85,13 @@ among-All P (x ∷ xs) (y ∷ ys) (inr later) all = among-All P (x ∷ xs) ys la
 -- what holds of no cookie, and of the cookie of each move, holds of the cookie of each event
 marks-All : (P : ℕ → Type 0) → P NO_COOKIE → (ms : List Mark) → All (λ (m : Mark). P m.1) (moves_in ms) → All IsTied ms → All (λ (m : Mark). P m.1) ms
 marks-All P none [] h ties = All-nil (λ (m : Mark). P m.1)
-marks-All P none (m ∷ ms) h ties = by (is_move m) refl h
+marks-All P none (m ∷ ms) h ties = by (is_move m) refl (λ k. marks-All P none ms k (All-tail IsTied m ms ties)) h
   where
-    by : (b : Bool) → is_move m ≡ b → All (λ (x : Mark). P x.1) (if b then (event_bit m.0, m.1) ∷ moves_in ms else moves_in ms) → All (λ (x : Mark). P x.1) (m ∷ ms)
-    by true e k =
-        All-cons (λ (x : Mark). P x.1) m ms (All-head (λ (x : Mark). P x.1) (event_bit m.0, m.1) (moves_in ms) k)
-        (marks-All P none ms (All-tail (λ (x : Mark). P x.1) (event_bit m.0, m.1) (moves_in ms) k) (All-tail IsTied m ms ties))
-    by false e k = All-cons (λ (x : Mark). P x.1) m ms (subst P (sym (All-head IsTied m ms ties e)) none) (marks-All P none ms k (All-tail IsTied m ms ties))
+    by : (b : Bool) → is_move m ≡ b → (All (λ (x : Mark). P x.1) (moves_in ms) → All (λ (x : Mark). P x.1) ms)
+        → All (λ (x : Mark). P x.1) (if b then (event_bit m.0, m.1) ∷ moves_in ms else moves_in ms) → All (λ (x : Mark). P x.1) (m ∷ ms)
+    by true e rest k =
+        All-cons (λ (x : Mark). P x.1) m ms (All-head (λ (x : Mark). P x.1) (event_bit m.0, m.1) (moves_in ms) k) (rest (All-tail (λ (x : Mark). P x.1) (event_bit m.0, m.1) (moves_in ms) k))
+    by false e rest k = All-cons (λ (x : Mark). P x.1) m ms (subst P (sym (All-head IsTied m ms ties e)) none) (rest k)
 
 events-All : (P : ℕ → Type 0) (es : List Event) → All (λ (m : Mark). P m.1) (marks_of es) → All (λ (e : Event). P e.cookie) es
 events-All P [] h = All-nil (λ (e : Event). P e.cookie)

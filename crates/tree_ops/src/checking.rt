@@ -360,7 +360,8 @@ fn noreplace_fault(
             if let Some(refusal) = parent_fault(table, new) {
                 return Some(refusal);
             }
-            if seen(table, new).is_some() {
+            let target = seen(table, new);
+            if target.is_some() {
                 return Some(Refusal::Eexist);
             }
             let next = counts.next_cookie;
