@@ -1,5 +1,5 @@
 -- What is true of each notice of every call.
-use Rattle.std.proofs.Common.{◌≡◌, ℕ, Bool, true, false, ◌==◌, if◌then◌else◌, List, [], ◌∷◌, ◌++◌, Option, Some, None, refl, sym, subst, lit<}
+use Rattle.std.proofs.Common.{◌≡◌, ℕ, ◌+◌, Bool, true, false, ◌==◌, if◌then◌else◌, List, [], ◌∷◌, ◌++◌, Option, Some, None, refl, sym, subst, lit<}
 use Rattle.std.specs.Prelude.{All, Contains}
 use Rattle.std.specs.List.{last_or}
 use Rattle.std.proofs.lemmas.List.Elements.{All-nil, All-cons, All-append}
@@ -10,38 +10,37 @@ use Rattle.inode_table.specs.declared.seen.Kind.TheVariants.{Regular, Directory}
 use Rattle.inode_table.specs.declared.seen.Seen.{Seen}
 use Rattle.inode_table.specs.Refusals.{Look, parent_of}
 use Rattle.inode_table.specs.World.{World, look}
+use Rattle.tree_ops.specs.declared.call.TheConstants.{RENAME_EXCHANGE}
 use Rattle.tree_ops.specs.declared.call.FileCall.{FileCall}
-use Rattle.tree_ops.specs.declared.call.FileCall.TheVariants.{Create, Write, ReadFile, Truncate, Chmod, Mkdir, Link, Unlink, Rmdir, Rename, Stat, List as Listed}
+use Rattle.tree_ops.specs.declared.call.FileCall.TheVariants.{Create, Write, ReadFile, Truncate, Chmod, Mkdir, Link, Unlink, Rmdir, Rename, Rename2, Stat, List as Listed}
 use Rattle.tree_ops.specs.After.{answer_of}
-use Rattle.tree_ops.specs.Refused.{are_same_seen, cookies_of}
+use Rattle.tree_ops.specs.Refused.{are_same_seen}
 use Rattle.event_rules.specs.declared.notice.TheConstants.{NO_COOKIE}
 use Rattle.event_rules.specs.declared.notice.Notice.{Notice}
 use Rattle.event_rules.specs.declared.notice.Notice.TheVariants.{Told, Gone}
-use Rattle.event_rules.specs.Table.{about, answers_byte, chmod_told, create_told, deleted_told, has_byte, kind_seen, link_told, lost_told, mkdir_told, move_told, no_counts, notices_of, path_lost, read_told, rename_told, rmdir_told, to_both, to_dir, to_self, told_in, truncate_told, unlink_told, write_told}
+use Rattle.event_rules.specs.Table.{about, answers_byte, chmod_told, create_told, deleted_told, exchange_told, has_byte, kind_seen, link_told, lost_told, mkdir_told, move_told, no_counts, notices_of, path_lost, read_told, rename_told, rmdir_told, swap_told, to_both, to_dir, to_self, told_in, truncate_told, unlink_told, write_told}
 use Rattle.event_rules.specs.Raised.{event_bit}
-use Rattle.event_rules.specs.Laws.{HasCookie, HasOneEvent, cookie_for}
+use Rattle.event_rules.specs.Laws.{HasOneEvent}
 
 -- what is true of the event, of whom and of what kind of object it tells
-abbrev Holds : (Notice → Type 0) → ℕ → ℕ → Type 0
+abbrev pub Holds : (Notice → Type 0) → ℕ → ℕ → Type 0
 Holds P cookie event = (kind : Kind) (number : ℕ) (name : Option (List ℕ)) → P (Told number (about kind event) cookie name)
 
--- it is true of each event of the table
-record HoldsOfLines (P : Notice → Type 0) (cookie : ℕ) : Type 0 where
-  access : Holds P NO_COOKIE IN_ACCESS
-  modify : Holds P NO_COOKIE IN_MODIFY
-  attrib : Holds P NO_COOKIE IN_ATTRIB
-  close_write : Holds P NO_COOKIE IN_CLOSE_WRITE
-  close_nowrite : Holds P NO_COOKIE IN_CLOSE_NOWRITE
-  opened : Holds P NO_COOKIE IN_OPEN
-  create : Holds P NO_COOKIE IN_CREATE
-  delete : Holds P NO_COOKIE IN_DELETE
-  delete_self : Holds P NO_COOKIE IN_DELETE_SELF
-  move_self : Holds P NO_COOKIE IN_MOVE_SELF
-  moved_from : Holds P cookie IN_MOVED_FROM
-  moved_to : Holds P cookie IN_MOVED_TO
-  gone : (number : ℕ) → P (Gone number)
+-- it is true of each event of the table but those of moves
+pub record HoldsOfLines (P : Notice → Type 0) : Type 0 where
+  pub access : Holds P NO_COOKIE IN_ACCESS
+  pub modify : Holds P NO_COOKIE IN_MODIFY
+  pub attrib : Holds P NO_COOKIE IN_ATTRIB
+  pub close_write : Holds P NO_COOKIE IN_CLOSE_WRITE
+  pub close_nowrite : Holds P NO_COOKIE IN_CLOSE_NOWRITE
+  pub opened : Holds P NO_COOKIE IN_OPEN
+  pub create : Holds P NO_COOKIE IN_CREATE
+  pub delete : Holds P NO_COOKIE IN_DELETE
+  pub delete_self : Holds P NO_COOKIE IN_DELETE_SELF
+  pub move_self : Holds P NO_COOKIE IN_MOVE_SELF
+  pub gone : (number : ℕ) → P (Gone number)
 
-module _ (P : Notice → Type 0) (cookie : ℕ) (holds : HoldsOfLines P cookie) where
+module _ (P : Notice → Type 0) (holds : HoldsOfLines P) where
   one : (n : Notice) → P n → All P (n ∷ [])
   one n h = All-cons P n [] h (All-nil P)
 
@@ -57,7 +56,7 @@ module _ (P : Notice → Type 0) (cookie : ℕ) (holds : HoldsOfLines P cookie) 
   unfolding to_dir
   dir at p kind event given h = in-by (at (parent_of p)) (last_or None p) kind event given h
 
-  self : (s : Option Seen) (kind : Kind) (event : ℕ) → Holds P NO_COOKIE event → All P (to_self s (about kind event))
+  pub self : (s : Option Seen) (kind : Kind) (event : ℕ) → Holds P NO_COOKIE event → All P (to_self s (about kind event))
   self None kind event h = All-nil P
   self (Some s) kind event h = one (Told s.number (about kind event) NO_COOKIE None) (h kind s.number None)
 
@@ -80,7 +79,7 @@ module _ (P : Notice → Type 0) (cookie : ℕ) (holds : HoldsOfLines P cookie) 
       All-cons P (Told number IN_ATTRIB NO_COOKIE None) (if links == 1 then deleted_told number else []) (holds.attrib Regular number None) (deleted-by (links == 1) number)
   lost-by Directory number links = deleted number
 
-  lost : (s : Option Seen) → All P (path_lost s)
+  pub lost : (s : Option Seen) → All P (path_lost s)
   unfolding path_lost
   lost None = All-nil P
   lost (Some s) = lost-by s.kind s.number s.links
@@ -89,85 +88,119 @@ module _ (P : Notice → Type 0) (cookie : ℕ) (holds : HoldsOfLines P cookie) 
   used at p true event h = both_told at p event h
   used at p false event h = All-nil P
 
-  create : (at : Look) (p : List (List ℕ)) → All P (create_told at p)
+  pub create : (at : Look) (p : List (List ℕ)) → All P (create_told at p)
   unfolding create_told
   create at p =
       both (to_dir at p Regular IN_CREATE NO_COOKIE ++ to_dir at p Regular IN_OPEN NO_COOKIE) (to_dir at p Regular IN_CLOSE_WRITE NO_COOKIE)
       (both (to_dir at p Regular IN_CREATE NO_COOKIE) (to_dir at p Regular IN_OPEN NO_COOKIE) (dir at p Regular IN_CREATE NO_COOKIE holds.create) (dir at p Regular IN_OPEN NO_COOKIE holds.opened))
       (dir at p Regular IN_CLOSE_WRITE NO_COOKIE holds.close_write)
 
-  mkdir : (at : Look) (p : List (List ℕ)) → All P (mkdir_told at p)
+  pub mkdir : (at : Look) (p : List (List ℕ)) → All P (mkdir_told at p)
   unfolding mkdir_told
   mkdir at p = dir at p Directory IN_CREATE NO_COOKIE holds.create
 
-  write : (at : Look) (p : List (List ℕ)) (b : Bool) → All P (write_told at p b)
+  pub write : (at : Look) (p : List (List ℕ)) (b : Bool) → All P (write_told at p b)
   unfolding write_told
   write at p b =
       both (to_both at p IN_OPEN ++ (if b then to_both at p IN_MODIFY else [])) (to_both at p IN_CLOSE_WRITE)
       (both (to_both at p IN_OPEN) (if b then to_both at p IN_MODIFY else []) (both_told at p IN_OPEN holds.opened) (used at p b IN_MODIFY holds.modify))
       (both_told at p IN_CLOSE_WRITE holds.close_write)
 
-  read : (at : Look) (p : List (List ℕ)) (b : Bool) → All P (read_told at p b)
+  pub read : (at : Look) (p : List (List ℕ)) (b : Bool) → All P (read_told at p b)
   unfolding read_told
   read at p b =
       both (to_both at p IN_OPEN ++ (if b then to_both at p IN_ACCESS else [])) (to_both at p IN_CLOSE_NOWRITE)
       (both (to_both at p IN_OPEN) (if b then to_both at p IN_ACCESS else []) (both_told at p IN_OPEN holds.opened) (used at p b IN_ACCESS holds.access))
       (both_told at p IN_CLOSE_NOWRITE holds.close_nowrite)
 
-  truncate : (at : Look) (p : List (List ℕ)) → All P (truncate_told at p)
+  pub truncate : (at : Look) (p : List (List ℕ)) → All P (truncate_told at p)
   unfolding truncate_told
   truncate at p = both_told at p IN_MODIFY holds.modify
 
-  chmod : (at : Look) (p : List (List ℕ)) → All P (chmod_told at p)
+  pub chmod : (at : Look) (p : List (List ℕ)) → All P (chmod_told at p)
   unfolding chmod_told
   chmod at p = both_told at p IN_ATTRIB holds.attrib
 
-  link : (at : Look) (old new : List (List ℕ)) → All P (link_told at old new)
+  pub link : (at : Look) (old new : List (List ℕ)) → All P (link_told at old new)
   unfolding link_told
   link at old new =
       both (to_self (at old) IN_ATTRIB) (to_dir at new Regular IN_CREATE NO_COOKIE)
       (self (at old) Regular IN_ATTRIB holds.attrib) (dir at new Regular IN_CREATE NO_COOKIE holds.create)
 
-  unlink : (at : Look) (p : List (List ℕ)) → All P (unlink_told at p)
+  pub unlink : (at : Look) (p : List (List ℕ)) → All P (unlink_told at p)
   unfolding unlink_told
   unlink at p = both (path_lost (at p)) (to_dir at p Regular IN_DELETE NO_COOKIE) (lost (at p)) (dir at p Regular IN_DELETE NO_COOKIE holds.delete)
 
-  rmdir : (at : Look) (p : List (List ℕ)) → All P (rmdir_told at p)
+  pub rmdir : (at : Look) (p : List (List ℕ)) → All P (rmdir_told at p)
   unfolding rmdir_told
   rmdir at p = both (path_lost (at p)) (to_dir at p Directory IN_DELETE NO_COOKIE) (lost (at p)) (dir at p Directory IN_DELETE NO_COOKIE holds.delete)
 
-  move : (at : Look) (old new : List (List ℕ)) → All P (move_told at old new cookie)
-  unfolding move_told
-  move at old new =
-      let from = to_dir at old (kind_seen (at old)) IN_MOVED_FROM cookie in
-      let to = to_dir at new (kind_seen (at old)) IN_MOVED_TO cookie in
-      both (from ++ to ++ path_lost (at new)) (to_self (at old) IN_MOVE_SELF)
-      (both (from ++ to) (path_lost (at new))
-      (both from to (dir at old (kind_seen (at old)) IN_MOVED_FROM cookie holds.moved_from) (dir at new (kind_seen (at old)) IN_MOVED_TO cookie holds.moved_to))
-      (lost (at new)))
-      (self (at old) Regular IN_MOVE_SELF holds.move_self)
+  module _ (from : (cookie : ℕ) → Holds P cookie IN_MOVED_FROM) (to : (cookie : ℕ) → Holds P cookie IN_MOVED_TO) (cookie : ℕ) where
+    -- both directories of a move
+    dirs : (at : Look) (p q : List (List ℕ)) (kind : Kind) (given : ℕ) → All P (to_dir at p kind IN_MOVED_FROM given ++ to_dir at q kind IN_MOVED_TO given)
+    dirs at p q kind given =
+        both (to_dir at p kind IN_MOVED_FROM given) (to_dir at q kind IN_MOVED_TO given) (dir at p kind IN_MOVED_FROM given (from given)) (dir at q kind IN_MOVED_TO given (to given))
 
-  rename-by : (b : Bool) (at : Look) (old new : List (List ℕ)) → All P (if b then [] else move_told at old new cookie)
-  rename-by true at old new = All-nil P
-  rename-by false at old new = move at old new
+    move : (at : Look) (old new : List (List ℕ)) → All P (move_told at old new cookie)
+    unfolding move_told
+    move at old new =
+        let kind = kind_seen (at old) in
+        let moved = to_dir at old kind IN_MOVED_FROM cookie ++ to_dir at new kind IN_MOVED_TO cookie in
+        both (moved ++ path_lost (at new)) (to_self (at old) IN_MOVE_SELF)
+        (both moved (path_lost (at new)) (dirs at old new kind cookie) (lost (at new)))
+        (self (at old) Regular IN_MOVE_SELF holds.move_self)
 
-  rename : (at : Look) (old new : List (List ℕ)) → All P (rename_told at old new cookie)
-  unfolding rename_told
-  rename at old new = rename-by (are_same_seen (at old) (at new)) at old new
+    rename-by : (b : Bool) (at : Look) (old new : List (List ℕ)) → All P (if b then [] else move_told at old new cookie)
+    rename-by true at old new = All-nil P
+    rename-by false at old new = move at old new
 
-  of_every_call : (w : World) (call : FileCall) → All P (notices_of w call cookie)
-  of_every_call w (Create p mode) = create (look w) p
-  of_every_call w (Mkdir p mode) = mkdir (look w) p
-  of_every_call w (Write p offset bytes) = write (look w) p (has_byte bytes)
-  of_every_call w (ReadFile p offset count) = read (look w) p (answers_byte (answer_of w no_counts (ReadFile p offset count)))
-  of_every_call w (Truncate p len) = truncate (look w) p
-  of_every_call w (Chmod p mode) = chmod (look w) p
-  of_every_call w (Link old new) = link (look w) old new
-  of_every_call w (Unlink p) = unlink (look w) p
-  of_every_call w (Rmdir p) = rmdir (look w) p
-  of_every_call w (Rename old new) = rename (look w) old new
-  of_every_call w (Stat p) = All-nil P
-  of_every_call w (Listed p) = All-nil P
+    rename : (at : Look) (old new : List (List ℕ)) → All P (rename_told at old new cookie)
+    unfolding rename_told
+    rename at old new = rename-by (are_same_seen (at old) (at new)) at old new
+
+    swap : (at : Look) (old new : List (List ℕ)) → All P (swap_told at old new cookie)
+    unfolding swap_told
+    swap at old new =
+        let one = kind_seen (at old) in
+        let other = kind_seen (at new) in
+        let there = to_dir at old one IN_MOVED_FROM cookie ++ to_dir at new one IN_MOVED_TO cookie in
+        let itself = to_self (at old) IN_MOVE_SELF in
+        let back_from = to_dir at new other IN_MOVED_FROM (cookie + 1) in
+        let back_to = to_dir at old other IN_MOVED_TO (cookie + 1) in
+        both (there ++ itself ++ back_from ++ back_to) (to_self (at new) IN_MOVE_SELF)
+        (both (there ++ itself ++ back_from) back_to
+        (both (there ++ itself) back_from
+        (both there itself (dirs at old new one cookie) (self (at old) Regular IN_MOVE_SELF holds.move_self))
+        (dir at new other IN_MOVED_FROM (cookie + 1) (from (cookie + 1))))
+        (dir at old other IN_MOVED_TO (cookie + 1) (to (cookie + 1))))
+        (self (at new) Regular IN_MOVE_SELF holds.move_self)
+
+    exchange-by : (b : Bool) (at : Look) (old new : List (List ℕ)) → All P (if b then [] else swap_told at old new cookie)
+    exchange-by true at old new = All-nil P
+    exchange-by false at old new = swap at old new
+
+    exchange : (at : Look) (old new : List (List ℕ)) → All P (exchange_told at old new cookie)
+    unfolding exchange_told
+    exchange at old new = exchange-by (are_same_seen (at old) (at new)) at old new
+
+    rename2-by : (b : Bool) (at : Look) (old new : List (List ℕ)) → All P (if b then exchange_told at old new cookie else rename_told at old new cookie)
+    rename2-by true at old new = exchange at old new
+    rename2-by false at old new = rename at old new
+
+    pub of_every_call : (w : World) (call : FileCall) → All P (notices_of w call cookie)
+    of_every_call w (Create p mode) = create (look w) p
+    of_every_call w (Mkdir p mode) = mkdir (look w) p
+    of_every_call w (Write p offset bytes) = write (look w) p (has_byte bytes)
+    of_every_call w (ReadFile p offset count) = read (look w) p (answers_byte (answer_of w no_counts (ReadFile p offset count)))
+    of_every_call w (Truncate p len) = truncate (look w) p
+    of_every_call w (Chmod p mode) = chmod (look w) p
+    of_every_call w (Link old new) = link (look w) old new
+    of_every_call w (Unlink p) = unlink (look w) p
+    of_every_call w (Rmdir p) = rmdir (look w) p
+    of_every_call w (Rename old new) = rename (look w) old new
+    of_every_call w (Rename2 old new flags) = rename2-by (flags == RENAME_EXCHANGE) (look w) old new
+    of_every_call w (Stat p) = All-nil P
+    of_every_call w (Listed p) = All-nil P
 
 -- ---- the events
 
@@ -219,8 +252,8 @@ is_move_self : (kind : Kind) → Contains event_bits (event_bit (about kind IN_M
 is_move_self Regular = (11, lit< tt, refl)
 is_move_self Directory = (11, lit< tt, refl)
 
-one_event : (cookie : ℕ) → HoldsOfLines HasOneEvent cookie
-one_event cookie = record {
+one_event : HoldsOfLines HasOneEvent
+one_event = record {
   access = λ kind number name. is_access kind;
   modify = λ kind number name. is_modify kind;
   attrib = λ kind number name. is_attrib kind;
@@ -231,104 +264,9 @@ one_event cookie = record {
   delete = λ kind number name. is_delete kind;
   delete_self = λ kind number name. is_delete_self kind;
   move_self = λ kind number name. is_move_self kind;
-  moved_from = λ kind number name. is_moved_from kind;
-  moved_to = λ kind number name. is_moved_to kind;
   gone = λ number. tt;
 }
 
 pub notices-HasOneEvent : (w : World) (call : FileCall) (cookie : ℕ) → All HasOneEvent (notices_of w call cookie)
-notices-HasOneEvent w call cookie = of_every_call HasOneEvent cookie (one_event cookie) w call
-
--- ---- the cookies
-
-none_access : (cookie : ℕ) (kind : Kind) → NO_COOKIE ≡ cookie_for (event_bit (about kind IN_ACCESS)) cookie
-none_access cookie Regular = refl
-none_access cookie Directory = refl
-
-none_modify : (cookie : ℕ) (kind : Kind) → NO_COOKIE ≡ cookie_for (event_bit (about kind IN_MODIFY)) cookie
-none_modify cookie Regular = refl
-none_modify cookie Directory = refl
-
-none_attrib : (cookie : ℕ) (kind : Kind) → NO_COOKIE ≡ cookie_for (event_bit (about kind IN_ATTRIB)) cookie
-none_attrib cookie Regular = refl
-none_attrib cookie Directory = refl
-
-none_close_write : (cookie : ℕ) (kind : Kind) → NO_COOKIE ≡ cookie_for (event_bit (about kind IN_CLOSE_WRITE)) cookie
-none_close_write cookie Regular = refl
-none_close_write cookie Directory = refl
-
-none_close_nowrite : (cookie : ℕ) (kind : Kind) → NO_COOKIE ≡ cookie_for (event_bit (about kind IN_CLOSE_NOWRITE)) cookie
-none_close_nowrite cookie Regular = refl
-none_close_nowrite cookie Directory = refl
-
-none_open : (cookie : ℕ) (kind : Kind) → NO_COOKIE ≡ cookie_for (event_bit (about kind IN_OPEN)) cookie
-none_open cookie Regular = refl
-none_open cookie Directory = refl
-
-none_create : (cookie : ℕ) (kind : Kind) → NO_COOKIE ≡ cookie_for (event_bit (about kind IN_CREATE)) cookie
-none_create cookie Regular = refl
-none_create cookie Directory = refl
-
-none_delete : (cookie : ℕ) (kind : Kind) → NO_COOKIE ≡ cookie_for (event_bit (about kind IN_DELETE)) cookie
-none_delete cookie Regular = refl
-none_delete cookie Directory = refl
-
-none_delete_self : (cookie : ℕ) (kind : Kind) → NO_COOKIE ≡ cookie_for (event_bit (about kind IN_DELETE_SELF)) cookie
-none_delete_self cookie Regular = refl
-none_delete_self cookie Directory = refl
-
-none_move_self : (cookie : ℕ) (kind : Kind) → NO_COOKIE ≡ cookie_for (event_bit (about kind IN_MOVE_SELF)) cookie
-none_move_self cookie Regular = refl
-none_move_self cookie Directory = refl
-
-ties_moved_from : (cookie : ℕ) (kind : Kind) → cookie ≡ cookie_for (event_bit (about kind IN_MOVED_FROM)) cookie
-ties_moved_from cookie Regular = refl
-ties_moved_from cookie Directory = refl
-
-ties_moved_to : (cookie : ℕ) (kind : Kind) → cookie ≡ cookie_for (event_bit (about kind IN_MOVED_TO)) cookie
-ties_moved_to cookie Regular = refl
-ties_moved_to cookie Directory = refl
-
-own_cookie : (cookie : ℕ) → HoldsOfLines (HasCookie cookie) cookie
-own_cookie cookie = record {
-  access = λ kind number name. none_access cookie kind;
-  modify = λ kind number name. none_modify cookie kind;
-  attrib = λ kind number name. none_attrib cookie kind;
-  close_write = λ kind number name. none_close_write cookie kind;
-  close_nowrite = λ kind number name. none_close_nowrite cookie kind;
-  opened = λ kind number name. none_open cookie kind;
-  create = λ kind number name. none_create cookie kind;
-  delete = λ kind number name. none_delete cookie kind;
-  delete_self = λ kind number name. none_delete_self cookie kind;
-  move_self = λ kind number name. none_move_self cookie kind;
-  moved_from = λ kind number name. ties_moved_from cookie kind;
-  moved_to = λ kind number name. ties_moved_to cookie kind;
-  gone = λ number. tt;
-}
-
-pub notices-HasCookie : (w : World) (call : FileCall) (cookie : ℕ) → All (HasCookie cookie) (notices_of w call cookie)
-notices-HasCookie w call cookie = of_every_call (HasCookie cookie) cookie (own_cookie cookie) w call
-
--- a call that uses no cookie is handed one for nothing
-same_rename : (b : Bool) (at : Look) (old new : List (List ℕ)) (cookie : ℕ) → ◌≡◌ {A = ℕ} (if b then 0 else 1) 0
-    → (if b then [] else move_told at old new cookie) ≡ (if b then [] else move_told at old new NO_COOKIE)
-same_rename true at old new cookie h = refl
-same_rename false at old new cookie h = cc
-
-unused : (w : World) (call : FileCall) (cookie : ℕ) → cookies_of w call ≡ 0 → notices_of w call cookie ≡ notices_of w call NO_COOKIE
-unfolding rename_told
-unused w (Create p mode) cookie h = refl
-unused w (Mkdir p mode) cookie h = refl
-unused w (Write p offset bytes) cookie h = refl
-unused w (ReadFile p offset count) cookie h = refl
-unused w (Truncate p len) cookie h = refl
-unused w (Chmod p mode) cookie h = refl
-unused w (Link old new) cookie h = refl
-unused w (Unlink p) cookie h = refl
-unused w (Rmdir p) cookie h = refl
-unused w (Rename old new) cookie h = same_rename (are_same_seen (look w old) (look w new)) (look w) old new cookie h
-unused w (Stat p) cookie h = refl
-unused w (Listed p) cookie h = refl
-
-pub notices-no_cookie : (w : World) (call : FileCall) (cookie : ℕ) → cookies_of w call ≡ 0 → All (HasCookie NO_COOKIE) (notices_of w call cookie)
-notices-no_cookie w call cookie h = subst (All (HasCookie NO_COOKIE)) (sym (unused w call cookie h)) (notices-HasCookie w call NO_COOKIE)
+notices-HasOneEvent w call cookie =
+    of_every_call HasOneEvent one_event (λ _ kind number name. is_moved_from kind) (λ _ kind number name. is_moved_to kind) cookie w call

@@ -1,5 +1,7 @@
 pub mod Lines
 pub mod EveryCall
+pub mod Moves
+pub mod Raising
 pub mod Removals
 pub mod Stages
 pub mod Others

@@ -1,5 +1,5 @@
 -- The lines of the table of events.
-use Rattle.std.proofs.Common.{◌≡◌, ℕ, ◌++◌, Bool, false, if◌then◌else◌, List, [], ◌∷◌, Option, Some, None, refl, sym, ap, ◌∙◌}
+use Rattle.std.proofs.Common.{◌≡◌, ℕ, ◌+◌, ◌++◌, Bool, false, if◌then◌else◌, List, [], ◌∷◌, Option, Some, None, refl, sym, ap, ◌∙◌}
 use Rattle.std.specs.List.{last_or}
 use Rattle.inode_table.specs.declared.seen.Kind.{Kind}
 use Rattle.inode_table.specs.declared.seen.Seen.{Seen}
@@ -8,7 +8,7 @@ use Rattle.record_codec.specs.declared.bits.TheConstants.{IN_MOVED_FROM, IN_MOVE
 use Rattle.tree_ops.specs.Refused.{are_same_seen}
 use Rattle.event_rules.specs.declared.notice.Notice.{Notice}
 use Rattle.event_rules.specs.declared.notice.Notice.TheVariants.{Told}
-use Rattle.event_rules.specs.Table.{about, kind_seen, move_told, path_lost, rename_told, told_in, to_dir, to_self}
+use Rattle.event_rules.specs.Table.{about, exchange_told, kind_seen, swap_told, move_told, path_lost, rename_told, told_in, to_dir, to_self}
 
 last_or-append : {A : Type 0} (o : Option A) (xs : List A) (x : A) → last_or o (xs ++ x ∷ []) ≡ Some x
 last_or-append o [] x = refl
@@ -37,3 +37,23 @@ module _ (at : Look) (old new : List (List ℕ)) (cookie : ℕ) (moved replaced 
       let lines = ends ∙ ap (λ l. l ++ to_self moved IN_MOVE_SELF) (loses ∙ ap (λ l. l ++ path_lost replaced) (arrives ∙ ap (λ l. l ++ to_dir at new kind IN_MOVED_TO cookie) begun))
       ∙ (λ i. to_dir at old (kind_seen (at old)) IN_MOVED_FROM cookie ++ to_dir at new (kind_is i) IN_MOVED_TO cookie ++ path_lost (is_replaced i) ++ to_self (is_moved i) IN_MOVE_SELF) in
       lines ∙ ap (λ b. if b then [] else move_told at old new cookie) (sym apart)
+
+-- the lists after each line of an exchange of two files
+module _ (at : Look) (old new : List (List ℕ)) (cookie : ℕ) (one other : Option Seen) (kind other_kind : Kind) (is_same : Bool) where
+  pub exchange_told-lines : (none from to itself back_from back_to all : List Notice) → one ≡ at old → other ≡ at new → kind ≡ kind_seen one → other_kind ≡ kind_seen other
+      → is_same ≡ are_same_seen one other → is_same ≡ false
+      → none ≡ [] → from ≡ none ++ to_dir at old kind IN_MOVED_FROM cookie → to ≡ from ++ to_dir at new kind IN_MOVED_TO cookie → itself ≡ to ++ to_self one IN_MOVE_SELF
+      → back_from ≡ itself ++ to_dir at new other_kind IN_MOVED_FROM (cookie + 1) → back_to ≡ back_from ++ to_dir at old other_kind IN_MOVED_TO (cookie + 1)
+      → all ≡ back_to ++ to_self other IN_MOVE_SELF → all ≡ exchange_told at old new cookie
+  unfolding exchange_told swap_told
+  exchange_told-lines none from to itself back_from back_to all is_one is_other is_kind is_other_kind test differ opens begins arrives turns leaves returns ends =
+      let apart : are_same_seen (at old) (at new) ≡ false = (λ i. are_same_seen (sym is_one i) (sym is_other i)) ∙ sym test ∙ differ in
+      let kind_is : kind ≡ kind_seen (at old) = is_kind ∙ ap kind_seen is_one in
+      let other_is : other_kind ≡ kind_seen (at new) = is_other_kind ∙ ap kind_seen is_other in
+      let begun : from ≡ to_dir at old (kind_seen (at old)) IN_MOVED_FROM cookie = begins ∙ (λ i. opens i ++ to_dir at old (kind_is i) IN_MOVED_FROM cookie) in
+      let went = turns ∙ ap (λ l. l ++ to_self one IN_MOVE_SELF) (arrives ∙ ap (λ l. l ++ to_dir at new kind IN_MOVED_TO cookie) begun) in
+      let came = returns ∙ ap (λ l. l ++ to_dir at old other_kind IN_MOVED_TO (cookie + 1)) (leaves ∙ ap (λ l. l ++ to_dir at new other_kind IN_MOVED_FROM (cookie + 1)) went) in
+      let lines = ends ∙ ap (λ l. l ++ to_self other IN_MOVE_SELF) came
+      ∙ (λ i. to_dir at old (kind_seen (at old)) IN_MOVED_FROM cookie ++ to_dir at new (kind_is i) IN_MOVED_TO cookie ++ to_self (is_one i) IN_MOVE_SELF
+      ++ to_dir at new (other_is i) IN_MOVED_FROM (cookie + 1) ++ to_dir at old (other_is i) IN_MOVED_TO (cookie + 1) ++ to_self (is_other i) IN_MOVE_SELF) in
+      lines ∙ ap (λ b. if b then [] else swap_told at old new cookie) (sym apart)

@@ -1,5 +1,5 @@
 -- What is true of the notices of every call, and of the events that notices raise.
-use Rattle.std.specs.Prelude.{◌≡◌, ◌≢◌, ℕ, ℤ, Bool, ◌==◌, ◌||◌, List, Option, Some, None, All, Contains, if◌then◌else◌}
+use Rattle.std.specs.Prelude.{◌≡◌, ◌≢◌, ◌⊎◌, ℕ, ℤ, zero, suc, ◌+◌, Bool, false, ◌==◌, ◌||◌, List, [], ◌∷◌, Option, Some, None, All, Contains, map, if◌then◌else◌}
 use Rattle.std.specs.List.{list_any}
 use Rattle.std.specs.Ordering.{int_eq}
 use Rattle.record_codec.specs.declared.bits.TheConstants.{IN_IGNORED, IN_MOVED_FROM, IN_MOVED_TO}
@@ -18,13 +18,52 @@ abbrev pub HasOneEvent : Notice → Type 0
 HasOneEvent (Told number bits cookie name) = Contains event_bits (event_bit bits)
 HasOneEvent (Gone number) = Unit {0}
 
--- the two events of a move have the cookie, and all others none
-abbrev pub cookie_for : ℕ → ℕ → ℕ
-cookie_for event cookie = if (event == IN_MOVED_FROM) || (event == IN_MOVED_TO) then cookie else NO_COOKIE
+-- ---- of moves
 
-abbrev pub HasCookie : ℕ → Notice → Type 0
-HasCookie cookie (Told number bits given name) = given ≡ cookie_for (event_bit bits) cookie
-HasCookie cookie (Gone number) = Unit {0}
+-- bits, and a cookie
+abbrev pub Mark : Type 0
+Mark = ℕ × ℕ
+
+abbrev pub marks_told : List Notice → List Mark
+marks_told [] = []
+marks_told (Told number bits cookie name ∷ ns) = (bits, cookie) ∷ marks_told ns
+marks_told (Gone number ∷ ns) = marks_told ns
+
+abbrev pub marks_of : List Event → List Mark
+marks_of events = map (λ (e : Event). (e.mask, e.cookie)) events
+
+abbrev pub is_move : Mark → Bool
+is_move m = (event_bit m.0 == IN_MOVED_FROM) || (event_bit m.0 == IN_MOVED_TO)
+
+-- the events of moves among these, each with its cookie
+abbrev pub moves_in : List Mark → List Mark
+moves_in [] = []
+moves_in (m ∷ ms) = if is_move m then (event_bit m.0, m.1) ∷ moves_in ms else moves_in ms
+
+-- so many cookies, from the first one on
+abbrev pub cookies_from : ℕ → ℕ → List ℕ
+cookies_from cookie zero = []
+cookies_from cookie (suc n) = cookie ∷ cookies_from (cookie + 1) n
+
+-- what one move after another raises: the i-th pair of events has the i-th of the cookies
+abbrev pub moves_with : List ℕ → List Mark
+moves_with [] = []
+moves_with (cookie ∷ cookies) = (IN_MOVED_FROM, cookie) ∷ (IN_MOVED_TO, cookie) ∷ moves_with cookies
+
+-- these are some of the others, in their order
+abbrev pub AreAmong : List Mark → List Mark → Type 0
+AreAmong [] ys = Unit {0}
+AreAmong (x ∷ xs) [] = ⊥
+AreAmong (x ∷ xs) (y ∷ ys) = ((x ≡ y) × AreAmong xs ys) ⊎ AreAmong (x ∷ xs) ys
+
+-- the event is that of a move, or has no cookie
+abbrev pub IsTied : Mark → Type 0
+IsTied m = is_move m ≡ false → m.1 ≡ NO_COOKIE
+
+-- the events of moves are some of these, in their order, and all other events have no cookie
+pub record AreTied (moves ms : List Mark) : Type 0 where
+  pub among : AreAmong (moves_in ms) moves
+  pub others : All IsTied ms
 
 -- ---- of events
 

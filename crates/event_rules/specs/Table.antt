@@ -1,6 +1,6 @@
 -- What an accepted call tells the watches: inotify(7), "inotify events". That page leaves open in which order one call tells of
 -- several events, and where IN_ISDIR stands; here it is as the lines of the table say.
-use Rattle.std.specs.Prelude.{ℕ, Bool, true, false, List, [], ◌∷◌, ◌++◌, Option, Some, None, bit_or, ◌==◌, if◌then◌else◌}
+use Rattle.std.specs.Prelude.{ℕ, ◌+◌, Bool, true, false, List, [], ◌∷◌, ◌++◌, Option, Some, None, bit_or, ◌==◌, if◌then◌else◌}
 use Rattle.std.specs.List.{last_or}
 use Rattle.record_codec.specs.declared.bits.TheConstants.{IN_ACCESS, IN_MODIFY, IN_ATTRIB, IN_CLOSE_WRITE, IN_CLOSE_NOWRITE, IN_OPEN, IN_MOVED_FROM, IN_MOVED_TO, IN_CREATE, IN_DELETE, IN_DELETE_SELF, IN_MOVE_SELF, IN_ISDIR}
 use Rattle.inode_table.specs.declared.seen.Kind.{Kind}
@@ -12,8 +12,9 @@ use Rattle.inode_table.specs.World.{World, look}
 use Rattle.tree_ops.specs.declared.answer.Answer.{Answer}
 use Rattle.tree_ops.specs.declared.answer.Answer.TheVariants.{Bytes}
 use Rattle.tree_ops.specs.declared.call.Counts.{Counts}
+use Rattle.tree_ops.specs.declared.call.TheConstants.{RENAME_EXCHANGE}
 use Rattle.tree_ops.specs.declared.call.FileCall.{FileCall}
-use Rattle.tree_ops.specs.declared.call.FileCall.TheVariants.{Create, Write, ReadFile, Truncate, Chmod, Mkdir, Link, Unlink, Rmdir, Rename, Stat, List as Listed}
+use Rattle.tree_ops.specs.declared.call.FileCall.TheVariants.{Create, Write, ReadFile, Truncate, Chmod, Mkdir, Link, Unlink, Rmdir, Rename, Rename2, Stat, List as Listed}
 use Rattle.tree_ops.specs.After.{answer_of}
 use Rattle.tree_ops.specs.Refused.{are_same_seen}
 use Rattle.event_rules.specs.declared.notice.TheConstants.{NO_COOKIE}
@@ -112,6 +113,21 @@ move_told at old new cookie =
 unfoldable pub rename_told : Look → List Label → List Label → ℕ → List Notice
 rename_told at old new cookie = if are_same_seen (at old) (at new) then [] else move_told at old new cookie
 
+-- the object that was at the old path moves to the new one, with a cookie, and then the other one moves back, with the next
+-- cookie; each is told where it goes from, where it goes to, and then itself
+unfoldable pub swap_told : Look → List Label → List Label → ℕ → List Notice
+swap_told at old new cookie =
+    to_dir at old (kind_seen (at old)) IN_MOVED_FROM cookie
+    ++ to_dir at new (kind_seen (at old)) IN_MOVED_TO cookie
+    ++ to_self (at old) IN_MOVE_SELF
+    ++ to_dir at new (kind_seen (at new)) IN_MOVED_FROM (cookie + 1)
+    ++ to_dir at old (kind_seen (at new)) IN_MOVED_TO (cookie + 1)
+    ++ to_self (at new) IN_MOVE_SELF
+
+-- where both paths are of one file nothing is moved
+unfoldable pub exchange_told : Look → List Label → List Label → ℕ → List Notice
+exchange_told at old new cookie = if are_same_seen (at old) (at new) then [] else swap_told at old new cookie
+
 abbrev pub has_byte : List ℕ → Bool
 has_byte [] = false
 has_byte (b ∷ bytes) = true
@@ -124,7 +140,7 @@ answers_byte _ = false
 abbrev pub no_counts : Counts
 no_counts = record { next_number = 0; next_cookie = 0 }
 
--- what an accepted call tells, in the world before it. A rename that moves something has the cookie
+-- what an accepted call tells, in the world before it. A rename that moves something has the cookie, and an exchange the next one too
 abbrev pub notices_of : World → FileCall → ℕ → List Notice
 notices_of w (Create p mode) cookie = create_told (look w) p
 notices_of w (Mkdir p mode) cookie = mkdir_told (look w) p
@@ -136,5 +152,6 @@ notices_of w (Link old new) cookie = link_told (look w) old new
 notices_of w (Unlink p) cookie = unlink_told (look w) p
 notices_of w (Rmdir p) cookie = rmdir_told (look w) p
 notices_of w (Rename old new) cookie = rename_told (look w) old new cookie
+notices_of w (Rename2 old new flags) cookie = if flags == RENAME_EXCHANGE then exchange_told (look w) old new cookie else rename_told (look w) old new cookie
 notices_of w (Stat p) cookie = []
 notices_of w (Listed p) cookie = []

@@ -10,12 +10,11 @@ ghost use Rattle.tree_ops.specs.declared.call.FileCall.{FileCall};
 ghost use Rattle.tree_ops.specs.Refused.{cookies_of, refused};
 ghost use Rattle.tree_ops.specs.After.{after};
 ghost use Rattle.watch_table.specs.Watching.{HasEnded, IsSound, Watch, Watching, removed, watch_of};
-ghost use Rattle.event_rules.specs.declared.notice.TheConstants.{NO_COOKIE};
 ghost use Rattle.event_rules.specs.declared.notice.Notice.{Notice};
 ghost use Rattle.event_rules.specs.declared.notice.Notice.TheVariants.{Gone};
 ghost use Rattle.event_rules.specs.Table.{notices_of};
 ghost use Rattle.event_rules.specs.Raised.{events_of, ignored, told_number, watches_after, wds_ended};
-ghost use Rattle.event_rules.specs.Laws.{HasCookie, HasOneEvent, HasWatch, IsPartOf, TellsNothing, says_ended, watch_without};
+ghost use Rattle.event_rules.specs.Laws.{AreTied, HasOneEvent, HasWatch, IsPartOf, Mark, TellsNothing, cookies_from, marks_of, marks_told, moves_with, says_ended, watch_without};
 
 use watch_table::{descriptors_end_for_good, descriptors_tell_files, watches_stay_sound};
 
@@ -24,11 +23,11 @@ pub fn notices_tell_one_event()
     ensures { (w : World) (call : FileCall) (cookie : ℕ) → All HasOneEvent (notices_of w call cookie) }
 {}
 
-/// A law: the two events of a rename that moves something have its cookie, and all others have none. A call that uses no cookie
-/// has none in any event.
+/// A law: the i-th pair of `IN_MOVED_FROM` and `IN_MOVED_TO` that a call tells has the i-th of the cookies that it uses, and all other
+/// events have none. What notices raise for an instance is tied as they are.
 pub fn cookies_tie_moves()
-    ensures moves { (w : World) (call : FileCall) (cookie : ℕ) → All (HasCookie cookie) (notices_of w call cookie) }
-    ensures unused { (w : World) (call : FileCall) (cookie : ℕ) → cookies_of w call ≡ 0 → All (HasCookie NO_COOKIE) (notices_of w call cookie) }
+    ensures told { (w : World) (call : FileCall) (cookie : ℕ) → AreTied (moves_with (cookies_from cookie (cookies_of w call))) (marks_told (notices_of w call cookie)) }
+    ensures raised { (w : Watching) (ns : List Notice) (moves : List Mark) → AreTied moves (marks_told ns) → AreTied moves (marks_of (events_of w ns)) }
 {}
 
 /// A law: an instance that watches none of the files is told nothing, and its watches stay.

@@ -6,7 +6,7 @@ use record_codec::Name;
 use std::alloc::{AllocError, Global};
 use std::marker::Model;
 
-/// The cookie of all events but the two of a rename.
+/// The cookie of all events but the two of a move.
 pub const NO_COOKIE: u32 = 0;
 
 /// What the watches of a file are told.
@@ -18,7 +18,7 @@ pub enum Notice {
         number: u32,
         /// The event's bit, and `IN_ISDIR` where the event is about a directory.
         bits: u32,
-        /// What ties the two events of a rename together, and [`NO_COOKIE`] in all others.
+        /// What ties the two events of a move together, and [`NO_COOKIE`] in all others.
         cookie: u32,
         /// The object's name in the directory.
         name: Option<Name>,

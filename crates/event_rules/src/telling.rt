@@ -1,18 +1,18 @@
 //! What calls on files tell.
 
-ghost use Rattle.std.specs.Prelude.{◌≡◌, ◌++◌, ℕ, IfOk, IfErr, OnOk};
+ghost use Rattle.std.specs.Prelude.{◌≡◌, ◌++◌, ◌+◌, ◌≤◌, ◌<◌, ◌^◌, ℕ, false, IfOk, IfErr, OnOk};
 ghost use Rattle.inode_table.specs.World.{World};
 ghost use Rattle.inode_table.specs.Stands.{Stands, look_in};
 ghost use Rattle.tree_ops.specs.After.{answer_of};
-ghost use Rattle.tree_ops.specs.Refused.{are_same_seen};
+ghost use Rattle.tree_ops.specs.Refused.{are_same_seen, cookies_of};
 ghost use Rattle.tree_ops.specs.declared.call.FileCall.TheVariants.{ReadFile};
-ghost use Rattle.event_rules.specs.Table.{about, answers_byte, chmod_told, create_told, kind_seen, link_told, mkdir_told, move_told, no_counts, notices_of, path_lost, read_told, rename_told, rmdir_told, to_both, to_dir, to_self, truncate_told, unlink_told, write_told};
+ghost use Rattle.event_rules.specs.Table.{about, answers_byte, chmod_told, create_told, exchange_told, kind_seen, link_told, mkdir_told, move_told, no_counts, notices_of, path_lost, read_told, rename_told, rmdir_told, swap_told, to_both, to_dir, to_self, truncate_told, unlink_told, write_told};
 
 use crate::notice::{NO_COOKIE, Notice, Notices};
 use inode_table::{Kind, Seen, Table};
 use record_codec::bits;
 use std::alloc::{AllocError, Global};
-use tree_ops::{FileCall, Ready};
+use tree_ops::{FileCall, RENAME_EXCHANGE, Ready};
 use tree_paths::{Path, Refusal};
 
 // What stands at a path.
@@ -253,8 +253,39 @@ fn rename(
     Ok(told)
 }
 
+// The next cookie is there too, where the paths are of two files.
+#[tactic(auto, unfolding(crate::specs::Table::exchange_told, crate::specs::Table::swap_told))]
+fn exchange(
+    alloc: Global,
+    table: &Table,
+    old: &Path,
+    new: &Path,
+    cookie: u32,
+) -> Result<Notices, AllocError>
+    requires next { are_same_seen (look_in table.now old.now) (look_in table.now new.now) ≡ false → cookie + 1 < 2 ^ 32 }
+    ensures { IfOk result (λ told. told ≡ exchange_told (look_in table.now) old.now new.now cookie) }
+{
+    let mut told = Notices::new(alloc);
+    let one = seen(table, old);
+    let other = seen(table, new);
+    if are_same(one, other) {
+        return Ok(told);
+    }
+    let next = cookie + 1;
+    let one_kind = kind_seen(one);
+    let other_kind = kind_seen(other);
+    told.tell_dir(table, old, one_kind, bits::IN_MOVED_FROM, cookie)?;
+    told.tell_dir(table, new, one_kind, bits::IN_MOVED_TO, cookie)?;
+    told.tell_self(one, bits::IN_MOVE_SELF)?;
+    told.tell_dir(table, new, other_kind, bits::IN_MOVED_FROM, next)?;
+    told.tell_dir(table, old, other_kind, bits::IN_MOVED_TO, next)?;
+    told.tell_self(other, bits::IN_MOVE_SELF)?;
+    Ok(told)
+}
+
 // What a call tells.
 fn told(alloc: Global, table: &Table, call: &FileCall, cookie: u32) -> Result<Notices, AllocError>
+    requires cookies { (w : World) → Stands table.now w → cookie + cookies_of w call.now ≤ 2 ^ 32 }
     ensures { (w : World) → Stands table.now w → IfOk result (λ told. told ≡ notices_of w call.now cookie) }
 {
     table.law();
@@ -280,15 +311,24 @@ fn told(alloc: Global, table: &Table, call: &FileCall, cookie: u32) -> Result<No
         FileCall::Unlink { path } => unlink(alloc, table, path),
         FileCall::Rmdir { path } => rmdir(alloc, table, path),
         FileCall::Rename { old, new } => rename(alloc, table, old, new, cookie),
+        FileCall::Rename2 { old, new, flags } => {
+            if *flags == RENAME_EXCHANGE {
+                exchange(alloc, table, old, new, cookie)
+            } else {
+                rename(alloc, table, old, new, cookie)
+            }
+        }
         FileCall::Stat { .. } | FileCall::List { .. } => Ok(Notices::new(alloc)),
     }
 }
 
-/// What an accepted call tells, in the table before it. `cookie` is that of a rename that moves something.
+/// What an accepted call tells, in the table before it. `cookie` is that of a rename that moves something, and the first of an
+/// exchange. A record has room for each cookie that the call uses.
 ///
 /// # Errors
 /// `ENOMEM` alone.
 pub fn notices(alloc: Global, table: &Table, ready: &Ready, cookie: u32) -> Result<Notices, Refusal>
+    requires cookies { (w : World) → Stands table.now w → cookie + cookies_of w ready.now.call ≤ 2 ^ 32 }
     ensures told { (w : World) → Stands table.now w → IfOk result (λ notices. notices ≡ notices_of w ready.now.call cookie) }
     ensures memory { IfErr result (λ refusal. refusal ≡ Refusal.Enomem) }
 {

@@ -1,9 +1,8 @@
 -- What holds of the locked tree whenever the lock is free.
-use Rattle.std.specs.Prelude.{◌≡◌, ◌↔◌, ℕ, List, [], ◌∷◌, ◌++◌, ⊤, Some, All, IsTrue}
+use Rattle.std.specs.Prelude.{◌≡◌, ◌↔◌, ℕ, List, [], ◌∷◌, ◌++◌, ⊤, Some, IsTrue}
 use Rattle.record_codec.specs.Records.{spelling}
 use Rattle.tree_paths.specs.declared.refusal.Refusal.{Refusal}
-use Rattle.event_rules.specs.Raised.{event_bit}
-use Rattle.event_rules.specs.Laws.{cookie_for}
+use Rattle.event_rules.specs.Laws.{AreTied, marks_of, moves_with}
 use Rattle.instance_table.specs.declared.instance.Instance.{Instance}
 use Rattle.instance_table.specs.Instances.{instance_of, waiting_of}
 use Rattle.tree_core.specs.declared.call.Call.{Call}
@@ -13,7 +12,7 @@ use Rattle.tree_core.specs.Tree.{Tree, reply_of, after}
 use Rattle.tree_core.specs.Journal.{Journaled, now}
 use Rattle.tree_core.specs.Histories.{events, joined, raised_by, raised_in, read_in}
 use Rattle.tree_core.specs.QueueLaws.{AreAccountedFor, FindsTheUnread, IsInOrder, bytes_read}
-use Rattle.tree_core.specs.TurnLaws.{AddsNothing, AreInTurn, EndsOnce, cookies_in, cookies_used, only}
+use Rattle.tree_core.specs.TurnLaws.{AddsNothing, AreInTurn, EndsOnce, cookies_in, cookies_used}
 use Rattle.shared_tree.specs.Calls.{Holding}
 use Rattle.shared_tree.specs.Held.{IsIn}
 
@@ -22,9 +21,9 @@ abbrev pub AtEach : (Tree → Call → Type 0) → Tree → List Entry → Type 
 AtEach P t [] = ⊤
 AtEach P t (e ∷ es) = P t e.call × AtEach P (after t e.call) es
 
--- both events of a move have its cookie, and all others have none
+-- the i-th pair of IN_MOVED_FROM and IN_MOVED_TO that a call raises has the i-th of its cookies, and all other events have none
 abbrev pub TiesMoves : Tree → Call → Type 0
-TiesMoves t c = (id : ℕ) → All (λ e. e.cookie ≡ cookie_for (event_bit e.mask) (only (cookies_used t c))) (events (raised_by t c id))
+TiesMoves t c = (id : ℕ) → AreTied (moves_with (cookies_used t c)) (marks_of (events (raised_by t c id)))
 
 -- a call that is refused leaves the files, the watches and what waits as they were; what joined and what was read of each
 -- instance are as before it
@@ -40,7 +39,7 @@ pub record IsTold (s : Journaled) (id : ℕ) : Type 0 where
   pub accounted : AreAccountedFor (raised_in s.start s.entries id)
   pub found : FindsTheUnread s.start s.entries id
 
--- no two renames share a cookie, and only the events of a rename have one
+-- no two moves share a cookie, and only the events of a move have one
 pub record HasCookiesInTurn (s : Journaled) : Type 0 where
   pub turn : AreInTurn s.start.next_cookie (cookies_in s.start s.entries)
   pub ties : AtEach TiesMoves s.start s.entries

@@ -346,10 +346,10 @@ impl<L: Ledger> Held<L> {
     /// Of each instance the records that were read, followed by those that wait, are the events that the journal raises
     /// for it, in order, each once, but for those that are merged into an equal unread neighbour and those that are
     /// lost behind a mark; all of them are events, so that the bytes that were read are the records of these alone. No
-    /// two renames share a cookie. Nothing of a watch follows its `IN_IGNORED`. A refused call adds nothing: what
+    /// two moves share a cookie. Nothing of a watch follows its `IN_IGNORED`. A refused call adds nothing: what
     /// joined, what was read and the tree are as before it. An open instance has a pipe exactly where it was made with
-    /// one. Each pipe was sent what the journal hands to its instance, and that are events. The ledger's total is the
-    /// number of entries.
+    /// one. Each pipe was sent what the whole journal hands to its instance, and that are events. The ledger's total is
+    /// the place of the last entry.
     pub fn law(&self)
         ensures lawful { IsLawfulFrom self.now.state.start self.now.state.entries }
         ensures sound { IsSoundTree self.now.state.start }

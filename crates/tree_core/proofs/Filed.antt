@@ -6,7 +6,7 @@ use Rattle.inode_table.specs.World.{World}
 use Rattle.inode_table.specs.Stands.{Stands}
 use Rattle.tree_ops.specs.declared.call.Counts.{Counts}
 use Rattle.tree_ops.specs.declared.call.FileCall.{FileCall}
-use Rattle.tree_ops.specs.declared.call.FileCall.TheVariants.{Create, Write, ReadFile, Truncate, Chmod, Mkdir, Link, Unlink, Rmdir, Rename, Stat as Status, List as Listed}
+use Rattle.tree_ops.specs.declared.call.FileCall.TheVariants.{Create, Write, ReadFile, Truncate, Chmod, Mkdir, Link, Unlink, Rmdir, Rename, Rename2, Stat as Status, List as Listed}
 use Rattle.tree_ops.specs.declared.answer.Answer.{Answer}
 use Rattle.tree_ops.specs.Checked.{Checked}
 use Rattle.tree_ops.specs.ReadyCall.{HasNumbersBelow}
@@ -47,6 +47,7 @@ lists-change-nothing w counts (Link old new) e = absurd (false≢true e)
 lists-change-nothing w counts (Unlink p) e = absurd (false≢true e)
 lists-change-nothing w counts (Rmdir p) e = absurd (false≢true e)
 lists-change-nothing w counts (Rename old new) e = absurd (false≢true e)
+lists-change-nothing w counts (Rename2 old new flags) e = absurd (false≢true e)
 lists-change-nothing w counts (Status p) e = (refl, refl)
 lists-change-nothing w counts (Listed p) e = (refl, refl)
 

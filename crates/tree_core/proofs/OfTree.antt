@@ -1,6 +1,6 @@
 -- Which refusals a tree gives: none is want of memory, a full journal or a full pipe.
 use Rattle.std.specs.Prelude.{ℤ}
-use Rattle.std.proofs.Common.{◌≡◌, ℕ, Bool, true, false, if◌then◌else◌, List, [], ◌∷◌, Option, Some, None, is_none, is_some, not, ◌&&◌, length, refl, sym, ap, subst, ◌∙◌}
+use Rattle.std.proofs.Common.{◌≡◌, ℕ, Bool, true, false, if◌then◌else◌, List, [], ◌∷◌, Option, Some, None, is_none, is_some, not, ◌&&◌, ◌==◌, length, refl, sym, ap, subst, ◌∙◌}
 use Rattle.tree_paths.specs.Rows.{row, first_row}
 use Rattle.tree_paths.specs.declared.limits.Limits.{Limits}
 use Rattle.tree_paths.specs.declared.refusal.Refusal.{Refusal}
@@ -10,8 +10,9 @@ use Rattle.inode_table.specs.World.{look}
 use Rattle.inode_table.specs.Refusals.{Look, find, is_directory_kind, is_directory_seen, longest_there, parent, parent_of}
 use Rattle.tree_ops.specs.declared.call.Counts.{Counts}
 use Rattle.tree_ops.specs.declared.call.FileCall.{FileCall}
-use Rattle.tree_ops.specs.declared.call.FileCall.TheVariants.{Create, Write, ReadFile, Truncate, Chmod, Mkdir, Link, Unlink, Rmdir, Rename, Stat as Status, List as Listed}
+use Rattle.tree_ops.specs.declared.call.FileCall.TheVariants.{Create, Write, ReadFile, Truncate, Chmod, Mkdir, Link, Unlink, Rmdir, Rename, Rename2, Stat as Status, List as Listed}
 use Rattle.tree_ops.specs.Refused as ops
+use Rattle.tree_ops.specs.declared.call.TheConstants.{RENAME_EXCHANGE, RENAME_NOREPLACE}
 use Rattle.record_codec.specs.declared.bits.TheConstants.{IN_ALL_EVENTS, IN_MASK_ADD, IN_MASK_CREATE}
 use Rattle.watch_table.specs.Masks.{has_any, known}
 use Rattle.watch_table.specs.Watching.{add_refusal, is_barred, is_full, is_taken, watch_of}
@@ -72,8 +73,37 @@ tail-fits : (b : Bool) (rows : List (Option Refusal)) → Each rows → Each (if
 tail-fits true rows h = tt
 tail-fits false rows h = h
 
+rename-rows-fit : (at : Look) (limits : Limits) (counts : Counts) (old new : List (List ℕ)) → Each (ops.rename_rows at limits counts old new)
+unfolding ops.rename_rows
+rename-rows-fit at limits counts old new =
+    (one _ _ refl, (find-fits at old, (one _ _ refl, (parent-fits at new, tail-fits (ops.are_same_seen (at old) (at new)) _ (move-fits limits counts (at old) (at new))))))
+
+noreplace-rows-fit : (at : Look) (limits : Limits) (counts : Counts) (old new : List (List ℕ)) → Each (ops.noreplace_rows at limits counts old new)
+unfolding ops.noreplace_rows
+noreplace-rows-fit at limits counts old new = (one _ _ refl, (find-fits at old, (one _ _ refl, (parent-fits at new, (one _ _ refl, (one _ _ refl, tt))))))
+
+swap-fits : (limits : Limits) (counts : Counts) (old new : List (List ℕ)) (one_seen other : Option Seen) → Each (ops.swap_rows limits counts old new one_seen other)
+unfolding ops.swap_rows
+swap-fits limits counts old new one_seen other = (one _ _ refl, (one _ _ refl, tt))
+
+exchange-rows-fit : (at : Look) (limits : Limits) (counts : Counts) (old new : List (List ℕ)) → Each (ops.exchange_rows at limits counts old new)
+unfolding ops.exchange_rows
+exchange-rows-fit at limits counts old new =
+    (one _ _ refl, (find-fits at old, (find-fits at new, tail-fits (ops.are_same_seen (at old) (at new)) _ (swap-fits limits counts old new (at old) (at new)))))
+
+either-fits : (b : Bool) (rows others : List (Option Refusal)) → Each rows → Each others → Each (if b then rows else others)
+either-fits true rows others h g = h
+either-fits false rows others h g = g
+
+rename2-rows-fit : (at : Look) (limits : Limits) (counts : Counts) (old new : List (List ℕ)) (flags : ℕ) → Each (ops.rename2_rows at limits counts old new flags)
+unfolding ops.rename2_rows
+rename2-rows-fit at limits counts old new flags =
+    either-fits (flags == 0) _ _ (rename-rows-fit at limits counts old new)
+    (either-fits (flags == RENAME_NOREPLACE) _ _ (noreplace-rows-fit at limits counts old new)
+    (either-fits (flags == RENAME_EXCHANGE) _ _ (exchange-rows-fit at limits counts old new) (refl, tt)))
+
 rows-fit : (at : Look) (limits : Limits) (counts : Counts) (f : FileCall) → Each (ops.rows_of at limits counts f)
-unfolding ops.make_rows ops.write_rows ops.read_rows ops.truncate_rows ops.chmod_rows ops.link_rows ops.unlink_rows ops.rmdir_rows ops.rename_rows ops.find_rows ops.list_rows
+unfolding ops.make_rows ops.write_rows ops.read_rows ops.truncate_rows ops.chmod_rows ops.link_rows ops.unlink_rows ops.rmdir_rows ops.find_rows ops.list_rows
 rows-fit at limits counts (Create p mode) = (one _ _ refl, (one _ _ refl, (parent-fits at p, (one _ _ refl, (one _ _ refl, tt)))))
 rows-fit at limits counts (Mkdir p mode) = (one _ _ refl, (one _ _ refl, (parent-fits at p, (one _ _ refl, (one _ _ refl, tt)))))
 rows-fit at limits counts (Write p offset bytes) = (find-fits at p, (one _ _ refl, (one _ _ refl, tt)))
@@ -83,8 +113,8 @@ rows-fit at limits counts (Chmod p mode) = (one _ _ refl, (find-fits at p, tt))
 rows-fit at limits counts (Link old new) = (find-fits at old, (one _ _ refl, (one _ _ refl, (parent-fits at new, (one _ _ refl, (one _ _ refl, tt))))))
 rows-fit at limits counts (Unlink p) = (find-fits at p, (one _ _ refl, tt))
 rows-fit at limits counts (Rmdir p) = (one _ _ refl, (find-fits at p, (one _ _ refl, (one _ _ refl, tt))))
-rows-fit at limits counts (Rename old new) =
-    (one _ _ refl, (find-fits at old, (one _ _ refl, (parent-fits at new, tail-fits (ops.are_same_seen (at old) (at new)) _ (move-fits limits counts (at old) (at new))))))
+rows-fit at limits counts (Rename old new) = rename-rows-fit at limits counts old new
+rows-fit at limits counts (Rename2 old new flags) = rename2-rows-fit at limits counts old new flags
 rows-fit at limits counts (Status p) = (find-fits at p, tt)
 rows-fit at limits counts (Listed p) = (find-fits at p, (one _ _ refl, tt))
 

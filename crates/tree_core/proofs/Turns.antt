@@ -1,11 +1,12 @@
 -- Numbers of files and of instances are given in turn.
-use Rattle.std.proofs.Common.{◌≡◌, ℕ, ◌+◌, List, [], ◌∷◌, ◌++◌, Option, Some, None, refl, sym, subst, arith}
+use Rattle.std.proofs.Common.{◌≡◌, ℕ, zero, suc, ◌+◌, List, [], ◌∷◌, ◌++◌, Option, Some, None, refl, sym, subst, arith}
 use Rattle.std.specs.FinMap as finmap
 use Rattle.tree_paths.specs.declared.refusal.Refusal.{Refusal}
 use Rattle.inode_table.specs.World.{World, File, file_at, look}
 use Rattle.tree_ops.specs.declared.call.FileCall.{FileCall}
-use Rattle.tree_ops.specs.declared.call.FileCall.TheVariants.{Create, Write, ReadFile, Truncate, Chmod, Mkdir, Link, Unlink, Rmdir, Rename, Stat as Status, List as Listed}
+use Rattle.tree_ops.specs.declared.call.FileCall.TheVariants.{Create, Write, ReadFile, Truncate, Chmod, Mkdir, Link, Unlink, Rmdir, Rename, Rename2, Stat as Status, List as Listed}
 use Rattle.tree_ops.specs.After as ops
+use Rattle.event_rules.specs.Laws.{cookies_from}
 use Rattle.instance_table.specs.declared.instance.Instance.{Instance}
 use Rattle.instance_table.specs.Instances.{instance_of}
 use Rattle.tree_core.specs.declared.call.Call.{Call}
@@ -27,6 +28,12 @@ gives-none now next given none stays = record { all = λ rest h. subst (λ (xs :
 pub gives-one : (now next : ℕ) (given : List ℕ) → given ≡ now ∷ [] → next ≡ now + 1 → Step now next given
 gives-one now next given one rises =
     record { all = λ rest h. subst (λ (xs : List ℕ). AreInTurn now (xs ++ rest)) (sym one) (refl, subst (λ (n : ℕ). AreInTurn n rest) rises h) }
+
+pub gives-many : (now used : ℕ) → Step now (now + used) (cookies_from now used)
+gives-many now zero = gives-none now (now + 0) [] refl (omega arith)
+gives-many now (suc used) = record {
+  all = λ rest h. (refl, (gives-many (now + 1) used).all rest (subst (λ (n : ℕ). AreInTurn n rest) (let same : now + suc used ≡ (now + 1) + used = omega arith in same) h));
+}
 
 -- ---- numbers of files
 
@@ -58,6 +65,7 @@ file-step t (Link old new) = gives-none _ _ _ refl (same-number t.next_number)
 file-step t (Unlink p) = gives-none _ _ _ refl (same-number t.next_number)
 file-step t (Rmdir p) = gives-none _ _ _ refl (same-number t.next_number)
 file-step t (Rename old new) = gives-none _ _ _ refl (same-number t.next_number)
+file-step t (Rename2 old new flags) = gives-none _ _ _ refl (same-number t.next_number)
 file-step t (Status p) = gives-none _ _ _ (stat-number t.world (finmap.get t.world.paths p) (file_at t.world p)) (same-number t.next_number)
 file-step t (Listed p) = gives-none _ _ _ refl (same-number t.next_number)
 

@@ -1,5 +1,5 @@
 -- What waits in the instances of a sound tree stays sound over a call.
-use Rattle.std.proofs.Common.{◌≡◌, ◌⊎◌, inl, inr, ℕ, ◌+◌, ◌<◌, ◌≤◌, ◌==◌, ◌||◌, Bool, true, false, cond, eqb, if◌then◌else◌, List, [], ◌∷◌, ◌++◌, Option, Some, None, refl, sym, ap, subst, ◌∙◌, arith}
+use Rattle.std.proofs.Common.{◌≡◌, ◌⊎◌, inl, inr, ℕ, ◌+◌, ◌<◌, ◌≤◌, Bool, true, false, cond, eqb, if◌then◌else◌, List, [], ◌∷◌, ◌++◌, Option, Some, None, refl, sym, ap, subst, ◌∙◌, arith}
 use Rattle.std.specs.Prelude.{ℤ, All, IfSome, IsSome}
 use Rattle.std.proofs.lemmas.Int.{ints}
 use Rattle.std.proofs.lemmas.List.Elements.{All-nil, All-append, All-cons, All-head, All-tail, All-same, All-weaker}
@@ -13,7 +13,8 @@ use Rattle.event_queue.specs.declared.offered.Offered.{Offered}
 use Rattle.event_queue.specs.declared.offered.Offered.TheVariants.{Kept, Merged, Marked, Lost}
 use Rattle.event_queue.specs.Backlogs.{joining, overflow_mark}
 use Rattle.event_rules.specs.declared.notice.Notice.{Notice}
-use Rattle.event_rules.specs.Laws.{HasWatch, IsPartOf, TellsNothing, cookie_for}
+use Rattle.event_rules.specs.Laws.{AreAmong, AreTied, HasWatch, IsPartOf, IsTied, Mark, TellsNothing, is_move, marks_of, moves_in, moves_with}
+use Rattle.event_rules.specs.declared.notice.TheConstants.{NO_COOKIE}
 use Rattle.event_rules.specs.Raised.{event_bit, watches_after}
 use Rattle.event_rules.specs.Table.{notices_of}
 use Rattle.instance_table.specs.declared.instance.Instance.{Instance}
@@ -23,7 +24,7 @@ use Rattle.tree_core.specs.declared.call.Call.TheVariants as call
 use Rattle.tree_core.specs.Histories.{Raised, events, events_for, fate, joined, raised_by, raised_to, read_by, where_open}
 use Rattle.tree_core.specs.Sound.{IsGivenRecord, IsSoundTree}
 use Rattle.tree_core.specs.Tree.{Tree, accepted, after, after_reading, cookie_now, number_seen, refusal_of, tree_by}
-use Rattle.tree_core.specs.TurnLaws.{AreInTurn, CookiesTieMoves, cookies_used, only}
+use Rattle.tree_core.specs.TurnLaws.{AreInTurn, CookiesTieMoves, cookies_used}
 use Rattle.tree_core.proofs.Accounts.{RaisedLaws, events-watched}
 use Rattle.tree_core.proofs.Cookies.{cookies-step, events-raised_to}
 use Rattle.tree_core.proofs.Ends.{EndLaws, IsOver, IsOver-after, OverIn, over-given, quiet-one, said-one, silent-one}
@@ -60,9 +61,42 @@ last-in-turn : (n m : ℕ) (xs : List ℕ) → AreInTurn n (xs ++ m ∷ []) → 
 last-in-turn n m [] h = omega (arith, h.0)
 last-in-turn n m (x ∷ xs) h = let rest = last-in-turn (n + 1) m xs h.1 in omega arith
 
-only-below : (n m : ℕ) (xs : List ℕ) → AreInTurn n (xs ++ m ∷ []) → (only xs ≡ 0) ⊎ (only xs < m)
-only-below n m [] h = inl refl
-only-below n m (x ∷ xs) h = let rest = last-in-turn (n + 1) m xs h.1 in inr (omega (arith, h.0, rest))
+-- each number is below the last one
+all-below : (n m : ℕ) (xs : List ℕ) → AreInTurn n (xs ++ m ∷ []) → All (λ x. x < m) xs
+all-below n m [] h = All-nil (λ x. x < m)
+all-below n m (x ∷ xs) h = let rest = last-in-turn (n + 1) m xs h.1 in All-cons (λ y. y < m) x xs (omega (arith, h.0, rest)) (all-below (n + 1) m xs h.1)
+
+-- ---- marks
+
+-- what holds of each cookie holds of the marks of the moves
+with-All : (P : ℕ → Type 0) (cookies : List ℕ) → All P cookies → All (λ (m : Mark). P m.1) (moves_with cookies)
+with-All P [] h = All-nil (λ (m : Mark). P m.1)
+with-All P (x ∷ xs) h =
+    let here = All-head P x xs h in
+    All-cons (λ (m : Mark). P m.1) (IN_MOVED_FROM, x) ((IN_MOVED_TO, x) ∷ moves_with xs) here
+    (All-cons (λ (m : Mark). P m.1) (IN_MOVED_TO, x) (moves_with xs) here (with-All P xs (All-tail P x xs h)))
+
+among-All : (P : Mark → Type 0) (xs ys : List Mark) → AreAmong xs ys → All P ys → All P xs
+among-All P [] ys h all = All-nil P
+among-All P (x ∷ xs) [] h all = absurd h
+among-All P (x ∷ xs) (y ∷ ys) (inl here) all = All-cons P x xs (subst P (sym here.0) (All-head P y ys all)) (among-All P xs ys here.1 (All-tail P y ys all))
+among-All P (x ∷ xs) (y ∷ ys) (inr later) all = among-All P (x ∷ xs) ys later (All-tail P y ys all)
+
+-- what holds of no cookie, and of the cookie of each move, holds of the cookie of each event
+marks-All : (P : ℕ → Type 0) → P NO_COOKIE → (ms : List Mark) → All (λ (m : Mark). P m.1) (moves_in ms) → All IsTied ms → All (λ (m : Mark). P m.1) ms
+marks-All P none [] h ties = All-nil (λ (m : Mark). P m.1)
+marks-All P none (m ∷ ms) h ties = by (is_move m) refl (λ k. marks-All P none ms k (All-tail IsTied m ms ties)) h
+  where
+    by : (b : Bool) → is_move m ≡ b → (All (λ (x : Mark). P x.1) (moves_in ms) → All (λ (x : Mark). P x.1) ms)
+        → All (λ (x : Mark). P x.1) (if b then (event_bit m.0, m.1) ∷ moves_in ms else moves_in ms) → All (λ (x : Mark). P x.1) (m ∷ ms)
+    by true e rest k =
+        All-cons (λ (x : Mark). P x.1) m ms (All-head (λ (x : Mark). P x.1) (event_bit m.0, m.1) (moves_in ms) k) (rest (All-tail (λ (x : Mark). P x.1) (event_bit m.0, m.1) (moves_in ms) k))
+    by false e rest k = All-cons (λ (x : Mark). P x.1) m ms (subst P (sym (All-head IsTied m ms ties e)) none) (rest k)
+
+events-All : (P : ℕ → Type 0) (es : List Event) → All (λ (m : Mark). P m.1) (marks_of es) → All (λ (e : Event). P e.cookie) es
+events-All P [] h = All-nil (λ (e : Event). P e.cookie)
+events-All P (e ∷ es) h =
+    All-cons (λ (x : Event). P x.cookie) e es (All-head (λ (m : Mark). P m.1) (e.mask, e.cookie) (marks_of es) h) (events-All P es (All-tail (λ (m : Mark). P m.1) (e.mask, e.cookie) (marks_of es) h))
 
 module _ (t : Tree) (c : Call) where
   in-turn : AreInTurn t.next_cookie (cookies_used t c ++ (after t c).next_cookie ∷ [])
@@ -75,12 +109,16 @@ module _ (t : Tree) (c : Call) where
   abbrev IsGivenCookie : ℕ → Type 0
   IsGivenCookie cookie = (cookie ≡ 0) ⊎ (cookie < (after t c).next_cookie)
 
-  cookie-given : (bit cookie : ℕ) → cookie ≡ cookie_for bit (only (cookies_used t c)) → IsGivenCookie cookie
-  cookie-given bit cookie is = by ((bit == IN_MOVED_FROM) || (bit == IN_MOVED_TO)) is
-    where
-      by : (b : Bool) → cookie ≡ (if b then only (cookies_used t c) else 0) → IsGivenCookie cookie
-      by true e = subst IsGivenCookie (sym e) (only-below t.next_cookie (after t c).next_cookie (cookies_used t c) in-turn)
-      by false e = inl e
+  -- the cookies that a call uses are so, and those of all events that it raises
+  used-given : All IsGivenCookie (cookies_used t c)
+  used-given =
+      All-weaker (λ x. x < (after t c).next_cookie) IsGivenCookie (λ x h. inr h) (cookies_used t c) (all-below t.next_cookie (after t c).next_cookie (cookies_used t c) in-turn)
+
+  events-given : (es : List Event) → AreTied (moves_with (cookies_used t c)) (marks_of es) → All (λ e. IsGivenCookie e.cookie) es
+  events-given es ties =
+      events-All IsGivenCookie es
+      (marks-All IsGivenCookie (inl refl) (marks_of es)
+      (among-All (λ (m : Mark). IsGivenCookie m.1) (moves_in (marks_of es)) (moves_with (cookies_used t c)) ties.among (with-All IsGivenCookie (cookies_used t c) used-given)) ties.others)
 
   -- a cookie that was given is so after the call
   still-given : (cookie : ℕ) → (cookie ≡ 0) ⊎ (cookie < t.next_cookie) → IsGivenCookie cookie
@@ -199,21 +237,21 @@ module _ (laws : WaitLaws) (t : Tree) (is : IsSoundTree t) (c : Call) (id : ℕ)
             let more = later-after laws.part t c id i j at (below (Some i) at refl) is_open in
             inr (low, (omega (arith, ints, more, high)), still-given t c e.cookie cookie)
 
-    event-given : (i : Instance) → instance_of t.instances id ≡ Some i → (e : Event) → HasWatch i.watches e.wd → e.cookie ≡ cookie_for (event_bit e.mask) (only (cookies_used t c)) → IsGivenRecord (after t c) j e
+    event-given : (i : Instance) → instance_of t.instances id ≡ Some i → (e : Event) → HasWatch i.watches e.wd → IsGivenCookie t c e.cookie → IsGivenRecord (after t c) j e
     event-given i at e has cookie =
         let given = (is.instances id i at).watches.given has.0 e.wd has.1 in
         let more = later-after laws.part t c id i j at (below (Some i) at refl) is_open in
-        inr (given.0, (omega (arith, ints, more, given.1)), cookie-given t c (event_bit e.mask) e.cookie cookie)
+        inr (given.0, (omega (arith, ints, more, given.1)), cookie)
 
     raised-given : (r : Option Refusal) (o : Option Instance) → refusal_of t c ≡ r → instance_of t.instances id ≡ o
-        → All (λ e. e.cookie ≡ cookie_for (event_bit e.mask) (only (cookies_used t c))) (events (where_open r o (λ i. raised_to i.queue (events_for t c id i))))
+        → All (λ e. IsGivenCookie t c e.cookie) (events (where_open r o (λ i. raised_to i.queue (events_for t c id i))))
         → All (IsGivenRecord (after t c) j) (events (where_open r o (λ i. raised_to i.queue (events_for t c id i))))
     raised-given (Some r) o e at ties = All-nil (IsGivenRecord (after t c) j)
     raised-given None None e at ties = All-nil (IsGivenRecord (after t c) j)
     raised-given None (Some i) e at ties =
         let es = events_for t c id i in
         let same = events-raised_to i.queue es in
-        let P : Event → Type 0 = λ (x : Event). x.cookie ≡ cookie_for (event_bit x.mask) (only (cookies_used t c)) in
+        let P : Event → Type 0 = λ (x : Event). IsGivenCookie t c x.cookie in
         let tied : All P es = All-same P es (events (raised_to i.queue es)) (sym same) ties in
         let watched : All (λ x. HasWatch i.watches x.wd) es = events-watched laws.raised t id i at (is.instances id i at).watches c e in
         All-same (IsGivenRecord (after t c) j) (events (raised_to i.queue es)) es same (λ k d within. event-given i at _ (watched k d within) (tied k d within))
@@ -222,7 +260,7 @@ module _ (laws : WaitLaws) (t : Tree) (is : IsSoundTree t) (c : Call) (id : ℕ)
     unfolding raised_by
     all-given o at =
         All-append (IsGivenRecord (after t c) j) (waiting_of o) (joined Raising) (old-given o at)
-        (joined-All (IsGivenRecord (after t c) j) (inl refl) Raising (raised-given (refusal_of t c) (instance_of t.instances id) refl refl (laws.ties t c id)))
+        (joined-All (IsGivenRecord (after t c) j) (inl refl) Raising (raised-given (refusal_of t c) (instance_of t.instances id) refl refl (events-given t c (events (raised_by t c id)) (laws.ties t c id))))
 
     waits : GoesOn (instance_of t.instances id) Raising (read_by t c id) (instance_of (after t c).instances id) → Waits (after t c) j
     waits goes =

@@ -1,6 +1,6 @@
 -- Laws of all lawful journals, from any sound tree on: numbers, descriptors and cookies are given once, and nothing follows
 -- the end of a watch.
-use Rattle.std.specs.Prelude.{◌≡◌, ◌≢◌, ◌⊎◌, ⊤, ℕ, ℤ, pos, ◌≤ℤ◌, ◌<ℤ◌, ◌+◌, ◌≤◌, ◌==◌, List, [], ◌∷◌, ◌++◌, Option, Some, None, All, IsTrue, not, if◌then◌else◌}
+use Rattle.std.specs.Prelude.{◌≡◌, ◌≢◌, ◌⊎◌, ⊤, ℕ, ℤ, pos, ◌≤ℤ◌, ◌<ℤ◌, ◌+◌, ◌≤◌, List, [], ◌∷◌, ◌++◌, Option, Some, None, All, IsTrue, not}
 use Rattle.record_codec.specs.declared.event.Event.{Event}
 use Rattle.tree_paths.specs.declared.limits.Limits.{Limits}
 use Rattle.tree_paths.specs.declared.refusal.Refusal.{Refusal}
@@ -8,9 +8,7 @@ use Rattle.tree_paths.specs.declared.refusal.Refusal.TheVariants.{Enomem, Journa
 use Rattle.tree_ops.specs.declared.answer.Answer.TheVariants.{Number}
 use Rattle.tree_ops.specs.Refused.{cookies_of}
 use Rattle.watch_table.specs.Watching.{HasEnded}
-use Rattle.event_rules.specs.Raised.{event_bit}
-use Rattle.event_rules.specs.Laws.{TellsNothing, cookie_for}
-use Rattle.event_rules.specs.declared.notice.TheConstants.{NO_COOKIE}
+use Rattle.event_rules.specs.Laws.{AreTied, TellsNothing, cookies_from, marks_of, moves_with}
 use Rattle.instance_table.specs.declared.instance.Instance.{Instance}
 use Rattle.instance_table.specs.Instances.{instance_of, waiting_of}
 use Rattle.tree_core.specs.declared.call.Call.{Call}
@@ -61,34 +59,31 @@ IdsAreInTurn = (t : Tree) (es : List Entry) → IsLawfulFrom t es → AreInTurn 
 
 -- ---- cookies
 
+-- so many cookies, from the next one on
 abbrev pub cookies_taken : ℕ → ℕ → List ℕ
-cookies_taken used next = if used == 0 then [] else cookie_now next ∷ []
+cookies_taken used next = cookies_from (cookie_now next) used
 
 abbrev pub cookies_by : Option Refusal → Tree → Call → List ℕ
 cookies_by (Some refusal) t c = []
 cookies_by None t (call.File f) = cookies_taken (cookies_of t.world f) t.next_cookie
 cookies_by None t _ = []
 
--- the cookie that a call uses, if it is a rename that moves something
+-- the cookies that a call uses, in order: one for each move that it makes
 abbrev pub cookies_used : Tree → Call → List ℕ
 cookies_used t c = cookies_by (refusal_of t c) t c
 
--- the cookies that the renames of a journal use, in order
+-- the cookies that the moves of a journal use, in order
 abbrev pub cookies_in : Tree → List Entry → List ℕ
 cookies_in t [] = []
 cookies_in t (e ∷ es) = cookies_used t e.call ++ cookies_in (after t e.call) es
 
--- cookies are used in turn, so no two renames share one, and none is 0
+-- cookies are used in turn, so no two moves share one, and none is 0
 abbrev pub CookiesAreInTurn : Type 0
 CookiesAreInTurn = (t : Tree) (es : List Entry) → AreInTurn t.next_cookie (cookies_in t es)
 
-abbrev pub only : List ℕ → ℕ
-only [] = NO_COOKIE
-only (cookie ∷ cookies) = cookie
-
--- both events of a move have its cookie, and all others have none
+-- the i-th pair of IN_MOVED_FROM and IN_MOVED_TO that a call raises has the i-th of its cookies, and all other events have none
 abbrev pub CookiesTieMoves : Type 0
-CookiesTieMoves = (t : Tree) (c : Call) (id : ℕ) → All (λ e. e.cookie ≡ cookie_for (event_bit e.mask) (only (cookies_used t c))) (events (raised_by t c id))
+CookiesTieMoves = (t : Tree) (c : Call) (id : ℕ) → AreTied (moves_with (cookies_used t c)) (marks_of (events (raised_by t c id)))
 
 -- ---- the end of a watch
 

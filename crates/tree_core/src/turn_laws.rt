@@ -43,7 +43,8 @@ pub fn numbers_are_in_turn()
     other_watches_stay();
 }
 
-/// A law: no two renames share a cookie; both events of a rename have its cookie, and all other events have none.
+/// A law: no two moves share a cookie; the i-th pair of `IN_MOVED_FROM` and `IN_MOVED_TO` that a call raises has the i-th of its
+/// cookies, and all other events have none.
 pub fn cookies_are_in_turn()
     ensures turn { CookiesAreInTurn }
     ensures tie { CookiesTieMoves }

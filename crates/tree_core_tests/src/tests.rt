@@ -16,7 +16,7 @@ use std::alloc::Global;
 use std::fmt::Debug;
 use std::process::Abort;
 use tree_core::{Call, Receipt, Reply, State};
-use tree_ops::{Answer, FileCall};
+use tree_ops::{Answer, FileCall, RENAME_EXCHANGE};
 use tree_paths::{Limits, Names, Path, Refusal};
 
 /// What was got is what is wanted. Tests assert in these two functions: the macros in a long body take minutes to prove.
@@ -224,6 +224,13 @@ fn rename(alloc: Global, old: &str, new: &str) -> Result<Call, Refusal> {
     let old = path(alloc, old)?;
     let new = path(alloc, new)?;
     Ok(Call::File(FileCall::Rename { old, new }))
+}
+
+fn exchange(alloc: Global, old: &str, new: &str) -> Result<Call, Refusal> {
+    let old = path(alloc, old)?;
+    let new = path(alloc, new)?;
+    let flags = RENAME_EXCHANGE;
+    Ok(Call::File(FileCall::Rename2 { old, new, flags }))
 }
 
 fn stat(alloc: Global, text: &str) -> Result<Call, Refusal> {

@@ -1,14 +1,16 @@
 -- Changes of one file, and paths of one file.
-use Rattle.std.proofs.Common.{◌≡◌, ℕ, List, [], true, false, Option, Some, None, IfSome, refl, ap, ◌∙◌, if◌then◌else◌}
+use Rattle.std.proofs.Common.{◌≡◌, ◌≢◌, ◌==◌, ℕ, List, [], true, false, Option, Some, None, IsSome, IfSome, refl, sym, ap, ◌∙◌, if◌then◌else◌}
+use borrow.Author.Tests.{eq-eqb}
 use Rattle.std.specs.Option.{option_and_then, option_map, IsSomeAnd, unwrap_or}
 use Rattle.std.specs.FinMap as finmap
 use Rattle.inode_table.specs.Rows.{Row, What, row, shown}
 use Rattle.inode_table.specs.Tree.{Tree, at}
-use Rattle.inode_table.specs.World.{World, File, file_at, content_by, changed_at, with_content, with_move, without_lost}
+use Rattle.inode_table.specs.World.{World, File, file_at, content_by, changed_at, with_content, with_move, with_swap, without_lost}
 use Rattle.inode_table.specs.Stands.{Stands, look_in, seen_row, seen_at, number_of}
 use Rattle.inode_table.specs.declared.seen.Seen.{Seen}
 use Rattle.tree_ops.specs.Refused.{are_same_seen}
-use Rattle.tree_ops.specs.After.{are_same, after_rename, bytes_at}
+use Rattle.inode_table.specs.Refusals.{Look}
+use Rattle.tree_ops.specs.After.{are_same, after_rename, after_exchange, bytes_at}
 
 pub all-some : {A : Type 0} (P Q : A → Type 0) (o : Option A) → ((x : A) → P x → Q x) → IsSomeAnd o P → IfSome o Q
 all-some P Q None f h = absurd h
@@ -61,3 +63,19 @@ renamed-nothing {w = w} stands old new e = ap (λ b. if b then w else without_lo
 pub renamed-moved : {t : Tree} {w : World} (stands : Stands t w) (old new : List (List ℕ)) → are_same_seen (look_in t old) (look_in t new) ≡ false → after_rename w old new ≡ without_lost (with_move w old new) (finmap.get w.paths new)
 unfolding after_rename
 renamed-moved {w = w} stands old new e = ap (λ b. if b then w else without_lost (with_move w old new) (finmap.get w.paths new)) (same-file stands old new ∙ e)
+
+pub exchanged-nothing : {t : Tree} {w : World} (stands : Stands t w) (old new : List (List ℕ)) → are_same_seen (look_in t old) (look_in t new) ≡ true → after_exchange w old new ≡ w
+unfolding after_exchange
+exchanged-nothing {w = w} stands old new e = ap (λ b. if b then w else with_swap w old new) (same-file stands old new ∙ e)
+
+pub exchanged-swapped : {t : Tree} {w : World} (stands : Stands t w) (old new : List (List ℕ)) → are_same_seen (look_in t old) (look_in t new) ≡ false → after_exchange w old new ≡ with_swap w old new
+unfolding after_exchange
+exchanged-swapped {w = w} stands old new e = ap (λ b. if b then w else with_swap w old new) (same-file stands old new ∙ e)
+
+-- files that differ stand at paths that differ
+pub other-paths : (at : Look) (old new : List (List ℕ)) → IsSome (at old) → are_same_seen (at old) (at new) ≡ false → old ≢ new
+other-paths at old new there off same = by (at old) there (ap (λ p. are_same_seen (at old) (at p)) same ∙ off)
+  where
+    by : (o : Option Seen) → IsSome o → are_same_seen o o ≡ false → ⊥
+    by None there e = absurd (cc)
+    by (Some s) there e = let itself : (s.number == s.number) ≡ true = eq-eqb s.number s.number refl in let clash : true ≡ false = sym itself ∙ e in cc

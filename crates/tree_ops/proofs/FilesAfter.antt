@@ -1,5 +1,5 @@
 -- Which files are there after a call: those that were, but for one that had no other path, and the new one.
-use Rattle.std.proofs.Common.{◌≡◌, ◌≢◌, ◌⊎◌, inl, inr, ℕ, false, List, Option, Some, None, IsSome, refl, sym, ◌∙◌, subst, ap}
+use Rattle.std.proofs.Common.{◌≡◌, ◌≢◌, ◌⊎◌, inl, inr, ℕ, ◌==◌, false, List, Option, Some, None, IsSome, refl, sym, ◌∙◌, subst, ap}
 use Rattle.std.proofs.lemmas.Bool.{cases_eq}
 use Rattle.std.specs.Cmp.{nat_cmp_total}
 use Rattle.std.specs.FinMap as finmap
@@ -7,21 +7,23 @@ use Rattle.std.specs.FinMap.{nat_cmp-IsAntisymmetric}
 use Rattle.tree_paths.specs.declared.limits.Limits.{Limits}
 use Rattle.inode_table.specs.Bytes.{resized, written}
 use Rattle.inode_table.specs.Rows.{Label}
-use Rattle.inode_table.specs.World.{World, File, IsWorld, links, look, linked, with_file, with_path, without_path, with_move, changed_at}
+use Rattle.inode_table.specs.World.{World, File, IsWorld, links, look, linked, with_file, with_path, without_path, with_move, with_swap, changed_at}
 use Rattle.inode_table.proofs.TreeLemmas.{some_none}
 use Rattle.inode_table.proofs.CountLemmas.{IsCount-one, IsCount-more}
 use Rattle.inode_table.proofs.MapLemmas.{count-of}
 use Rattle.inode_table.proofs.SeenLemmas.{is_value}
 use Rattle.inode_table.proofs.WorldLemmas.{decide_path, path_total, path_exact, get-insert_here, get-insert_other}
 use Rattle.tree_ops.specs.declared.call.Counts.{Counts}
+use Rattle.tree_ops.specs.declared.call.TheConstants.{RENAME_EXCHANGE}
 use Rattle.tree_ops.specs.declared.call.FileCall.{FileCall}
-use Rattle.tree_ops.specs.declared.call.FileCall.TheVariants.{Create, Write, ReadFile, Truncate, Chmod, Mkdir, Link, Unlink, Rmdir, Rename, Stat as Status, List as Listed}
+use Rattle.tree_ops.specs.declared.call.FileCall.TheVariants.{Create, Write, ReadFile, Truncate, Chmod, Mkdir, Link, Unlink, Rmdir, Rename, Rename2, Stat as Status, List as Listed}
 use Rattle.tree_ops.specs.Refused.{refused, refusal_of, are_same_seen}
-use Rattle.tree_ops.specs.After.{after, after_unlink, after_rename, numbers_of}
-use Rattle.tree_ops.proofs.Rows.{RenameKnown, rename-known}
+use Rattle.tree_ops.specs.After.{after, after_unlink, after_rename, after_exchange, numbers_of}
+use Rattle.tree_ops.proofs.Rows.{RenameKnown, rename-known, move-known}
 use Rattle.tree_ops.proofs.WorldChanges.{numbers-changed, dropped-other, files-left, numbers-lost, lost-is, none-counted}
 use Rattle.tree_ops.proofs.WorldMoves.{path-moved, moved-files}
-use Rattle.tree_ops.proofs.WorldsStay.{same-file, moving, by-same}
+use Rattle.tree_ops.proofs.WorldSwaps.{swapped-files}
+use Rattle.tree_ops.proofs.WorldsStay.{same-file, moving, by-same, by-other, by-flags}
 
 -- ---- no file comes but one of the next number
 
@@ -49,6 +51,10 @@ after-rename w old new k =
     by-same (λ v. IsThere v k → IsThere w k) w old new (λ h. h)
     (λ _ h. subst (λ fs. IsSome (finmap.get fs k)) (moved-files w old new) (numbers-lost (with_move w old new) (finmap.get w.paths new) k h))
 
+after-exchange : (w : World) (old new : List Label) (k : ℕ) → IsThere (after_exchange w old new) k → IsThere w k
+after-exchange w old new k =
+    by-other (λ v. IsThere v k → IsThere w k) w old new (λ h. h) (λ _ h. subst (λ fs. IsSome (finmap.get fs k)) (swapped-files w old new) h)
+
 made : (w : World) (p : List Label) (n : ℕ) (f : File) (used : ℕ) (k : ℕ) → used ≡ 1 → IsThere (with_file w p n f) k → IsThere w k ⊎ ((k ≡ n) × (used ≡ 1))
 made w p n f used k one h = elim (new-file w p n f k h) [ inl was ↦ inl was | inr e ↦ inr (e, one) ]
 
@@ -66,6 +72,7 @@ files-numbered w counts (Link old new) k h = inl (new-path w new (finmap.get w.p
 files-numbered w counts (Unlink p) k h = inl (after-unlink w p k h)
 files-numbered w counts (Rmdir p) k h = inl (after-unlink w p k h)
 files-numbered w counts (Rename old new) k h = inl (after-rename w old new k h)
+files-numbered w counts (Rename2 old new flags) k h = inl (by-flags (λ v. IsThere v k → IsThere w k) w old new flags (λ _. after-exchange w old new k) (λ _. after-rename w old new k) h)
 files-numbered w counts (Status p) k h = inl h
 files-numbered w counts (Listed p) k h = inl h
 
@@ -124,11 +131,17 @@ unfolding with_path
 stays-linked w p None k h = there-none (finmap.get w.files k) h
 stays-linked w p (Some n) k h = there-none (finmap.get w.files k) h
 
+stays-exchanged : (w : World) (old new : List Label) (k : ℕ) → IsThere w k → finmap.get (after_exchange w old new).files k ≢ None
+stays-exchanged w old new k h =
+    by-other (λ v. finmap.get v.files k ≢ None) w old new (there-none (finmap.get w.files k) h)
+    (λ _. subst (λ fs. finmap.get fs k ≢ None) (sym (swapped-files w old new)) (there-none (finmap.get w.files k) h))
+
 -- a file goes with its only path, which is removed or written over
 abbrev pub Goes : World → FileCall → ℕ → Type 0
 Goes w (Unlink p) n = IsAlone w p n
 Goes w (Rmdir p) n = IsAlone w p n
 Goes w (Rename old new) n = (are_same_seen (look w old) (look w new) ≡ false) × IsAlone w new n
+Goes w (Rename2 old new flags) n = ((flags == RENAME_EXCHANGE) ≡ false) × (are_same_seen (look w old) (look w new) ≡ false) × IsAlone w new n
 Goes w _ n = ⊥
 
 pub gone-goes : (w : World) → IsWorld w → (limits : Limits) (counts : Counts) (call : FileCall) (n : ℕ) → refused w limits counts call ≡ None → IsThere w n → finmap.get (after w counts call).files n ≡ None → Goes w call n
@@ -143,5 +156,9 @@ gone-goes w is limits counts (Link old new) n e h gone = stays-linked w new (fin
 gone-goes w is limits counts (Unlink p) n e h gone = IsAlone-unlink w p n h gone
 gone-goes w is limits counts (Rmdir p) n e h gone = IsAlone-unlink w p n h gone
 gone-goes w is limits counts (Rename old new) n e h gone = IsAlone-rename w is old new n (rename-known (look w) limits counts old new e) h gone
+gone-goes w is limits counts (Rename2 old new flags) n e h gone =
+    by-flags (λ v. finmap.get v.files n ≡ None → Goes w (Rename2 old new flags) n) w old new flags
+    (λ _ gone. absurd (stays-exchanged w old new n h gone))
+    (λ no gone. let alone = IsAlone-rename w is old new n (move-known (look w) limits counts old new flags e no) h gone in (no, alone.0, alone.1)) gone
 gone-goes w is limits counts (Status p) n e h gone = there-none (finmap.get w.files n) h gone
 gone-goes w is limits counts (Listed p) n e h gone = there-none (finmap.get w.files n) h gone

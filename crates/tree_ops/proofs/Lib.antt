@@ -10,5 +10,6 @@ pub mod Same
 pub mod Worlds
 pub mod WorldChanges
 pub mod WorldMoves
+pub mod WorldSwaps
 pub mod WorldsStay
 pub mod FilesAfter

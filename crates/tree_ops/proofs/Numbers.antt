@@ -1,5 +1,5 @@
 -- Which numbers the files have after a call.
-use Rattle.std.proofs.Common.{◌≡◌, inl, inr, ℕ, ◌+◌, ◌<◌, ◌==◌, true, false, List, [], Option, Some, None, refl, sym, subst, ◌∙◌, arith, if◌then◌else◌}
+use Rattle.std.proofs.Common.{◌≡◌, inl, inr, ℕ, ◌+◌, ◌<◌, ◌==◌, Bool, true, false, List, [], Option, Some, None, refl, sym, subst, ◌∙◌, arith, if◌then◌else◌}
 use Rattle.std.specs.Ordering.{nat_cmp}
 use Rattle.std.specs.Option.{option_and_then}
 use Rattle.std.specs.Cmp.{nat_cmp_total}
@@ -7,14 +7,15 @@ use Rattle.std.specs.FinMap as finmap
 use Rattle.std.specs.FinMap.{nat_cmp-IsAntisymmetric, get-empty}
 use Rattle.inode_table.specs.declared.seen.Kind.TheVariants.{Directory}
 use Rattle.inode_table.specs.Tree.{Tree}
-use Rattle.inode_table.specs.World.{World, File, root_number, root_mode, opening_world, links, with_file, with_path, without_path, with_move, with_content, without_file, without_lost, linked, content_by, changed_at}
+use Rattle.inode_table.specs.World.{World, File, root_number, root_mode, opening_world, links, with_file, with_path, without_path, with_move, with_swap, with_content, without_file, without_lost, linked, content_by, changed_at}
 use Rattle.inode_table.specs.Stands.{Stands, file_of}
 use Rattle.tree_ops.proofs.Keys.{get-insert_either, get-remove_was}
+use Rattle.tree_ops.specs.declared.call.TheConstants.{RENAME_EXCHANGE}
 use Rattle.tree_ops.specs.declared.call.FileCall.{FileCall}
-use Rattle.tree_ops.specs.declared.call.FileCall.TheVariants.{Create, Write, ReadFile, Truncate, Chmod, Mkdir, Link, Unlink, Rmdir, Rename, Stat as Status, List as Listed}
+use Rattle.tree_ops.specs.declared.call.FileCall.TheVariants.{Create, Write, ReadFile, Truncate, Chmod, Mkdir, Link, Unlink, Rmdir, Rename, Rename2, Stat as Status, List as Listed}
 use Rattle.tree_ops.specs.declared.call.Counts.{Counts}
 use Rattle.tree_ops.specs.ReadyCall.{HasNumbersBelow}
-use Rattle.tree_ops.specs.After.{after, after_unlink, after_rename, are_same, numbers_of}
+use Rattle.tree_ops.specs.After.{after, after_unlink, after_rename, after_exchange, are_same, numbers_of}
 
 -- the number of each file is below this one
 abbrev Below : World → ℕ → Type 0
@@ -82,6 +83,22 @@ below-rename w old new next h =
       | false ↦ below-lost (with_move w old new) (finmap.get w.paths new) next (below-moved w old new next h)
     ]
 
+below-swapped : (w : World) (old new : List (List ℕ)) (next : ℕ) → Below w next → Below (with_swap w old new) next
+unfolding with_swap
+below-swapped w old new next h = h
+
+below-exchange : (w : World) (old new : List (List ℕ)) (next : ℕ) → Below w next → Below (after_exchange w old new) next
+unfolding after_exchange
+below-exchange w old new next h =
+    elim (are_same (finmap.get w.paths old) (finmap.get w.paths new)) as (λ b. Below (if b then w else with_swap w old new) next) [
+      | true ↦ h
+      | false ↦ below-swapped w old new next h
+    ]
+
+below-rename2 : (b : Bool) (w : World) (old new : List (List ℕ)) (next : ℕ) → Below w next → Below (if b then after_exchange w old new else after_rename w old new) next
+below-rename2 true w old new next h = below-exchange w old new next h
+below-rename2 false w old new next h = below-rename w old new next h
+
 none : (w : World) (next : ℕ) → Below w next → Below w (next + 0)
 none w next h n f e = omega (arith, h n f e)
 
@@ -96,6 +113,7 @@ below-after w counts (Link old new) h = none (after w counts (Link old new)) cou
 below-after w counts (Unlink p) h = none (after w counts (Unlink p)) counts.next_number (below-unlink w p counts.next_number h)
 below-after w counts (Rmdir p) h = none (after w counts (Rmdir p)) counts.next_number (below-unlink w p counts.next_number h)
 below-after w counts (Rename old new) h = none (after w counts (Rename old new)) counts.next_number (below-rename w old new counts.next_number h)
+below-after w counts (Rename2 old new flags) h = none (after w counts (Rename2 old new flags)) counts.next_number (below-rename2 (flags == RENAME_EXCHANGE) w old new counts.next_number h)
 below-after w counts (Status p) h = none (after w counts (Status p)) counts.next_number h
 below-after w counts (Listed p) h = none (after w counts (Listed p)) counts.next_number h
 

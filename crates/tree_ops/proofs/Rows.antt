@@ -1,12 +1,14 @@
 -- What is known where no row holds.
 use Rattle.std.proofs.Common.{◌≡◌, ◌≢◌, ◌==◌, ◌+◌, ◌&&◌, ◌||◌, nat_lt, ℕ, length, Bool, true, false, not, List, [], ◌∷◌, Option, Some, None, is_some, refl, sym, ap, ◌∙◌, if◌then◌else◌}
+use Rattle.std.proofs.lemmas.Bool.{eqb-true}
 use Rattle.tree_paths.specs.declared.refusal.Refusal.{Refusal}
 use Rattle.tree_paths.specs.declared.refusal.Refusal.TheVariants.{Enoent, Enotdir, Eperm, Ebusy, Eexist, Eisdir, Einval, Efbig, Emlink, Enotempty}
 use Rattle.tree_paths.specs.declared.limits.Limits.{Limits}
 use Rattle.inode_table.specs.declared.seen.Seen.{Seen}
 use Rattle.inode_table.specs.Paths.{is_below}
+use Rattle.tree_ops.specs.declared.call.TheConstants.{RENAME_EXCHANGE, RENAME_NOREPLACE}
 use Rattle.tree_ops.specs.declared.call.Counts.{Counts}
-use Rattle.tree_ops.specs.Refused.{has_names_seen, links_seen, are_same_seen, make_rows, write_rows, read_rows, truncate_rows, chmod_rows, link_rows, unlink_rows, rmdir_rows, move_rows, rename_rows, find_rows, list_rows}
+use Rattle.tree_ops.specs.Refused.{has_names_seen, links_seen, are_same_seen, make_rows, write_rows, read_rows, truncate_rows, chmod_rows, link_rows, unlink_rows, rmdir_rows, move_rows, rename_rows, cookies_row, noreplace_rows, swap_rows, exchange_rows, rename2_rows, find_rows, list_rows}
 use Rattle.tree_paths.specs.Rows.{row, first_row}
 use Rattle.inode_table.specs.Refusals.{Look, find, parent, parent_of, is_directory_seen, longest_there}
 
@@ -176,6 +178,81 @@ rename-known at limits counts old new e =
       directory = parent-directory at new d.0;
       empty = λ f. move-empty limits counts (at old) (at new) (ap (λ b. first_row (if b then [] else move_rows limits counts (at old) (at new))) (sym f) ∙ d.1);
     }
+
+-- what is known where nothing stands at the new path
+noreplace-known : (at : Look) (limits : Limits) (counts : Counts) (old new : List (List ℕ)) → first_row (noreplace_rows at limits counts old new) ≡ None → RenameKnown at old new
+unfolding noreplace_rows
+noreplace-known at limits counts old new e =
+    let h = each-none (noreplace_rows at limits counts old new) e in
+    let names = neither (length old == 0) (length new == 0) (row-false ((length old == 0) || (length new == 0)) Ebusy h.0) in
+    record {
+      named = named-by old names.0;
+      other_named = named-by new names.1;
+      there = found-some at old h.1.0;
+      below = row-false (is_directory_seen (at old) && is_below old new) Einval h.1.1.0;
+      directory = parent-directory at new h.1.1.1.0;
+      empty = λ _. ap has_names_seen (is_some-none (at new) (row-false (is_some (at new)) Eexist h.1.1.1.1.0));
+    }
+
+pub record ExchangeKnown (at : Look) (old new : List (List ℕ)) : Type 0 where
+  pub named : old ≢ []
+  pub other_named : new ≢ []
+  pub there : is_some (at old) ≡ true
+  pub other_there : is_some (at new) ≡ true
+  pub below : are_same_seen (at old) (at new) ≡ false → (is_directory_seen (at old) && is_below old new) ≡ false
+  pub above : are_same_seen (at old) (at new) ≡ false → (is_directory_seen (at new) && is_below new old) ≡ false
+
+swap-apart : (limits : Limits) (counts : Counts) (old new : List (List ℕ)) (one other : Option Seen) → first_row (swap_rows limits counts old new one other) ≡ None
+    → ((is_directory_seen one && is_below old new) ≡ false) × ((is_directory_seen other && is_below new old) ≡ false)
+unfolding swap_rows
+swap-apart limits counts old new one other e =
+    neither (is_directory_seen one && is_below old new) (is_directory_seen other && is_below new old) (row-false _ Einval (each-none (swap_rows limits counts old new one other) e).0)
+
+exchanged-known : (at : Look) (limits : Limits) (counts : Counts) (old new : List (List ℕ)) → first_row (exchange_rows at limits counts old new) ≡ None → ExchangeKnown at old new
+unfolding exchange_rows
+exchanged-known at limits counts old new e =
+    let last = if are_same_seen (at old) (at new) then [] else swap_rows limits counts old new (at old) (at new) in
+    let a = no-row (row ((length old == 0) || (length new == 0)) Ebusy) (find at old ∷ find at new ∷ last) e in
+    let b = no-row (find at old) (find at new ∷ last) a.1 in
+    let c = no-row (find at new) last b.1 in
+    let names = neither (length old == 0) (length new == 0) (row-false ((length old == 0) || (length new == 0)) Ebusy a.0) in
+    let apart : are_same_seen (at old) (at new) ≡ false → ((is_directory_seen (at old) && is_below old new) ≡ false) × ((is_directory_seen (at new) && is_below new old) ≡ false) =
+    λ f. swap-apart limits counts old new (at old) (at new) (ap (λ b. first_row (if b then [] else swap_rows limits counts old new (at old) (at new))) (sym f) ∙ c.1) in
+    record {
+      named = named-by old names.0;
+      other_named = named-by new names.1;
+      there = found-some at old b.0;
+      other_there = found-some at new c.0;
+      below = λ f. (apart f).0;
+      above = λ f. (apart f).1;
+    }
+
+module _ (at : Look) (limits : Limits) (counts : Counts) (old new : List (List ℕ)) where
+  -- the rows by what the tests of the flags say
+  abbrev rows_if : Bool → Bool → Bool → List (Option Refusal)
+  rows_if none noreplace exchange =
+      if none then rename_rows at limits counts old new
+      else if noreplace then noreplace_rows at limits counts old new
+      else if exchange then exchange_rows at limits counts old new
+      else Some Einval ∷ []
+
+  moves-if : (none noreplace exchange : Bool) → first_row (rows_if none noreplace exchange) ≡ None → exchange ≡ false → RenameKnown at old new
+  moves-if true noreplace exchange e off = rename-known at limits counts old new e
+  moves-if false true exchange e off = noreplace-known at limits counts old new e
+  moves-if false false true e off = absurd (cc)
+  moves-if false false false e off = absurd (cc)
+
+  -- a rename by flags that is no exchange
+  pub move-known : (flags : ℕ) → first_row (rename2_rows at limits counts old new flags) ≡ None → (flags == RENAME_EXCHANGE) ≡ false → RenameKnown at old new
+  unfolding rename2_rows
+  move-known flags e off = moves-if (flags == 0) (flags == RENAME_NOREPLACE) (flags == RENAME_EXCHANGE) e off
+
+  -- an exchange
+  pub exchange-known : (flags : ℕ) → first_row (rename2_rows at limits counts old new flags) ≡ None → (flags == RENAME_EXCHANGE) ≡ true → ExchangeKnown at old new
+  unfolding rename2_rows
+  exchange-known flags e is =
+      let two : flags ≡ RENAME_EXCHANGE = eqb-true flags RENAME_EXCHANGE is in
+      exchanged-known at limits counts old new (sym (ap (λ (n : ℕ). first_row (rows_if (n == 0) (n == RENAME_NOREPLACE) (n == RENAME_EXCHANGE))) two) ∙ e)
 
 pub record ListKnown (at : Look) (p : List (List ℕ)) : Type 0 where
   pub there : is_some (at p) ≡ true

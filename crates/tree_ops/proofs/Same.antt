@@ -4,7 +4,7 @@ use Rattle.record_codec.proofs.Equal.{names_eq_decides}
 use Rattle.tree_ops.specs.declared.answer.Answer.{Answer}
 use Rattle.tree_ops.specs.declared.answer.Answer.TheVariants as answer
 use Rattle.tree_ops.specs.declared.call.FileCall.{FileCall}
-use Rattle.tree_ops.specs.declared.call.FileCall.TheVariants.{Create, Mkdir, Write, ReadFile, Truncate, Chmod, Link, Unlink, Rmdir, Rename, Stat, List as Listed}
+use Rattle.tree_ops.specs.declared.call.FileCall.TheVariants.{Create, Mkdir, Write, ReadFile, Truncate, Chmod, Link, Unlink, Rmdir, Rename, Rename2, Stat, List as Listed}
 use Rattle.tree_ops.specs.contracts.answer.AnswerPartialEq.TheImpl as answers
 use Rattle.tree_ops.specs.contracts.call.FileCallPartialEq.TheImpl as calls
 
@@ -19,6 +19,7 @@ calls_same (Link p m) b = elim b as (λ b. IsTrue (calls.ghosts.eq (Link p m) b)
 calls_same (Unlink p) b = elim b as (λ b. IsTrue (calls.ghosts.eq (Unlink p) b) ↔ (Unlink p ≡ b)) [ Unlink q ↦ search (rules, names_eq_decides) | _ ↦ search rules ]
 calls_same (Rmdir p) b = elim b as (λ b. IsTrue (calls.ghosts.eq (Rmdir p) b) ↔ (Rmdir p ≡ b)) [ Rmdir q ↦ search (rules, names_eq_decides) | _ ↦ search rules ]
 calls_same (Rename p m) b = elim b as (λ b. IsTrue (calls.ghosts.eq (Rename p m) b) ↔ (Rename p m ≡ b)) [ Rename q n ↦ search (rules, names_eq_decides) | _ ↦ search rules ]
+calls_same (Rename2 p m k) b = elim b as (λ b. IsTrue (calls.ghosts.eq (Rename2 p m k) b) ↔ (Rename2 p m k ≡ b)) [ Rename2 q n l ↦ search (rules, names_eq_decides) | _ ↦ search rules ]
 calls_same (Stat p) b = elim b as (λ b. IsTrue (calls.ghosts.eq (Stat p) b) ↔ (Stat p ≡ b)) [ Stat q ↦ search (rules, names_eq_decides) | _ ↦ search rules ]
 calls_same (Listed p) b = elim b as (λ b. IsTrue (calls.ghosts.eq (Listed p) b) ↔ (Listed p ≡ b)) [ Listed q ↦ search (rules, names_eq_decides) | _ ↦ search rules ]
 

@@ -17,6 +17,20 @@ pub moved-files : (w : World) (from to : List Label) → (with_move w from to).f
 unfolding with_move
 moved-files w from to = refl
 
+pub no-front : (y s : List Label) → y ≢ [] → [] ≢ y ++ s
+no-front [] s named e = named refl
+no-front (l ∷ y) s named e = cc
+
+-- a path that does not begin with a front, but goes on to one that does, is above the front
+pub under : (x y : List Label) (l : Label) (s t : List Label) → Avoids y x → x ++ l ∷ s ≡ y ++ t → (m : Label) × (r : List Label) × (y ≡ x ++ m ∷ r)
+under [] [] l s t off e = absurd (off [] refl)
+under [] (m ∷ y) l s t off e = (m, y, refl)
+under (m ∷ x) [] l s t off e = absurd (off (m ∷ x) refl)
+under (m ∷ x) (k ∷ y) l s t off e =
+    let head : k ≡ m = cc in
+    let w = under x y l s t (λ r g. off r (λ i. sym head i ∷ g i)) (cc) in
+    (w.0, w.1, λ i. head i ∷ w.2 i)
+
 module _ (w : World) (from to : List Label) (apart : Avoids from to) (empty : (l : Label) (s : List Label) → finmap.get w.paths (to ++ l ∷ s) ≡ None) where
   moves : MovesPath (finmap.get w.paths) (finmap.get (with_move w from to).paths) from to
   moves = MovesPath-with_move w from to apart empty
@@ -61,16 +75,6 @@ module _ (w : World) (from to : List Label) (apart : Avoids from to) (empty : (l
           | inr off ↦ above x l s t off e
         ]
       where
-        -- the path is above the new one
-        under : (x y : List Label) (l : Label) (s t : List Label) → Avoids y x → x ++ l ∷ s ≡ y ++ t → (m : Label) × (r : List Label) × (y ≡ x ++ m ∷ r)
-        under [] [] l s t off e = absurd (off [] refl)
-        under [] (m ∷ y) l s t off e = (m, y, refl)
-        under (m ∷ x) [] l s t off e = absurd (off (m ∷ x) refl)
-        under (m ∷ x) (k ∷ y) l s t off e =
-            let head : k ≡ m = cc in
-            let w = under x y l s t (λ r g. off r (λ i. sym head i ∷ g i)) (cc) in
-            (w.0, w.1, λ i. head i ∷ w.2 i)
-
         above : (x : List Label) (l : Label) (s t : List Label) → Avoids to x → x ++ l ∷ s ≡ to ++ t → IsDirectoryAt (with_move w from to) x
         above x l s t off e =
             let u = under x to l s t off e in
@@ -116,10 +120,6 @@ module _ (w : World) (from to : List Label) (apart : Avoids from to) (empty : (l
           | inl c ↦ is.files (from ++ c.0) n c.2
           | inr c ↦ is.files x n c.1
         ]
-
-    no-front : (y s : List Label) → y ≢ [] → [] ≢ y ++ s
-    no-front [] s named e = named refl
-    no-front (l ∷ y) s named e = cc
 
     pub IsWorld-with_move : IsWorld (with_move w from to)
     IsWorld-with_move = record {

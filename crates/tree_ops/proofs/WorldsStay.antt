@@ -1,5 +1,5 @@
 -- The files stay a world over each call that no row refuses, each with a path.
-use Rattle.std.proofs.Common.{◌≡◌, ◌≢◌, inl, inr, ℕ, ◌==◌, true, false, List, [], ◌∷◌, ◌++◌, Option, Some, None, IsSome, is_some, length, refl, sym, ap, ◌∙◌, subst, if◌then◌else◌}
+use Rattle.std.proofs.Common.{◌≡◌, ◌≢◌, inl, inr, ℕ, ◌==◌, ◌&&◌, true, false, List, [], ◌∷◌, ◌++◌, Option, Some, None, IsSome, is_some, refl, sym, ap, ◌∙◌, subst, if◌then◌else◌, length}
 use Rattle.std.proofs.lemmas.Bool.{cases_eq}
 use borrow.Author.Tests.{eq-eqb}
 use Rattle.std.specs.Option.{option_map, IsSomeAnd}
@@ -13,21 +13,23 @@ use Rattle.inode_table.specs.declared.seen.Seen.{Seen}
 use Rattle.inode_table.specs.Bytes.{resized, written}
 use Rattle.inode_table.specs.Walk.{Avoids}
 use Rattle.inode_table.specs.Rows.{Label}
-use Rattle.inode_table.specs.Paths.{path_cmp}
-use Rattle.inode_table.specs.Refusals.{parent_of}
-use Rattle.inode_table.specs.World.{World, File, IsWorld, IsWhole, IsDirectoryAt, file_at, look, seen_as, linked, opening_world, root_number, root_mode, without_path, with_move, without_lost}
+use Rattle.inode_table.specs.Paths.{is_below, path_cmp}
+use Rattle.inode_table.specs.Refusals.{is_directory_seen, parent_of}
+use Rattle.inode_table.specs.World.{World, File, IsWorld, IsWhole, IsDirectoryAt, look, seen_as, linked, opening_world, root_number, root_mode, without_path, with_move, with_swap, without_lost, file_at}
 use Rattle.inode_table.proofs.TreeLemmas.{some_none, same_some}
 use Rattle.inode_table.proofs.SeenLemmas.{is_value}
 use Rattle.inode_table.proofs.WorldLemmas.{decide_path, path_total, path_exact, get-insert_here, get-insert_other}
 use Rattle.tree_ops.specs.declared.call.Counts.{Counts}
+use Rattle.tree_ops.specs.declared.call.TheConstants.{RENAME_EXCHANGE}
 use Rattle.tree_ops.specs.declared.call.FileCall.{FileCall}
-use Rattle.tree_ops.specs.declared.call.FileCall.TheVariants.{Create, Write, ReadFile, Truncate, Chmod, Mkdir, Link, Unlink, Rmdir, Rename, Stat as Status, List as Listed}
+use Rattle.tree_ops.specs.declared.call.FileCall.TheVariants.{Create, Write, ReadFile, Truncate, Chmod, Mkdir, Link, Unlink, Rmdir, Rename, Rename2, Stat as Status, List as Listed}
 use Rattle.tree_ops.specs.Refused.{refused, refusal_of, are_same_seen}
-use Rattle.tree_ops.specs.After.{after, after_unlink, after_rename, are_same}
-use Rattle.tree_ops.proofs.Rows.{make-known, write-known, truncate-known, link-known, unlink-known, rmdir-known, rename-known, MakeKnown, LinkKnown, FileKnown, RmdirKnown, RenameKnown}
+use Rattle.tree_ops.specs.After.{after, after_unlink, after_rename, after_exchange, are_same}
+use Rattle.tree_ops.proofs.Rows.{make-known, link-known, unlink-known, rmdir-known, rename-known, move-known, exchange-known, MakeKnown, LinkKnown, FileKnown, RmdirKnown, RenameKnown, ExchangeKnown, write-known, truncate-known}
 use Rattle.tree_ops.proofs.Worlds.{parted, directory-of, directory-by, directory-seen, regular-seen, standing, unseen, seen-some, nothing-below, nothing-under, apart-from}
 use Rattle.tree_ops.proofs.WorldChanges.{IsWorld-with_path, IsWhole-with_path, IsWorld-with_file, IsWhole-with_file, IsWorld-changed, IsWhole-changed, dropped-other, files-left, IsWorld-without_path, IsWorld-lost, IsWhole-lost}
 use Rattle.tree_ops.proofs.WorldMoves.{IsWorld-with_move, path-moved, moved-files}
+use Rattle.tree_ops.proofs.WorldSwaps.{IsWorld-with_swap, IsWhole-with_swap}
 
 -- ---- the root alone
 
@@ -145,6 +147,15 @@ same-file w is old new = (λ i. are_same (number-seen w is old i) (number-seen w
     by (Some s) None = refl
     by (Some s) (Some r) = refl
 
+-- files that differ stand at paths that differ
+other-file : (w : World) (old new : List Label) → IsSome (look w old) → are_same (finmap.get w.paths old) (finmap.get w.paths new) ≡ false → old ≢ new
+other-file w old new there off e =
+    let s = seen-some w old there in
+    let n = s.1.number in
+    let itself : (n == n) ≡ true = eq-eqb n n refl in
+    let clash : true ≡ false = sym itself ∙ sym (λ i. are_same (s.1.there i) ((ap (finmap.get w.paths) (sym e) ∙ s.1.there) i)) ∙ off in
+    cc
+
 -- what moves, and what it moves to
 pub record Moving (w : World) (old new : List Label) : Type 0 where
   pub named : old ≢ []
@@ -162,20 +173,12 @@ moving w is old new known off =
     record {
       named = known.named;
       other_named = known.other_named;
-      apart = apart-from w is old new (parent_of new) m.0 m.1 directory other known.below;
+      apart = apart-from w is old new (parent_of new) m.0 m.1 directory (other-file w old new known.there off) known.below;
       below = nothing-below w is new (known.empty (sym (same-file w is old new) ∙ off));
       name = m.0;
       parts = m.1;
       directory = directory;
     }
-  where
-    other : old ≢ new
-    other e =
-        let s = seen-some w old known.there in
-        let n = s.1.number in
-        let itself : (n == n) ≡ true = eq-eqb n n refl in
-        let clash : true ≡ false = sym itself ∙ sym (λ i. are_same (s.1.there i) ((ap (finmap.get w.paths) (sym e) ∙ s.1.there) i)) ∙ off in
-        cc
 
 -- what a rename leaves: the same world, or the one after a move
 pub by-same : (P : World → Type 0) (w : World) (old new : List Label) → P w → (are_same (finmap.get w.paths old) (finmap.get w.paths new) ≡ false → P (without_lost (with_move w old new) (finmap.get w.paths new))) → P (after_rename w old new)
@@ -200,6 +203,64 @@ IsWhole-renamed w is whole old new known =
     IsWhole-lost (with_move w old new) (finmap.get w.paths new) (λ k h other.
     let x = whole k (subst (λ fs. IsSome (finmap.get fs k)) (moved-files w old new) h) in
     path-moved w old new m.apart m.below x.0 k x.1 (λ e. other (sym (ap (finmap.get w.paths) e) ∙ x.1))))
+
+-- ---- an exchange of two files
+
+-- something stands at both paths, and neither begins with the other
+record Swapping (w : World) (old new : List Label) : Type 0 where
+  apart : Avoids old new
+  above : Avoids new old
+  there : IsSome (finmap.get w.paths old)
+  other_there : IsSome (finmap.get w.paths new)
+
+-- a path in a directory avoids one that stands elsewhere, and is no directory above it
+avoiding : (w : World) → IsWorld w → (old new : List Label) → new ≢ [] → IsSome (finmap.get w.paths new) → old ≢ new → (is_directory_seen (look w old) && is_below old new) ≡ false → Avoids old new
+avoiding w is old new named there other below =
+    let m = parted new named in
+    apart-from w is old new (parent_of new) m.0 m.1 (is.fronts (parent_of new) m.0 [] (subst (λ p. IsSome (finmap.get w.paths p)) m.1 there)) other below
+
+swapping : (w : World) → IsWorld w → (old new : List Label) → ExchangeKnown (look w) old new → are_same (finmap.get w.paths old) (finmap.get w.paths new) ≡ false → Swapping w old new
+swapping w is old new known off =
+    let there = ap is_some (seen-some w old known.there).1.there in
+    let other_there = ap is_some (seen-some w new known.other_there).1.there in
+    let other = other-file w old new known.there off in
+    let seen_off = sym (same-file w is old new) ∙ off in
+    record {
+      apart = avoiding w is old new known.other_named other_there other (known.below seen_off);
+      above = avoiding w is new old known.named there (λ e. other (sym e)) (known.above seen_off);
+      there = there;
+      other_there = other_there;
+    }
+
+-- what an exchange leaves: the same world, or the one after it
+pub by-other : (P : World → Type 0) (w : World) (old new : List Label) → P w → (are_same (finmap.get w.paths old) (finmap.get w.paths new) ≡ false → P (with_swap w old new)) → P (after_exchange w old new)
+unfolding after_exchange
+by-other P w old new here swapped =
+    elim (are_same (finmap.get w.paths old) (finmap.get w.paths new)) as (λ b. are_same (finmap.get w.paths old) (finmap.get w.paths new) ≡ b → P (if b then w else with_swap w old new)) [
+      | true ↦ λ _. here
+      | false ↦ λ e. swapped e
+    ] refl
+
+IsWorld-exchanged : (w : World) → IsWorld w → (old new : List Label) → ExchangeKnown (look w) old new → IsWorld (after_exchange w old new)
+IsWorld-exchanged w is old new known =
+    by-other IsWorld w old new is (λ off.
+    let s = swapping w is old new known off in
+    IsWorld-with_swap w old new s.apart s.above is known.named known.other_named s.there s.other_there)
+
+IsWhole-exchanged : (w : World) → IsWorld w → IsWhole w → (old new : List Label) → ExchangeKnown (look w) old new → IsWhole (after_exchange w old new)
+IsWhole-exchanged w is whole old new known =
+    by-other IsWhole w old new whole (λ off.
+    let s = swapping w is old new known off in
+    IsWhole-with_swap w old new s.apart s.above whole)
+
+-- a rename by flags is an exchange, or moves as a rename does
+pub by-flags : (P : World → Type 0) (w : World) (old new : List Label) (flags : ℕ) → ((flags == RENAME_EXCHANGE) ≡ true → P (after_exchange w old new)) → ((flags == RENAME_EXCHANGE) ≡ false → P (after_rename w old new))
+    → P (if flags == RENAME_EXCHANGE then after_exchange w old new else after_rename w old new)
+by-flags P w old new flags exchange move =
+    elim (flags == RENAME_EXCHANGE) as (λ b. (flags == RENAME_EXCHANGE) ≡ b → P (if b then after_exchange w old new else after_rename w old new)) [
+      | true ↦ exchange
+      | false ↦ move
+    ] refl
 
 -- ---- one path more
 
@@ -241,6 +302,10 @@ module _ (w : World) (limits : Limits) (counts : Counts) (is : IsWorld w) where
   IsWorld-after (Unlink p) e unused = IsWorld-going w is p (unlinked w is p (unlink-known (look w) p e))
   IsWorld-after (Rmdir p) e unused = IsWorld-going w is p (rmdir-going w is p (rmdir-known (look w) p e))
   IsWorld-after (Rename old new) e unused = IsWorld-renamed w is old new (rename-known (look w) limits counts old new e)
+  IsWorld-after (Rename2 old new flags) e unused =
+      by-flags IsWorld w old new flags
+      (λ yes. IsWorld-exchanged w is old new (exchange-known (look w) limits counts old new flags e yes))
+      (λ no. IsWorld-renamed w is old new (move-known (look w) limits counts old new flags e no))
   IsWorld-after (Status p) e unused = is
   IsWorld-after (Listed p) e unused = is
 
@@ -256,5 +321,9 @@ module _ (w : World) (limits : Limits) (counts : Counts) (is : IsWorld w) where
   IsWhole-after whole (Unlink p) e unused = IsWhole-going w is p (unlinked w is p (unlink-known (look w) p e)) whole
   IsWhole-after whole (Rmdir p) e unused = IsWhole-going w is p (rmdir-going w is p (rmdir-known (look w) p e)) whole
   IsWhole-after whole (Rename old new) e unused = IsWhole-renamed w is whole old new (rename-known (look w) limits counts old new e)
+  IsWhole-after whole (Rename2 old new flags) e unused =
+      by-flags IsWhole w old new flags
+      (λ yes. IsWhole-exchanged w is whole old new (exchange-known (look w) limits counts old new flags e yes))
+      (λ no. IsWhole-renamed w is whole old new (move-known (look w) limits counts old new flags e no))
   IsWhole-after whole (Status p) e unused = whole
   IsWhole-after whole (Listed p) e unused = whole

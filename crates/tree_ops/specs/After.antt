@@ -8,9 +8,10 @@ use Rattle.std.specs.FinMap as finmap
 use Rattle.inode_table.specs.declared.seen.Kind.TheVariants.{Regular, Directory}
 use Rattle.inode_table.specs.Bytes.{resized, written}
 use Rattle.inode_table.specs.Paths.{rest_after}
-use Rattle.inode_table.specs.World.{World, File, links, file_at, changed_at, linked, with_file, without_path, with_move, without_lost}
+use Rattle.inode_table.specs.World.{World, File, links, file_at, changed_at, linked, with_file, without_path, with_move, with_swap, without_lost}
+use Rattle.tree_ops.specs.declared.call.TheConstants.{RENAME_EXCHANGE}
 use Rattle.tree_ops.specs.declared.call.FileCall.{FileCall}
-use Rattle.tree_ops.specs.declared.call.FileCall.TheVariants.{Create, Write, ReadFile, Truncate, Chmod, Mkdir, Link, Unlink, Rmdir, Rename, Stat as Status, List as Listed}
+use Rattle.tree_ops.specs.declared.call.FileCall.TheVariants.{Create, Write, ReadFile, Truncate, Chmod, Mkdir, Link, Unlink, Rmdir, Rename, Rename2, Stat as Status, List as Listed}
 use Rattle.tree_ops.specs.declared.call.Counts.{Counts}
 use Rattle.tree_ops.specs.declared.answer.Answer.{Answer}
 use Rattle.tree_ops.specs.declared.answer.Answer.TheVariants.{Done, Number, Count, Bytes, Names, Stat}
@@ -32,6 +33,15 @@ after_rename w old new =
     if are_same (finmap.get w.paths old) (finmap.get w.paths new) then w
     else without_lost (with_move w old new) (finmap.get w.paths new)
 
+-- two paths of one file: nothing. Else each pair (old + s, f) becomes (new + s, f), and at once each pair (new + s, g) becomes
+-- (old + s, g): renameat2(2), RENAME_EXCHANGE
+unfoldable pub after_exchange : World → List (List ℕ) → List (List ℕ) → World
+after_exchange w old new = if are_same (finmap.get w.paths old) (finmap.get w.paths new) then w else with_swap w old new
+
+-- a rename by flags
+abbrev pub after_rename2 : World → List (List ℕ) → List (List ℕ) → ℕ → World
+after_rename2 w old new flags = if flags == RENAME_EXCHANGE then after_exchange w old new else after_rename w old new
+
 -- the world after an accepted call
 abbrev pub after : World → Counts → FileCall → World
 after w counts (Create p mode) = with_file w p counts.next_number (record { kind = Regular; mode = mode; bytes = [] })
@@ -44,6 +54,7 @@ after w counts (Link old new) = linked w new (finmap.get w.paths old)
 after w counts (Unlink p) = after_unlink w p
 after w counts (Rmdir p) = after_unlink w p
 after w counts (Rename old new) = after_rename w old new
+after w counts (Rename2 old new flags) = after_rename2 w old new flags
 after w counts (Status p) = w
 after w counts (Listed p) = w
 
@@ -97,5 +108,6 @@ answer_of w counts (Link old new) = Done
 answer_of w counts (Unlink p) = Done
 answer_of w counts (Rmdir p) = Done
 answer_of w counts (Rename old new) = Done
+answer_of w counts (Rename2 old new flags) = Done
 answer_of w counts (Status p) = stat_of w p
 answer_of w counts (Listed p) = Names (names_in w p)

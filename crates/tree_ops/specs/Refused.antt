@@ -1,6 +1,6 @@
 -- Why a call on files is refused: the first row that holds. POSIX.1-2017 says when each error comes (`open`, `mkdir`, `write`,
--- `read`, `truncate`, `chmod`, `link`, `unlink`, `rmdir`, `rename`, `stat`, `opendir`) and leaves open which comes first; here
--- it is the order of the rows.
+-- `read`, `truncate`, `chmod`, `link`, `unlink`, `rmdir`, `rename`, `stat`, `opendir`), renameat2(2) does for its flags, and both
+-- leave open which comes first; here it is the order of the rows.
 use Rattle.std.specs.Prelude.{ℕ, ◌+◌, Bool, false, not, ◌&&◌, ◌||◌, ◌==◌, List, [], ◌∷◌, Option, Some, None, is_some, length, nat_lt, if◌then◌else◌}
 use Rattle.tree_paths.specs.declared.refusal.Refusal.{Refusal}
 use Rattle.tree_paths.specs.declared.refusal.Refusal.TheVariants.{Eperm, Ebusy, Eexist, Enotdir, Eisdir, Einval, Efbig, Emlink, Enotempty, CookiesSpent, NumbersSpent}
@@ -10,9 +10,9 @@ use Rattle.inode_table.specs.Paths.{is_below}
 use Rattle.inode_table.specs.World.{World, look}
 use Rattle.tree_paths.specs.Rows.{row, first_row}
 use Rattle.inode_table.specs.Refusals.{Look, is_directory_seen, find, parent}
-use Rattle.tree_ops.specs.declared.call.TheConstants.{MAX_MODE}
+use Rattle.tree_ops.specs.declared.call.TheConstants.{MAX_MODE, RENAME_EXCHANGE, RENAME_NOREPLACE}
 use Rattle.tree_ops.specs.declared.call.FileCall.{FileCall}
-use Rattle.tree_ops.specs.declared.call.FileCall.TheVariants.{Create, Write, ReadFile, Truncate, Chmod, Mkdir, Link, Unlink, Rmdir, Rename, Stat, List as Listed}
+use Rattle.tree_ops.specs.declared.call.FileCall.TheVariants.{Create, Write, ReadFile, Truncate, Chmod, Mkdir, Link, Unlink, Rmdir, Rename, Rename2, Stat, List as Listed}
 use Rattle.tree_ops.specs.declared.call.Counts.{Counts}
 
 abbrev pub is_root : List (List ℕ) → Bool
@@ -47,6 +47,10 @@ numbers_row limits counts = row (nat_lt limits.numbers counts.next_number) Numbe
 -- all cookies have been given: 0 stands for the number after the greatest one
 abbrev pub cookies_row : Limits → Counts → Option Refusal
 cookies_row limits counts = row ((counts.next_cookie == 0) || nat_lt limits.cookies counts.next_cookie) CookiesSpent
+
+-- no two cookies are left
+abbrev pub two_cookies_row : Limits → Counts → Option Refusal
+two_cookies_row limits counts = row ((counts.next_cookie == 0) || nat_lt limits.cookies (counts.next_cookie + 1)) CookiesSpent
 
 unfoldable pub make_rows : Look → Limits → Counts → List (List ℕ) → ℕ → List (Option Refusal)
 make_rows at limits counts p mode =
@@ -113,6 +117,40 @@ rename_rows at limits counts old new =
     ∷ parent at new
     ∷ (if are_same_seen (at old) (at new) then [] else move_rows limits counts (at old) (at new))
 
+-- RENAME_NOREPLACE: nothing stands at the new path
+unfoldable pub noreplace_rows : Look → Limits → Counts → List (List ℕ) → List (List ℕ) → List (Option Refusal)
+noreplace_rows at limits counts old new =
+    row (is_root old || is_root new) Ebusy
+    ∷ find at old
+    ∷ row (is_directory_seen (at old) && is_below old new) Einval
+    ∷ parent at new
+    ∷ row (is_some (at new)) Eexist
+    ∷ cookies_row limits counts
+    ∷ []
+
+-- neither of two directories can be put below itself, and each of the two moves has its cookie
+unfoldable pub swap_rows : Limits → Counts → List (List ℕ) → List (List ℕ) → Option Seen → Option Seen → List (Option Refusal)
+swap_rows limits counts old new one other =
+    row ((is_directory_seen one && is_below old new) || (is_directory_seen other && is_below new old)) Einval
+    ∷ two_cookies_row limits counts
+    ∷ []
+
+-- RENAME_EXCHANGE: something stands at both paths. Two paths of one file are accepted before the last rows
+unfoldable pub exchange_rows : Look → Limits → Counts → List (List ℕ) → List (List ℕ) → List (Option Refusal)
+exchange_rows at limits counts old new =
+    row (is_root old || is_root new) Ebusy
+    ∷ find at old
+    ∷ find at new
+    ∷ (if are_same_seen (at old) (at new) then [] else swap_rows limits counts old new (at old) (at new))
+
+-- the flags are looked at before all else (renameat2(2), "ERRORS": EINVAL)
+unfoldable pub rename2_rows : Look → Limits → Counts → List (List ℕ) → List (List ℕ) → ℕ → List (Option Refusal)
+rename2_rows at limits counts old new flags =
+    if flags == 0 then rename_rows at limits counts old new
+    else if flags == RENAME_NOREPLACE then noreplace_rows at limits counts old new
+    else if flags == RENAME_EXCHANGE then exchange_rows at limits counts old new
+    else Some Einval ∷ []
+
 unfoldable pub find_rows : Look → List (List ℕ) → List (Option Refusal)
 find_rows at p = find at p ∷ []
 
@@ -131,6 +169,7 @@ rows_of at limits counts (Link old new) = link_rows at limits old new
 rows_of at limits counts (Unlink p) = unlink_rows at p
 rows_of at limits counts (Rmdir p) = rmdir_rows at p
 rows_of at limits counts (Rename old new) = rename_rows at limits counts old new
+rows_of at limits counts (Rename2 old new flags) = rename2_rows at limits counts old new flags
 rows_of at limits counts (Stat p) = find_rows at p
 rows_of at limits counts (Listed p) = list_rows at p
 
@@ -138,9 +177,14 @@ rows_of at limits counts (Listed p) = list_rows at p
 unfoldable pub refusal_of : Look → Limits → Counts → FileCall → Option Refusal
 refusal_of at limits counts call = first_row (rows_of at limits counts call)
 
--- a rename that moves something uses one cookie, and no other call uses any
+-- how many moves a rename by flags makes, where the paths are not of one file
+abbrev pub moves_by : ℕ → ℕ
+moves_by flags = if flags == RENAME_EXCHANGE then 2 else 1
+
+-- a rename that moves something uses one cookie, an exchange of two files uses two, and no other call uses any
 abbrev pub cookies_seen : Look → FileCall → ℕ
 cookies_seen at (Rename old new) = if are_same_seen (at old) (at new) then 0 else 1
+cookies_seen at (Rename2 old new flags) = if are_same_seen (at old) (at new) then 0 else moves_by flags
 cookies_seen at _ = 0
 
 -- ---- in a world

@@ -9,6 +9,12 @@ use tree_paths::{Path, Refusal};
 /// (POSIX.1-2017 `<sys/stat.h>`).
 pub const MAX_MODE: u32 = 0o7777;
 
+/// The flag of [`FileCall::Rename2`] by which nothing may stand at the new path (renameat2(2), `RENAME_NOREPLACE`).
+pub const RENAME_NOREPLACE: u32 = 1;
+
+/// The flag of [`FileCall::Rename2`] by which the two paths change places (renameat2(2), `RENAME_EXCHANGE`).
+pub const RENAME_EXCHANGE: u32 = 2;
+
 /// A call on files. Each one opens, acts and closes by itself.
 #[derive(Debug, Drop, PartialEq, Eq)]
 pub enum FileCall {
@@ -63,6 +69,14 @@ pub enum FileCall {
     Rename {
         old: Path,
         new: Path,
+    },
+    /// A rename by flags (renameat2(2)). With 0 it is [`FileCall::Rename`]. With [`RENAME_NOREPLACE`] it is refused where something
+    /// stands at the new path, be it the same file. With [`RENAME_EXCHANGE`] something stands at both paths, and they change
+    /// places, each with all that is below it; where both are of the same file, nothing happens. No other flags are accepted.
+    Rename2 {
+        old: Path,
+        new: Path,
+        flags: u32,
     },
     /// Tells what stands at a path (POSIX.1-2017 `stat`). Answers [`Answer::Stat`](crate::Answer::Stat).
     Stat {
@@ -127,6 +141,11 @@ impl FileCall {
                 old: old.copy()?,
                 new: new.copy()?,
             },
+            FileCall::Rename2 { old, new, flags } => FileCall::Rename2 {
+                old: old.copy()?,
+                new: new.copy()?,
+                flags: *flags,
+            },
             FileCall::Stat { path } => FileCall::Stat { path: path.copy()? },
             FileCall::List { path } => FileCall::List { path: path.copy()? },
         })
@@ -145,6 +164,7 @@ impl FileCall {
 pub struct Counts {
     /// The number of the next file or directory that is made.
     pub next_number: u32,
-    /// The cookie of the next rename that moves something. It is 0 where all 2^32 - 1 of them are spent.
+    /// The cookie of the next move: a rename that moves something is one, and an exchange is two. It is 0 where all 2^32 - 1 of them
+    /// are spent.
     pub next_cookie: u32,
 }

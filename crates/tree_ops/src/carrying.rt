@@ -11,10 +11,10 @@ ghost use Rattle.inode_table.specs.Refusals.{is_directory_seen, parent_of};
 ghost use Rattle.inode_table.specs.Paths.{is_below};
 ghost use Rattle.tree_ops.specs.Refused.{has_names_seen, are_same_seen};
 ghost use Rattle.tree_ops.specs.ReadyCall.{IsReady, HasNumbersBelow};
-ghost use Rattle.tree_ops.specs.After.{after, after_unlink, after_rename, bytes_at, answer_of, stat_of, names_in, numbers_of};
+ghost use Rattle.tree_ops.specs.After.{after, after_unlink, after_rename, after_exchange, bytes_at, answer_of, stat_of, names_in, numbers_of};
 
 use crate::answer::Answer;
-use crate::call::FileCall;
+use crate::call::{FileCall, RENAME_EXCHANGE};
 use crate::checking::{Ready, are_same, seen};
 use inode_table::{Key, Kind, Table};
 use record_codec::Bytes;
@@ -176,6 +176,22 @@ fn rename(table: &mut Table, old: &Path, new: &Path) -> Result<(), Refusal>
     Ok(())
 }
 
+// Exchanges what stands at two paths. It takes no memory.
+fn exchange(table: &mut Table, old: &Path, new: &Path)
+    requires source { IsSome (look_in table.old old.now) }
+    requires target { IsSome (look_in table.old new.now) }
+    requires below { are_same_seen (look_in table.old old.now) (look_in table.old new.now) ≡ false → (is_directory_seen (look_in table.old old.now) && is_below old.now new.now) ≡ false }
+    requires above { are_same_seen (look_in table.old old.now) (look_in table.old new.now) ≡ false → (is_directory_seen (look_in table.old new.now) && is_below new.now old.now) ≡ false }
+    ensures world { (w : World) → Stands table.old w → Stands table.new (after_exchange w old.now new.now) }
+    ensures named { IsNamedBut table.old None → IsNamedBut table.new None }
+{
+    let is_one = are_same(seen(table, old), seen(table, new));
+    if is_one {
+        return;
+    }
+    table.swap_names(old.names(), new.names());
+}
+
 // The key of what stands at a path.
 fn key_at(table: &Table, path: &Path) -> Key
     requires there { IsSome (look_in table.now path.now) }
@@ -312,6 +328,14 @@ fn perform(alloc: Global, table: &mut Table, ready: Ready) -> Result<Answer, Ref
             Ok(Answer::Done)
         }
         FileCall::Rename { old, new } => {
+            rename(table, old, new)?;
+            Ok(Answer::Done)
+        }
+        FileCall::Rename2 { old, new, flags } if *flags == RENAME_EXCHANGE => {
+            exchange(table, old, new);
+            Ok(Answer::Done)
+        }
+        FileCall::Rename2 { old, new, .. } => {
             rename(table, old, new)?;
             Ok(Answer::Done)
         }

@@ -5,10 +5,10 @@ ghost use Rattle.inode_table.specs.World.{World};
 ghost use Rattle.inode_table.specs.Stands.{Stands, look_in};
 ghost use Rattle.tree_paths.specs.Rows.{first_row};
 ghost use Rattle.inode_table.specs.Refusals.{is_directory_seen, find, parent};
-ghost use Rattle.tree_ops.specs.Refused.{make_rows, write_rows, read_rows, truncate_rows, chmod_rows, link_rows, unlink_rows, rmdir_rows, move_rows, rename_rows, find_rows, list_rows, refusal_of, cookies_seen, refused, cookies_of, has_names_seen, are_same_seen};
+ghost use Rattle.tree_ops.specs.Refused.{is_root, make_rows, write_rows, read_rows, truncate_rows, chmod_rows, link_rows, unlink_rows, rmdir_rows, move_rows, rename_rows, noreplace_rows, swap_rows, exchange_rows, rename2_rows, find_rows, list_rows, refusal_of, cookies_seen, refused, cookies_of, has_names_seen, are_same_seen};
 ghost use Rattle.tree_ops.specs.ReadyCall.{IsReady, HasNumbersBelow};
 
-use crate::call::{Counts, FileCall, MAX_MODE};
+use crate::call::{Counts, FileCall, MAX_MODE, RENAME_EXCHANGE, RENAME_NOREPLACE};
 use inode_table::{Kind, Seen, Table};
 use std::marker::Model;
 use tree_paths::{Limits, Path, Refusal};
@@ -49,7 +49,7 @@ impl<'a> Ready<'a> {
         }
     }
 
-    /// How many cookies the call uses: 1 for a rename that moves something, and else 0.
+    /// How many cookies the call uses: 1 for a rename that moves something, 2 for an exchange of two files, and else 0.
     pub fn cookies(&self) -> u32
         ensures { result ≡ self.now.cookies }
     {
@@ -338,6 +338,117 @@ fn rename_fault(
     move_fault(source, target, counts, limits)
 }
 
+#[tactic(auto, unfolding(crate::specs::Refused::noreplace_rows))]
+fn noreplace_fault(
+    table: &Table,
+    old: &Path,
+    new: &Path,
+    counts: &Counts,
+    limits: &Limits,
+) -> Option<Refusal>
+    ensures { result ≡ first_row (noreplace_rows (look_in table.now) limits.now counts.now old.now new.now) }
+{
+    if is_root(old) || is_root(new) {
+        return Some(Refusal::Ebusy);
+    }
+    match table.look(old.names()) {
+        Err(refusal) => Some(refusal),
+        Ok(source) => {
+            if is_directory(Some(source)) && is_below(new, old) {
+                return Some(Refusal::Einval);
+            }
+            if let Some(refusal) = parent_fault(table, new) {
+                return Some(refusal);
+            }
+            let target = seen(table, new);
+            if target.is_some() {
+                return Some(Refusal::Eexist);
+            }
+            let next = counts.next_cookie;
+            if next == 0 || next > limits.cookies {
+                return Some(Refusal::CookiesSpent);
+            }
+            None
+        }
+    }
+}
+
+// Why two files do not change places.
+#[tactic(auto, unfolding(crate::specs::Refused::swap_rows))]
+fn swap_fault(
+    old: &Path,
+    new: &Path,
+    source: Option<Seen>,
+    target: Option<Seen>,
+    counts: &Counts,
+    limits: &Limits,
+) -> Option<Refusal>
+    ensures { result ≡ first_row (swap_rows limits.now counts.now old.now new.now source target) }
+{
+    if is_directory(source) && is_below(new, old) {
+        return Some(Refusal::Einval);
+    }
+    if is_directory(target) && is_below(old, new) {
+        return Some(Refusal::Einval);
+    }
+    let last = u64::from(counts.next_cookie) + 1;
+    if counts.next_cookie == 0 || last > u64::from(limits.cookies) {
+        return Some(Refusal::CookiesSpent);
+    }
+    None
+}
+
+#[tactic(auto, unfolding(crate::specs::Refused::exchange_rows))]
+fn exchange_fault(
+    table: &Table,
+    old: &Path,
+    new: &Path,
+    counts: &Counts,
+    limits: &Limits,
+) -> Option<Refusal>
+    ensures { result ≡ first_row (exchange_rows (look_in table.now) limits.now counts.now old.now new.now) }
+{
+    if is_root(old) || is_root(new) {
+        return Some(Refusal::Ebusy);
+    }
+    match (table.look(old.names()), table.look(new.names())) {
+        (Err(refusal), _) => Some(refusal),
+        (Ok(_), Err(refusal)) => Some(refusal),
+        (Ok(source), Ok(target)) => {
+            let (source, target) = (Some(source), Some(target));
+            if are_same(source, target) {
+                return None;
+            }
+            swap_fault(old, new, source, target, counts, limits)
+        }
+    }
+}
+
+#[tactic(auto, unfolding(crate::specs::Refused::rename2_rows))]
+fn rename2_fault(
+    table: &Table,
+    old: &Path,
+    new: &Path,
+    flags: u32,
+    counts: &Counts,
+    limits: &Limits,
+) -> Option<Refusal>
+    ensures { result ≡ first_row (rename2_rows (look_in table.now) limits.now counts.now old.now new.now flags) }
+{
+    match flags {
+        0 => rename_fault(table, old, new, counts, limits),
+        RENAME_NOREPLACE => noreplace_fault(table, old, new, counts, limits),
+        RENAME_EXCHANGE => exchange_fault(table, old, new, counts, limits),
+        _ => Some(Refusal::Einval),
+    }
+}
+
+fn is_root(path: &Path) -> bool
+    ensures { result ≡ is_root path.now }
+{
+    path.names().is_empty()
+}
+
 // Whether the path is below the other one.
 fn is_below(path: &Path, above: &Path) -> bool
     ensures { result ≡ is_below above.now path.now }
@@ -365,6 +476,9 @@ fn fault(table: &Table, call: &FileCall, counts: &Counts, limits: &Limits) -> Op
         FileCall::Unlink { path } => unlink_fault(table, path),
         FileCall::Rmdir { path } => rmdir_fault(table, path),
         FileCall::Rename { old, new } => rename_fault(table, old, new, counts, limits),
+        FileCall::Rename2 { old, new, flags } => {
+            rename2_fault(table, old, new, *flags, counts, limits)
+        }
         FileCall::Stat { path } => find_fault(table, path),
         FileCall::List { path } => list_fault(table, path),
     }
@@ -376,6 +490,9 @@ fn cookies(table: &Table, call: &FileCall) -> u32
 {
     match call {
         FileCall::Rename { old, new } if !are_same(seen(table, old), seen(table, new)) => 1,
+        FileCall::Rename2 { old, new, flags } if !are_same(seen(table, old), seen(table, new)) => {
+            if *flags == RENAME_EXCHANGE { 2 } else { 1 }
+        }
         _ => 0,
     }
 }

@@ -12,7 +12,7 @@ mod laws;
 mod opening;
 
 pub use answer::Answer;
-pub use call::{Counts, FileCall, MAX_MODE};
+pub use call::{Counts, FileCall, MAX_MODE, RENAME_EXCHANGE, RENAME_NOREPLACE};
 pub use carrying::carry_out;
 pub use checking::{Ready, check};
 pub use laws::{files_get_numbers, worlds_stay_worlds};

@@ -113,6 +113,13 @@ impl Calls {
         self.made(&FileCall::Rename { old, new })
     }
 
+    fn exchange(&mut self, old: &str, new: &str) -> Result<Answer, Refusal> {
+        let old = self.path(old)?;
+        let new = self.path(new)?;
+        let flags = RENAME_EXCHANGE;
+        self.made(&FileCall::Rename2 { old, new, flags })
+    }
+
     fn stat(&mut self, path: &str) -> Result<Answer, Refusal> {
         let path = self.path(path)?;
         self.made(&FileCall::Stat { path })
@@ -229,6 +236,33 @@ fn ready_calls(rt: HostRuntime) -> Result<(), Fail> {
         "ready.call().is_same(&call)",
         ready.call().is_same(&call),
     );
+    Ok(())
+}
+
+/// Makes a directory with ten thousand files in it.
+fn filled(calls: &mut Calls, directory: &str) -> Result<(), Fail> {
+    let path = calls.path(directory)?;
+    calls.made(&FileCall::Mkdir { path, mode: 0o755 })?;
+    for i in 0..10000u32 {
+        let text = format!(in calls.alloc; "{directory}/{i}")?;
+        calls.create(text.as_str(), 0o644)?;
+    }
+    Ok(())
+}
+
+#[test]
+fn large_directories_change_places(rt: HostRuntime) -> Result<(), Fail> {
+    let mut calls = Calls::new(rt.alloc(), Limits::full())?;
+    filled(&mut calls, "/a")?;
+    filled(&mut calls, "/b")?;
+    for _ in 0..99 {
+        equal(&rt, calls.exchange("/a", "/b"), Ok(Answer::Done));
+    }
+    equal(&rt, calls.stat("/a/0"), file(10004, 0o644, 1, 0));
+    equal(&rt, calls.stat("/b/9999"), file(10002, 0o644, 1, 0));
+    equal(&rt, calls.exchange("/a", "/b"), Ok(Answer::Done));
+    equal(&rt, calls.stat("/a/9999"), file(10002, 0o644, 1, 0));
+    equal(&rt, calls.counts.next_cookie, 201);
     Ok(())
 }
 

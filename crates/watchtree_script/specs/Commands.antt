@@ -52,6 +52,7 @@ path_command_of word =
     else if bytes_eq word (codes "unlink") then Some command.Unlink
     else if bytes_eq word (codes "rmdir") then Some command.Rmdir
     else if bytes_eq word (codes "rename") then Some command.Rename
+    else if bytes_eq word (codes "rename2") then Some command.Rename2
     else if bytes_eq word (codes "stat") then Some command.Stat
     else if bytes_eq word (codes "list") then Some command.List
     else None
@@ -148,6 +149,16 @@ truncate_call path len = do
   names ← path_of text
   Ok (call.File (file.Truncate names n))
 
+-- rename2 OLD NEW FLAGS renames by flags
+unfoldable pub rename2_call : List ℕ → List ℕ → List ℕ → Result Call LineError
+rename2_call old new flags = do
+  old_text ← path_word old
+  new_text ← path_word new
+  bits ← u32_word flags
+  old_names ← path_of old_text
+  new_names ← path_of new_text
+  Ok (call.File (file.Rename2 old_names new_names bits))
+
 -- watch ID PATH MASK watches a file for the events of a mask
 unfoldable pub watch_call : List ℕ → List ℕ → List ℕ → Result Call LineError
 watch_call id path mask = do
@@ -183,6 +194,7 @@ row_of queue command.Link words = asking shown.Plain (λ w. call.File (file.Link
 row_of queue command.Unlink words = asking shown.Plain (λ p. call.File (file.Unlink p)) (one words a_path)
 row_of queue command.Rmdir words = asking shown.Plain (λ p. call.File (file.Rmdir p)) (one words a_path)
 row_of queue command.Rename words = asking shown.Plain (λ w. call.File (file.Rename w.0 w.1)) (two words old_and_new)
+row_of queue command.Rename2 words = asking shown.Plain (λ c. c) (three words rename2_call)
 row_of queue command.Stat words = asking shown.Plain (λ p. call.File (file.Stat p)) (one words a_path)
 row_of queue command.List words = asking shown.Plain (λ p. call.File (file.List p)) (one words a_path)
 row_of queue command.Init words = asking shown.Plain (λ n. call.Init n false) (none_or_one words (Ok queue) u32_word)

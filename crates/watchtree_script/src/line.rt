@@ -35,6 +35,8 @@ pub enum Command {
     Rmdir,
     /// `rename OLD NEW` moves a file, or a directory with all that is below it.
     Rename,
+    /// `rename2 OLD NEW FLAGS` renames by flags.
+    Rename2,
     /// `stat PATH` tells what stands at a path.
     Stat,
     /// `list PATH` tells the names in a directory.
@@ -180,6 +182,8 @@ fn path_command(word: &[u8]) -> Option<Command>
         Some(Command::Rmdir)
     } else if word == b"rename".as_slice() {
         Some(Command::Rename)
+    } else if word == b"rename2".as_slice() {
+        Some(Command::Rename2)
     } else if word == b"stat".as_slice() {
         Some(Command::Stat)
     } else if word == b"list".as_slice() {

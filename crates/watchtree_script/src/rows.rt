@@ -1,7 +1,7 @@
 //! The rows of the table of commands: the words behind a command, and the call that they ask for.
 
 ghost use Rattle.std.specs.Prelude.{◌≡◌, ◌==◌, ◌∷◌, [], length, false, MatchResult};
-ghost use Rattle.watchtree_script.specs.Commands.{Gives, one, two, three, path_of, a_path, old_and_new, path_and_mode, id_and_bytes, write_call, cat_call, truncate_call, watch_call, unwatch_call, asking, row_of};
+ghost use Rattle.watchtree_script.specs.Commands.{Gives, one, two, three, path_of, a_path, old_and_new, path_and_mode, id_and_bytes, write_call, cat_call, truncate_call, rename2_call, watch_call, unwatch_call, asking, row_of};
 ghost use Rattle.tree_core.specs.declared.call.Call.TheVariants as call;
 
 use crate::fault::ScriptFault;
@@ -49,6 +49,7 @@ impl<'a> Parser<'a> {
             Command::Unlink => self.unlink(),
             Command::Rmdir => self.rmdir(),
             Command::Rename => self.rename(),
+            Command::Rename2 => self.rename2(),
             Command::Stat => self.stat(),
             Command::List => self.list(),
             Command::Init => self.init(),
@@ -151,6 +152,19 @@ impl<'a> Parser<'a> {
     {
         let (old, new) = self.old_and_new()?;
         Ok(plain(Call::File(FileCall::Rename { old, new })))
+    }
+
+    #[tactic(auto, unfolding(crate::specs::Commands::rename2_call))]
+    fn rename2(&self) -> Result<Line, LineError>
+        ensures { Gives result (row_of self.now.queue Command.Rename2 self.now.words) }
+    {
+        let (old, new, flags) = self.three()?;
+        let old_text = path_word(self.alloc, old)?;
+        let new_text = path_word(self.alloc, new)?;
+        let flags = u32_word(flags)?;
+        let old = path_of(self.alloc, old_text.as_slice())?;
+        let new = path_of(self.alloc, new_text.as_slice())?;
+        Ok(plain(Call::File(FileCall::Rename2 { old, new, flags })))
     }
 
     fn stat(&self) -> Result<Line, LineError>

@@ -38,6 +38,27 @@ fn the_last_cookie(rt: HostRuntime) -> Result<(), Fail> {
 }
 
 #[test]
+fn the_second_cookie_of_an_exchange(rt: HostRuntime) -> Result<(), Fail> {
+    let alloc = rt.alloc();
+    let mut limits = Limits::full();
+    limits.cookies = 1;
+    let tree = &mut opened(alloc, limits)?;
+    does(&rt, tree, create(alloc, "/a"));
+    does(&rt, tree, mkdir(alloc, "/b"));
+    refuses(
+        &rt,
+        tree,
+        exchange(alloc, "/a", "/b"),
+        Refusal::CookiesSpent,
+    );
+    tells(&rt, tree, exchange(alloc, "/a", "/a"), filed());
+    tells(&rt, tree, stat(alloc, "/a"), file(2, 0o644, 1, 0));
+    tells(&rt, tree, rename(alloc, "/a", "/c"), filed());
+    refuses(&rt, tree, rename(alloc, "/b", "/d"), Refusal::CookiesSpent);
+    Ok(())
+}
+
+#[test]
 fn the_last_file_number(rt: HostRuntime) -> Result<(), Fail> {
     let alloc = rt.alloc();
     let mut limits = Limits::full();

@@ -37,7 +37,7 @@ returns c =
           ever = c.nothing_follows_ignored.ensures.ever;
         };
         raised = record { watches = watches; events = c.events_are_of_watches.ensures; tells = c.descriptors_tell_files.ensures };
-        ties = cookies-tie-moves (record { moves = c.cookies_tie_moves.ensures.moves; unused = c.cookies_tie_moves.ensures.unused });
+        ties = cookies-tie-moves (record { told = c.cookies_tie_moves.ensures.told; raised = c.cookies_tie_moves.ensures.raised });
         part = c.other_watches_stay.ensures.part;
       };
     })

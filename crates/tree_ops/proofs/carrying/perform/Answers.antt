@@ -1,19 +1,21 @@
-use Rattle.std.proofs.Common.{◌≡◌, ℕ, ◌+◌, ◌<◌, ◌^◌, Option, Some, None, IfSome, true, false, nat_lt, length, ◌&&◌, ◌≤◌, List, refl, sym, ap, subst, ◌∙◌, arith}
-use borrow.Author.Tests.{ltb-true, ltb-false}
+use Rattle.std.proofs.Common.{◌≡◌, ◌≢◌, ◌==◌, if◌then◌else◌, Bool, ℕ, ◌+◌, ◌<◌, ◌^◌, Option, Some, None, IfSome, true, false, nat_lt, length, ◌&&◌, ◌≤◌, List, refl, sym, ap, subst, ◌∙◌, arith}
+use borrow.Author.Tests.{ltb-true, ltb-false, eq-eqb, ne_eqb}
 use Rattle.inode_table.specs.declared.seen.Seen.{Seen}
 use Rattle.tree_paths.specs.Rows.{first_row}
 use Rattle.inode_table.specs.Bytes.{written}
 use Rattle.inode_table.specs.Tree.{Tree}
 use Rattle.inode_table.specs.World.{World, changed_at, look}
 use Rattle.inode_table.specs.Stands.{Stands, HasWorld, look_in}
+use Rattle.tree_ops.specs.declared.call.TheConstants.{RENAME_EXCHANGE}
 use Rattle.tree_ops.specs.declared.call.FileCall.{FileCall}
+use Rattle.tree_ops.specs.declared.call.FileCall.TheVariants.{Rename2}
 use Rattle.tree_ops.specs.declared.answer.Answer.{Answer}
 use Rattle.tree_ops.specs.declared.answer.Answer.TheVariants.{Bytes, Names}
 use Rattle.tree_ops.specs.Checked.{Checked}
 use Rattle.tree_ops.specs.ReadyCall.{IsReady}
 use Rattle.tree_ops.specs.Refused.{refusal_of, rows_of, links_seen}
-use Rattle.tree_ops.specs.After.{after, answer_of}
-use Rattle.tree_ops.proofs.Rows.{make-known, write-known, read-known, truncate-known, chmod-known, link-known, unlink-known, rmdir-known, rename-known, find-known, list-known}
+use Rattle.tree_ops.specs.After.{after, after_exchange, after_rename, after_rename2, answer_of}
+use Rattle.tree_ops.proofs.Rows.{make-known, write-known, read-known, truncate-known, chmod-known, link-known, unlink-known, rmdir-known, rename-known, move-known, exchange-known, find-known, list-known, RenameKnown, ExchangeKnown}
 use Rattle.tree_ops.proofs.carrying.perform.Goals as goal
 
 -- no row of the call's kind holds for what the table shows
@@ -180,3 +182,69 @@ list-requires-clause-directory c = (list-known (look_in c.args.table.now) c.in-L
 
 pub returns-in_ok-list-in-List-clause-answer : goal.returns-in_ok-list-in-List-clause-answer
 returns-in_ok-list-in-List-clause-answer c w stands = answer-at _ w _ _ _ c.ready.view_is c.in-List.is (ap Names (c.in_ok-list-in-List.ensures w stands))
+
+-- ---- a rename by flags
+
+-- one call has one list of flags
+same-flags : (call : FileCall) (a b p q : List (List ℕ)) (flags again : ℕ) → call ≡ Rename2 a b flags → call ≡ Rename2 p q again → flags ≡ again
+same-flags call a b p q flags again e f = let both : Rename2 a b flags ≡ Rename2 p q again = sym e ∙ f in cc
+
+other-flags : (flags again : ℕ) → flags ≡ again → flags ≢ RENAME_EXCHANGE → (again == RENAME_EXCHANGE) ≡ false
+other-flags flags again same off = ne_eqb again RENAME_EXCHANGE (λ e. off (same ∙ e))
+
+exchange-at : (c : goal.After-exchange-arg-1) → ExchangeKnown (look_in c.args.table.now) c.in-Rename2.old c.in-Rename2.new
+exchange-at c =
+    exchange-known (look_in c.args.table.now) c.requires.ready.limits c.args.ready.counts c.in-Rename2.old c.in-Rename2.new c.in-Rename2.flags
+    (known c.args.table.now c.args.ready _ _ c.requires.ready c.law.ensures.looks c.law.ensures.world c.ready.view_is c.in-Rename2.is)
+    (eq-eqb c.in-Rename2.flags RENAME_EXCHANGE c.if-flags-eq-RENAME_EXCHANGE.true)
+
+move-at : (c : goal.After-rename-arg-in-Rename2-2-1) → RenameKnown (look_in c.args.table.now) c.in-Rename2-2.old c.in-Rename2-2.new
+move-at c =
+    move-known (look_in c.args.table.now) c.requires.ready.limits c.args.ready.counts c.in-Rename2-2.old c.in-Rename2-2.new c.in-Rename2-2.flags
+    (known c.args.table.now c.args.ready _ _ c.requires.ready c.law.ensures.looks c.law.ensures.world c.ready.view_is c.in-Rename2-2.is)
+    (other-flags c.in-Rename2.flags c.in-Rename2-2.flags (same-flags _ _ _ _ _ _ _ c.in-Rename2.is c.in-Rename2-2.is) c.if-flags-eq-RENAME_EXCHANGE.false)
+
+pub exchange-requires-clause-source : goal.exchange-requires-clause-source
+exchange-requires-clause-source c = (exchange-at c).there
+
+pub exchange-requires-clause-target : goal.exchange-requires-clause-target
+exchange-requires-clause-target c = (exchange-at c).other_there
+
+pub exchange-requires-clause-below : goal.exchange-requires-clause-below
+exchange-requires-clause-below c = (exchange-at c).below
+
+pub exchange-requires-clause-above : goal.exchange-requires-clause-above
+exchange-requires-clause-above c = (exchange-at c).above
+
+pub rename-requires-in-Rename2-2-clause-source : goal.rename-requires-in-Rename2-2-clause-source
+rename-requires-in-Rename2-2-clause-source c = (move-at c).there
+
+pub rename-requires-in-Rename2-2-clause-directory : goal.rename-requires-in-Rename2-2-clause-directory
+rename-requires-in-Rename2-2-clause-directory c = (move-at c).directory
+
+pub rename-requires-in-Rename2-2-clause-named : goal.rename-requires-in-Rename2-2-clause-named
+rename-requires-in-Rename2-2-clause-named c = (move-at c).named
+
+pub rename-requires-in-Rename2-2-clause-other_named : goal.rename-requires-in-Rename2-2-clause-other_named
+rename-requires-in-Rename2-2-clause-other_named c = (move-at c).other_named
+
+pub rename-requires-in-Rename2-2-clause-below : goal.rename-requires-in-Rename2-2-clause-below
+rename-requires-in-Rename2-2-clause-below c = (move-at c).below
+
+pub rename-requires-in-Rename2-2-clause-empty : goal.rename-requires-in-Rename2-2-clause-empty
+rename-requires-in-Rename2-2-clause-empty c = (move-at c).empty
+
+-- the world after a rename by these flags
+by-test : (table : Tree) (w : World) (old new : List (List ℕ)) (flags : ℕ) (b : Bool) → (flags == RENAME_EXCHANGE) ≡ b → Stands table (if b then after_exchange w old new else after_rename w old new) → Stands table (after_rename2 w old new flags)
+by-test table w old new flags b e h = subst (λ x. Stands table (if x then after_exchange w old new else after_rename w old new)) (sym e) h
+
+pub returns-in-Rename2-clause-world : goal.returns-in-Rename2-clause-world
+returns-in-Rename2-clause-world c w stands =
+    after-at _ w _ _ _ c.ready.view_is c.in-Rename2.is
+    (by-test c.exchange.new.table w c.in-Rename2.old c.in-Rename2.new c.in-Rename2.flags true (eq-eqb c.in-Rename2.flags RENAME_EXCHANGE c.if-flags-eq-RENAME_EXCHANGE.true) (c.exchange.ensures.world w stands))
+
+pub returns-in_ok-rename-in-Rename2-2-clause-world : goal.returns-in_ok-rename-in-Rename2-2-clause-world
+returns-in_ok-rename-in-Rename2-2-clause-world c w stands =
+    let off = other-flags c.in-Rename2.flags c.in-Rename2-2.flags (same-flags _ _ _ _ _ _ _ c.in-Rename2.is c.in-Rename2-2.is) c.if-flags-eq-RENAME_EXCHANGE.false in
+    after-at _ w _ _ _ c.ready.view_is c.in-Rename2-2.is
+    (by-test c.rename-in-Rename2-2.new.table w c.in-Rename2-2.old c.in-Rename2-2.new c.in-Rename2-2.flags false off (c.in_ok-rename-in-Rename2-2.ensures.world w stands))

@@ -1,22 +1,13 @@
-use Rattle.std.proofs.Common.{◌≡◌, ◌≢◌, ◌==◌, ℕ, List, [], true, false, ◌&&◌, Option, Some, None, IsSome, IfSome, refl, sym, ap, subst, ◌∙◌}
-use borrow.Author.Tests.{eq-eqb}
+use Rattle.std.proofs.Common.{◌≡◌, ◌≢◌, [], true, false, ◌&&◌, Option, Some, None, IsSome, IfSome, sym, ap, subst, ◌∙◌}
 use Rattle.std.specs.FinMap as finmap
 use Rattle.inode_table.specs.declared.seen.Seen.{Seen}
 use Rattle.inode_table.specs.Paths.{is_below}
-use Rattle.inode_table.specs.Refusals.{Look, is_directory_seen, parent_of}
+use Rattle.inode_table.specs.Refusals.{is_directory_seen, parent_of}
 use Rattle.inode_table.specs.World.{with_move, without_lost}
 use Rattle.inode_table.specs.Stands.{Stands, look_in}
 use Rattle.tree_ops.specs.Refused.{are_same_seen, has_names_seen}
-use Rattle.tree_ops.proofs.Changed.{renamed-nothing, renamed-moved}
+use Rattle.tree_ops.proofs.Changed.{renamed-nothing, renamed-moved, other-paths}
 use Rattle.tree_ops.proofs.carrying.rename.Goals as goal
-
--- files that differ stand at paths that differ
-apart : (at : Look) (old new : List (List ℕ)) → IsSome (at old) → are_same_seen (at old) (at new) ≡ false → old ≢ new
-apart at old new there off same = by (at old) there (ap (λ p. are_same_seen (at old) (at p)) same ∙ off)
-  where
-    by : (o : Option Seen) → IsSome o → are_same_seen o o ≡ false → ⊥
-    by None there e = absurd (cc)
-    by (Some s) there e = let itself : (s.number == s.number) ≡ true = eq-eqb s.number s.number refl in let clash : true ≡ false = sym itself ∙ e in cc
 
 nameless : (o : Option Seen) → has_names_seen o ≡ false → IfSome o (λ s. s.has_names ≡ false)
 nameless None e = tt
@@ -32,7 +23,7 @@ pub replace_name-requires-clause-other_named : goal.replace_name-requires-clause
 replace_name-requires-clause-other_named c = subst (λ p. p ≢ []) (sym c.names-2.ensures) c.requires.other_named
 
 pub replace_name-requires-clause-other : goal.replace_name-requires-clause-other
-replace_name-requires-clause-other c e = apart (look_in c.args.table.now) c.args.old.now c.args.new.now c.requires.source ((λ i. are_same_seen (sym c.seen.ensures i) (sym c.seen-2.ensures i)) ∙ sym c.are_same-is_same.ensures ∙ c.if-is_same.false) (sym c.names.ensures ∙ e ∙ c.names-2.ensures)
+replace_name-requires-clause-other c e = other-paths (look_in c.args.table.now) c.args.old.now c.args.new.now c.requires.source ((λ i. are_same_seen (sym c.seen.ensures i) (sym c.seen-2.ensures i)) ∙ sym c.are_same-is_same.ensures ∙ c.if-is_same.false) (sym c.names.ensures ∙ e ∙ c.names-2.ensures)
 
 pub replace_name-requires-clause-below : goal.replace_name-requires-clause-below
 replace_name-requires-clause-below c = (λ i. is_directory_seen (look_in c.args.table.now (c.names.ensures i)) && is_below (c.names.ensures i) (c.names-2.ensures i)) ∙ c.requires.below

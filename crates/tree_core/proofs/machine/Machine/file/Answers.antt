@@ -1,7 +1,7 @@
-use Rattle.std.proofs.Common.{◌≡◌, ◌+◌, ◌<◌, None, refl, sym, ap, subst, ◌∙◌}
+use Rattle.std.proofs.Common.{◌≡◌, ◌+◌, ◌<◌, None, refl, sym, ap, subst, ◌∙◌, arith}
 use Rattle.tree_ops.specs.declared.call.Counts.{Counts}
 use Rattle.tree_ops.specs.ReadyCall.{HasNumbersBelow}
-use Rattle.tree_ops.specs.Refused.{refused}
+use Rattle.tree_ops.specs.Refused.{refused, cookies_of}
 use Rattle.tree_ops.specs.After.{numbers_of}
 use Rattle.event_rules.specs.Table.{notices_of}
 use Rattle.instance_table.specs.Instances.{all_changed, told}
@@ -12,6 +12,7 @@ use Rattle.tree_core.specs.Tree.{Tree, counts_of, cookie_now}
 use Rattle.tree_core.specs.Machines.{IsMachineOf}
 use Rattle.tree_core.proofs.Serving.{Serves-err, accepted-serves, IsMachineOf-table}
 use Rattle.tree_core.proofs.Filed.{IsCarriedOut, IsCarriedOut-checked, IsMachineOf-listed, IsMachineOf-filed}
+use Rattle.tree_core.proofs.Counted.{cookies-fit, cookies-there}
 use Rattle.tree_core.proofs.machine.Machine.file.Goals as goal
 
 pub check-requires : goal.check-requires
@@ -61,3 +62,16 @@ returns c =
     (ap (λ x. m.next_cookie + x) (c.from.ensures ∙ c.cookies-cookies.ensures ∙ c.in-Ok.ensures.cookies t.world is.world))
     refl (heard t is))
     refl
+
+pub notices-requires : goal.notices-requires
+notices-requires c =
+    let t = c.requires.0 in
+    let is : IsMachineOf t c.args.self.now = c.requires.1 in
+    let now : c.counts-counts.result.next_cookie ≡ cookie_now t.next_cookie = ap (λ (x : Counts). x.next_cookie) (c.counts-counts.ensures t is) in
+    record {
+      cookies = λ w stands.
+          let room = cookies-there w c.args.self.now.limits c.counts-counts.result t.next_cookie now c.args.call.now (c.in-Ok.ensures.accepted w stands) in
+          let fits = cookies-fit c.args.self.now.limits t.next_cookie (cookies_of w c.args.call.now) room in
+          let same : cookies_of w c.in-Ok.ready.call ≡ cookies_of w c.args.call.now = ap (cookies_of w) c.in-Ok.ensures.call in
+          omega (arith, fits, same, now);
+    }
