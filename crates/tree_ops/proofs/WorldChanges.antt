@@ -197,7 +197,7 @@ IsWorld-changed w is p change keeps blank =
           | inr off ↦ ap kind_in (get-insert_other nat_cmp_total nat_cmp-IsAntisymmetric w.files n (change f) k off)
         ]) (λ k g is_there. elim (cases_eq k n) [
           | inl e ↦ subst IsBlank (same_some (change f) g (sym (get-insert_here nat_cmp_total nat_cmp-IsAntisymmetric w.files n (change f)) ∙ sym (ap (finmap.get (finmap.insert w.files n (change f))) e) ∙ is_there))
-            (blank f (ap (option_and_then (finmap.get w.files)) there ∙ at) (is.no_bytes n f at))
+              (blank f (ap (option_and_then (finmap.get w.files)) there ∙ at) (is.no_bytes n f at))
           | inr off ↦ is.no_bytes k g (sym (get-insert_other nat_cmp_total nat_cmp-IsAntisymmetric w.files n (change f) k off) ∙ is_there)
         ])
       ] refl
