@@ -260,6 +260,49 @@ fn another_trees_seat_is_stray(rt: HostRuntime) -> Result<(), Fail> {
     Ok(())
 }
 
+// A storm of four calls each, one writer after the other, whose journal is cut before they write.
+fn cut_before_it<L: Ledger>(rt: &impl Wait, alloc: Global, blank: Blank) -> Result<Stormed, Fail>
+    requires name { blank.name ≡ L.name }
+    requires parts { (blank.parts ≡ L.parts) × (blank.parts ≡ 65537) }
+{
+    let sinks = (CountSink::new(alloc, 99), CountSink::new(alloc, 99));
+    let Begun {
+        mut held,
+        mut pass,
+        main,
+        first,
+        second,
+        one,
+        other,
+    } = begin::<L, CountSink>(alloc, blank, 4, sinks.0, sinks.1)?;
+    if held.cut()? != 5 {
+        return Err(Fail::from(StormFault::Memory));
+    }
+    let tree: Tree<L> = Mutex::new(held);
+    let first = Writer::first().write(rt, alloc, &tree, first, &OpenGate, 4);
+    let second = Writer::second().write(rt, alloc, &tree, second, &OpenGate, 4);
+    let main = close_both(rt, &tree, main);
+    let mut logs = Vec::with_capacity(alloc, 3)?;
+    logs.push(pass.join(main))?;
+    logs.push(pass.join(first))?;
+    logs.push(pass.join(second))?;
+    let ended = (one.run(&OpenGate, 9), other.run(&OpenGate, 9));
+    let book = tree.into_inner().dissolve(pass);
+    Ok(Ran { book, logs, ended }.settle(alloc)?)
+}
+
+#[test]
+fn a_storm_that_was_cut_is_settled(rt: HostRuntime) -> Result<(), Fail> {
+    let alloc = rt.alloc();
+    let stormed = cut_before_it::<Brand>(&rt, alloc, Blank::new(65537))?;
+    holds(
+        &rt,
+        "is_settled(&stormed, 25, 18)",
+        is_settled(&stormed, 25, 18),
+    );
+    Ok(())
+}
+
 /// Which go first, where the four run one after the other.
 #[derive(Clone, Copy, PartialEq, Eq)]
 enum Order {
