@@ -1,3 +1,5 @@
+mod refused;
+
 use event_rules::*;
 use inode_table::Table;
 use record_codec::{Bytes, Event, Name};

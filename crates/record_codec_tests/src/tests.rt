@@ -1,5 +1,7 @@
 ghost use Rattle.std.specs.Prelude.{◌≡◌, ◌≤◌, IfOk};
 
+mod refused;
+
 use record_codec::bits::{IN_CREATE, IN_ISDIR, IN_MOVED_TO, IN_Q_OVERFLOW};
 use record_codec::{bits, *};
 use std::alloc::Global;

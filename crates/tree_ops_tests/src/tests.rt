@@ -1,3 +1,5 @@
+mod refused;
+
 use inode_table::{Kind, Table};
 use record_codec::Bytes;
 use std::alloc::Global;
@@ -170,7 +172,7 @@ fn done(rt: &impl Abort, told: Result<Answer, Refusal>) {
 }
 
 /// The call was refused so.
-fn refused(rt: &impl Abort, told: Result<Answer, Refusal>, wanted: Refusal) {
+fn refuses(rt: &impl Abort, told: Result<Answer, Refusal>, wanted: Refusal) {
     assert_eq!(rt; told, Err(wanted));
 }
 
@@ -196,10 +198,10 @@ fn renames_of_one_file(rt: HostRuntime) -> Result<(), Fail> {
     done(&rt, calls.rename("/a", "/b"));
     tells(&rt, calls.stat("/a"), file(2, 0o644, 2, 0));
     calls.spend_cookies();
-    refused(&rt, calls.rename("/a", "/c"), Refusal::CookiesSpent);
+    refuses(&rt, calls.rename("/a", "/c"), Refusal::CookiesSpent);
     done(&rt, calls.rename("/a", "/b"));
     done(&rt, calls.rename("/a", "/a"));
-    refused(&rt, calls.stat("/c"), Refusal::Enoent);
+    refuses(&rt, calls.stat("/c"), Refusal::Enoent);
     Ok(())
 }
 
@@ -213,13 +215,13 @@ fn last_values(rt: HostRuntime) -> Result<(), Fail> {
     let mut calls = Calls::new(rt.alloc(), limits)?;
     tells(&rt, calls.create("/a", 0o644), number(2));
     tells(&rt, calls.create("/b", 0o644), number(3));
-    refused(&rt, calls.create("/c", 0o644), Refusal::NumbersSpent);
+    refuses(&rt, calls.create("/c", 0o644), Refusal::NumbersSpent);
     tells(&rt, calls.write("/a", 0, b"abcd"), count(4));
-    refused(&rt, calls.write("/a", 4, b"e"), Refusal::Efbig);
-    refused(&rt, calls.truncate("/a", 5), Refusal::Efbig);
-    refused(&rt, calls.link("/a", "/c"), Refusal::Emlink);
+    refuses(&rt, calls.write("/a", 4, b"e"), Refusal::Efbig);
+    refuses(&rt, calls.truncate("/a", 5), Refusal::Efbig);
+    refuses(&rt, calls.link("/a", "/c"), Refusal::Emlink);
     done(&rt, calls.rename("/a", "/c"));
-    refused(&rt, calls.rename("/c", "/a"), Refusal::CookiesSpent);
+    refuses(&rt, calls.rename("/c", "/a"), Refusal::CookiesSpent);
     Ok(())
 }
 

@@ -1,3 +1,5 @@
+mod refused;
+
 use record_codec::Name;
 use std::alloc::{AllocError, Global};
 use std::fmt::Debug;

@@ -25,9 +25,6 @@ fn made(alloc: Global, name: &[u8]) -> Result<Event, AllocError> {
     })
 }
 
-// No call but `with_limit` asks for memory. Each test counts its own requests: `limit_two` makes ten for its events, all of
-// them before the queue, and the eleventh is the queue's. With `rt try --test --fail-alloc 11` it ends in `Enomem`; with 12,
-// 13 or 14, by which a later request would be refused, its answers are the same.
 #[test]
 fn limit_two(rt: HostRuntime) -> Result<(), Refusal> {
     let alloc = rt.alloc();

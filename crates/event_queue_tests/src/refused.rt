@@ -1,0 +1,125 @@
+//! Growths refused: that of a new queue, and all after it, which no call asks for.
+
+use event_queue::{Offered, Queue};
+use record_codec::{Event, Name, bits};
+use refuser::{refuse, refuse_from, was_refused};
+use std::alloc::{AllocError, Global};
+use std::fmt::Debug;
+use std::process::Abort;
+use std::test::Fail;
+use tree_paths::Refusal;
+
+/// What was got is what is wanted. Tests assert in these two functions: the macros in a long body take minutes to prove.
+fn equal<T: PartialEq + Debug + Drop>(rt: &impl Abort, got: T, wanted: T) {
+    assert_eq!(rt; got, wanted);
+}
+
+/// It is so.
+fn holds(rt: &impl Abort, what: &str, is_so: bool) {
+    assert!(rt; is_so, "{what}");
+}
+
+/// More growths than a queue has.
+const MOST: u32 = 9;
+
+// How many growths of a new queue were refused, each with the answer ENOMEM. None where one was not.
+fn refused_in_turn(alloc: Global, limit: u32) -> Option<u32> {
+    for k in 1..MOST {
+        let _ = refuse(alloc, k);
+        let made = Queue::with_limit(alloc, limit.clamp(1, 65_535));
+        match (made, was_refused(alloc)) {
+            (Err(Refusal::Enomem), true) => {}
+            (Ok(queue), false) if queue.is_empty() => return Some(k - 1),
+            _ => return None,
+        }
+    }
+    None
+}
+
+#[test]
+fn each_growth_of_a_new_queue(rt: HostRuntime) {
+    let alloc = rt.alloc();
+    let has_refuser = refuse(alloc, MOST);
+    let _ = was_refused(alloc);
+    for limit in [1, 2, 65_535] {
+        let count = refused_in_turn(alloc, limit);
+        let is_well = matches!(count, Some(count) if (count > 0) == has_refuser);
+        assert!(rt; is_well, "limit {limit}: {count:?}");
+    }
+}
+
+/// A file of this name was made in the directory of watch 1.
+fn made(alloc: Global, name: &[u8]) -> Result<Event, AllocError> {
+    Ok(Event {
+        wd: 1,
+        mask: bits::IN_CREATE,
+        cookie: 0,
+        name: Name::new(alloc, name)?,
+    })
+}
+
+// What becomes of each event, in a queue from which one is taken before the fifth and before the sixth.
+fn fates(queue: &mut Queue, events: [Event; 7]) -> [Offered; 7] {
+    let [a, b, c, d, e, g, again] = events;
+    let first = [
+        queue.offer(a),
+        queue.offer(b),
+        queue.offer(c),
+        queue.offer(d),
+    ];
+    queue.take();
+    let fifth = queue.offer(e);
+    queue.take();
+    let [a, b, c, d] = first;
+    [a, b, c, d, fifth, queue.offer(g), queue.offer(again)]
+}
+
+// The descriptors of what waits, and how many records fit into 48 bytes.
+fn waiting(queue: &mut Queue) -> (usize, usize, i32, i32, bool) {
+    let fits = queue.fit(48);
+    let peeked = match queue.peek(0) {
+        Some(event) => event.wd,
+        None => 0,
+    };
+    let taken = match queue.take() {
+        Some(event) => event.wd,
+        None => 0,
+    };
+    queue.take();
+    (fits, queue.len(), peeked, taken, queue.take().is_none())
+}
+
+#[test]
+fn no_call_takes_memory(rt: HostRuntime) -> Result<(), Fail> {
+    let alloc = rt.alloc();
+    let events = [
+        made(alloc, b"a")?,
+        made(alloc, b"b")?,
+        made(alloc, b"c")?,
+        made(alloc, b"d")?,
+        made(alloc, b"e")?,
+        made(alloc, b"g")?,
+        made(alloc, b"g")?,
+    ];
+    let mut queue = Queue::with_limit(alloc, 2)?;
+    let _ = refuse_from(alloc, 1);
+    let fates = fates(&mut queue, events);
+    let waiting = waiting(&mut queue);
+    let is_refused = was_refused(alloc);
+    equal(
+        &rt,
+        fates,
+        [
+            Offered::Kept,
+            Offered::Kept,
+            Offered::Marked,
+            Offered::Lost,
+            Offered::Lost,
+            Offered::Kept,
+            Offered::Merged,
+        ],
+    );
+    equal(&rt, waiting, (2, 0, -1, -1, true));
+    holds(&rt, "!is_refused", !is_refused);
+    Ok(())
+}

@@ -1,0 +1,140 @@
+//! Each growth of `notices` and `stage` refused in turn. Where nobody refuses growths each is called once.
+
+use super::*;
+use refuser::{refuse, was_refused};
+
+/// More growths than a call here has.
+const MOST: u32 = 60;
+
+/// How many calls there are.
+const CALLS: u32 = 12;
+
+// A directory, files with one and two paths, and an empty directory.
+fn prepared(alloc: Global) -> Result<Calls, Refusal> {
+    let mut calls = Calls::new(alloc)?;
+    calls.mkdir("/d")?;
+    calls.create("/d/f")?;
+    calls.link("/d/f", "/g")?;
+    calls.mkdir("/e")?;
+    calls.create("/h")?;
+    calls.write("/g", b"abc")?;
+    Ok(calls)
+}
+
+// A call of each kind, none of which is refused there.
+fn call_of(calls: &Calls, which: u32) -> Result<FileCall, Refusal> {
+    let path = calls.path("/g")?;
+    let other = calls.path("/h")?;
+    Ok(match which {
+        0 => FileCall::Create {
+            path: calls.path("/d/new")?,
+            mode: 0o644,
+        },
+        1 => FileCall::Mkdir {
+            path: calls.path("/d/new")?,
+            mode: 0o755,
+        },
+        2 => FileCall::Write {
+            path,
+            offset: 5,
+            bytes: Bytes::from_vec(Vec::from_slice(calls.alloc, b"xyz")?),
+        },
+        3 => FileCall::ReadFile {
+            path,
+            offset: 0,
+            count: 9,
+        },
+        4 => FileCall::Truncate { path, len: 9 },
+        5 => FileCall::Chmod { path, mode: 0o700 },
+        6 => FileCall::Link {
+            old: path,
+            new: calls.path("/e/g")?,
+        },
+        7 => FileCall::Unlink { path: other },
+        8 => FileCall::Rmdir {
+            path: calls.path("/e")?,
+        },
+        9 => FileCall::Rename {
+            old: path,
+            new: other,
+        },
+        10 => FileCall::Stat { path },
+        _ => FileCall::List {
+            path: calls.path("/d")?,
+        },
+    })
+}
+
+// What a call would tell.
+fn noticed(calls: &Calls, call: &FileCall) -> Result<Notices, Refusal> {
+    let ready = check(&calls.table, call, &calls.counts, &Limits::full())?;
+    notices(calls.alloc, &calls.table, &ready, calls.counts.next_cookie)
+}
+
+// How many growths the notices of a call have, each refused. None where one was not.
+fn notices_refused(calls: &Calls, call: &FileCall) -> Result<Option<u32>, Refusal> {
+    let wanted = noticed(calls, call)?;
+    for k in 1..MOST {
+        let _ = refuse(calls.alloc, k);
+        let told = noticed(calls, call);
+        match (told, was_refused(calls.alloc)) {
+            (Err(Refusal::Enomem), true) => {}
+            (Ok(told), false) if told.as_slice() == wanted.as_slice() => return Ok(Some(k - 1)),
+            _ => return Ok(None),
+        }
+    }
+    Ok(None)
+}
+
+// Whether the same events are raised, and the same watches end.
+fn are_same(one: &Staged, other: &Staged) -> bool {
+    one.events == other.events && one.drops.as_slice() == other.drops.as_slice()
+}
+
+// How many growths the events of a call have, each refused. None where one was not.
+fn stage_refused(
+    alloc: Global,
+    watches: &Watches,
+    notices: &[Notice],
+) -> Result<Option<u32>, Refusal> {
+    let wanted = stage(alloc, watches, notices)?;
+    for k in 1..MOST {
+        let _ = refuse(alloc, k);
+        let told = stage(alloc, watches, notices);
+        match (told, was_refused(alloc)) {
+            (Err(Refusal::Enomem), true) => {}
+            (Ok(told), false) if are_same(&told, &wanted) => return Ok(Some(k - 1)),
+            _ => return Ok(None),
+        }
+    }
+    Ok(None)
+}
+
+// Watches of all files: each for all events, the even ones for one event.
+fn watching(alloc: Global) -> Result<Watches, Refusal> {
+    let mut watches = Watches::new(alloc, &Limits::full());
+    for number in 1..7 {
+        let bits = if number % 2 == 0 { 0x8000_0fff } else { 0xfff };
+        watch(&mut watches, number, bits)?;
+    }
+    Ok(watches)
+}
+
+#[test]
+fn each_growth_of_each_call(rt: HostRuntime) -> Result<(), Fail> {
+    let alloc = rt.alloc();
+    let has_refuser = refuse(alloc, MOST);
+    let _ = was_refused(alloc);
+    let calls = prepared(alloc)?;
+    let watches = watching(alloc)?;
+    for which in 0..CALLS {
+        let call = call_of(&calls, which)?;
+        let told = notices_refused(&calls, &call)?;
+        let raised = stage_refused(alloc, &watches, noticed(&calls, &call)?.as_slice())?;
+        let grows = has_refuser && which < 10;
+        let is_well = matches!(told, Some(count) if (count > 0) == grows)
+            && matches!(raised, Some(count) if (count > 0) == grows);
+        assert!(rt; is_well, "call {which}: {told:?}, {raised:?}");
+    }
+    Ok(())
+}

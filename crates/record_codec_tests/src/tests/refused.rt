@@ -1,0 +1,113 @@
+//! Each growth of each call refused in turn: want of memory is the answer, and a vector is as before. Where nobody refuses
+//! growths each call is made once.
+
+use super::*;
+use refuser::{refuse, refuse_from, was_refused};
+use std::alloc::AllocError;
+
+/// More growths than a call here has.
+const MOST: u32 = 50;
+
+/// How many calls there are.
+const CALLS: u32 = 9;
+
+// Makes a call on the first event of `SPELLED`. Whether what it gives, or appends behind the word `before`, is right.
+fn is_right(
+    alloc: Global,
+    which: u32,
+    event: &Event,
+    text: &mut Vec<u8>,
+) -> Result<bool, AllocError> {
+    match which {
+        0 => append(event, text)?,
+        1 => append_record_line(event, text)?,
+        2 => return Ok(encode(alloc, &[event.copy()?])?.as_slice() == &SPELLED[..32]),
+        3 => return is_decoded(alloc),
+        4 => return Ok(event.copy()? == *event),
+        5 => return Ok(Name::new(alloc, b"f")?.is_some()),
+        6 => return Ok(Events::from_vec(decoded(alloc)?).copy()?.as_slice().len() == 2),
+        7 => return Ok(
+            Bytes::from_vec(SPELLED.to_vec(alloc)?).copy()?.as_slice() == SPELLED.as_slice(),
+        ),
+        _ => match &event.name {
+            Some(name) => append_name(name, text)?,
+            None => return Ok(false),
+        },
+    }
+    let wanted = match which {
+        0 => &SPELLED[..32],
+        1 => b"1 00000100 0 f".as_slice(),
+        _ => b"f".as_slice(),
+    };
+    Ok(text.get(6..) == Some(wanted))
+}
+
+// The events of `SPELLED`.
+fn decoded(alloc: Global) -> Result<Vec<Event>, AllocError> {
+    match decode(alloc, &SPELLED) {
+        Ok(events) => Ok(events),
+        Err(_) => Err(AllocError),
+    }
+}
+
+// Whether those are spelled so.
+fn is_decoded(alloc: Global) -> Result<bool, AllocError> {
+    match decode(alloc, &SPELLED) {
+        Ok(events) => Ok(spells(&events, &SPELLED)),
+        Err(CodecFault::Memory) => Err(AllocError),
+        Err(_) => Ok(false),
+    }
+}
+
+// How many growths of a call were refused, each with all well. None where one was not.
+fn refused_in_turn(alloc: Global, which: u32, event: &Event) -> Result<Option<u32>, AllocError> {
+    for k in 1..MOST {
+        let mut text = Vec::from_slice(alloc, b"before")?;
+        let _ = refuse(alloc, k);
+        let told = is_right(alloc, which, event, &mut text);
+        match (told, was_refused(alloc)) {
+            (Err(_), true) if text.as_slice() == b"before".as_slice() => {}
+            (Ok(true), false) => return Ok(Some(k - 1)),
+            _ => return Ok(None),
+        }
+    }
+    Ok(None)
+}
+
+#[test]
+fn each_growth_of_each_call(rt: HostRuntime) -> Result<(), Fail> {
+    let alloc = rt.alloc();
+    let has_refuser = refuse(alloc, MOST);
+    let _ = was_refused(alloc);
+    let event = named(alloc, 1, IN_CREATE, 0, b"f")?;
+    for which in 0..CALLS {
+        let count = refused_in_turn(alloc, which, &event)?;
+        let is_well = matches!(count, Some(count) if (count > 0) == has_refuser);
+        assert!(rt; is_well, "call {which}: {count:?}");
+    }
+    Ok(())
+}
+
+// Whether calls that take no memory answer as they should.
+fn is_told(events: &[Event], name: &Name) -> bool {
+    let mut len: usize = 0;
+    for event in events {
+        len = len.saturating_add(record_len(event));
+    }
+    spells(events, &SPELLED)
+        && !spells(events, &SPELLED[..47])
+        && len == SPELLED.len()
+        && name.bytes() == b"f".as_slice()
+}
+
+#[test]
+fn some_calls_take_no_memory(rt: HostRuntime) -> Result<(), Fail> {
+    let alloc = rt.alloc();
+    let events = two_events(alloc)?;
+    let name = Name::new(alloc, b"f")?.ok_or("a name")?;
+    let _ = refuse_from(alloc, 1);
+    let is_told = is_told(&events, &name);
+    let is_refused = was_refused(alloc);
+    holds(&rt, "is_told && !is_refused", is_told && !is_refused);
+    Ok(())
+}

@@ -1,0 +1,198 @@
+//! Each growth of `carry_out`, and of a table's rows, refused in turn, and the calls that take no memory. Where nobody
+//! refuses growths each is called once.
+
+use super::*;
+use inode_table::FileRow;
+use refuser::{refuse, refuse_from, was_refused};
+
+/// More growths than a call here has.
+const MOST: u32 = 200;
+
+/// How many calls there are.
+const CALLS: u32 = 14;
+
+// A directory with more names than a node of an ordered map takes, files with one and two paths, and an empty directory.
+fn prepared(alloc: Global) -> Result<Calls, Refusal> {
+    let mut calls = Calls::new(alloc, Limits::full())?;
+    mkdir(&mut calls, "/d")?;
+    mkdir(&mut calls, "/e")?;
+    for text in [
+        "/d/a", "/d/b", "/d/c", "/d/f", "/d/h", "/d/i", "/d/j", "/d/k", "/d/l", "/d/m",
+    ] {
+        calls.create(text, 0o644)?;
+    }
+    calls.create("/d/o", 0o600)?;
+    calls.create("/h", 0o600)?;
+    calls.link("/d/f", "/g")?;
+    calls.write("/g", 0, b"abc")?;
+    Ok(calls)
+}
+
+fn mkdir(calls: &mut Calls, text: &str) -> Result<Answer, Refusal> {
+    let path = calls.path(text)?;
+    calls.made(&FileCall::Mkdir { path, mode: 0o755 })
+}
+
+// A call of each kind, none of which is refused there. The last six take no memory.
+fn call_of(calls: &Calls, which: u32) -> Result<FileCall, Refusal> {
+    let path = calls.path("/g")?;
+    let new = calls.path("/d/new")?;
+    Ok(match which {
+        0 => FileCall::Create {
+            path: new,
+            mode: 0o644,
+        },
+        1 => FileCall::Mkdir {
+            path: new,
+            mode: 0o755,
+        },
+        2 => FileCall::Write {
+            path,
+            offset: 50,
+            bytes: Bytes::from_vec(Vec::from_slice(calls.alloc, b"xyz")?),
+        },
+        3 => FileCall::ReadFile {
+            path,
+            offset: 0,
+            count: 9,
+        },
+        4 => FileCall::Truncate { path, len: 999 },
+        5 => FileCall::Link { old: path, new },
+        6 => FileCall::Rename { old: path, new },
+        7 => FileCall::List {
+            path: calls.path("/d")?,
+        },
+        _ => small_call_of(calls, path, which)?,
+    })
+}
+
+// The calls that take no memory, of a file with two paths.
+fn small_call_of(calls: &Calls, path: Path, which: u32) -> Result<FileCall, Refusal> {
+    Ok(match which {
+        8 => FileCall::Chmod { path, mode: 0o700 },
+        9 => FileCall::Unlink { path },
+        10 => FileCall::Rmdir {
+            path: calls.path("/e")?,
+        },
+        11 => FileCall::Stat { path },
+        12 => FileCall::Truncate { path, len: 1 },
+        _ => FileCall::Rename {
+            old: path,
+            new: calls.path("/d/f")?,
+        },
+    })
+}
+
+// Whether two files are the same.
+fn are_same(one: &FileRow, other: &FileRow) -> bool {
+    one.number == other.number
+        && one.kind == other.kind
+        && one.mode == other.mode
+        && one.bytes == other.bytes
+}
+
+// Whether both tables have the same paths and the same files.
+fn are_alike(one: &Table, other: &Table) -> Result<bool, Refusal> {
+    let files = one.files()?;
+    let others = other.files()?;
+    let are_same = files.iter().zip(&others).all(|(f, g)| are_same(f, g));
+    Ok(are_same && files.len() == others.len() && one.flat()? == other.flat()?)
+}
+
+// How many growths a call has, each refused with the table as it was. None where one was not.
+fn refused_in_turn(alloc: Global, which: u32) -> Result<Option<u32>, Refusal> {
+    let twin = prepared(alloc)?;
+    let mut after = prepared(alloc)?;
+    let call = call_of(&twin, which)?;
+    let wanted = after.made(&call)?;
+    let mut calls = prepared(alloc)?;
+    for k in 1..MOST {
+        let _ = refuse(alloc, k);
+        let told = calls.made(&call);
+        match (told, was_refused(alloc)) {
+            (Err(Refusal::Enomem), true) if are_alike(&calls.table, &twin.table)? => {}
+            (Ok(told), false) if told == wanted && are_alike(&calls.table, &after.table)? => {
+                return Ok(Some(k - 1));
+            }
+            _ => return Ok(None),
+        }
+    }
+    Ok(None)
+}
+
+// Whether growths can be refused.
+fn has_refuser(alloc: Global) -> bool {
+    let has = refuse(alloc, MOST);
+    let _ = was_refused(alloc);
+    has
+}
+
+#[test]
+fn each_growth_of_each_call(rt: HostRuntime) -> Result<(), Fail> {
+    let alloc = rt.alloc();
+    let has_refuser = has_refuser(alloc);
+    for which in 0..CALLS {
+        let count = refused_in_turn(alloc, which)?;
+        let grows = has_refuser && which < 8;
+        let is_well = matches!(count, Some(count) if (count > 0) == grows);
+        assert!(rt; is_well, "call {which}: {count:?}");
+    }
+    Ok(())
+}
+
+// How many rows a table has: of its paths, or of its files.
+fn counted(table: &Table, are_paths: bool) -> Result<usize, Refusal> {
+    if are_paths {
+        return Ok(table.flat()?.len());
+    }
+    Ok(table.files()?.len())
+}
+
+// How many growths the rows have, each refused. None where one was not.
+fn rows_refused_in_turn(alloc: Global, table: &Table, are_paths: bool) -> Option<u32> {
+    for k in 1..MOST {
+        let _ = refuse(alloc, k);
+        let told = counted(table, are_paths);
+        match (told, was_refused(alloc)) {
+            (Err(Refusal::Enomem), true) => {}
+            (Ok(told), false) if told == (if are_paths { 16 } else { 15 }) => return Some(k - 1),
+            _ => return None,
+        }
+    }
+    None
+}
+
+#[test]
+fn each_growth_of_the_rows(rt: HostRuntime) -> Result<(), Fail> {
+    let alloc = rt.alloc();
+    let has_refuser = has_refuser(alloc);
+    let calls = prepared(alloc)?;
+    for are_paths in [true, false] {
+        let count = rows_refused_in_turn(alloc, &calls.table, are_paths);
+        let is_well = matches!(count, Some(count) if (count > 0) == has_refuser);
+        assert!(rt; is_well, "{count:?}");
+    }
+    Ok(())
+}
+
+// Whether the call is let through, or refused as it should be.
+fn is_checked(calls: &Calls, call: &FileCall, wanted: Option<Refusal>) -> bool {
+    check(&calls.table, call, &calls.counts, &calls.limits).err() == wanted
+}
+
+#[test]
+fn checks_take_no_memory(rt: HostRuntime) -> Result<(), Fail> {
+    let alloc = rt.alloc();
+    let calls = prepared(alloc)?;
+    let path = calls.path("/d")?;
+    let taken = FileCall::Unlink { path };
+    for which in 0..CALLS {
+        let call = call_of(&calls, which)?;
+        let _ = refuse_from(alloc, 1);
+        let is_well = is_checked(&calls, &call, None)
+            && is_checked(&calls, &taken, Some(Refusal::Eperm));
+        let is_refused = was_refused(alloc);
+        assert!(rt; is_well && !is_refused, "call {which}");
+    }
+    Ok(())
+}

@@ -1,0 +1,75 @@
+//! Each growth of each call refused in turn, and the calls that take no memory. Where nobody refuses growths each call is
+//! made once.
+
+use super::*;
+use refuser::{refuse, refuse_from, was_refused};
+
+/// More growths than a call here has.
+const MOST: u32 = 50;
+
+// Makes a call. Whether its answer is right.
+fn is_right(alloc: Global, which: u32, path: &Path) -> Result<bool, Refusal> {
+    Ok(match which {
+        0 => are(Path::parse(alloc, b"/a/b/c")?.names(), &[b"a", b"b", b"c"]),
+        1 => Path::parse(alloc, b"/a/bb///ccc/d/e")? == Path::parse(alloc, b"/a/bb/ccc/d/e")?,
+        _ => path.copy()? == *path,
+    })
+}
+
+// How many growths of a call were refused, each with all well. None where one was not.
+fn refused_in_turn(alloc: Global, which: u32, path: &Path) -> Option<u32> {
+    for k in 1..MOST {
+        let _ = refuse(alloc, k);
+        let told = is_right(alloc, which, path);
+        match (told, was_refused(alloc)) {
+            (Err(Refusal::Enomem), true) => {}
+            (Ok(true), false) => return Some(k - 1),
+            _ => return None,
+        }
+    }
+    None
+}
+
+#[test]
+fn each_growth_of_each_call(rt: HostRuntime) -> Result<(), Fail> {
+    let alloc = rt.alloc();
+    let has_refuser = refuse(alloc, MOST);
+    let _ = was_refused(alloc);
+    let path = Path::parse(alloc, b"/a/b")?;
+    for which in 0..3 {
+        let count = refused_in_turn(alloc, which, &path);
+        let is_well = matches!(count, Some(count) if (count > 0) == has_refuser);
+        assert!(rt; is_well, "call {which}: {count:?}");
+    }
+    Ok(())
+}
+
+// Whether texts that are no paths are told so.
+fn are_refused(alloc: Global, long: &[u8]) -> bool {
+    Path::parse(alloc, b"").err() == Some(Refusal::Enoent)
+        && Path::parse(alloc, b"a/b").err() == Some(Refusal::Einval)
+        && Path::parse(alloc, b"/a/..").err() == Some(Refusal::Einval)
+        && Path::parse(alloc, long).err() == Some(Refusal::Enametoolong)
+}
+
+// Whether the calls of two paths that take no memory answer as they should.
+fn are_told(above: &Path, below: &Path) -> bool {
+    let parent = match below.parent_and_name() {
+        Some((parent, name)) => parent == above.names() && name.bytes() == b"c".as_slice(),
+        None => false,
+    };
+    parent && below.is_below(above) && !above.is_below(below) && above < below
+}
+
+#[test]
+fn some_calls_take_no_memory(rt: HostRuntime) -> Result<(), Fail> {
+    let alloc = rt.alloc();
+    let long = vec![in alloc; b'/'; 4096]?;
+    let above = Path::parse(alloc, b"/a/b")?;
+    let below = Path::parse(alloc, b"/a/b/c")?;
+    let _ = refuse_from(alloc, 1);
+    let is_told = are_refused(alloc, &long) && are_told(&above, &below);
+    let is_refused = was_refused(alloc);
+    holds(&rt, "is_told && !is_refused", is_told && !is_refused);
+    Ok(())
+}
