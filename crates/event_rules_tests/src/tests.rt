@@ -94,11 +94,13 @@ impl Calls {
         let Some(next_number) = self.counts.next_number.checked_add(ready.numbers()) else {
             return Err(Refusal::NumbersSpent);
         };
-        let next_cookie = self.counts.next_cookie.checked_add(ready.cookies());
+        let Some(next_cookie) = self.counts.next_cookie.checked_add(ready.cookies()) else {
+            return Err(Refusal::CookiesSpent);
+        };
         let notices = notices(self.alloc, &self.table, &ready, self.counts.next_cookie)?;
         carry_out(self.alloc, &mut self.table, ready)?;
         self.counts.next_number = next_number;
-        self.counts.next_cookie = next_cookie.unwrap_or(0);
+        self.counts.next_cookie = next_cookie;
         Ok(notices)
     }
 

@@ -68,7 +68,11 @@ fn call_of(calls: &Calls, which: u32) -> Result<FileCall, Refusal> {
 // What a call would tell.
 fn noticed(calls: &Calls, call: &FileCall) -> Result<Notices, Refusal> {
     let ready = check(&calls.table, call, &calls.counts, &Limits::full())?;
-    notices(calls.alloc, &calls.table, &ready, calls.counts.next_cookie)
+    let next_cookie = calls.counts.next_cookie;
+    if next_cookie.checked_add(ready.cookies()).is_none() {
+        return Err(Refusal::CookiesSpent);
+    }
+    notices(calls.alloc, &calls.table, &ready, next_cookie)
 }
 
 // How many growths the notices of a call have, each refused. None where one was not.
