@@ -6,4 +6,4 @@ awk 'BEGIN {
     }
 }'
 [ "$1" = setup ] && exit
-awk 'BEGIN { for (i = 0; i < 40000; i++) print "rename2 /a0 /a1 2" }'
+awk 'BEGIN { for (i = 0; i < 30000; i++) print "rename2 /a0 /a1 2" }'
