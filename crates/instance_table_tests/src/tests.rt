@@ -1,5 +1,7 @@
 //! The instances from outside: who hears what, when watches end, and who watches a file.
 
+mod refused;
+
 use event_rules::Notice;
 use instance_table::{Instances, Staging};
 use record_codec::bits::{

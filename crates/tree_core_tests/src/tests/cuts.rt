@@ -3,17 +3,9 @@
 use super::*;
 use std::test::Fail;
 
-// Cuts the journal.
-fn cut(state: &mut State) -> Result<u64, Refusal> {
-    match state.cut() {
-        Err(Refusal::Enomem) => state.cut(),
-        place => place,
-    }
-}
-
 // The cut answers this place, and the journal is empty.
 fn cuts(rt: &impl Abort, state: &mut State, place: u64) {
-    let at = cut(state).expect(rt, "a place");
+    let at = state.cut().expect(rt, "a place");
     assert_eq!(rt; at, place);
     equal(rt, state.journal().len(), 0);
 }

@@ -1,0 +1,189 @@
+//! Each growth of each call refused in turn, and the calls that take no memory. Where nobody refuses growths each is called
+//! once.
+
+use super::*;
+use refuser::{refuse, refuse_from, was_refused};
+
+/// More growths than a call here has.
+const MOST: u32 = 400;
+
+/// Steps enough for two nodes of each ordered map.
+const STEPS: u32 = 60;
+
+// The instance, and the file, of a step.
+fn id_of(step: u32) -> u32 {
+    step / 2 % 30
+}
+
+fn file_of(step: u32) -> u32 {
+    step.wrapping_mul(7) % 23
+}
+
+// Opens an instance, or watches a file for it.
+fn does(instances: &mut Instances, step: u32) -> Result<(), Refusal> {
+    if step % 2 == 0 {
+        open(instances, id_of(step))?;
+    } else {
+        watch(instances, id_of(step), file_of(step), IN_ALL_EVENTS)?;
+    }
+    Ok(())
+}
+
+// Whether an instance has the same watches and as many records waiting in both.
+fn is_alike(one: &Instances, other: &Instances, id: u32) -> bool {
+    match (one.get(id), other.get(id)) {
+        (Some(one), Some(other)) => {
+            (0..23).all(|number| one.watches.of(number) == other.watches.of(number))
+                && one.queue.len() == other.queue.len()
+        }
+        (None, None) => true,
+        _ => false,
+    }
+}
+
+// Whether both tell the same of each instance and each file.
+fn are_alike(one: &Instances, other: &Instances) -> bool {
+    for id in 0..30 {
+        if !is_alike(one, other, id) || one.watchers(id) != other.watchers(id) {
+            return false;
+        }
+    }
+    one.len() == other.len()
+}
+
+// Makes a step on both, with each growth of it on the first refused. How many there were; none where one did not go well.
+fn refused_in_turn(
+    alloc: Global,
+    instances: &mut Instances,
+    twin: &mut Instances,
+    step: u32,
+) -> Result<Option<u32>, Refusal> {
+    for k in 1..MOST {
+        let _ = refuse(alloc, k);
+        let told = does(instances, step);
+        match (told, was_refused(alloc)) {
+            (Err(Refusal::Enomem), true) if are_alike(instances, twin) => {}
+            (Ok(()), false) => {
+                does(twin, step)?;
+                return Ok(are_alike(instances, twin).then_some(k - 1));
+            }
+            _ => return Ok(None),
+        }
+    }
+    Ok(None)
+}
+
+// Whether growths can be refused.
+fn has_refuser(alloc: Global) -> bool {
+    let has = refuse(alloc, MOST);
+    let _ = was_refused(alloc);
+    has
+}
+
+#[test]
+fn each_growth_of_each_step(rt: HostRuntime) -> Result<(), Fail> {
+    let alloc = rt.alloc();
+    let has_refuser = has_refuser(alloc);
+    let mut instances = Instances::new(alloc);
+    let mut twin = Instances::new(alloc);
+    for step in 0..STEPS {
+        let count = refused_in_turn(alloc, &mut instances, &mut twin, step)?;
+        let is_well = matches!(count, Some(count) if (count > 0) == has_refuser);
+        assert!(rt; is_well, "step {step}: {count:?}");
+    }
+    Ok(())
+}
+
+// Many instances, each with a file that it watches.
+fn prepared(alloc: Global) -> Result<Instances, Refusal> {
+    let mut instances = Instances::new(alloc);
+    for step in 0..STEPS {
+        does(&mut instances, step)?;
+    }
+    Ok(instances)
+}
+
+// Three notices: of a file that is told of, of one that is gone, and of one that nobody watches.
+fn three_notices(alloc: Global) -> Result<Vec<Notice>, Refusal> {
+    let mut notices = Vec::new(alloc);
+    notices.push(told(IN_CREATE))?;
+    notices.push(Notice::Gone { number: 7 })?;
+    notices.push(Notice::Gone { number: 99 })?;
+    Ok(notices)
+}
+
+// How many growths staging has, each refused with all as it was. Then they are told, as the twin is. None where one was not.
+fn stage_refused(
+    alloc: Global,
+    instances: &mut Instances,
+    twin: &mut Instances,
+) -> Result<Option<u32>, Refusal> {
+    let notices = three_notices(alloc)?;
+    for k in 1..MOST {
+        let _ = refuse(alloc, k);
+        let told = instances.stage(&notices);
+        match (told, was_refused(alloc)) {
+            (Err(Refusal::Enomem), true) if are_alike(instances, twin) => {}
+            (Ok(staging), false) => {
+                let _ = refuse_from(alloc, 1);
+                instances.tell(&notices, staging);
+                let is_refused = was_refused(alloc);
+                let staging = twin.stage(&notices)?;
+                twin.tell(&notices, staging);
+                return Ok((!is_refused && are_alike(instances, twin)).then_some(k - 1));
+            }
+            _ => return Ok(None),
+        }
+    }
+    Ok(None)
+}
+
+// How many growths the rows have, each refused. None where one was not.
+fn rows_refused(alloc: Global, instances: &Instances) -> Option<u32> {
+    for k in 1..MOST {
+        let _ = refuse(alloc, k);
+        let told = instances.rows();
+        match (told, was_refused(alloc)) {
+            (Err(Refusal::Enomem), true) => {}
+            (Ok(rows), false) if rows.len() == instances.len() => return Some(k - 1),
+            _ => return None,
+        }
+    }
+    None
+}
+
+#[test]
+fn each_growth_of_stage_and_rows(rt: HostRuntime) -> Result<(), Fail> {
+    let alloc = rt.alloc();
+    let has_refuser = has_refuser(alloc);
+    let mut instances = prepared(alloc)?;
+    let mut twin = prepared(alloc)?;
+    let staged = stage_refused(alloc, &mut instances, &mut twin)?;
+    let rows = rows_refused(alloc, &instances);
+    let is_well = matches!(staged, Some(count) if (count > 0) == has_refuser)
+        && matches!(rows, Some(count) if (count > 0) == has_refuser);
+    assert!(rt; is_well, "{staged:?}, {rows:?}");
+    Ok(())
+}
+
+// Whether the calls that take no memory do what they should, on instances of which two watch the file.
+fn are_done(instances: &mut Instances) -> bool {
+    let were = instances.watchers(FILE) == [1, 2].as_slice();
+    instances.unwatch(2, 1);
+    let is_one = instances.watchers(FILE) == [1].as_slice() && waiting(instances, 2) == 1;
+    instances.drop_oldest(2, 1);
+    instances.close(1);
+    let is_none = instances.watchers(FILE).is_empty() && waiting(instances, 2) == 0;
+    were && is_one && is_none && waiting(instances, 1) == 99 && instances.len() == 2
+}
+
+#[test]
+fn some_calls_take_no_memory(rt: HostRuntime) -> Result<(), Fail> {
+    let alloc = rt.alloc();
+    let mut instances = three(alloc)?;
+    let _ = refuse_from(alloc, 1);
+    let are_done = are_done(&mut instances);
+    let is_refused = was_refused(alloc);
+    holds(&rt, "are_done && !is_refused", are_done && !is_refused);
+    Ok(())
+}
