@@ -1,12 +1,11 @@
 //! The locked tree from outside: what no contract can say of seats, pipes and threads.
-//!
-//! A step that lacks memory is made once more, and must then answer as if nothing had happened.
 
 ghost use Rattle.std.specs.Prelude.{◌≡◌, IfOk, IsTrue};
 ghost use Rattle.std.specs.Result.{ForOk};
 ghost use Rattle.tree_core.specs.Calls.{is_plain};
 
 mod pipes;
+mod refused;
 mod seats;
 mod threads;
 
@@ -247,13 +246,9 @@ impl<L: Ledger> Stage<L> {
         }
     }
 
-    // Whether a step comes to what is wanted. A call that lacks memory is made once more.
+    // Whether a step comes to what is wanted.
     fn goes_well(&mut self, step: Step) -> bool {
         match self.says(step) {
-            Some((Says::Fails(Refusal::Enomem), _)) => match self.says(step) {
-                Some((said, wanted)) => said == wanted,
-                None => false,
-            },
             Some((said, wanted)) => said == wanted,
             None => self.shows(step),
         }
@@ -346,14 +341,7 @@ fn start<L: Ledger>(
     Ok(stage.plays(steps))
 }
 
-fn start_branded(alloc: Global, limits: Limits, steps: &[Step]) -> Result<usize, Refusal> {
-    start::<Brand>(alloc, Blank::new(65537), limits, steps)
-}
-
-// How many steps go well with a new tree. A tree that lacks memory is made once more.
+// How many steps go well with a new tree.
 fn plays(alloc: Global, limits: Limits, steps: &[Step]) -> Option<usize> {
-    match start_branded(alloc, limits, steps) {
-        Ok(count) => Some(count),
-        Err(_) => start_branded(alloc, limits, steps).ok(),
-    }
+    start::<Brand>(alloc, Blank::new(65537), limits, steps).ok()
 }

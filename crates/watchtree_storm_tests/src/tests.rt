@@ -3,6 +3,8 @@
 ghost use Rattle.std.specs.Prelude.{◌≡◌, ◌≤◌, true, IfOk, ⊤};
 ghost use Rattle.event_sinks.specs.Writing.{live_of};
 
+mod refused;
+
 use event_sinks::{Cause, CountSink, Ended, Gate, LineSink, SettleFault, Settled, Sink, settle};
 use shared_tree::{SeatLog, Tree};
 use std::alloc::Global;

@@ -14,7 +14,7 @@ use tree_paths::Refusal;
 
 /// Lets the turns of one worker through, from a turn on.
 #[derive(Drop)]
-struct Lets {
+pub(super) struct Lets {
     who: u32,
     from: u64,
 }
@@ -32,13 +32,13 @@ impl Gate for Lets {
 }
 
 /// A gate that lets each turn of the listeners of these tests through.
-const EACH: Lets = Lets { who: 7, from: 0 };
+pub(super) const EACH: Lets = Lets { who: 7, from: 0 };
 
 /// What is told of a listener that has ended: its cause, how many batches it was handed, how many records its sink took,
 /// and whether that is open.
-type Told = (Cause, usize, u64, bool);
+pub(super) type Told = (Cause, usize, u64, bool);
 
-fn told<S: Sink>(ended: &Ended<S>) -> Told {
+pub(super) fn told<S: Sink>(ended: &Ended<S>) -> Told {
     let sink = ended.sink();
     (
         ended.cause(),
@@ -285,7 +285,7 @@ fn a_dropped_listener_closes_once(rt: HostRuntime) -> Result<(), Fail> {
 }
 
 /// Whether this may be told of a listener at five batches of a record each and the end batch, with memory or without.
-fn may_be_told(told: Told) -> bool {
+pub(super) fn may_be_told(told: Told) -> bool {
     let (cause, handed, taken, is_open) = told;
     let as_caused = match cause {
         Cause::Last => handed == 6 && taken == 5,

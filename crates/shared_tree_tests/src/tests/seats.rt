@@ -53,6 +53,28 @@ fn a_cut_makes_room(rt: HostRuntime) {
 }
 
 #[test]
+fn the_last_instance(rt: HostRuntime) {
+    let steps = [
+        Step::Sits(Ok(())),
+        Step::Opens(2, 1, Says::Refused(Refusal::Einval)),
+        Step::Opens(1, 1, Says::Instance(1)),
+        Step::Opens(1, 1, Says::Refused(Refusal::Emfile)),
+        Step::Inits(Says::Refused(Refusal::Einval)),
+        Step::Closes(1, Says::Done),
+        Step::Opens(1, 1, Says::Instance(2)),
+        Step::Closes(2, Says::Done),
+        Step::Opens(1, 1, Says::Refused(Refusal::Emfile)),
+        Step::Counts(8),
+        Step::Stands(1, 8),
+    ];
+    let mut limits = Limits::full();
+    limits.queue = 1;
+    limits.instances = 1;
+    limits.ids = 2;
+    assert_eq!(rt; plays(rt.alloc(), limits, &steps), Some(steps.len()));
+}
+
+#[test]
 fn pipes_go_on_over_a_cut(rt: HostRuntime) {
     let steps = [
         Step::Sits(Ok(())),
@@ -74,4 +96,26 @@ fn pipes_go_on_over_a_cut(rt: HostRuntime) {
         plays(rt.alloc(), Limits::full(), &steps),
         Some(steps.len())
     );
+}
+
+#[test]
+fn the_last_file_number_and_watch(rt: HostRuntime) {
+    let steps = [
+        Step::Sits(Ok(())),
+        Step::Opens(16, 1, Says::Instance(1)),
+        Step::Opens(16, 1, Says::Instance(2)),
+        Step::Watches(1, Says::Wd(1)),
+        Step::Watches(1, Says::Wd(1)),
+        Step::Creates("/f", Says::File),
+        Step::Creates("/g", Says::Refused(Refusal::NumbersSpent)),
+        Step::Waits(1, Some(1)),
+        Step::Pumps(1, Says::Records),
+        Step::Gives(1, 7, 1),
+        Step::Counts(7),
+    ];
+    let mut limits = Limits::full();
+    limits.numbers = 2;
+    limits.watches = 1;
+    limits.wds = 1;
+    assert_eq!(rt; plays(rt.alloc(), limits, &steps), Some(steps.len()));
 }

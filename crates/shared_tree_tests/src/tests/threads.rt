@@ -113,7 +113,7 @@ fn writes_once<L: Ledger>(
     held.call(seat, chmod(alloc, mode)?)
 }
 
-// Makes so many calls. A call that lacks memory is made once more.
+// Makes so many calls.
 fn writes<L: Ledger>(
     rt: &impl Wait,
     tree: &Tree<L>,
@@ -125,9 +125,7 @@ fn writes<L: Ledger>(
     for mode in 0..count {
         let mut guard = tree.lock(rt);
         let held = &mut *guard;
-        if writes_once(held, &mut seat, alloc, mode).is_err() {
-            let _ = writes_once(held, &mut seat, alloc, mode);
-        }
+        let _ = writes_once(held, &mut seat, alloc, mode);
     }
     seat
 }
