@@ -93,11 +93,7 @@ fn joins_and_replaces(rt: HostRuntime) {
     let mut watches = Watches::new(rt.alloc(), &Limits::full());
     equal(&rt, watches.of(7), None);
     holds(&rt, "watches.is_empty()", watches.is_empty());
-    equal(
-        &rt,
-        watch(&mut watches, 7, bits::IN_CREATE, true),
-        Ok(1),
-    );
+    equal(&rt, watch(&mut watches, 7, bits::IN_CREATE, true), Ok(1));
     equal(&rt, watches.of(7), Some((1, 0x100)));
     equal(&rt, watch(&mut watches, 7, 0xa000_0200, true), Ok(1));
     equal(&rt, watches.of(7), Some((1, 0x8000_0300)));
@@ -170,11 +166,7 @@ fn limits(rt: HostRuntime) {
     let mut limits = Limits::full();
     limits.watches = 1;
     let mut watches = Watches::new(rt.alloc(), &limits);
-    equal(
-        &rt,
-        watch(&mut watches, 5, bits::IN_MODIFY, false),
-        Ok(1),
-    );
+    equal(&rt, watch(&mut watches, 5, bits::IN_MODIFY, false), Ok(1));
     equal(
         &rt,
         watch(&mut watches, 6, bits::IN_MODIFY, false),
@@ -185,31 +177,15 @@ fn limits(rt: HostRuntime) {
         watch(&mut watches, 6, 0x0100_0002, false),
         Err(Refusal::Enotdir),
     );
-    equal(
-        &rt,
-        watch(&mut watches, 5, bits::IN_ATTRIB, false),
-        Ok(1),
-    );
+    equal(&rt, watch(&mut watches, 5, bits::IN_ATTRIB, false), Ok(1));
     equal(&rt, watches.drop_file(5), Some(1));
-    equal(
-        &rt,
-        watch(&mut watches, 6, bits::IN_MODIFY, false),
-        Ok(2),
-    );
+    equal(&rt, watch(&mut watches, 6, bits::IN_MODIFY, false), Ok(2));
 
     let mut limits = Limits::full();
     limits.wds = 2;
     let mut watches = Watches::new(rt.alloc(), &limits);
-    equal(
-        &rt,
-        watch(&mut watches, 5, bits::IN_MODIFY, false),
-        Ok(1),
-    );
-    equal(
-        &rt,
-        watch(&mut watches, 6, bits::IN_MODIFY, false),
-        Ok(2),
-    );
+    equal(&rt, watch(&mut watches, 5, bits::IN_MODIFY, false), Ok(1));
+    equal(&rt, watch(&mut watches, 6, bits::IN_MODIFY, false), Ok(2));
     equal(
         &rt,
         watch(&mut watches, 7, bits::IN_MODIFY, false),
@@ -221,9 +197,5 @@ fn limits(rt: HostRuntime) {
         watch(&mut watches, 7, bits::IN_MODIFY, false),
         Err(Refusal::Enospc),
     );
-    equal(
-        &rt,
-        watch(&mut watches, 6, bits::IN_ATTRIB, false),
-        Ok(2),
-    );
+    equal(&rt, watch(&mut watches, 6, bits::IN_ATTRIB, false), Ok(2));
 }
