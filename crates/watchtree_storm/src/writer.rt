@@ -1,7 +1,8 @@
 //! What the writers of a storm do.
 
-ghost use Rattle.std.specs.Prelude.{◌≡◌, IfOk, IsTrue};
+ghost use Rattle.std.specs.Prelude.{◌≡◌, IfOk, IsTrue, codes};
 ghost use Rattle.tree_core.specs.Calls.{is_plain};
+ghost use Rattle.watchtree_storm.specs.Storm.{IsCallAt};
 
 use event_sinks::Gate;
 use record_codec::Bytes;
@@ -34,7 +35,10 @@ pub struct Writer {
 
 impl Writer {
     /// The first writer of a storm.
-    pub fn first() -> Writer {
+    pub fn first() -> Writer
+        ensures numbers { (result.who ≡ 3) × (result.instance ≡ 1) }
+        ensures paths { (result.file.now ≡ codes "/s/a1") × (result.moved.now ≡ codes "/s/b1") }
+    {
         Writer {
             who: 3,
             instance: 1,
@@ -44,7 +48,10 @@ impl Writer {
     }
 
     /// The second writer of a storm.
-    pub fn second() -> Writer {
+    pub fn second() -> Writer
+        ensures numbers { (result.who ≡ 4) × (result.instance ≡ 2) }
+        ensures paths { (result.file.now ≡ codes "/s/a2") × (result.moved.now ≡ codes "/s/b2") }
+    {
         Writer {
             who: 4,
             instance: 2,
@@ -59,7 +66,8 @@ impl Writer {
     /// # Errors
     /// `ENOMEM`, where there is no memory for it.
     pub fn call(&self, alloc: Global, number: u32) -> Result<Call, Refusal>
-        ensures { IfOk result (λ call. IsTrue (is_plain call)) }
+        ensures call { IfOk result (λ call. IsCallAt self.now number call) }
+        ensures plain { IfOk result (λ call. IsTrue (is_plain call)) }
     {
         let file = Path::parse(alloc, self.file.as_bytes())?;
         let moved = Path::parse(alloc, self.moved.as_bytes())?;
