@@ -88,11 +88,7 @@ fn other_words_are_refused(rt: HostRuntime) -> Result<(), Fail> {
     ] {
         equal(&rt, asked(rt.alloc(), line)?, Err(Fault::CommandLine));
     }
-    equal(
-        &rt,
-        asked_by(rt.alloc(), &[]),
-        Err(Fault::CommandLine),
-    );
+    equal(&rt, asked_by(rt.alloc(), &[]), Err(Fault::CommandLine));
     Ok(())
 }
 
@@ -115,7 +111,11 @@ fn faults_have_lines_and_statuses(rt: HostRuntime) -> Result<(), Fail> {
             1,
         ),
         (Fault::Settle(SettleFault::Stray(3)), "settle: Stray 3", 1),
-        (Fault::Settle(SettleFault::NotEnded(2)), "settle: NotEnded 2", 1),
+        (
+            Fault::Settle(SettleFault::NotEnded(2)),
+            "settle: NotEnded 2",
+            1,
+        ),
         (
             Fault::Settle(SettleFault::HandedDiffers {
                 instance: 4,
@@ -125,7 +125,11 @@ fn faults_have_lines_and_statuses(rt: HostRuntime) -> Result<(), Fail> {
             1,
         ),
         (Fault::of_words(ErrorKind::OutOfMemory), "out of memory", 3),
-        (Fault::of_words(ErrorKind::InvalidData), "bad command line", 2),
+        (
+            Fault::of_words(ErrorKind::InvalidData),
+            "bad command line",
+            2,
+        ),
     ] {
         let printed = format!(in rt.alloc(); "{fault}")?;
         equal(&rt, printed.as_str(), line);
@@ -155,11 +159,7 @@ fn script_faults_have_lines(rt: HostRuntime) -> Result<(), Fail> {
 }
 
 // What the program writes of a storm of three calls whose sinks take so many records, and its exit status.
-fn told<R: Threads + Wait + Sync>(
-    rt: &R,
-    alloc: Global,
-    most: u64,
-) -> Result<(Vec<u8>, u8), Fail> {
+fn told<R: Threads + Wait + Sync>(rt: &R, alloc: Global, most: u64) -> Result<(Vec<u8>, u8), Fail> {
     let one = CountSink::new(alloc, most);
     let other = CountSink::new(alloc, most);
     let stormed = storm(rt, alloc, 3, &OpenGate, one, other)?;
