@@ -111,7 +111,7 @@ static void instances(struct wt_tree *t) {
     IS(wt_waiting(t, 1), 3), IS(wt_read(t, 1, out, 47), 32);
     HOLDS(event->wd == 1 && event->mask == (IN_CREATE | IN_ISDIR) && event->cookie == 0 && !strcmp(event->name, "e"));
     IS(wt_read(t, 1, out, sizeof out), 48);
-    HOLDS(event->mask == (IN_MOVED_FROM | IN_ISDIR) && event->cookie == 1 && event->len == 16);
+    HOLDS(event->mask == (IN_MOVED_FROM | IN_ISDIR) && event->cookie == 2 && event->len == 16);
     event = (struct inotify_event *)(out + 32);
     HOLDS(event->wd == -1 && event->mask == IN_Q_OVERFLOW && event->len == 0);
     IS(wt_inotify_rm_watch(t, 1, 2), -EINVAL), IS(wt_inotify_rm_watch(t, 2, 1), -EBADF);

@@ -64,7 +64,7 @@ def test_refusals():
     else:
         raise AssertionError("a directory is made twice")
     assert raises(errno.ENOENT, tree.unlink, "/none") and raises(errno.EISDIR, tree.read, "/d", 1)
-    assert raises(errno.EINVAL, tree.mkdir, "d") and raises(errno.ENOTEMPTY, tree.rename, "/d", "/") is False
+    assert raises(errno.EINVAL, tree.mkdir, "d") and raises(errno.EBUSY, tree.rename, "/d", "/")
     instance = tree.inotify(1)
     assert raises(errno.EINVAL, tree.inotify, 0) and raises(errno.EAGAIN, instance.read_bytes)
     assert raises(errno.EINVAL, instance.rm_watch, 1) and raises(errno.ENOENT, instance.add_watch, "/none")
