@@ -89,7 +89,7 @@ fn each_growth_of_each_watch(rt: HostRuntime) -> Result<(), Fail> {
 fn rows_refused_in_turn(alloc: Global, watches: &Watches) -> Option<u32> {
     for k in 1..MOST {
         let _ = refuse(alloc, k);
-        let told = watches.rows(alloc);
+        let told = watches.rows();
         match (told, was_refused(alloc)) {
             (Err(Refusal::Enomem), true) => {}
             (Ok(rows), false) if rows.as_slice().len() == watches.len() => return Some(k - 1),
