@@ -50,7 +50,7 @@ def page_of(run: watchtree_trace.Run) -> Page:
 def fates(run: watchtree_trace.Run, instance: int):
     """What became of each record, with the line that read it."""
     rows = run.lanes[instance].rows
-    return [(line, told.event.mask.name, told.fate, told.read_at) for line, row in rows.items() for told in row.told]
+    return [(line, watchtree_trace_page.mask_of(told), told.fate, told.read_at) for line, row in rows.items() for told in row.told]
 
 
 class Trace(unittest.TestCase):
