@@ -1,11 +1,91 @@
--- What is told of a storm.
-use Rattle.std.specs.Prelude.{⊤, ℕ, List, length, Result, Err}
+-- What the seats of a storm do, and what is told of it.
+use Rattle.std.specs.Prelude.{◌≡◌, ◌⊎◌, ◌%◌, ◌++◌, ⊤, ℕ, zero, suc, codes, if◌then◌else◌, nat_eq, List, [], ◌∷◌, length, Result, Ok, Err}
 use Rattle.record_codec.specs.declared.event.Event.{Event}
+use Rattle.tree_paths.specs.Paths.{parsed}
+use Rattle.tree_ops.specs.declared.call.FileCall.{FileCall}
+use Rattle.tree_ops.specs.declared.call.FileCall.TheVariants as file
+use Rattle.tree_core.specs.declared.call.Call.{Call}
+use Rattle.tree_core.specs.declared.call.Call.TheVariants as call
+use Rattle.tree_core.specs.declared.reply.Kept.{Kept}
+use Rattle.shared_tree.specs.declared.seat.SeatLog.{SeatLog}
+use Rattle.shared_tree.specs.Seats.{Seated, seated}
 use Rattle.event_sinks.specs.declared.audit.Settled.{Settled}
 use Rattle.event_sinks.specs.declared.audit.SettleFault.{SettleFault}
 use Rattle.event_sinks.specs.declared.audit.SettleFault.TheVariants.{CountDiffers}
 use Rattle.event_sinks.specs.declared.listener.Cause.{Cause}
 use Rattle.event_sinks.specs.declared.listener.Ended.{Ended}
+use Rattle.watchtree_storm.specs.declared.writer.Writer.{Writer}
+
+-- ---- the writers
+
+-- a writer: its number at the gate, the instance that it pumps, and the texts of two paths, of its file and of the name that
+-- it moves it to
+pub record Part : Type 0 where
+  pub who : ℕ
+  pub instance : ℕ
+  pub file : List ℕ
+  pub moved : List ℕ
+
+abbrev pub part_of : Writer → Part
+part_of w = record { who = w.who; instance = w.instance; file = w.file.now; moved = w.moved.now }
+
+abbrev pub first_part : Part
+first_part = record { who = 3; instance = 1; file = codes "/s/a1"; moved = codes "/s/b1" }
+
+abbrev pub second_part : Part
+second_part = record { who = 4; instance = 2; file = codes "/s/a2"; moved = codes "/s/b2" }
+
+-- the calls of a writer, by their number from 0 on: it makes its file with mode 0644, writes a byte, moves the file, and
+-- takes it away, in turn
+unfoldable pub turn_at : List (List ℕ) → List (List ℕ) → ℕ → FileCall
+turn_at path moved number =
+    if nat_eq (number % 4) 0 then file.Create path 420
+    else if nat_eq (number % 4) 1 then file.Write path 0 (codes "x")
+    else if nat_eq (number % 4) 2 then file.Rename path moved
+    else file.Unlink moved
+
+-- the writer's call, at the paths that its texts stand for
+abbrev pub IsCallAt : Part → ℕ → Call → Type 0
+IsCallAt w number c = (path : List (List ℕ)) × (moved : List (List ℕ)) × (parsed w.file ≡ Ok path) × (parsed w.moved ≡ Ok moved) × (c ≡ call.File (turn_at path moved number))
+
+-- ---- what the seats keep
+
+-- the seat keeps its number, and keeps this call more; or it stays as it was, where the call was not carried out
+abbrev pub KeepsOrNot : Call → Seated → Seated → Type 0
+KeepsOrNot c old new = (new ≡ old) ⊎ ((k : Kept) × (k.call ≡ c) × (new ≡ seated old.number (old.kept ++ k ∷ [])))
+
+-- the pump of an instance, with room for all that waits
+abbrev pub pump_all : ℕ → Call
+pump_all instance = call.Pump instance 1048576
+
+-- the same of a writer's call, for which memory may be wanting before it is made
+abbrev pub KeepsTurn : Part → ℕ → Seated → Seated → Type 0
+KeepsTurn w number old new = (new ≡ old) ⊎ ((c : Call) × IsCallAt w number c × KeepsOrNot c old new)
+
+-- a turn of a writer: its call, and a pump of its instance
+abbrev pub IsTurn : Part → ℕ → Seated → Seated → Type 0
+IsTurn w number old new = (between : Seated) × KeepsTurn w number old between × KeepsOrNot (pump_all w.instance) between new
+
+-- so many turns of a writer, from number 0 on
+unfoldable pub AreTurns : Part → ℕ → Seated → Seated → Type 0
+AreTurns w zero old new = new ≡ old
+AreTurns w (suc n) old new = (between : Seated) × AreTurns w n old between × IsTurn w n between new
+
+-- both instances are pumped once more, and closed
+abbrev pub IsClosing : Seated → Seated → Type 0
+IsClosing old new = (s : Seated) × (t : Seated) × (u : Seated) × KeepsOrNot (pump_all 1) old s × KeepsOrNot (pump_all 2) s t × KeepsOrNot (call.Close 1) t u × KeepsOrNot (call.Close 2) u new
+
+abbrev pub seat_of : SeatLog → Seated
+seat_of l = seated l.number l.kept
+
+-- the logs are those of seats 1, 2 and 3: of the one that begins and ends, and of the writers, which keep nothing but their
+-- turns
+abbrev pub AreStormLogs : ℕ → List SeatLog → Type 0
+AreStormLogs calls logs = (main : SeatLog) × (first : SeatLog) × (second : SeatLog) × (logs ≡ main ∷ first ∷ second ∷ [])
+    × (main.number ≡ 1) × ((begun : Seated) × IsClosing begun (seat_of main))
+    × AreTurns first_part calls (seated 2 []) (seat_of first) × AreTurns second_part calls (seated 3 []) (seat_of second)
+
+-- ---- what is told
 
 -- of a listener: its number, why it ended, and how many records its sink took
 abbrev pub told_of : {S : Type 0} → (S → List Event) → Ended S → ℕ × Cause × ℕ

@@ -1,6 +1,7 @@
 //! What stands before a storm begins.
 
 ghost use Rattle.std.specs.Prelude.{◌≡◌, ◌+◌, ◌≤◌, [], true, IfOk, OnOk};
+ghost use Rattle.shared_tree.specs.Seats.{seated};
 ghost use Rattle.event_sinks.specs.Heard.{IsHeard, heard_by};
 
 use crate::fault::StormFault;
@@ -84,7 +85,7 @@ pub fn begin<L: Ledger, S: Sink>(
     requires live { (S.live one ≡ true) × (S.live other ≡ true) }
     requires calls { calls ≤ 1000 }
     ensures shares { IfOk result (λ b. (b.pass.parts + 3 ≡ L.parts) × (b.pass.amount ≡ 0)) }
-    ensures seats { IfOk result (λ b. (b.main.number ≡ 1) × (b.first.number ≡ 2) × (b.second.number ≡ 3)) }
+    ensures seats { IfOk result (λ b. (b.main.number ≡ 1) × (b.first ≡ seated 2 []) × (b.second ≡ seated 3 [])) }
     ensures sound { IfOk result (λ b. IsHeard (heard_by S.record_list S.live b.one) × IsHeard (heard_by S.record_list S.live b.other)) }
 {
     let (mut held, mut pass) = Held::<L>::new(alloc, blank, Limits::full())?;

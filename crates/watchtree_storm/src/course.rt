@@ -3,13 +3,14 @@
 ghost use Rattle.std.specs.Prelude.{◌≡◌, ◌+◌, ◌≤◌, ◌∷◌, [], true, IfOk};
 ghost use Rattle.event_sinks.specs.Audited.{Settles, calls_of, outcome_of};
 ghost use Rattle.event_sinks.specs.Heard.{IsHeard, ended_of, heard_by};
-ghost use Rattle.watchtree_storm.specs.Storm.{CountsAgree, told_of};
+ghost use Rattle.shared_tree.specs.Seats.{Seated, seated};
+ghost use Rattle.watchtree_storm.specs.Storm.{AreStormLogs, AreTurns, CountsAgree, IsClosing, first_part, second_part, told_of};
 
 use crate::beginning::{Begun, begin};
 use crate::fault::StormFault;
 use crate::writer::{Writer, close_both};
 use event_sinks::{Cause, Ended, Gate, SettleFault, Settled, Sink, settle};
-use shared_tree::{Book, SeatLog, Tree};
+use shared_tree::{Book, Seat, SeatLog, Tree};
 use std::alloc::Global;
 use std::marker::Brand;
 use std::sync::ledger::{Blank, Ledger};
@@ -99,6 +100,7 @@ pub fn run<L: Ledger + Send + Sync, S: Sink, G: Gate, R: Threads + Wait + Sync>(
     requires live { (S.live one ≡ true) × (S.live other ≡ true) }
     requires calls { calls ≤ 1000 }
     ensures counts { IfOk result (λ r. r.book.entries ≡ calls_of r.logs.items) }
+    ensures logs { IfOk result (λ r. AreStormLogs calls r.logs.items) }
     ensures sinks { IfOk result (λ r. IsHeard (ended_of S.record_list S.live r.ended.0) × IsHeard (ended_of S.record_list S.live r.ended.1)) }
 {
     let mut logs = Vec::with_capacity(alloc, 3)?;
@@ -131,11 +133,21 @@ pub fn run<L: Ledger + Send + Sync, S: Sink, G: Gate, R: Threads + Wait + Sync>(
                 { other.run(gate, gate.turns()) },
             )
         },
-        move || {
+        move || -> (Seat<L>, (Seat<L>, Seat<L>))
+            requires { (main.number ≡ 1) × (first ≡ seated 2 []) × (second ≡ seated 3 []) }
+            ensures main { (result.0.number ≡ 1) × ((begun : Seated) × IsClosing begun result.0) }
+            ensures writers { AreTurns first_part calls (seated 2 []) result.1.0 × AreTurns second_part calls (seated 3 []) result.1.1 }
+        {
             let both = thread::join(
                 rt,
-                move || Writer::first().write(rt, alloc, shared, first, gate, calls),
-                move || Writer::second().write(rt, alloc, shared, second, gate, calls),
+                move || -> Seat<L>
+                    requires { first ≡ seated 2 [] }
+                    ensures { AreTurns first_part calls (seated 2 []) result }
+                { Writer::first().write(rt, alloc, shared, first, gate, calls) },
+                move || -> Seat<L>
+                    requires { second ≡ seated 3 [] }
+                    ensures { AreTurns second_part calls (seated 3 []) result }
+                { Writer::second().write(rt, alloc, shared, second, gate, calls) },
             );
             (close_both(rt, shared, main), both)
         },

@@ -1,7 +1,10 @@
 //! What the writers of a storm do.
 
-ghost use Rattle.std.specs.Prelude.{◌≡◌, IfOk, IsTrue};
+ghost use Rattle.std.specs.Prelude.{◌≡◌, ◌⊎◌, ℕ, IfOk, IsTrue, OnSome, true};
+ghost use Rattle.std.specs.Bool.{OnTrue};
 ghost use Rattle.tree_core.specs.Calls.{is_plain};
+ghost use Rattle.tree_core.specs.declared.call.Call.TheVariants.{Close};
+ghost use Rattle.watchtree_storm.specs.Storm.{AreTurns, IsCallAt, IsClosing, IsTurn, KeepsOrNot, KeepsTurn, first_part, part_of, pump_all, second_part};
 
 use event_sinks::Gate;
 use record_codec::Bytes;
@@ -34,7 +37,9 @@ pub struct Writer {
 
 impl Writer {
     /// The first writer of a storm.
-    pub fn first() -> Writer {
+    pub fn first() -> Writer
+        ensures { part_of result ≡ first_part }
+    {
         Writer {
             who: 3,
             instance: 1,
@@ -44,7 +49,9 @@ impl Writer {
     }
 
     /// The second writer of a storm.
-    pub fn second() -> Writer {
+    pub fn second() -> Writer
+        ensures { part_of result ≡ second_part }
+    {
         Writer {
             who: 4,
             instance: 2,
@@ -59,7 +66,8 @@ impl Writer {
     /// # Errors
     /// `ENOMEM`, where there is no memory for it.
     pub fn call(&self, alloc: Global, number: u32) -> Result<Call, Refusal>
-        ensures { IfOk result (λ call. IsTrue (is_plain call)) }
+        ensures call { IfOk result (λ call. IsCallAt (part_of self.now) number call) }
+        ensures plain { IfOk result (λ call. IsTrue (is_plain call)) }
     {
         let file = Path::parse(alloc, self.file.as_bytes())?;
         let moved = Path::parse(alloc, self.moved.as_bytes())?;
@@ -81,6 +89,38 @@ impl Writer {
         }))
     }
 
+    // A turn: the call of this number, and a pump of the writer's instance. What wants memory is passed over.
+    fn turn<L: Ledger>(
+        &self,
+        rt: &impl Wait,
+        alloc: Global,
+        tree: &Tree<L>,
+        seat: &mut Seat<L>,
+        number: u32,
+    )
+        ensures { IsTurn (part_of self.now) number seat.old seat.new }
+    {
+        self.make_call(rt, alloc, tree, seat, number);
+        pump(rt, tree, seat, self.instance);
+    }
+
+    // The call of this number. What wants memory is passed over.
+    fn make_call<L: Ledger>(
+        &self,
+        rt: &impl Wait,
+        alloc: Global,
+        tree: &Tree<L>,
+        seat: &mut Seat<L>,
+        number: u32,
+    )
+        ensures { KeepsTurn (part_of self.now) number seat.old seat.new }
+    {
+        let Ok(call) = self.call(alloc, number) else {
+            return;
+        };
+        let _ = make(rt, tree, seat, call);
+    }
+
     /// Waits until the gate lets it through, and then makes so many calls, with a pump of its instance after each. Where
     /// the turns of the gate are over first, it makes none. What wants memory is passed over.
     pub fn write<L: Ledger, G: Gate>(
@@ -91,22 +131,25 @@ impl Writer {
         seat: Seat<L>,
         gate: &G,
         calls: u32,
-    ) -> Seat<L> {
+    ) -> Seat<L>
+        ensures turns { AreTurns (part_of self.now) calls seat result }
+        ensures gate { (result ≡ seat) ⊎ ((turn : ℕ) × G.may_pass gate.now self.now.who turn true) }
+    {
         let mut seat = seat;
-        if is_let_through(gate, self.who) {
-            for number in 0..calls {
-                if let Ok(call) = self.call(alloc, number) {
-                    let _ = tree.lock(rt).call(&mut seat, call);
-                }
-                let _ = tree.lock(rt).pump(&mut seat, self.instance, ALL);
-            }
+        if !is_let_through(gate, self.who) {
+            return seat;
+        }
+        for number in 0..calls {
+            self.turn(rt, alloc, tree, &mut seat, number);
         }
         seat
     }
 }
 
 // Whether the gate lets a worker through before its turns are over.
-fn is_let_through<G: Gate>(gate: &G, who: u32) -> bool {
+fn is_let_through<G: Gate>(gate: &G, who: u32) -> bool
+    ensures { OnTrue result ((turn : ℕ) × G.may_pass gate.now who turn true) }
+{
     for turn in 0..gate.turns() {
         if gate.pass(who, turn) {
             return true;
@@ -115,23 +158,52 @@ fn is_let_through<G: Gate>(gate: &G, who: u32) -> bool {
     false
 }
 
-/// Pumps both instances once more, and closes them.
-pub fn close_both<L: Ledger>(rt: &impl Wait, tree: &Tree<L>, seat: Seat<L>) -> Seat<L> {
+/// Pumps both instances once more, and closes them. What wants memory is passed over, but a close is tried up to 16 times.
+pub fn close_both<L: Ledger>(rt: &impl Wait, tree: &Tree<L>, seat: Seat<L>) -> Seat<L>
+    ensures { IsClosing seat result }
+{
     let mut seat = seat;
-    for instance in 1..3u32 {
-        let _ = tree.lock(rt).pump(&mut seat, instance, ALL);
-    }
-    for instance in 1..3u32 {
-        close(rt, tree, &mut seat, instance);
-    }
+    pump(rt, tree, &mut seat, 1);
+    pump(rt, tree, &mut seat, 2);
+    close(rt, tree, &mut seat, 1);
+    close(rt, tree, &mut seat, 2);
     seat
 }
 
+// Makes a call of a seat, and answers why it was not carried out.
+fn make<L: Ledger>(
+    rt: &impl Wait,
+    tree: &Tree<L>,
+    seat: &mut Seat<L>,
+    call: Call,
+) -> Option<Refusal>
+    requires plain { IsTrue (is_plain call) }
+    ensures kept { KeepsOrNot call seat.old seat.new }
+    ensures refused { OnSome result (seat.new ≡ seat.old) }
+{
+    match tree.lock(rt).call(seat, call) {
+        Ok(_) => None,
+        Err(refusal) => Some(refusal),
+    }
+}
+
+// Pumps an instance, if it can be.
+fn pump<L: Ledger>(rt: &impl Wait, tree: &Tree<L>, seat: &mut Seat<L>, instance: u32)
+    ensures { KeepsOrNot (pump_all instance) seat.old seat.new }
+{
+    match tree.lock(rt).pump(seat, instance, ALL) {
+        Ok(_) => {}
+        Err(_) => {}
+    }
+}
+
 // Closes an instance. A close that wants memory is tried again.
-fn close<L: Ledger>(rt: &impl Wait, tree: &Tree<L>, seat: &mut Seat<L>, instance: u32) {
+fn close<L: Ledger>(rt: &impl Wait, tree: &Tree<L>, seat: &mut Seat<L>, instance: u32)
+    ensures { KeepsOrNot (Close instance) seat.old seat.new }
+{
     for _ in 0..TRIES {
-        match tree.lock(rt).call(seat, Call::Close { instance }) {
-            Err(Refusal::Enomem) => {}
+        match make(rt, tree, seat, Call::Close { instance }) {
+            Some(Refusal::Enomem) => {}
             _ => return,
         }
     }

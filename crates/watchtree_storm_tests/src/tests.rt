@@ -4,7 +4,8 @@ ghost use Rattle.std.specs.Prelude.{◌≡◌, ◌≤◌, true, IfOk, ⊤};
 ghost use Rattle.event_sinks.specs.Writing.{live_of};
 
 use event_sinks::{Cause, CountSink, Ended, Gate, LineSink, SettleFault, Settled, Sink, settle};
-use shared_tree::{SeatLog, Tree};
+use record_codec::Bytes;
+use shared_tree::{Book, SeatLog, Tree};
 use std::alloc::Global;
 use std::fmt::Debug;
 use std::io;
@@ -16,6 +17,9 @@ use std::sync::ledger::{Blank, Ledger};
 use std::sync::{Arc, Mutex, Wait};
 use std::test::Fail;
 use std::thread::Threads;
+use tree_core::Call;
+use tree_ops::FileCall;
+use tree_paths::{Path, Refusal};
 use watchtree_storm::*;
 
 /// What was got is what is wanted. Tests assert in these two functions: the macros in a long body take minutes to prove.
@@ -196,15 +200,17 @@ const ANOTHER: Writer = Writer {
     moved: "/s/b2",
 };
 
-// A storm of one call each, one after the other.
+// A storm of so many calls each, one after the other.
 fn quiet<L: Ledger>(
     rt: &impl Wait,
     alloc: Global,
     blank: Blank,
     second_writer: Writer,
+    calls: u32,
 ) -> Result<Ran<CountSink>, Fail>
     requires name { blank.name ≡ L.name }
     requires parts { (blank.parts ≡ L.parts) × (blank.parts ≡ 65537) }
+    requires calls { calls ≤ 1000 }
 {
     let one = CountSink::new(alloc, 99);
     let other = CountSink::new(alloc, 99);
@@ -216,10 +222,10 @@ fn quiet<L: Ledger>(
         second,
         one,
         other,
-    } = begin::<L, CountSink>(alloc, blank, 1, one, other)?;
+    } = begin::<L, CountSink>(alloc, blank, calls, one, other)?;
     let tree: Tree<L> = Mutex::new(held);
-    let first = Writer::first().write(rt, alloc, &tree, first, &OpenGate, 1);
-    let second = second_writer.write(rt, alloc, &tree, second, &OpenGate, 1);
+    let first = Writer::first().write(rt, alloc, &tree, first, &OpenGate, calls);
+    let second = second_writer.write(rt, alloc, &tree, second, &OpenGate, calls);
     let main = close_both(rt, &tree, main);
     let mut logs = Vec::with_capacity(alloc, 3)?;
     logs.push(pass.join(main))?;
@@ -234,8 +240,156 @@ fn quiet_storm(
     rt: &impl Wait,
     alloc: Global,
     second_writer: Writer,
-) -> Result<Ran<CountSink>, Fail> {
-    quiet::<Brand>(rt, alloc, Blank::new(65537), second_writer)
+    calls: u32,
+) -> Result<Ran<CountSink>, Fail>
+    requires { calls ≤ 1000 }
+{
+    quiet::<Brand>(rt, alloc, Blank::new(65537), second_writer, calls)
+}
+
+/// Who makes a call, and the call.
+type Made = (u32, Call);
+
+fn pump(seat: u32, instance: u32) -> Made {
+    let bytes = 1_048_576;
+    (seat, Call::Pump { instance, bytes })
+}
+
+// What the first seat does before the writers begin: a directory, and two instances that are told of all in it.
+fn beginning(alloc: Global, made: &mut Vec<Made>) -> Result<(), Refusal> {
+    let path = Path::parse(alloc, b"/s")?;
+    made.push((1, Call::File(FileCall::Mkdir { path, mode: 0o755 })))?;
+    for instance in 1..3 {
+        let limit = 16_384;
+        made.push((1, Call::Init { limit, piped: true }))?;
+        let path = Path::parse(alloc, b"/s")?;
+        let mask = 0xfff;
+        made.push((
+            1,
+            Call::AddWatch {
+                instance,
+                path,
+                mask,
+            },
+        ))?;
+    }
+    Ok(())
+}
+
+// What a writer does in four turns.
+fn four_turns(
+    alloc: Global,
+    made: &mut Vec<Made>,
+    seat: u32,
+    instance: u32,
+    file: &str,
+    moved: &str,
+) -> Result<(), Refusal> {
+    let path = Path::parse(alloc, file.as_bytes())?;
+    made.push((seat, Call::File(FileCall::Create { path, mode: 0o644 })))?;
+    made.push(pump(seat, instance))?;
+    let path = Path::parse(alloc, file.as_bytes())?;
+    let bytes = Bytes::from_vec(vec![in alloc; b'x'; 1]?);
+    let offset = 0;
+    made.push((
+        seat,
+        Call::File(FileCall::Write {
+            path,
+            offset,
+            bytes,
+        }),
+    ))?;
+    made.push(pump(seat, instance))?;
+    let old = Path::parse(alloc, file.as_bytes())?;
+    let new = Path::parse(alloc, moved.as_bytes())?;
+    made.push((seat, Call::File(FileCall::Rename { old, new })))?;
+    made.push(pump(seat, instance))?;
+    let path = Path::parse(alloc, moved.as_bytes())?;
+    made.push((seat, Call::File(FileCall::Unlink { path })))?;
+    made.push(pump(seat, instance))?;
+    Ok(())
+}
+
+// All that is done in a storm of four calls each whose second writer comes after the first.
+fn four_each(alloc: Global) -> Result<Vec<Made>, Refusal> {
+    let mut made = Vec::new(alloc);
+    beginning(alloc, &mut made)?;
+    four_turns(alloc, &mut made, 2, 1, "/s/a1", "/s/b1")?;
+    four_turns(alloc, &mut made, 3, 2, "/s/a2", "/s/b2")?;
+    made.push(pump(1, 1))?;
+    made.push(pump(1, 2))?;
+    made.push((1, Call::Close { instance: 1 }))?;
+    made.push((1, Call::Close { instance: 2 }))?;
+    Ok(made)
+}
+
+// How many entries of a book are these calls of these seats, before the first that is not.
+fn same_entries(book: &Book, made: &[Made]) -> usize {
+    for (at, (caller, call)) in made.iter().enumerate() {
+        match book.journal().get(at) {
+            Some(entry) if entry.caller == *caller && entry.call == *call => {}
+            _ => return at,
+        }
+    }
+    made.len()
+}
+
+#[test]
+fn a_journal_has_the_calls_of_a_storm(rt: HostRuntime) -> Result<(), Fail> {
+    let alloc = rt.alloc();
+    let ran = quiet_storm(&rt, alloc, Writer::second(), 4)?;
+    equal(&rt, ran.book.journal().len(), 25);
+    equal(&rt, same_entries(&ran.book, &four_each(alloc)?), 25);
+    Ok(())
+}
+
+/// Lets one worker through alone.
+#[derive(Drop)]
+struct Only {
+    who: u32,
+}
+
+impl Gate for Only {
+    ghost may_pass = { λ _ _ _ _. ⊤ };
+
+    fn pass(&self, who: u32, _turn: u64) -> bool {
+        who == self.who
+    }
+
+    fn turns(&self) -> u64 {
+        2
+    }
+}
+
+/// A gate that lets one of writers 3 and 4 through alone: its seat has four turns, and the other's has none.
+#[test]
+fn writers_ask_under_their_numbers(rt: HostRuntime) -> Result<(), Fail> {
+    for (who, first, second) in [(3, 8, 0), (4, 0, 8)] {
+        let alloc = rt.alloc();
+        let ran = four_at(&rt, alloc, &Only { who })?;
+        equal(&rt, kept(&ran.logs, 1), first);
+        equal(&rt, kept(&ran.logs, 2), second);
+    }
+    Ok(())
+}
+
+// A storm of four calls each.
+fn four_at<G: Gate, R: Threads + Wait + Sync>(
+    rt: &R,
+    alloc: Global,
+    gate: &G,
+) -> Result<Ran<CountSink>, StormFault> {
+    let one = CountSink::new(alloc, 99);
+    let other = CountSink::new(alloc, 99);
+    run::<Brand, CountSink, G, R>(rt, alloc, Blank::new(65537), 4, gate, one, other)
+}
+
+// How many calls a log has.
+fn kept(logs: &[SeatLog], at: usize) -> usize {
+    match logs.get(at) {
+        Some(log) => log.kept.as_slice().len(),
+        None => 99,
+    }
 }
 
 #[test]
@@ -245,11 +399,11 @@ fn another_trees_seat_is_stray(rt: HostRuntime) -> Result<(), Fail> {
         book,
         mut logs,
         ended: (one, other),
-    } = quiet_storm(&rt, alloc, Writer::second())?;
+    } = quiet_storm(&rt, alloc, Writer::second(), 1)?;
     let mut ended = Vec::with_capacity(alloc, 2)?;
     ended.push(one)?;
     ended.push(other)?;
-    let mut others = quiet_storm(&rt, alloc, ANOTHER)?.logs;
+    let mut others = quiet_storm(&rt, alloc, ANOTHER, 1)?.logs;
     let _ = logs.pop();
     let Some(stray) = others.pop() else {
         return Err(Fail::from(StormFault::Memory));

@@ -1,0 +1,38 @@
+-- What the seats of a storm keep.
+use Rattle.std.proofs.Common.{◌≡◌, ◌∙◌, ◌⊎◌, ◌+◌, ℕ, zero, suc, refl, ap, inl, inr, add-one}
+use Rattle.tree_core.specs.declared.call.Call.{Call}
+use Rattle.shared_tree.specs.declared.seat.SeatLog.{SeatLog}
+use Rattle.shared_tree.specs.Seats.{Seated}
+use Rattle.watchtree_storm.specs.Storm.{AreTurns, IsClosing, IsTurn, KeepsOrNot, Part, seat_of}
+
+-- no turn
+pub first-turn : (w : Part) (s : Seated) → AreTurns w 0 s s
+unfolding AreTurns
+first-turn w s = refl
+
+-- a turn more
+pub more-turns : (w : Part) (n : ℕ) (old between new : Seated) → AreTurns w n old between → IsTurn w n between new → AreTurns w (n + 1) old new
+unfolding AreTurns
+more-turns w n old between new before turn = rw add-one (between, before, turn)
+
+-- turns of which nothing was carried out
+pub no-turns : (w : Part) (n : ℕ) (s : Seated) → AreTurns w n s s
+unfolding AreTurns
+no-turns w zero s = refl
+no-turns w (suc n) s = (s, no-turns w n s, (s, inl refl, inl refl))
+
+-- a seat keeps its number
+keeps-number : (c : Call) (old new : Seated) → KeepsOrNot c old new → new.number ≡ old.number
+keeps-number c old new (inl e) = ap (λ (s : Seated). s.number) e
+keeps-number c old new (inr k) = ap (λ (s : Seated). s.number) k.2
+
+pub closing-number : (old new : Seated) → IsClosing old new → new.number ≡ old.number
+closing-number old new k =
+    keeps-number _ k.2 new k.6 ∙ keeps-number _ k.1 k.2 k.5 ∙ keeps-number _ k.0 k.1 k.4 ∙ keeps-number _ old k.0 k.3
+
+-- what is said of a seat holds of its log
+pub closing-of-log : (l : SeatLog) (s : Seated) → (l.number ≡ s.number) × (l.kept ≡ s.kept) → ((begun : Seated) × IsClosing begun s) → (begun : Seated) × IsClosing begun (seat_of l)
+closing-of-log l s h t = rw (h.0, h.1) t
+
+pub turns-of-log : (w : Part) (n : ℕ) (old : Seated) (l : SeatLog) (s : Seated) → (l.number ≡ s.number) × (l.kept ≡ s.kept) → AreTurns w n old s → AreTurns w n old (seat_of l)
+turns-of-log w n old l s h t = rw (h.0, h.1) t
