@@ -1,17 +1,19 @@
 -- What a sink wrote, over records and batches that are put into it one after another.
-use Rattle.std.proofs.Common.{◌≡◌, ◌≢◌, ℕ, Bool, true, false, subst, ◌∙◌, sym, ap, refl, List, [], ◌∷◌, ◌++◌, append-nil, append_assoc}
+use Rattle.std.proofs.Common.{◌<◌, ◌-◌, ◌^◌, inl, inr, arith, ◌≡◌, ◌≢◌, ℕ, Bool, true, false, subst, ◌∙◌, sym, ap, refl, List, [], ◌∷◌, ◌++◌, append-nil, append_assoc}
 use Rattle.std.specs.Prelude.{Some, None, Option, flat_map}
 use Rattle.std.specs.Bool.{then_some}
+use Rattle.std.specs.Io.KnownBytes.{Appends}
 use Rattle.std.proofs.KnownBytes.{Appends-nil, Appends-trans}
 use Rattle.std.proofs.lemmas.Grind.{flat_map-append}
 use Rattle.record_codec.specs.declared.event.Event.{Event}
+use Rattle.record_codec.specs.Ports.{one_more}
 use Rattle.shared_tree.specs.declared.pipe.Batch.{Batch}
 use Rattle.shared_tree.specs.Handed.{records_of}
 use Rattle.event_sinks.specs.declared.listener.Cause.{Cause}
 use Rattle.event_sinks.specs.declared.listener.Cause.TheVariants as cause
 use Rattle.event_sinks.specs.declared.listener.Listening.{Listening}
 use Rattle.event_sinks.specs.Heard.{cause_or}
-use Rattle.event_sinks.specs.Pages.{Gains, Page, Writes, WritesBatches, WritesClose, WritesRecords}
+use Rattle.event_sinks.specs.Pages.{ClosesText, UnfailingTextsAreWhole, Gains, Page, Writes, WritesBatches, WritesClose, WritesRecords}
 use Rattle.event_sinks.proofs.Answering.{records_of-append}
 
 pub gains_nothing : (p : Page) → Gains p [] p
@@ -30,6 +32,19 @@ gains_on a b c xs ys f g =
 -- and of one more
 pub gains_one : (a b c : Page) (xs : List Event) (e : Event) → Gains a (flat_map a.line xs) b → Gains b (b.line e) c → Gains a (flat_map a.line (xs ++ e ∷ [])) c
 gains_one a b c xs e f g = gains_on a b c xs (e ∷ []) f (subst (λ (t : List ℕ). Gains b t c) (sym (append-nil (b.line e))) g)
+
+closes_whole : (old last new : Page) (taken : ℕ) → last ≡ record old { bytes = last.bytes } → ClosesText last taken new → new.faults ≡ old.faults → old.faults < 2 ^ 64 - 1 → Appends last.bytes new.bytes (old.closing taken)
+closes_whole old last new taken same (inl all) none below =
+    subst (λ (f : ℕ → List ℕ). Appends last.bytes new.bytes (f taken)) (ap (λ (p : Page). p.closing) same) all.0
+closes_whole old last new taken same (inr front) none below =
+    let more : new.faults ≡ one_more last.faults = ap (λ (p : Page). p.faults) front.1 in
+    let was : last.faults ≡ old.faults = ap (λ (p : Page). p.faults) same in
+    let both : old.faults ≡ one_more old.faults = sym none ∙ (more ∙ ap one_more was) in
+    absurd (omega (arith, both, below))
+
+pub unfailing_whole : UnfailingTextsAreWhole
+unfailing_whole old last new records taken lines close none below =
+    Appends-trans old.bytes last.bytes new.bytes (flat_map old.line records) (old.closing taken) lines.0 (closes_whole old last new taken lines.1 close none below)
 
 module _ {S : Type 0} (record_list : S → List Event) (page : S → Page) where
   -- all of some records were taken

@@ -1,5 +1,5 @@
 -- What a sink wrote, and what the sink of a listener wrote.
-use Rattle.std.specs.Prelude.{◌≡◌, ℕ, List, [], ◌∷◌, ◌++◌, flat_map, length, take, Option, Some, None, Result, Ok, Err, ◌⊎◌}
+use Rattle.std.specs.Prelude.{◌≡◌, ◌<◌, ◌-◌, ◌^◌, ℕ, List, [], ◌∷◌, ◌++◌, flat_map, length, take, Option, Some, None, Result, Ok, Err, ◌⊎◌}
 use Rattle.std.specs.Io.KnownBytes.{Appends}
 use Rattle.record_codec.specs.declared.event.Event.{Event}
 use Rattle.record_codec.specs.Ports.{one_more}
@@ -60,3 +60,12 @@ Writes {S} record_list page old records new (Some why) = (last : S) × WritesRec
 -- the same of the records of the batches that a listener was handed meanwhile
 abbrev pub WritesBatches : {S : Type 0} → (S → List Event) → (S → Page) → S → List Batch → S → List Batch → Option Cause → Type 0
 WritesBatches record_list page old handed new handed' why = (batches : List Batch) × (handed' ≡ handed ++ batches) × Writes record_list page old (records_of batches) new why
+
+-- ---- a law
+
+-- where no write failed, the text is the lines and what stands at the close, whole
+abbrev pub UnfailingTextsAreWhole : Type 0
+UnfailingTextsAreWhole =
+    (old last new : Page) (records : List Event) (taken : ℕ)
+    → Gains old (flat_map old.line records) last → ClosesText last taken new → new.faults ≡ old.faults → old.faults < 2 ^ 64 - 1
+    → Appends old.bytes new.bytes (flat_map old.line records ++ old.closing taken)
