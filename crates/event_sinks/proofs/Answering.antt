@@ -20,7 +20,7 @@ pub parted : (xs : List Event) (i : ℕ) (x : Event) → i < length xs → x ≡
 parted xs i x within is =
     sym (take-append-drop i xs) ∙ ap (λ (l : List Event). take i xs ++ l) (drop_more xs i x within ∙ ap (λ (y : Event). y ∷ drop (i + 1) xs) (sym is))
 
-records_of-append : (xs ys : List Batch) → records_of (xs ++ ys) ≡ records_of xs ++ records_of ys
+pub records_of-append : (xs ys : List Batch) → records_of (xs ++ ys) ≡ records_of xs ++ records_of ys
 records_of-append [] ys = refl
 records_of-append (x ∷ xs) ys = ap (λ (r : List Event). x.records ++ r) (records_of-append xs ys) ∙ sym (append_assoc x.records (records_of xs) (records_of ys))
 

@@ -1,4 +1,5 @@
 pub mod Answering
+pub mod Paging
 mod Fronts
 pub mod Hearing
 mod Pairs

@@ -1,6 +1,7 @@
 pub mod Sinks
 pub mod Lines
 pub mod Writing
+pub mod Pages
 pub mod Stopping
 pub mod Heard
 pub mod Audited

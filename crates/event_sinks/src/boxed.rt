@@ -11,6 +11,8 @@ impl Sink for Box<dyn Sink> {
 
     ghost may_answer = { λ b before event answer. (Sink-box b).may_answer b.value before event answer };
 
+    ghost page = { λ b. (Sink-box b).page b.value };
+
     fn put(&mut self, event: &Event) -> Result<(), SinkFault> {
         (**self).put(event)
     }

@@ -1,6 +1,7 @@
 //! A sink that keeps the records that it took, up to a count of them.
 
 ghost use Rattle.std.specs.Prelude.{◌≡◌, ◌≢◌, ◌↔◌, ◌++◌, [], ◌∷◌, ◌+◌, Err, true, false, length, OnOk, OnErr};
+ghost use Rattle.event_sinks.specs.Pages.{blank};
 ghost use Rattle.event_sinks.specs.Sinks.{counting};
 ghost use Rattle.event_sinks.specs.declared.fault.SinkFault.TheVariants.{Full, Write};
 
@@ -57,6 +58,8 @@ impl Sink for CountSink {
     ghost live = { λ s. s.live };
 
     ghost may_answer = { λ s before _ answer. ((answer ≡ Err Full) ↔ (length s.records + length before ≡ s.most)) × (answer ≢ Err Write) };
+
+    ghost page = { λ _. blank };
 
     fn put(&mut self, event: &Event) -> Result<(), SinkFault>
         requires { self.old.live ≡ true }

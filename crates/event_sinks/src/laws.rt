@@ -1,6 +1,7 @@
-//! Laws of what is settled. Each is a function that does nothing, and its contract is the law.
+//! Laws of what is settled, and of what is written. Each is a function that does nothing, and its contract is the law.
 
 ghost use Rattle.event_sinks.specs.Audited.{AuditsAgree, FaultsContradictTheAudit, FrontsAreWhole};
+ghost use Rattle.event_sinks.specs.Pages.{UnfailingTextsAreWhole};
 
 use shared_tree::{cuts_part_batches, end_batches_come_last};
 
@@ -23,3 +24,9 @@ pub fn fronts_are_whole()
     end_batches_come_last();
     cuts_part_batches();
 }
+
+/// A law: what a listener's sink wrote, where no write failed, is the line of each record that it took and then what it
+/// writes at its close, all of it. So the text after [`Listening::run`](crate::Listening::run) is known.
+pub fn unfailing_texts_are_whole()
+    ensures { UnfailingTextsAreWhole }
+{}

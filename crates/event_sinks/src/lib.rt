@@ -19,7 +19,9 @@ pub use audit::{SettleFault, Settled, settle};
 pub use count::CountSink;
 pub use fault::SinkFault;
 pub use gate::Gate;
-pub use laws::{audits_agree, faults_contradict_the_audit, fronts_are_whole};
+pub use laws::{
+    audits_agree, faults_contradict_the_audit, fronts_are_whole, unfailing_texts_are_whole,
+};
 pub use line::LineSink;
 pub use listener::{Cause, Ended, Listener, Listening, Step};
 pub use memory::MemorySink;

@@ -4,7 +4,7 @@ ghost use Rattle.std.specs.Prelude.{◌≡◌, ◌≢◌, ◌++◌, [], ◌∷�
 ghost use Rattle.record_codec.specs.Ports.{inner_of, faults_of};
 ghost use Rattle.event_sinks.specs.Lines.{line_of, closing_line, PutsLine, WritesAll, WritesClosing, WritesFront};
 ghost use Rattle.event_sinks.specs.declared.fault.SinkFault.TheVariants.{Full};
-ghost use Rattle.event_sinks.specs.Writing.{live_of, port_of, records_of};
+ghost use Rattle.event_sinks.specs.Writing.{live_of, page_of, port_of, records_of};
 
 use crate::fault::SinkFault;
 use crate::sink::Sink;
@@ -46,6 +46,8 @@ impl<W: Write + Send + Drop> Sink for LineSink<W> {
     ghost live = { λ s. live_of s };
 
     ghost may_answer = { λ _ _ _ answer. answer ≢ Err Full };
+
+    ghost page = { λ s. page_of W.contents s };
 
     fn put(&mut self, event: &Event) -> Result<(), SinkFault>
         requires { live_of self.old ≡ true }

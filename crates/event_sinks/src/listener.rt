@@ -3,6 +3,7 @@
 ghost use Rattle.std.specs.Prelude.{◌≡◌, ◌≢◌, [], true, length, None};
 ghost use Rattle.event_sinks.specs.declared.listener.Cause.TheVariants.{Given, Turns};
 ghost use Rattle.event_sinks.specs.Heard.{Answers, AnswersBatches, Heard, IsHeard, IsFromOutside, IsTurn, Puts, Reaches, Steps, ended_by, ended_of, heard, heard_by};
+ghost use Rattle.event_sinks.specs.Pages.{WritesBatches, WritesClose, WritesRecords};
 
 use crate::fault::SinkFault;
 use crate::gate::Gate;
@@ -95,6 +96,7 @@ fn put_batch<S: Sink>(sink: &mut S, batch: &Batch) -> Option<Cause>
     ensures live { S.live sink.new ≡ true }
     ensures puts { Puts (S.record_list sink.old) batch.now.records (S.record_list sink.new) result }
     ensures answers { Answers S.record_list S.may_answer sink.old batch.now.records sink.new result }
+    ensures writes { WritesRecords S.record_list S.page sink.old batch.now.records sink.new result }
 {
     for event in batch.records.as_slice() {
         if let Err(fault) = sink.put(event) {
@@ -109,6 +111,7 @@ impl<S: Sink> Listening<S> {
     pub fn new(alloc: Global, number: u32, feed: Feed, sink: S) -> Listening<S>
         requires live { S.live sink ≡ true }
         ensures heard { heard_by S.record_list S.live result ≡ heard number feed [] (length (S.record_list sink)) (S.record_list sink) true None }
+        ensures sink { result.sink ≡ sink }
         ensures sound { IsHeard (heard_by S.record_list S.live result) }
     {
         let started = sink.taken();
@@ -128,6 +131,8 @@ impl<S: Sink> Listening<S> {
         ensures sound { IsHeard (heard_by S.record_list S.live self.new) }
         ensures steps { Steps (heard_by S.record_list S.live self.old) (heard_by S.record_list S.live self.new) result }
         ensures answers { self.old.cause ≡ None → AnswersBatches S.record_list S.may_answer self.old.sink self.old.handed.items self.new.sink self.new.handed.items self.new.cause }
+        ensures writes { self.old.cause ≡ None → WritesBatches S.record_list S.page self.old.sink self.old.handed.items self.new.sink self.new.handed.items self.new.cause }
+        ensures rests { self.old.cause ≢ None → self.new ≡ self.old }
     {
         if self.cause.is_some() {
             return Step::Over;
@@ -155,6 +160,8 @@ impl<S: Sink> Listening<S> {
         ensures turn { IsTurn (G.may_pass gate.now) turn (heard_by S.record_list S.live self.old) (heard_by S.record_list S.live self.new) }
         ensures over { result ≡ true → self.new.cause ≢ None }
         ensures answers { self.old.cause ≡ None → AnswersBatches S.record_list S.may_answer self.old.sink self.old.handed.items self.new.sink self.new.handed.items self.new.cause }
+        ensures writes { self.old.cause ≡ None → WritesBatches S.record_list S.page self.old.sink self.old.handed.items self.new.sink self.new.handed.items self.new.cause }
+        ensures rests { self.old.cause ≢ None → self.new ≡ self.old }
     {
         gate.pass(self.number, turn) && self.step() == Step::Over
     }
@@ -165,6 +172,8 @@ impl<S: Sink> Listening<S> {
         requires given { IsFromOutside given }
         ensures sound { IsHeard (ended_of S.record_list S.live result) }
         ensures ended { ended_of S.record_list S.live result ≡ ended_by (heard_by S.record_list S.live self) given }
+        ensures writes { self.cause ≡ None → WritesClose S.record_list S.page self.sink result.sink }
+        ensures rests { self.cause ≢ None → result.sink ≡ self.sink }
     {
         let Listening {
             number,
@@ -198,6 +207,7 @@ impl<S: Sink> Listening<S> {
         ensures sound { IsHeard (ended_of S.record_list S.live result) }
         ensures turns { (h : Heard) × Reaches (G.may_pass gate.now) turns (heard_by S.record_list S.live self) h × (ended_of S.record_list S.live result ≡ ended_by h Turns) }
         ensures answers { self.cause ≡ None → AnswersBatches S.record_list S.may_answer self.sink self.handed.items result.sink result.handed.items (Some result.cause) }
+        ensures writes { self.cause ≡ None → WritesBatches S.record_list S.page self.sink self.handed.items result.sink result.handed.items (Some result.cause) }
     {
         let mut listener = self;
         for turn in 0..turns {
@@ -213,6 +223,8 @@ impl<S: Sink> Listening<S> {
         requires { IsHeard (heard_by S.record_list S.live self) }
         ensures sound { IsHeard (ended_of S.record_list S.live result) }
         ensures ended { ended_of S.record_list S.live result ≡ ended_by (heard_by S.record_list S.live self) Given }
+        ensures writes { self.cause ≡ None → WritesClose S.record_list S.page self.sink result.sink }
+        ensures rests { self.cause ≢ None → result.sink ≡ self.sink }
     {
         self.end(Cause::Given)
     }
@@ -251,8 +263,7 @@ impl<S> Ended<S> {
 impl<S: Sink> Ended<S> {
     /// Its sink, which is closed.
     pub fn sink(&self) -> &S
-        ensures list { S.record_list result.now ≡ S.record_list self.now.sink }
-        ensures live { S.live result.now ≡ S.live self.now.sink }
+        ensures { result.now ≡ self.now.sink }
     {
         &self.sink
     }

@@ -1,6 +1,7 @@
 //! A sink that keeps the records that it took.
 
 ghost use Rattle.std.specs.Prelude.{◌≡◌, ◌++◌, [], ◌∷◌, true, false, IfErr, OnOk, OnErr};
+ghost use Rattle.event_sinks.specs.Pages.{blank};
 ghost use Rattle.event_sinks.specs.Sinks.{taking};
 ghost use Rattle.event_sinks.specs.declared.fault.SinkFault.TheVariants.{Memory};
 
@@ -51,6 +52,8 @@ impl Sink for MemorySink {
     ghost live = { λ s. s.live };
 
     ghost may_answer = { λ _ _ _ answer. IfErr answer (λ fault. fault ≡ Memory) };
+
+    ghost page = { λ _. blank };
 
     fn put(&mut self, event: &Event) -> Result<(), SinkFault>
         requires { self.old.live ≡ true }

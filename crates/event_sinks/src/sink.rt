@@ -3,6 +3,7 @@
 ghost use Rattle.std.specs.Prelude.{◌≡◌, ◌++◌, [], ◌∷◌, Bool, true, false, List, Result, length, OnOk, OnErr};
 ghost use Rattle.record_codec.specs.declared.event.Event.{Event};
 ghost use Rattle.event_sinks.specs.declared.fault.SinkFault.{SinkFault};
+ghost use Rattle.event_sinks.specs.Pages.{ClosesText, Page, PutsText};
 ghost use Rattle.event_sinks.specs.Sinks.{Foretells};
 
 use crate::fault::SinkFault;
@@ -21,6 +22,9 @@ pub trait Sink: Send + Drop {
     /// What it may answer where it is put this record, once it has taken those before it.
     ghost may_answer: { Self → List Event → Event → Result (Unit {0}) SinkFault → Type 0 };
 
+    /// What it wrote, as far as that can be known, and what it writes for a record and at its close.
+    ghost page: { Self → Page };
+
     /// Takes a copy of the record.
     ///
     /// # Errors
@@ -31,6 +35,7 @@ pub trait Sink: Send + Drop {
         ensures err { OnErr result (record_list self.new ≡ record_list self.old) }
         ensures stays { live self.new ≡ true }
         ensures answer { may_answer self.old [] event.now result }
+        ensures page { PutsText (page self.old) event.now result (page self.new) }
 
         // What it may answer from now on could be told before.
         ensures later { OnOk result (Foretells (may_answer self.old) (event.now ∷ []) (may_answer self.new)) };
@@ -39,7 +44,8 @@ pub trait Sink: Send + Drop {
     fn close(&mut self)
         requires { live self.old ≡ true }
         ensures list { record_list self.new ≡ record_list self.old }
-        ensures closed { live self.new ≡ false };
+        ensures closed { live self.new ≡ false }
+        ensures page { ClosesText (page self.old) (length (record_list self.old)) (page self.new) };
 
     /// Whether it is open.
     fn is_open(&self) -> bool

@@ -1,6 +1,7 @@
 //! A sink that takes no more than so many records.
 
 ghost use Rattle.std.specs.Prelude.{◌≡◌, ◌++◌, [], ◌∷◌, ◌+◌, Err, true, MatchResult, OnOk, OnErr};
+ghost use Rattle.event_sinks.specs.Pages.{PutsText};
 ghost use Rattle.event_sinks.specs.Sinks.{Foretells};
 ghost use Rattle.event_sinks.specs.Stopping.{StopsAt, inner_of, left_of};
 ghost use Rattle.event_sinks.specs.declared.fault.SinkFault.TheVariants.{Full};
@@ -34,11 +35,15 @@ impl<S: Sink> Sink for StopSink<S> {
 
     ghost may_answer = { λ s. StopsAt (left_of s) (S.may_answer (inner_of s)) };
 
+    ghost page = { λ s. S.page (inner_of s) };
+
     fn put(&mut self, event: &Event) -> Result<(), SinkFault>
         requires { S.live (inner_of self.old) ≡ true }
         ensures ok { OnOk result (S.record_list (inner_of self.new) ≡ S.record_list (inner_of self.old) ++ event.now ∷ []) }
         ensures err { OnErr result (S.record_list (inner_of self.new) ≡ S.record_list (inner_of self.old)) }
         ensures stays { S.live (inner_of self.new) ≡ true }
+
+        ensures page { PutsText (S.page (inner_of self.old)) event.now result (S.page (inner_of self.new)) }
 
         // What was passed on counts, and nothing is where none is left.
         ensures left { MatchResult result (λ _. left_of self.old ≡ left_of self.new + 1) (λ _. left_of self.new ≡ left_of self.old) }

@@ -1,6 +1,12 @@
 //! Listeners at feeds of a tree. Want of memory for a sink, or for a text, ends a test.
 
-ghost use Rattle.std.specs.Prelude.{◌≡◌, [], true, length, None, ⊤};
+ghost use Rattle.std.specs.Prelude.{◌≡◌, ◌++◌, [], true, flat_map, length, None, ⊤};
+ghost use Rattle.std.specs.Io.KnownBytes.{Appends};
+ghost use Rattle.record_codec.specs.Ports.{faults_of, inner_of};
+ghost use Rattle.shared_tree.specs.Handed.{records_of};
+ghost use Rattle.event_sinks.specs.declared.listener.Cause.TheVariants.{Last};
+ghost use Rattle.event_sinks.specs.Lines.{closing_line, line_of};
+ghost use Rattle.event_sinks.specs.Writing.{port_of};
 ghost use Rattle.event_sinks.specs.Heard.{IsHeard, heard, heard_by};
 
 use super::feeds::{feed_of, opens, tells};
@@ -222,6 +228,39 @@ fn a_failed_write_ends_a_listener(rt: HostRuntime) -> Result<(), Fail> {
         let sink = LineSink::new(alloc, sheet(&mut text, 10, faults));
         let told = ran(alloc, "f!g!", sink, &EACH, 9)?;
         equal(&rt, told, (Cause::Sink(SinkFault::Write), 1, 0, false));
+        equal(&rt, text.as_slice(), wants);
+    }
+    Ok(())
+}
+
+/// Runs a listener whose sink writes lines. Where it ended by the end batch, and no write failed, the writer got the line of
+/// each record that was handed, and then the closing line of so many.
+fn writes_lines<W: Write + Send + Drop>(
+    alloc: Global,
+    feed: Feed,
+    writer: W,
+    gate: &Lets,
+) -> Ended<LineSink<W>>
+    ensures { result.cause ≡ Last → faults_of (port_of result.sink) ≡ 0 → Appends (W.contents writer) (W.contents (inner_of (port_of result.sink))) (flat_map line_of (records_of result.handed.items) ++ closing_line (length (records_of result.handed.items))) }
+{
+    unfailing_texts_are_whole();
+    Listening::new(alloc, 7, feed, LineSink::new(alloc, writer)).run(gate, 9)
+}
+
+#[test]
+fn a_listener_writes_its_records(rt: HostRuntime) -> Result<(), Fail> {
+    let alloc = rt.alloc();
+    for (story, wants) in [
+        (".", b"closed 0\n".as_slice()),
+        (
+            "fg!h!.",
+            b"1 00000100 0 f\n1 00000100 0 g\n1 00000100 0 h\nclosed 3\n".as_slice(),
+        ),
+    ] {
+        let mut text = Vec::with_capacity(alloc, 99)?;
+        let ended = writes_lines(alloc, feed_of(alloc, story)?, &mut text, &EACH);
+        equal(&rt, ended.cause(), Cause::Last);
+        drop(ended);
         equal(&rt, text.as_slice(), wants);
     }
     Ok(())

@@ -1,4 +1,4 @@
-use Rattle.std.proofs.Common.{◌≡◌, ◌+◌, ◌<◌, List, length, get_or, ap, sym, ◌∙◌, subst, arith}
+use Rattle.std.proofs.Common.{◌≡◌, ◌+◌, ◌<◌, List, length, get_or, ap, ◌∙◌, subst, arith}
 use Rattle.tree_core.specs.declared.reply.Entry.{Entry}
 use Rattle.tree_core.specs.Tree.{after}
 use Rattle.event_sinks.specs.Audited.{outcomes}

@@ -2,6 +2,7 @@ use Rattle.std.proofs.Common.{◌+◌, ap, arith, refl, rules}
 use Rattle.event_sinks.specs.declared.listener.Cause.TheVariants.{Turns}
 use Rattle.event_sinks.specs.Heard.{Heard, heard_by}
 use Rattle.event_sinks.proofs.Answering.{end_answers, turn_answers}
+use Rattle.event_sinks.proofs.Paging.{end_writes, nothing_put, turn_writes}
 use Rattle.event_sinks.proofs.Hearing.{reaches_more, reaches_next}
 use Rattle.event_sinks.proofs.listener.Listening.run.Goals as goal
 
@@ -51,4 +52,27 @@ loop-turn-preserved g c =
       sound = c.is_over_at.ensures.sound;
       reaches = reaches_next passes c.loop-turn.turn (heard_by list g.S.Sink.live first) before after c.loop-turn.invariant.reaches c.is_over_at.ensures.turn;
       answers = λ on. turn_answers list g.S.Sink.may_answer first.sink first.handed.items old.sink new.sink old.handed.items new.handed.items passes c.loop-turn.turn old.cause new.cause before after refl refl refl refl refl refl c.is_over_at.ensures.turn (c.loop-turn.invariant.answers on) c.is_over_at.ensures.answers;
+      writes = λ on. turn_writes list g.S.Sink.page first.sink first.handed.items old new old.cause refl (c.loop-turn.invariant.writes on) c.is_over_at.ensures.writes c.is_over_at.ensures.rests;
     }
+
+pub returns-then-is_over_at-clause-writes : goal.returns-then-is_over_at-clause-writes
+returns-then-is_over_at-clause-writes g c on =
+    let list = g.S.Sink.record_list in
+    let page = g.S.Sink.page in
+    let first = c.args.self in
+    let old = c.loop-turn.listener in
+    let new = c.is_over_at.new.self in
+    let last = c.end.result in
+    let ended = c.end.ensures.ended in
+    let turned = turn_writes list page first.sink first.handed.items old new old.cause refl (c.loop-turn.invariant.writes on) c.is_over_at.ensures.writes c.is_over_at.ensures.rests in
+    end_writes list page first.sink first.handed.items new last.sink last.handed.items new.cause last.cause Turns refl (ap (λ (h : Heard). h.handed) ended) (ap (λ (h : Heard). h.cause) ended) (nothing_put list page new.sink) turned c.end.ensures.writes c.end.ensures.rests
+
+pub returns-clause-writes : goal.returns-clause-writes
+returns-clause-writes g c on =
+    let list = g.S.Sink.record_list in
+    let page = g.S.Sink.page in
+    let first = c.args.self in
+    let new = c.loop-turn.listener in
+    let last = c.end-2.result in
+    let ended = c.end-2.ensures.ended in
+    end_writes list page first.sink first.handed.items new last.sink last.handed.items new.cause last.cause Turns refl (ap (λ (h : Heard). h.handed) ended) (ap (λ (h : Heard). h.cause) ended) (nothing_put list page new.sink) (c.loop-turn.invariant.writes on) c.end-2.ensures.writes c.end-2.ensures.rests
