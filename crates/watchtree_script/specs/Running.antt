@@ -1,12 +1,14 @@
 -- What the functions that run a part of a script answer.
-use Rattle.std.specs.Prelude.{◌≡◌, ◌⊎◌, ⊤, ℕ, List, ◌++◌, Option, Err, IfSome}
+use Rattle.std.specs.Prelude.{◌≡◌, ◌⊎◌, ⊤, ℕ, List, ◌++◌, Option, Result, Err, IfSome}
 use Rattle.std.specs.Io.KnownBytes.{Appends}
 use Rattle.tree_core.specs.Journal.{Journaled}
 use Rattle.watchtree_script.specs.declared.fault.RunFault.{RunFault}
 use Rattle.watchtree_script.specs.declared.fault.RunFault.TheVariants as faults
+use Rattle.watchtree_script.specs.declared.line.Line.{Line}
+use Rattle.watchtree_script.specs.declared.line.LineError.{LineError}
 use Rattle.watchtree_script.specs.declared.line.LineError.TheVariants.{Fault}
 use Rattle.watchtree_script.specs.Commands.{line_of}
-use Rattle.watchtree_script.specs.Script.{PrintsLine, IsTooLong}
+use Rattle.watchtree_script.specs.Script.{PrintsLine, MayHaveRun, IsTooLong}
 
 -- why a script is not read
 abbrev pub ReadTells : RunFault → Option (List ℕ) → Type 0
@@ -23,6 +25,14 @@ PrintsNothing queue number line faults.TooLong = ⊥
 PrintsNothing queue number line faults.Read = ⊥
 PrintsNothing queue number line faults.Write = ⊥
 PrintsNothing queue number line faults.Memory = ⊤
+
+-- what a line that prints nothing leaves: a fault nothing, and want of memory nothing or all that the line asks for
+abbrev pub LeavesLine : RunFault → Journaled → Result Line LineError → Journaled → Type 0
+LeavesLine (faults.Script n f) old line new = new ≡ old
+LeavesLine faults.TooLong old line new = ⊥
+LeavesLine faults.Read old line new = ⊥
+LeavesLine faults.Write old line new = ⊥
+LeavesLine faults.Memory old line new = MayHaveRun old line new
 
 -- what waited and the text behind it are what was written, with what waits now behind it
 pub record Passes (waiting text left : List ℕ) (old new : Option (List ℕ)) : Type 0 where

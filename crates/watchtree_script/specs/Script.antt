@@ -67,6 +67,17 @@ PrintsLineBy R C old (Err (Refused refusal)) text new = (text ≡ refusal_text r
 PrintsLineBy R C old (Err (Fault fault)) text new = ⊥
 PrintsLineBy R C old (Err Memory) text new = ⊥
 
+-- the line was run: its call joined the journal, or it cut the journal
+abbrev pub HasRun : Journaled → Result Line LineError → Journaled → Type 0
+HasRun old (Ok Silent) new = ⊥
+HasRun old (Ok Cut) new = new ≡ cut_off old
+HasRun old (Ok (Run call shown)) new = (reply : Reply) × IsAnswered old call reply new
+HasRun old (Err e) new = ⊥
+
+-- nothing was done, or the line was run
+abbrev pub MayHaveRun : Journaled → Result Line LineError → Journaled → Type 0
+MayHaveRun old line new = (new ≡ old) ⊎ HasRun old line new
+
 -- what lines may print, one after another
 abbrev pub PrintsBy : (Journaled → Call → Reply → Journaled → Type 0) → (Journaled → List ℕ → Journaled → Type 0) → ℕ → Journaled → List (List ℕ) → List ℕ → Journaled → Type 0
 PrintsBy R C queue old [] text new = (text ≡ []) × (new ≡ old)

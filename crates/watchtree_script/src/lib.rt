@@ -16,4 +16,4 @@ mod words;
 
 pub use fault::{RunFault, ScriptFault};
 pub use laws::{journals_are_lawful, texts_are_one};
-pub use run::{SCRIPT_MAX, run_script};
+pub use run::{SCRIPT_MAX, print_line, run_script};

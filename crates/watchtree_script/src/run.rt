@@ -1,11 +1,11 @@
 //! Runs of scripts.
 
-ghost use Rattle.std.specs.Prelude.{◌≡◌, ◌<◌, ◌≤◌, [], ℕ, List, Some, IfOk, OnOk, IfErr, IfSome, Ok, length, take};
+ghost use Rattle.std.specs.Prelude.{◌≡◌, ◌<◌, ◌≤◌, [], ℕ, List, Some, IfOk, OnOk, OnErr, IfErr, IfSome, Ok, length, take};
 ghost use Rattle.record_codec.specs.Ports.{inner_of, faults_of};
 ghost use Rattle.tree_core.specs.Calls.{IsSpelled};
 ghost use Rattle.watchtree_script.specs.Commands.{line_of};
-ghost use Rattle.watchtree_script.specs.Script.{PrintsLine, FaultTells, IsShort, Adds, IsText, Replies, write_faults, read_faults};
-ghost use Rattle.watchtree_script.specs.Running.{PrintsNothing, LineTells, ReadTells, IsRunFault, Passes};
+ghost use Rattle.watchtree_script.specs.Script.{PrintsLine, MayHaveRun, FaultTells, IsShort, Adds, IsText, Replies, write_faults, read_faults};
+ghost use Rattle.watchtree_script.specs.Running.{PrintsNothing, LeavesLine, LineTells, ReadTells, IsRunFault, Passes};
 
 use crate::fault::RunFault;
 use crate::line::{Line, LineError, read_line};
@@ -125,8 +125,12 @@ fn run_line<W: Write>(
     }
 }
 
-/// Runs one line, and makes the text that it prints.
-fn print_line(
+/// Runs one line of a script on a tree, and makes the text that it prints, in place of what the text held.
+///
+/// # Errors
+/// - [`RunFault::Script`], with the line's number: nothing was done.
+/// - [`RunFault::Memory`]: there was none to read the line or for its text. Nothing was done, or all that the line asks for.
+pub fn print_line(
     text: &mut Vec<u8>,
     state: &mut State,
     queue: u32,
@@ -135,6 +139,7 @@ fn print_line(
 ) -> Result<(), RunFault>
     ensures ok { OnOk result (PrintsLine state.old (line_of queue line.now) text.new.items state.new) }
     ensures err { IfErr result (PrintsNothing queue number line.now) }
+    ensures left { IfErr result (λ fault. LeavesLine fault state.old (line_of queue line.now) state.new) }
 {
     text.clear();
     match read_line(*text.allocator(), queue, line) {
@@ -151,7 +156,8 @@ fn print_line(
 /// Does what a line asks for, and adds what it prints to an empty text.
 fn push_line(text: &mut Vec<u8>, state: &mut State, line: Line) -> Result<(), AllocError>
     requires { text.old.items ≡ [] }
-    ensures { OnOk result (PrintsLine state.old (Ok line) text.new.items state.new) }
+    ensures ok { OnOk result (PrintsLine state.old (Ok line) text.new.items state.new) }
+    ensures left { OnErr result (MayHaveRun state.old (Ok line) state.new) }
 {
     match line {
         Line::Silent => Ok(()),

@@ -1,0 +1,195 @@
+/* Each call of watchtree.h, and each refusal that it can answer but for want of memory, which memory.c tries. */
+#include "watchtree.h"
+#include <errno.h>
+#include <inttypes.h>
+#include <stdio.h>
+#include <stdlib.h>
+#include <string.h>
+#include <sys/inotify.h>
+
+#define PATH(s) s, strlen(s)
+#define IS(call, wanted) is(#call, __LINE__, (call), (wanted))
+#define HOLDS(what) is(#what, __LINE__, !!(what), 1)
+_Static_assert(sizeof(struct wt_tree) == 16 && sizeof(struct wt_stat) == 32, "the structs of the crate");
+
+static int failed;
+
+static void is(const char *what, int line, int64_t number, int64_t wanted) {
+    if (number == wanted) return;
+    printf("test.c:%d: %s is %" PRId64 ", and not %" PRId64 "\n", line, what, number, wanted);
+    failed = 1;
+}
+
+/* A tree that is not open answers -EBADF to each call, and closing it does nothing. */
+static void closed_trees(void) {
+    struct wt_tree t = WT_TREE_INIT;
+    struct wt_stat s = { 7, 7, 7, 7, 7 };
+    char out[8] = "before";
+    for (int turn = 0; turn < 2; turn++) {
+        wt_close(&t);
+        IS(wt_cut(&t), -EBADF), IS(wt_mkdir(&t, PATH("/d"), 0755), -EBADF), IS(wt_create(&t, PATH("/d"), 0644), -EBADF);
+        IS(wt_write(&t, PATH("/d"), 0, "x", 1), -EBADF), IS(wt_pread(&t, PATH("/d"), 0, out, sizeof out), -EBADF);
+        IS(wt_truncate(&t, PATH("/d"), 0), -EBADF), IS(wt_chmod(&t, PATH("/d"), 0), -EBADF);
+        IS(wt_link(&t, PATH("/d"), PATH("/e")), -EBADF), IS(wt_unlink(&t, PATH("/d")), -EBADF);
+        IS(wt_rmdir(&t, PATH("/d")), -EBADF), IS(wt_rename(&t, PATH("/d"), PATH("/e")), -EBADF);
+        IS(wt_rename2(&t, PATH("/d"), PATH("/e"), 0), -EBADF);
+        IS(wt_stat(&t, PATH("/d"), &s), -EBADF), IS(wt_list(&t, PATH("/"), out, sizeof out), -EBADF);
+        IS(wt_inotify_init(&t, 1), -EBADF), IS(wt_inotify_add_watch(&t, 1, PATH("/"), IN_CREATE), -EBADF);
+        IS(wt_inotify_rm_watch(&t, 1, 1), -EBADF), IS(wt_read(&t, 1, out, sizeof out), -EBADF);
+        IS(wt_waiting(&t, 1), -EBADF), IS(wt_inotify_close(&t, 1), -EBADF);
+        IS(wt_line(&t, 1, PATH("mkdir /d 755"), out, sizeof out), -EBADF), IS(wt_text(&t, out, sizeof out), -EBADF);
+        HOLDS(!strcmp(out, "before") && s.links == 7 && s.is_directory == 7);
+        if (turn == 0) IS(wt_open(&t), 0), IS(wt_open(&t), -EBUSY);
+    }
+}
+
+static void files(struct wt_tree *t) {
+    struct wt_stat s;
+    char out[8] = { 0 };
+    IS(wt_mkdir(t, PATH("/d"), 0755), 2), IS(wt_create(t, PATH("/d/f"), 0640), 3);
+    IS(wt_write(t, PATH("/d/f"), 2, "hello", 5), 5), IS(wt_pread(t, PATH("/d/f"), 1, out, 3), 3);
+    HOLDS(!memcmp(out, "\0he\0", 4));
+    IS(wt_pread(t, PATH("/d/f"), 7, out, 3), 0), IS(wt_pread(t, PATH("/d/f"), 0, NULL, 0), 0);
+    IS(wt_truncate(t, PATH("/d/f"), 3), 0), IS(wt_chmod(t, PATH("/d/f"), 07700), 0);
+    IS(wt_link(t, PATH("/d/f"), PATH("/d/g")), 0), IS(wt_stat(t, PATH("/d/g"), &s), 0);
+    HOLDS(s.number == 3 && s.mode == 07700 && s.links == 2 && s.size == 3 && s.is_directory == 0);
+    IS(wt_rename(t, PATH("/d/g"), PATH("/d/f")), 0), IS(wt_unlink(t, PATH("/d/g")), 0);
+    IS(wt_rename(t, PATH("/d/f"), PATH("/d/a name")), 0), IS(wt_stat(t, PATH("/d"), &s), 0);
+    HOLDS(s.number == 2 && s.is_directory == 1);
+    /* A room that is too small: the names are cut, and how much is wanted is told. */
+    memset(out, '-', sizeof out);
+    IS(wt_create(t, PATH("/d/b"), 0644), 4), IS(wt_list(t, PATH("/d"), out, 4), 9);
+    HOLDS(!memcmp(out, "a na----", 8));
+    char names[9];
+    IS(wt_list(t, PATH("/d"), names, sizeof names), 9);
+    HOLDS(!memcmp(names, "a name\0b", 9));
+    IS(wt_rename2(t, PATH("/d/b"), PATH("/d/c"), 1), 0), IS(wt_rename2(t, PATH("/d/c"), PATH("/d/a name"), 2), 0);
+    IS(wt_stat(t, PATH("/d/c"), &s), 0), HOLDS(s.number == 3), IS(wt_stat(t, PATH("/d/a name"), &s), 0);
+    HOLDS(s.number == 4);
+    IS(wt_rename2(t, PATH("/d/a name"), PATH("/d/b"), 0), 0), IS(wt_rename2(t, PATH("/d/c"), PATH("/d/a name"), 0), 0);
+    IS(wt_unlink(t, PATH("/d/b")), 0), IS(wt_list(t, PATH("/d"), NULL, 0), 7);
+}
+
+static void refused_files(struct wt_tree *t) {
+    struct wt_stat s;
+    char out[8], name[258] = "/", deep[4200];
+    memset(name + 1, 'n', 256), memset(deep, '/', sizeof deep - 1), deep[sizeof deep - 1] = 0;
+    for (size_t i = 1; i < sizeof deep - 1; i += 2) deep[i] = 'p';
+    IS(wt_mkdir(t, PATH("d"), 0755), -EINVAL), IS(wt_mkdir(t, PATH(""), 0755), -ENOENT);
+    IS(wt_mkdir(t, PATH(name), 0755), -ENAMETOOLONG), IS(wt_mkdir(t, PATH(deep), 0755), -ENAMETOOLONG);
+    IS(wt_mkdir(t, PATH("/d"), 010000), -EINVAL), IS(wt_mkdir(t, PATH("/d"), 0755), -EEXIST);
+    IS(wt_mkdir(t, PATH("/no/d"), 0755), -ENOENT), IS(wt_create(t, PATH("/d/a name/f"), 0644), -ENOTDIR);
+    IS(wt_create(t, PATH("/d"), 0644), -EEXIST), IS(wt_create(t, PATH("/x"), 1u << 31), -EINVAL);
+    IS(wt_write(t, PATH("/d"), 0, "x", 1), -EISDIR), IS(wt_write(t, PATH("/no"), 0, "x", 1), -ENOENT);
+    IS(wt_write(t, PATH("/d/a name"), 1 << 24, "x", 1), -EFBIG);
+    IS(wt_write(t, PATH("/d/a name"), UINT64_MAX, "", 0), 0);
+    IS(wt_pread(t, PATH("/d"), 0, out, 1), -EISDIR), IS(wt_pread(t, PATH("/no"), 0, out, 1), -ENOENT);
+    IS(wt_truncate(t, PATH("/d"), 0), -EISDIR), IS(wt_truncate(t, PATH("/d/a name"), (1 << 24) + 1), -EFBIG);
+    IS(wt_truncate(t, PATH("/no"), 0), -ENOENT), IS(wt_chmod(t, PATH("/no"), 0), -ENOENT);
+    IS(wt_chmod(t, PATH("/d"), 010000), -EINVAL), IS(wt_link(t, PATH("/d"), PATH("/e")), -EPERM);
+    IS(wt_link(t, PATH("/no"), PATH("/e")), -ENOENT), IS(wt_link(t, PATH("/d/a name"), PATH("/d")), -EEXIST);
+    IS(wt_link(t, PATH("no"), PATH("")), -EINVAL), IS(wt_unlink(t, PATH("/d")), -EPERM);
+    IS(wt_unlink(t, PATH("/no")), -ENOENT);
+    IS(wt_rmdir(t, PATH("/")), -EBUSY), IS(wt_rmdir(t, PATH("/d")), -ENOTEMPTY), IS(wt_rmdir(t, PATH("/no")), -ENOENT);
+    IS(wt_rmdir(t, PATH("/d/a name")), -ENOTDIR), IS(wt_mkdir(t, PATH("/e"), 0755), 5);
+    IS(wt_rename(t, PATH("/"), PATH("/x")), -EBUSY), IS(wt_rename(t, PATH("/no"), PATH("/x")), -ENOENT);
+    IS(wt_rename(t, PATH("/d"), PATH("/d/x")), -EINVAL), IS(wt_rename(t, PATH("/d"), PATH("/d/a name")), -EINVAL);
+    IS(wt_rename(t, PATH("/e"), PATH("/d/a name")), -ENOTDIR), IS(wt_rename(t, PATH("/d/a name"), PATH("/e")), -EISDIR);
+    IS(wt_rename2(t, PATH("/e"), PATH("/d"), 1), -EEXIST), IS(wt_rename2(t, PATH("/e"), PATH("/x"), 2), -ENOENT);
+    IS(wt_rename2(t, PATH("/e"), PATH("/x"), 3), -EINVAL), IS(wt_rename2(t, PATH("/e"), PATH("/"), 2), -EBUSY);
+    IS(wt_rename2(t, PATH("/d"), PATH("/d/a name"), 2), -EINVAL), IS(wt_rename2(t, PATH("e"), PATH(""), 4), -EINVAL);
+    IS(wt_rename(t, PATH("/e"), PATH("/d")), -ENOTEMPTY), IS(wt_stat(t, PATH("/no"), &s), -ENOENT);
+    IS(wt_list(t, PATH("/d/a name"), out, sizeof out), -ENOTDIR), IS(wt_list(t, PATH("/no"), out, sizeof out), -ENOENT);
+    IS(wt_rmdir(t, PATH("/e")), 0);
+}
+
+static void instances(struct wt_tree *t) {
+    _Alignas(struct inotify_event) char out[64];
+    struct inotify_event *event = (struct inotify_event *)out;
+    IS(wt_inotify_init(t, 0), -EINVAL), IS(wt_inotify_init(t, 65536), -EINVAL), IS(wt_inotify_init(t, 2), 1);
+    IS(wt_read(t, 1, out, sizeof out), -EAGAIN), IS(wt_read(t, 2, out, sizeof out), -EBADF);
+    IS(wt_inotify_add_watch(t, 2, PATH("/"), IN_CREATE), -EBADF), IS(wt_inotify_add_watch(t, 1, PATH("/"), 0), -EINVAL);
+    IS(wt_inotify_add_watch(t, 1, PATH("/no"), IN_CREATE), -ENOENT);
+    IS(wt_inotify_add_watch(t, 1, PATH("/d/a name"), IN_CREATE | IN_ONLYDIR), -ENOTDIR);
+    IS(wt_inotify_add_watch(t, 1, PATH("/"), IN_ALL_EVENTS), 1);
+    IS(wt_inotify_add_watch(t, 1, PATH("/"), IN_CREATE | IN_MASK_CREATE), -EEXIST);
+    IS(wt_inotify_add_watch(t, 1, PATH("/"), IN_CREATE | IN_MASK_CREATE | IN_MASK_ADD), -EINVAL);
+    IS(wt_mkdir(t, PATH("/e"), 0755), 6), IS(wt_rename(t, PATH("/e"), PATH("/g")), 0), IS(wt_waiting(t, 1), 3);
+    /* A room that is too small loses nothing. */
+    for (size_t room = 0; room < 32; room++) IS(wt_read(t, 1, out, room), -EINVAL);
+    IS(wt_waiting(t, 1), 3), IS(wt_read(t, 1, out, 47), 32);
+    HOLDS(event->wd == 1 && event->mask == (IN_CREATE | IN_ISDIR) && event->cookie == 0 && !strcmp(event->name, "e"));
+    IS(wt_read(t, 1, out, sizeof out), 48);
+    HOLDS(event->mask == (IN_MOVED_FROM | IN_ISDIR) && event->cookie == 7 && event->len == 16);
+    event = (struct inotify_event *)(out + 32);
+    HOLDS(event->wd == -1 && event->mask == IN_Q_OVERFLOW && event->len == 0);
+    IS(wt_inotify_rm_watch(t, 1, 2), -EINVAL), IS(wt_inotify_rm_watch(t, 2, 1), -EBADF);
+    IS(wt_inotify_rm_watch(t, 1, 1), 0), IS(wt_waiting(t, 1), 1), IS(wt_waiting(t, 2), -EBADF);
+    IS(wt_inotify_close(t, 2), -EBADF), IS(wt_inotify_close(t, 1), 0);
+    for (int i = 0; i < 128; i++) IS(wt_inotify_init(t, 1), i + 2);
+    IS(wt_inotify_init(t, 1), -EMFILE);
+    for (uint32_t i = 2; i < 130; i++) IS(wt_inotify_close(t, i), 0);
+}
+
+static void lines(struct wt_tree *t) {
+    char out[16] = "----------";
+    IS(wt_text(t, out, sizeof out), 0), IS(wt_line(t, 9, PATH("chmod /d 700"), out, sizeof out), 3);
+    HOLDS(!memcmp(out, "ok\n-", 4));
+    IS(wt_line(t, 9, PATH("stat /d"), out, 4), 16), IS(wt_text(t, out, sizeof out), 16);
+    HOLDS(!memcmp(out, "ok 2 d 0700 1 0\n", 16));
+    IS(wt_line(t, 9, PATH("# nothing"), out, sizeof out), 0), IS(wt_text(t, out, sizeof out), 0);
+    IS(wt_line(t, 9, PATH("rmdir /no"), out, sizeof out), 13), HOLDS(!memcmp(out, "err ENOENT 2\n", 13));
+    IS(wt_line(t, 9, PATH("mkdir \xff 755"), out, sizeof out), -WT_BAD_BYTE), IS(wt_text(t, out, sizeof out), 0);
+    IS(wt_line(t, 9, PATH("make /d"), out, sizeof out), -WT_UNKNOWN_COMMAND);
+    IS(wt_line(t, 9, PATH("mkdir /x"), out, sizeof out), -WT_WRONG_NUMBER);
+    IS(wt_line(t, 9, PATH("mkdir /%q 755"), out, sizeof out), -WT_BAD_ESCAPE);
+    IS(wt_line(t, 9, PATH("mkdir /x 9"), out, sizeof out), -WT_BAD_MODE);
+    IS(wt_line(t, 9, PATH("write /x 0 1"), out, sizeof out), -WT_BAD_HEX);
+    IS(wt_line(t, 9, PATH("watch 1 / many"), out, sizeof out), -WT_BAD_MASK);
+    IS(wt_line(t, 9, PATH("close one"), out, sizeof out), -WT_BAD_NUMBER);
+    HOLDS(!memcmp(out, "err ENOENT 2\n", 13));
+}
+
+/* What a tree has most of: links, watches, calls between cuts, and numbers of files. */
+static void limits(struct wt_tree *t) {
+    char path[32];
+    int64_t number = 0, cuts = 0, place = 0;
+    IS(wt_mkdir(t, PATH("/l"), 0755), 7), IS(wt_create(t, PATH("/l/f"), 0644), 8), IS(wt_inotify_init(t, 1), 130);
+    for (int i = 1; i < 65000; i++) {
+        snprintf(path, sizeof path, "/l/%d", i);
+        IS(wt_link(t, PATH("/l/f"), PATH(path)), 0);
+    }
+    IS(wt_link(t, PATH("/l/f"), PATH("/l/more")), -EMLINK);
+    for (int i = 0; i < 8193; i++) {
+        snprintf(path, sizeof path, "/w%d", i);
+        IS(wt_create(t, PATH(path), 0644), i + 9);
+        IS(wt_inotify_add_watch(t, 130, PATH(path), IN_MODIFY), i < 8192 ? i + 1 : -ENOSPC);
+    }
+    for (;;) {
+        number = wt_create(t, PATH("/f"), 0644);
+        if (number > 0) number = wt_unlink(t, PATH("/f"));
+        if (number == -WT_JOURNAL_FULL) {
+            IS(wt_chmod(t, PATH("/d"), 0755), -WT_JOURNAL_FULL);
+            place = wt_cut(t), cuts++;
+            IS(place, 1000000 * cuts);
+            if (wt_unlink(t, PATH("/f")) != 0) continue;
+        } else if (number < 0) break;
+    }
+    IS(number, -WT_NUMBERS_SPENT), IS(cuts, 2), IS(wt_mkdir(t, PATH("/f"), 0755), -WT_NUMBERS_SPENT);
+}
+
+int main(void) {
+    struct wt_tree t = WT_TREE_INIT;
+    closed_trees();
+    IS(wt_open(&t), 0);
+    files(&t);
+    refused_files(&t);
+    instances(&t);
+    lines(&t);
+    limits(&t);
+    wt_close(&t);
+    IS(wt_open(&t), 0), IS(wt_mkdir(&t, PATH("/d"), 0755), 2);
+    wt_close(&t);
+    puts(failed ? "failed" : "each call and refusal as declared");
+    return failed;
+}

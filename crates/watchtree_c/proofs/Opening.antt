@@ -1,0 +1,9 @@
+-- A tree that is not open opens.
+use Rattle.std.proofs.Common.{◌≡◌, Bool, true, false, Option, Some, None, refl, sym, ◌∙◌, true≢false, inl}
+use Rattle.std.specs.Prelude.{◌⊎◌, is_some, pos}
+use Rattle.watchtree_c.specs.declared.opened.Opened.{Opened}
+use Rattle.watchtree_c.specs.Answers.{IsOpened, IsOpening}
+
+pub closed_opens : (old : Option Opened) (ready : Bool) (new : Option Opened) → ready ≡ is_some old → ready ≡ false → IsOpening new → IsOpened old (pos 0) new
+closed_opens (Some content) ready new agrees closed is = absurd (true≢false (sym agrees ∙ closed))
+closed_opens None ready new agrees closed is = inl (refl, is)

@@ -1,0 +1,164 @@
+-- What a call of C answers, and what becomes of its tree.
+use Rattle.std.specs.Prelude.{◌≡◌, ◌⊎◌, ⊤, ◌≤◌, ℕ, ◌^◌, ◌-◌, ℤ, pos, neg_ℤ, List, ◌++◌, [], length, take, drop, min, Option, Some, None, Result, Ok, Err}
+use Rattle.tree_paths.specs.declared.refusal.Refusal.{Refusal}
+use Rattle.tree_paths.specs.declared.refusal.Refusal.TheVariants.{Ebadf, Ebusy, Enomem, JournalFull}
+use Rattle.tree_paths.specs.Bounds.{full}
+use Rattle.tree_paths.specs.Refusals.{refusal_number}
+use Rattle.tree_ops.specs.declared.answer.Answer.{Answer}
+use Rattle.tree_ops.specs.declared.answer.Answer.TheVariants as answer
+use Rattle.tree_core.specs.declared.call.Call.{Call}
+use Rattle.tree_core.specs.declared.reply.Reply.{Reply}
+use Rattle.tree_core.specs.declared.reply.Reply.TheVariants as reply
+use Rattle.tree_core.specs.Tree.{reply_of}
+use Rattle.tree_core.specs.Journal.{Journaled, IsSpent, now, last_place, opened, with_entry, cut_off, waiting_in}
+use Rattle.watchtree_c.specs.declared.opened.Opened.{Opened}
+
+-- ---- numbers
+
+-- a count, no greater than an i64 may be
+abbrev pub count_number : ℕ → ℤ
+count_number n = pos (min n (2 ^ 63 - 1))
+
+-- the negative of a refusal's number, as the system calls of Linux answer it
+abbrev pub refused_number : Refusal → ℤ
+refused_number refusal = neg_ℤ (pos (refusal_number refusal))
+
+abbrev pub answer_number : Answer → ℤ
+answer_number answer.Done = pos 0
+answer_number (answer.Number number) = pos number
+answer_number (answer.Count count) = count_number count
+answer_number (answer.Bytes bytes) = count_number (length bytes)
+answer_number (answer.Names names) = count_number (length names)
+answer_number (answer.Stat number kind mode links size) = pos 0
+
+-- the number of a reply
+abbrev pub number_of : Reply → ℤ
+number_of (reply.File a) = answer_number a
+number_of (reply.Instance id) = pos id
+number_of (reply.Wd wd) = wd
+number_of (reply.Records bytes) = count_number (length bytes)
+number_of reply.Done = pos 0
+number_of (reply.Refused refusal) = refused_number refusal
+
+-- ---- calls
+
+-- who makes the calls
+abbrev pub caller : ℕ
+caller = 1
+
+-- the call is answered by the tree that the journal stands for, and joins the journal
+pub record IsAnswered (old : Journaled) (call : Call) (r : Reply) (new : Journaled) : Type 0 where
+  pub room : ¬ IsSpent old
+  pub answer : r ≡ reply_of (now old) call
+  pub entry : new ≡ with_entry old (record { caller = caller; call = call; reply = r })
+
+-- a full journal stays as it is
+pub record IsFull (old : Journaled) (r : Reply) (new : Journaled) : Type 0 where
+  pub full : IsSpent old
+  pub answer : r ≡ reply.Refused JournalFull
+  pub same : new ≡ old
+
+-- want of memory leaves the journal as it is
+pub record IsOutOfMemory (old : Journaled) (r : Reply) (new : Journaled) : Type 0 where
+  pub answer : r ≡ reply.Refused Enomem
+  pub same : new ≡ old
+
+-- a call, or why there is none to make, may have this reply and lead from the old journal to the new one
+abbrev pub IsReplied : Journaled → Result Call Refusal → Reply → Journaled → Type 0
+IsReplied old (Ok call) r new = IsAnswered old call r new ⊎ IsFull old r new ⊎ IsOutOfMemory old r new
+IsReplied old (Err refusal) r new = (r ≡ reply.Refused refusal) × (new ≡ old)
+
+-- the same of a tree that may not be open, where all is answered by EBADF
+abbrev pub IsMade : Option Opened → Result Call Refusal → Reply → Option Opened → Type 0
+IsMade (Some old) call r new = (after : Journaled) × IsReplied old.state call r after × (new ≡ Some (record old { state = after }))
+IsMade None call r new = (r ≡ reply.Refused Ebadf) × (new ≡ None)
+
+-- the same, where there may be no memory to read what C asks for
+abbrev pub IsReply : Option Opened → Result Call Refusal → Reply → Option Opened → Type 0
+IsReply old call r new = IsMade old call r new ⊎ IsMade old (Err Enomem) r new
+
+-- the call that is made, where there may be no memory to read what C asks for
+abbrev pub IsAsked : Result Call Refusal → Result Call Refusal → Type 0
+IsAsked made call = (made ≡ call) ⊎ (made ≡ Err Enomem)
+
+-- what C asks for is answered by the number of its reply
+pub record Answers (old : Option Opened) (call : Result Call Refusal) (number : ℤ) (new : Option Opened) : Type 0 where
+  pub r : Reply
+  pub made : IsReply old call r new
+  pub is_number : number ≡ number_of r
+
+-- ---- bytes
+
+-- bytes put over the front of others, as many as there is room for
+abbrev pub overlaid : List ℕ → List ℕ → List ℕ
+overlaid bytes old = take (length old) bytes ++ drop (length bytes) old
+
+-- the bytes of a reply are put over the front of C's
+abbrev pub IsFilled : Reply → List ℕ → List ℕ → Type 0
+IsFilled (reply.Records bytes) old new = new ≡ overlaid bytes old
+IsFilled (reply.File (answer.Bytes bytes)) old new = new ≡ overlaid bytes old
+IsFilled (reply.File answer.Done) old new = new ≡ old
+IsFilled (reply.File (answer.Number number)) old new = new ≡ old
+IsFilled (reply.File (answer.Count count)) old new = new ≡ old
+IsFilled (reply.File (answer.Names names)) old new = new ≡ old
+IsFilled (reply.File (answer.Stat number kind mode links size)) old new = new ≡ old
+IsFilled (reply.Instance id) old new = new ≡ old
+IsFilled (reply.Wd wd) old new = new ≡ old
+IsFilled reply.Done old new = new ≡ old
+IsFilled (reply.Refused refusal) old new = new ≡ old
+
+-- the bytes of a reply are so many at most
+abbrev pub Fits : Reply → ℕ → Type 0
+Fits (reply.Records bytes) room = length bytes ≤ room
+Fits (reply.File (answer.Bytes bytes)) room = length bytes ≤ room
+Fits (reply.File answer.Done) room = ⊤
+Fits (reply.File (answer.Number number)) room = ⊤
+Fits (reply.File (answer.Count count)) room = ⊤
+Fits (reply.File (answer.Names names)) room = ⊤
+Fits (reply.File (answer.Stat number kind mode links size)) room = ⊤
+Fits (reply.Instance id) room = ⊤
+Fits (reply.Wd wd) room = ⊤
+Fits reply.Done room = ⊤
+Fits (reply.Refused refusal) room = ⊤
+
+-- what C asks for is answered by the number of its reply, and by its bytes, all of which fit
+pub record AnswersBytes (old : Option Opened) (call : Result Call Refusal) (number : ℤ) (new : Option Opened) (out filled : List ℕ) : Type 0 where
+  pub r : Reply
+  pub made : IsReply old call r new
+  pub is_number : number ≡ number_of r
+  pub is_filled : IsFilled r out filled
+  pub fits : Fits r (length out)
+
+-- ---- a tree that opens
+
+-- the root alone, and no text
+abbrev pub IsOpening : Option Opened → Type 0
+IsOpening (Some content) = (content.state ≡ opened full) × (content.text.items ≡ [])
+IsOpening None = ⊥
+
+-- it opens with the root alone, or answers why not and stays as it is
+abbrev pub IsOpened : Option Opened → ℤ → Option Opened → Type 0
+IsOpened (Some old) number new = (number ≡ refused_number Ebusy) × (new ≡ Some old)
+IsOpened None number new =
+    ((number ≡ pos 0) × IsOpening new)
+    ⊎ ((number ≡ refused_number Enomem) × (new ≡ None))
+
+-- ---- a journal that is cut
+
+-- it is cut, and the place of the last entry told, or there is no memory for it and all stays as it is
+abbrev pub IsCutOff : Option Opened → ℤ → Option Opened → Type 0
+IsCutOff (Some old) number new =
+    ((number ≡ count_number (last_place old.state)) × (new ≡ Some (record old { state = cut_off old.state })))
+    ⊎ ((number ≡ refused_number Enomem) × (new ≡ Some old))
+IsCutOff None number new = (number ≡ refused_number Ebadf) × (new ≡ None)
+
+-- ---- what waits
+
+abbrev pub waiting_count : Option ℕ → ℤ
+waiting_count (Some count) = count_number count
+waiting_count None = refused_number Ebadf
+
+-- how many records wait in an instance, or that there is none
+abbrev pub waiting_number : Option Opened → ℕ → ℤ
+waiting_number (Some content) instance = waiting_count (waiting_in (now content.state) instance)
+waiting_number None instance = refused_number Ebadf

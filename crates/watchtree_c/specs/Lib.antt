@@ -1,0 +1,6 @@
+pub mod Owned
+pub mod Answers
+pub mod Calls
+pub mod Stats
+pub mod Listings
+pub mod Lines

@@ -1,0 +1,43 @@
+-- What C is told of what stands at a path.
+use Rattle.std.specs.Prelude.{◌≡◌, ℕ, ℤ, Option, Some, None, Result}
+use Rattle.tree_paths.specs.declared.refusal.Refusal.{Refusal}
+use Rattle.inode_table.specs.declared.seen.Kind.{Kind}
+use Rattle.inode_table.specs.declared.seen.Kind.TheVariants.{Regular, Directory}
+use Rattle.tree_ops.specs.declared.answer.Answer.TheVariants as answer
+use Rattle.tree_core.specs.declared.call.Call.{Call}
+use Rattle.tree_core.specs.declared.reply.Reply.{Reply}
+use Rattle.tree_core.specs.declared.reply.Reply.TheVariants as reply
+use Rattle.watchtree_c.specs.declared.opened.Opened.{Opened}
+use Rattle.watchtree_c.specs.declared.files.Stat.{Stat}
+use Rattle.watchtree_c.specs.Answers.{IsReply, number_of}
+
+abbrev pub directory_number : Kind → ℕ
+directory_number Regular = 0
+directory_number Directory = 1
+
+-- what a reply tells, if it does
+abbrev pub stat_of : Reply → Option Stat
+stat_of (reply.File (answer.Stat number kind mode links size)) =
+    Some (record { links = links; size = size; number = number; mode = mode; is_directory = directory_number kind })
+stat_of (reply.File answer.Done) = None
+stat_of (reply.File (answer.Number number)) = None
+stat_of (reply.File (answer.Count count)) = None
+stat_of (reply.File (answer.Bytes bytes)) = None
+stat_of (reply.File (answer.Names names)) = None
+stat_of (reply.Instance id) = None
+stat_of (reply.Wd wd) = None
+stat_of (reply.Records bytes) = None
+stat_of reply.Done = None
+stat_of (reply.Refused refusal) = None
+
+-- what is told takes the place of what stood there
+abbrev pub told_or : Option Stat → Stat → Stat
+told_or (Some stat) old = stat
+told_or None old = old
+
+-- what C asks for is answered by the number of its reply, and told
+pub record Tells (old : Option Opened) (call : Result Call Refusal) (number : ℤ) (new : Option Opened) (out told : Stat) : Type 0 where
+  pub r : Reply
+  pub made : IsReply old call r new
+  pub is_number : number ≡ number_of r
+  pub is_told : told ≡ told_or (stat_of r) out

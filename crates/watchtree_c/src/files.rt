@@ -1,0 +1,264 @@
+//! Calls on files.
+
+ghost use Rattle.std.specs.Prelude.{◌≡◌, ◌++◌, IfOk, OnOk};
+ghost use Rattle.std.specs.List.{flat_map};
+ghost use Rattle.watchtree_c.specs.Answers.{Answers, AnswersBytes, IsAsked};
+ghost use Rattle.watchtree_c.specs.Stats.{Tells, stat_of};
+ghost use Rattle.watchtree_c.specs.Calls.{asked_bytes, mkdir_call, create_call, rename_call, rename2_call, truncate_call, chmod_call, unlink_call, rmdir_call, link_call, write_call, read_call, stat_call, list_call};
+ghost use Rattle.watchtree_c.specs.Listings.{Lists, ended};
+
+use crate::answers::{count_number, fill, number_of, put, refused_number};
+use crate::tree::Tree;
+use inode_table::Kind;
+use record_codec::{Bytes, Name};
+use std::alloc::{AllocError, Global};
+use tree_core::{Call, Reply};
+use tree_ops::{Answer, FileCall};
+use tree_paths::{Path, Refusal};
+
+/// As mkdir(2), but it answers the number of the directory.
+#[unsafe(no_mangle)]
+pub extern "C" fn wt_mkdir(alloc: Global, tree: &mut Tree, path: &[u8], mode: u32) -> i64
+    ensures { Answers tree.old.held.state (mkdir_call path.now mode) result tree.new.held.state }
+{
+    let call = Path::parse(alloc, path).map(|path| Call::File(FileCall::Mkdir { path, mode }));
+    number_of(&tree.make(alloc, call))
+}
+
+/// As open(2) with `O_CREAT | O_EXCL` and close(2), but it answers the number of the file.
+#[unsafe(no_mangle)]
+pub extern "C" fn wt_create(alloc: Global, tree: &mut Tree, path: &[u8], mode: u32) -> i64
+    ensures { Answers tree.old.held.state (create_call path.now mode) result tree.new.held.state }
+{
+    let call = Path::parse(alloc, path).map(|path| Call::File(FileCall::Create { path, mode }));
+    number_of(&tree.make(alloc, call))
+}
+
+/// As rename(2).
+#[unsafe(no_mangle)]
+pub extern "C" fn wt_rename(alloc: Global, tree: &mut Tree, old: &[u8], to: &[u8]) -> i64
+    ensures { Answers tree.old.held.state (rename_call old.now to.now) result tree.new.held.state }
+{
+    number_of(&tree.make(alloc, rename(alloc, old, to)))
+}
+
+fn rename(alloc: Global, old: &[u8], new: &[u8]) -> Result<Call, Refusal>
+    ensures { IsAsked result (rename_call old.now new.now) }
+{
+    let old = Path::parse(alloc, old)?;
+    let new = Path::parse(alloc, new)?;
+    Ok(Call::File(FileCall::Rename { old, new }))
+}
+
+/// As renameat2(2), with its flags.
+#[unsafe(no_mangle)]
+pub extern "C" fn wt_rename2(
+    alloc: Global,
+    tree: &mut Tree,
+    old: &[u8],
+    to: &[u8],
+    flags: u32,
+) -> i64
+    ensures { Answers tree.old.held.state (rename2_call old.now to.now flags) result tree.new.held.state }
+{
+    number_of(&tree.make(alloc, rename2(alloc, old, to, flags)))
+}
+
+fn rename2(alloc: Global, old: &[u8], new: &[u8], flags: u32) -> Result<Call, Refusal>
+    ensures { IsAsked result (rename2_call old.now new.now flags) }
+{
+    let old = Path::parse(alloc, old)?;
+    let new = Path::parse(alloc, new)?;
+    Ok(Call::File(FileCall::Rename2 { old, new, flags }))
+}
+
+/// As truncate(2).
+#[unsafe(no_mangle)]
+pub extern "C" fn wt_truncate(alloc: Global, tree: &mut Tree, path: &[u8], len: u64) -> i64
+    ensures { Answers tree.old.held.state (truncate_call path.now len) result tree.new.held.state }
+{
+    let call = Path::parse(alloc, path).map(|path| Call::File(FileCall::Truncate { path, len }));
+    number_of(&tree.make(alloc, call))
+}
+
+/// As chmod(2).
+#[unsafe(no_mangle)]
+pub extern "C" fn wt_chmod(alloc: Global, tree: &mut Tree, path: &[u8], mode: u32) -> i64
+    ensures { Answers tree.old.held.state (chmod_call path.now mode) result tree.new.held.state }
+{
+    let call = Path::parse(alloc, path).map(|path| Call::File(FileCall::Chmod { path, mode }));
+    number_of(&tree.make(alloc, call))
+}
+
+/// As unlink(2).
+#[unsafe(no_mangle)]
+pub extern "C" fn wt_unlink(alloc: Global, tree: &mut Tree, path: &[u8]) -> i64
+    ensures { Answers tree.old.held.state (unlink_call path.now) result tree.new.held.state }
+{
+    let call = Path::parse(alloc, path).map(|path| Call::File(FileCall::Unlink { path }));
+    number_of(&tree.make(alloc, call))
+}
+
+/// As rmdir(2).
+#[unsafe(no_mangle)]
+pub extern "C" fn wt_rmdir(alloc: Global, tree: &mut Tree, path: &[u8]) -> i64
+    ensures { Answers tree.old.held.state (rmdir_call path.now) result tree.new.held.state }
+{
+    let call = Path::parse(alloc, path).map(|path| Call::File(FileCall::Rmdir { path }));
+    number_of(&tree.make(alloc, call))
+}
+
+/// As link(2).
+#[unsafe(no_mangle)]
+pub extern "C" fn wt_link(alloc: Global, tree: &mut Tree, old: &[u8], to: &[u8]) -> i64
+    ensures { Answers tree.old.held.state (link_call old.now to.now) result tree.new.held.state }
+{
+    number_of(&tree.make(alloc, link(alloc, old, to)))
+}
+
+fn link(alloc: Global, old: &[u8], new: &[u8]) -> Result<Call, Refusal>
+    ensures { IsAsked result (link_call old.now new.now) }
+{
+    let old = Path::parse(alloc, old)?;
+    let new = Path::parse(alloc, new)?;
+    Ok(Call::File(FileCall::Link { old, new }))
+}
+
+/// As pwrite(2) of a file that is opened for it.
+#[unsafe(no_mangle)]
+pub extern "C" fn wt_write(
+    alloc: Global,
+    tree: &mut Tree,
+    path: &[u8],
+    offset: u64,
+    bytes: &[u8],
+) -> i64
+    ensures { Answers tree.old.held.state (write_call path.now offset bytes.now) result tree.new.held.state }
+{
+    number_of(&tree.make(alloc, write(alloc, path, offset, bytes)))
+}
+
+fn write(alloc: Global, path: &[u8], offset: u64, bytes: &[u8]) -> Result<Call, Refusal>
+    ensures { IsAsked result (write_call path.now offset bytes.now) }
+{
+    let path = Path::parse(alloc, path)?;
+    let mut copy = Vec::new(alloc);
+    copy.extend_from_slice(bytes)?;
+    let bytes = Bytes::from_vec(copy);
+    Ok(Call::File(FileCall::Write {
+        path,
+        offset,
+        bytes,
+    }))
+}
+
+/// As pread(2) of a file that is opened for it.
+#[unsafe(no_mangle)]
+pub extern "C" fn wt_pread(
+    alloc: Global,
+    tree: &mut Tree,
+    path: &[u8],
+    offset: u64,
+    out: &mut [u8],
+) -> i64
+    ensures { AnswersBytes tree.old.held.state (read_call path.now offset (asked_bytes out.old)) result tree.new.held.state out.old out.new }
+{
+    let count = u32::try_from(out.len()).unwrap_or(u32::MAX);
+    let call = Path::parse(alloc, path).map(|path| {
+        Call::File(FileCall::ReadFile {
+            path,
+            offset,
+            count,
+        })
+    });
+    let reply = tree.make(alloc, call);
+    fill(out, &reply);
+    number_of(&reply)
+}
+
+/// What stands at a path, as C has it: `struct wt_stat`.
+#[repr(C)]
+#[derive(Clone, Copy)]
+pub struct Stat {
+    pub links: u64,
+    pub size: u64,
+    pub number: u32,
+    pub mode: u32,
+    pub is_directory: u32,
+}
+
+/// As stat(2). What stood in `out` stays there where the call is refused.
+#[unsafe(no_mangle)]
+pub extern "C" fn wt_stat(alloc: Global, tree: &mut Tree, path: &[u8], out: &mut Stat) -> i64
+    ensures { Tells tree.old.held.state (stat_call path.now) result tree.new.held.state out.old out.new }
+{
+    let call = Path::parse(alloc, path).map(|path| Call::File(FileCall::Stat { path }));
+    let reply = tree.make(alloc, call);
+    if let Some(stat) = stat_of(&reply) {
+        *out = stat;
+    }
+    number_of(&reply)
+}
+
+fn stat_of(reply: &Reply) -> Option<Stat>
+    ensures { result ≡ stat_of reply.now }
+{
+    let Reply::File(
+        Answer::Stat {
+            number,
+            kind,
+            mode,
+            links,
+            size,
+        },
+    ) = reply
+    else {
+        return None;
+    };
+    Some(Stat {
+        links: *links,
+        size: *size,
+        number: *number,
+        mode: *mode,
+        is_directory: u32::from(*kind == Kind::Directory),
+    })
+}
+
+/// The names in a directory in the order of their bytes, each with a zero byte behind it, as many bytes as there is room
+/// for. It answers how many bytes all of them are.
+#[unsafe(no_mangle)]
+pub extern "C" fn wt_list(alloc: Global, tree: &mut Tree, path: &[u8], out: &mut [u8]) -> i64
+    ensures { Lists tree.old.held.state (list_call path.now) result tree.new.held.state out.old out.new }
+{
+    let call = Path::parse(alloc, path).map(|path| Call::File(FileCall::List { path }));
+    let reply = tree.make(alloc, call);
+    let Reply::File(Answer::Names(names)) = &reply else {
+        return number_of(&reply);
+    };
+    match listing(alloc, names.as_slice()) {
+        Ok(text) => {
+            put(out, text.as_slice());
+            count_number(text.len() as u64)
+        }
+        Err(_) => refused_number(Refusal::Enomem),
+    }
+}
+
+/// Names, each with a zero byte behind it.
+fn listing(alloc: Global, names: &[Name]) -> Result<Vec<u8>, AllocError>
+    ensures { IfOk result (λ text. text.items ≡ flat_map ended names.now) }
+{
+    let mut text = Vec::new(alloc);
+    for name in names {
+        push_ended(&mut text, name.bytes())?;
+    }
+    Ok(text)
+}
+
+fn push_ended(text: &mut Vec<u8>, name: &[u8]) -> Result<(), AllocError>
+    ensures { OnOk result (text.new.items ≡ text.old.items ++ ended name.now) }
+{
+    text.extend_from_slice(name)?;
+    text.push(0)?;
+    Ok(())
+}

@@ -1,0 +1,26 @@
+//! What C calls: a tree of files in memory with its instances of inotify(7).
+//!
+//! Each function answers as the system call of its name does, and a negative errno where that would set `errno`.
+#![tactic(auto)]
+
+mod answers;
+mod files;
+mod instances;
+mod life;
+mod line;
+mod opened;
+mod parts;
+mod tree;
+
+pub use files::{
+    Stat, wt_chmod, wt_create, wt_link, wt_list, wt_mkdir, wt_pread, wt_rename, wt_rename2,
+    wt_rmdir, wt_stat, wt_truncate, wt_unlink, wt_write,
+};
+pub use instances::{
+    wt_inotify_add_watch, wt_inotify_close, wt_inotify_init, wt_inotify_rm_watch, wt_read,
+    wt_waiting,
+};
+pub use life::{wt_close, wt_cut, wt_open};
+pub use line::{wt_line, wt_text};
+pub use opened::Opened;
+pub use tree::{Held, Tree};

@@ -1,0 +1,74 @@
+//! The life of a tree.
+
+ghost use Rattle.std.specs.Prelude.{◌≡◌, [], None, IfOk, IfErr};
+ghost use Rattle.tree_paths.specs.Bounds.{full};
+ghost use Rattle.tree_paths.specs.declared.refusal.Refusal.TheVariants.{Enomem};
+ghost use Rattle.tree_core.specs.Journal.{opened};
+ghost use Rattle.watchtree_c.specs.Answers.{IsOpened, IsCutOff};
+
+use crate::answers::{count_number, refused_number};
+use crate::opened::Opened;
+use crate::tree::Tree;
+use std::alloc::Global;
+use tree_core::State;
+use tree_paths::{Limits, Refusal};
+
+/// Opens a tree: the root alone, and no instance.
+///
+/// # Errors
+/// - `EBUSY`, where it is open.
+/// - `ENOMEM`
+#[unsafe(no_mangle)]
+pub extern "C" fn wt_open(alloc: Global, tree: &mut Tree) -> i64
+    ensures { IsOpened tree.old.held.state result tree.new.held.state }
+{
+    if tree.ready {
+        return refused_number(Refusal::Ebusy);
+    }
+    match opening(alloc) {
+        Ok(opened) => {
+            *tree = Tree::of(opened);
+            0
+        }
+        Err(refusal) => refused_number(refusal),
+    }
+}
+
+fn opening(alloc: Global) -> Result<Box<Opened>, Refusal>
+    ensures state { IfOk result (λ b. b.value.state ≡ opened full) }
+    ensures text { IfOk result (λ b. b.value.text.items ≡ []) }
+    ensures err { IfErr result (λ refusal. refusal ≡ Enomem) }
+{
+    let state = State::new(alloc, Limits::full())?;
+    let text = Vec::new(alloc);
+    Ok(Box::new(alloc, Opened { state, text })?)
+}
+
+/// Closes a tree, and gives its memory back. A tree that is not open stays so.
+#[unsafe(no_mangle)]
+pub extern "C" fn wt_close(alloc: Global, tree: &mut Tree)
+    ensures { tree.new.held.state ≡ None }
+{
+    drop(tree.take(alloc));
+}
+
+/// Cuts the journal: a snapshot takes the place of the calls so far, and answers and places go on as they would. It answers
+/// the place of the last call.
+///
+/// # Errors
+/// - `EBADF`, where the tree is not open.
+/// - `ENOMEM`
+#[unsafe(no_mangle)]
+pub extern "C" fn wt_cut(alloc: Global, tree: &mut Tree) -> i64
+    ensures { IsCutOff tree.old.held.state result tree.new.held.state }
+{
+    let Some(mut opened) = tree.take(alloc) else {
+        return refused_number(Refusal::Ebadf);
+    };
+    let place = opened.state.cut();
+    *tree = Tree::of(opened);
+    match place {
+        Ok(place) => count_number(place),
+        Err(refusal) => refused_number(refusal),
+    }
+}
