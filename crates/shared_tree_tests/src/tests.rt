@@ -6,6 +6,7 @@ ghost use Rattle.std.specs.Prelude.{◌≡◌, IfOk, IsTrue};
 ghost use Rattle.std.specs.Result.{ForOk};
 ghost use Rattle.tree_core.specs.Calls.{is_plain};
 
+mod first;
 mod pipes;
 mod seats;
 mod threads;
