@@ -1,5 +1,5 @@
 -- What the seats of a storm do, and what is told of it.
-use Rattle.std.specs.Prelude.{◌≡◌, ◌⊎◌, ◌%◌, ◌++◌, ⊤, ℕ, zero, suc, codes, if◌then◌else◌, nat_eq, List, [], ◌∷◌, length, Result, Ok, Err}
+use Rattle.std.specs.Prelude.{◌≡◌, ◌⊎◌, ◌%◌, ◌++◌, ⊤, ℕ, zero, suc, true, codes, if◌then◌else◌, nat_eq, List, [], ◌∷◌, length, Result, Ok, Err}
 use Rattle.record_codec.specs.declared.event.Event.{Event}
 use Rattle.tree_paths.specs.Paths.{parsed}
 use Rattle.tree_ops.specs.declared.call.FileCall.{FileCall}
@@ -7,6 +7,7 @@ use Rattle.tree_ops.specs.declared.call.FileCall.TheVariants as file
 use Rattle.tree_core.specs.declared.call.Call.{Call}
 use Rattle.tree_core.specs.declared.call.Call.TheVariants as call
 use Rattle.tree_core.specs.declared.reply.Kept.{Kept}
+use Rattle.tree_core.specs.declared.reply.Reply.TheVariants as reply
 use Rattle.shared_tree.specs.declared.seat.SeatLog.{SeatLog}
 use Rattle.shared_tree.specs.Seats.{Seated, seated}
 use Rattle.event_sinks.specs.declared.audit.Settled.{Settled}
@@ -71,18 +72,33 @@ unfoldable pub AreTurns : Part → ℕ → Seated → Seated → Type 0
 AreTurns w zero old new = new ≡ old
 AreTurns w (suc n) old new = (between : Seated) × AreTurns w n old between × IsTurn w n between new
 
+-- the path of the directory in which all happens
+abbrev pub IsDirectory : List (List ℕ) → Type 0
+IsDirectory path = parsed (codes "/s") ≡ Ok path
+
+-- an instance with a pipe is made, and one of that number is told of all in the directory
+abbrev pub IsListening : Seated → Seated → Type 0
+IsListening old new = (path : List (List ℕ)) × (made : Kept) × (told : Kept) × (id : ℕ) × IsDirectory path × (made.call ≡ call.Init 16384 true) × (made.reply ≡ reply.Instance id) × (told.call ≡ call.AddWatch id path 4095) × (new ≡ seated old.number (old.kept ++ made ∷ told ∷ []))
+
+-- what the first seat begins with: the directory, and two instances
+abbrev pub HasBegun : Seated → Type 0
+HasBegun s = (path : List (List ℕ)) × (made : Kept) × (between : Seated) × IsDirectory path × (made.call ≡ call.File (file.Mkdir path 493)) × IsListening (seated 1 (made ∷ [])) between × IsListening between s
+
 -- both instances are pumped once more, and closed
 abbrev pub IsClosing : Seated → Seated → Type 0
 IsClosing old new = (s : Seated) × (t : Seated) × (u : Seated) × KeepsOrNot (pump_all 1) old s × KeepsOrNot (pump_all 2) s t × KeepsOrNot (call.Close 1) t u × KeepsOrNot (call.Close 2) u new
 
+-- all that the first seat does
+abbrev pub IsWhole : Seated → Type 0
+IsWhole s = (begun : Seated) × HasBegun begun × IsClosing begun s
+
 abbrev pub seat_of : SeatLog → Seated
 seat_of l = seated l.number l.kept
 
--- the logs are those of seats 1, 2 and 3: of the one that begins and ends, and of the writers, which keep nothing but their
--- turns
+-- the logs are those of seats 1, 2 and 3: of the one that begins and ends, and of the writers. They keep nothing else
 abbrev pub AreStormLogs : ℕ → List SeatLog → Type 0
 AreStormLogs calls logs = (main : SeatLog) × (first : SeatLog) × (second : SeatLog) × (logs ≡ main ∷ first ∷ second ∷ [])
-    × (main.number ≡ 1) × ((begun : Seated) × IsClosing begun (seat_of main))
+    × (main.number ≡ 1) × IsWhole (seat_of main)
     × AreTurns first_part calls (seated 2 []) (seat_of first) × AreTurns second_part calls (seated 3 []) (seat_of second)
 
 -- ---- what is told

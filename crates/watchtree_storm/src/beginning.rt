@@ -3,6 +3,7 @@
 ghost use Rattle.std.specs.Prelude.{◌≡◌, ◌+◌, ◌≤◌, [], true, IfOk, OnOk};
 ghost use Rattle.shared_tree.specs.Seats.{seated};
 ghost use Rattle.event_sinks.specs.Heard.{IsHeard, heard_by};
+ghost use Rattle.watchtree_storm.specs.Storm.{HasBegun, IsListening};
 
 use crate::fault::StormFault;
 use event_sinks::{Listening, Sink};
@@ -51,6 +52,7 @@ fn listen<L: Ledger, S: Sink>(
     requires slots { (1 ≤ slots) × (slots ≤ 65536) }
     requires live { S.live sink ≡ true }
     ensures number { OnOk result (seat.new.number ≡ seat.old.number) }
+    ensures kept { OnOk result (IsListening seat.old seat.new) }
     ensures sound { IfOk result (λ l. IsHeard (heard_by S.record_list S.live l)) }
 {
     let (_, feed) = held.open_piped(seat, QUEUE, slots)?;
@@ -86,6 +88,7 @@ pub fn begin<L: Ledger, S: Sink>(
     requires calls { calls ≤ 1000 }
     ensures shares { IfOk result (λ b. (b.pass.parts + 3 ≡ L.parts) × (b.pass.amount ≡ 0)) }
     ensures seats { IfOk result (λ b. (b.main.number ≡ 1) × (b.first ≡ seated 2 []) × (b.second ≡ seated 3 [])) }
+    ensures begun { IfOk result (λ b. HasBegun b.main) }
     ensures sound { IfOk result (λ b. IsHeard (heard_by S.record_list S.live b.one) × IsHeard (heard_by S.record_list S.live b.other)) }
 {
     let (mut held, mut pass) = Held::<L>::new(alloc, blank, Limits::full())?;

@@ -3,8 +3,8 @@
 ghost use Rattle.std.specs.Prelude.{◌≡◌, ◌+◌, ◌≤◌, ◌∷◌, [], true, IfOk};
 ghost use Rattle.event_sinks.specs.Audited.{Settles, calls_of, outcome_of};
 ghost use Rattle.event_sinks.specs.Heard.{IsHeard, ended_of, heard_by};
-ghost use Rattle.shared_tree.specs.Seats.{Seated, seated};
-ghost use Rattle.watchtree_storm.specs.Storm.{AreStormLogs, AreTurns, CountsAgree, IsClosing, first_part, second_part, told_of};
+ghost use Rattle.shared_tree.specs.Seats.{seated};
+ghost use Rattle.watchtree_storm.specs.Storm.{AreStormLogs, AreTurns, CountsAgree, HasBegun, IsWhole, first_part, second_part, told_of};
 
 use crate::beginning::{Begun, begin};
 use crate::fault::StormFault;
@@ -134,8 +134,8 @@ pub fn run<L: Ledger + Send + Sync, S: Sink, G: Gate, R: Threads + Wait + Sync>(
             )
         },
         move || -> (Seat<L>, (Seat<L>, Seat<L>))
-            requires { (main.number ≡ 1) × (first ≡ seated 2 []) × (second ≡ seated 3 []) }
-            ensures main { (result.0.number ≡ 1) × ((begun : Seated) × IsClosing begun result.0) }
+            requires { (main.number ≡ 1) × HasBegun main × (first ≡ seated 2 []) × (second ≡ seated 3 []) }
+            ensures main { (result.0.number ≡ 1) × IsWhole result.0 }
             ensures writers { AreTurns first_part calls (seated 2 []) result.1.0 × AreTurns second_part calls (seated 3 []) result.1.1 }
         {
             let both = thread::join(
