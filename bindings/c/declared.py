@@ -1,11 +1,12 @@
 """Compares watchtree.h with the functions and structs that the proved crate exports, by name, arguments and sizes.
 
-usage: declared.py HEADER SOURCES-OF-THE-CRATE LIBRARY.so
+usage: declared.py HEADER SOURCES-OF-THE-CRATE LIBRARY.so DECLARATIONS-IN-RUST
 
 Each `pub extern "C" fn` of the crate has one declaration in C, by these rules: `alloc: Global` takes no bytes, and has
 no parameter; a slice is a pointer and its length; a struct of the crate is a struct of C, field by field. The text that
-these rules give is compared with the header's, the names with those that the library defines. Afterwards the header and
-the crate are changed in memory, a word at a time, and each change must be seen.
+these rules give is compared with the header's, the names with those that the library defines. So are the declarations
+in Rust and those of the Python module. Afterwards the header and the crate are changed in memory, a word at a time, and
+each change must be seen.
 """
 import ctypes
 import re
@@ -14,9 +15,13 @@ import subprocess
 import sys
 from pathlib import Path
 
+import watchtree
+
 PLAIN = {"u32": "uint32_t", "i32": "int32_t", "u64": "uint64_t", "i64": "int64_t", "bool": "bool", "*mut u8": "void *"}
 STRUCTS = {"Tree": "wt_tree", "Stat": "wt_stat"}
 SIZES = {"void *": ctypes.c_void_p, "bool": ctypes.c_bool, "uint64_t": ctypes.c_uint64, "uint32_t": ctypes.c_uint32}
+RUST = {"*mut RawTree": "struct wt_tree *", "*mut RawStat": "struct wt_stat *", "usize": "size_t", **PLAIN}
+RUST |= {"*const c_char": "const char *", "*const c_void": "const void *", "*mut c_void": "void *"}
 # What the layout of C gives each struct: its size in bytes.
 WANTED_SIZES = {"wt_tree": 16, "wt_stat": 32}
 
@@ -90,6 +95,37 @@ def differences(header, source):
     return found
 
 
+def in_rust(text):
+    """Returns the declarations of C that those in Rust stand for."""
+    found = {}
+    for name, words, result in re.findall(r"pub fn (wt_\w+)\((.*?)\)(?: -> (\w+))?;", text, re.S):
+        pairs = [[side.strip() for side in it.split(":")] for it in words.split(",") if it.strip()]
+        taken = [f"{RUST[kind]}{'' if RUST[kind].endswith('*') else ' '}{word}" for word, kind in pairs]
+        found[name] = f"{PLAIN[result] if result else 'void'} {name}({', '.join(taken)})"
+    return found
+
+
+def in_python(call):
+    """Returns the types that the Python module is to give a declaration's parameters behind the tree, pointers aside."""
+    words = call[call.index("(") + 1 : -1].split(", ")[1:]
+    sizes = {"size_t": ctypes.c_size_t, "int32_t": ctypes.c_int32, **SIZES}
+    return [None if "*" in it else sizes[it.split()[0]] for it in words]
+
+
+def bound(header, rust):
+    """Returns what differs between the header and the declarations in Rust and Python."""
+    calls, structs = declared(header)
+    found = [f"in Rust: {it} differs" for it in calls | in_rust(rust) if calls.get(it) != in_rust(rust).get(it)]
+    plain = {ctypes.c_size_t, *SIZES.values(), ctypes.c_int32} - {ctypes.c_void_p}
+    types = {name: [it if it in plain else None for it in given] for name, given in watchtree.CALLS.items()}
+    wanted = {name: in_python(call) for name, call in calls.items() if name != "wt_close"}
+    found += [f"in Python: {it} differs" for it in wanted | types if wanted.get(it) != types.get(it)]
+    for name, layout in (("wt_tree", watchtree._Tree), ("wt_stat", watchtree._Stat)):
+        if [(field, kind) for field, kind in layout._fields_] != [(it[1], SIZES[it[0]]) for it in structs[name]]:
+            found.append(f"in Python: struct {name} differs")
+    return found
+
+
 def unseen(header, source):
     """Changes one word of a declaration at a time, in the header and in the crate; returns the changes that pass."""
     passed, count = [], 0
@@ -116,6 +152,7 @@ def main():
     header = Path(sys.argv[1]).read_text()
     source = "\n".join(it.read_text() for it in sorted(Path(sys.argv[2]).glob("*.rt")))
     found = differences(header, source)
+    found += bound(header, Path(sys.argv[4]).read_text())
     library = ctypes.CDLL(sys.argv[3])
     found += [f"the library lacks {it}" for it in exported(source) if not hasattr(library, it)]
     if shutil.which("nm"):

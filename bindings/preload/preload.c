@@ -219,6 +219,12 @@ int select(int n, fd_set *r, fd_set *w, fd_set *e, struct timeval *limit) {
     return REAL(select)(n, r, w, e, limit);
 }
 
+int pselect(int n, fd_set *r, fd_set *w, fd_set *e, const struct timespec *limit, const sigset_t *signals) {
+    struct set set = { r, n };
+    while_lines(set_ready, &set, !limit);
+    return REAL(pselect)(n, r, w, e, limit, signals);
+}
+
 struct polls { struct pollfd *fds; nfds_t n; };
 
 static int polls_ready(void *of) {
@@ -238,6 +244,17 @@ int poll(struct pollfd *fds, nfds_t n, int limit) {
     return REAL(poll)(fds, n, limit);
 }
 
+int ppoll(struct pollfd *fds, nfds_t n, const struct timespec *limit, const sigset_t *signals) {
+    struct polls polls = { fds, n };
+    while_lines(polls_ready, &polls, !limit);
+    return REAL(ppoll)(fds, n, limit, signals);
+}
+
+int __poll_chk(struct pollfd *fds, nfds_t n, int limit, size_t room) {
+    (void)room;
+    return poll(fds, n, limit);
+}
+
 static int any_ready(void *of) {
     (void)of;
     int any = 0;
@@ -251,6 +268,11 @@ static int any_ready(void *of) {
 int epoll_wait(int ep, struct epoll_event *events, int most, int limit) {
     while_lines(any_ready, NULL, limit < 0);
     return REAL(epoll_wait)(ep, events, most, limit);
+}
+
+int epoll_pwait(int ep, struct epoll_event *events, int most, int limit, const sigset_t *signals) {
+    while_lines(any_ready, NULL, limit < 0);
+    return REAL(epoll_pwait)(ep, events, most, limit, signals);
 }
 
 int ioctl(int fd, unsigned long request, ...) {
@@ -272,23 +294,23 @@ static int done(int64_t number) {
     return is_well;
 }
 
-int mkdir(const char *path, mode_t mode) {
+int mkdirat(int dir, const char *path, mode_t mode) {
     char room[PATH_MAX];
     const char *at = inside(path, room);
-    return at ? done(wt_mkdir(&tree, PATH(at), mode & 07777)) : REAL(mkdir)(path, mode);
+    return at ? done(wt_mkdir(&tree, PATH(at), mode & 07777)) : REAL(mkdirat)(dir, path, mode);
 }
 
-int unlink(const char *path) {
+int mkdir(const char *path, mode_t mode) { return mkdirat(AT_FDCWD, path, mode); }
+
+int unlinkat(int dir, const char *path, int flags) {
     char room[PATH_MAX];
     const char *at = inside(path, room);
-    return at ? done(wt_unlink(&tree, PATH(at))) : REAL(unlink)(path);
+    if (!at) return REAL(unlinkat)(dir, path, flags);
+    return done(flags & AT_REMOVEDIR ? wt_rmdir(&tree, PATH(at)) : wt_unlink(&tree, PATH(at)));
 }
 
-int rmdir(const char *path) {
-    char room[PATH_MAX];
-    const char *at = inside(path, room);
-    return at ? done(wt_rmdir(&tree, PATH(at))) : REAL(rmdir)(path);
-}
+int unlink(const char *path) { return unlinkat(AT_FDCWD, path, 0); }
+int rmdir(const char *path) { return unlinkat(AT_FDCWD, path, AT_REMOVEDIR); }
 
 int chmod(const char *path, mode_t mode) {
     char room[PATH_MAX];
@@ -302,13 +324,18 @@ int truncate(const char *path, off_t len) {
     return at ? done(wt_truncate(&tree, PATH(at), (uint64_t)len)) : REAL(truncate)(path, len);
 }
 
-int rename(const char *old, const char *to) {
+int truncate64(const char *path, off64_t len) { return truncate(path, len); }
+
+int renameat2(int dir, const char *old, int to_dir, const char *to, unsigned flags) {
     char room[PATH_MAX], other[PATH_MAX];
     const char *from = inside(old, room), *at = inside(to, other);
-    if (!from && !at) return REAL(rename)(old, to);
+    if (!from && !at) return REAL(renameat2)(dir, old, to_dir, to, flags);
     errno = EXDEV;
-    return from && at ? done(wt_rename(&tree, PATH(from), PATH(at))) : -1;
+    return from && at ? done(wt_rename2(&tree, PATH(from), PATH(at), flags)) : -1;
 }
+
+int renameat(int dir, const char *old, int to_dir, const char *to) { return renameat2(dir, old, to_dir, to, 0); }
+int rename(const char *old, const char *to) { return renameat2(AT_FDCWD, old, AT_FDCWD, to, 0); }
 
 int link(const char *old, const char *to) {
     char room[PATH_MAX], other[PATH_MAX];

@@ -79,9 +79,11 @@ def test_refusals():
     assert [it.mask for it in instance.read()] == [Mask.Q_OVERFLOW]
     instance.close()
     assert raises(errno.EBADF, instance.close) and raises(errno.EBADF, lambda: instance.waiting)
-    for words in (("/e", -1), ("/e", 2**32)):
+    # A number that C has no room for is no call, and no count is below zero.
+    calls = [(tree.mkdir, "/e", -1), (tree.mkdir, "/e", 2**32), (tree.read, "/d/f", -1), (instance.read_bytes, -1)]
+    for call, *words in calls:
         try:
-            tree.mkdir(*words)
+            call(*words)
         except OverflowError:
             continue
         raise AssertionError(words)

@@ -216,11 +216,12 @@ class Tree:
 
     def write(self, path: AnyPath, data: bytes, offset: int = 0) -> int:
         """Writes bytes from an offset on, and returns how many."""
-        return self._on_path("wt_write", path, _signed(offset, 64), bytes(data), len(data))
+        plain = bytes(data)
+        return self._on_path("wt_write", path, _signed(offset, 64), plain, len(plain))
 
     def read(self, path: AnyPath, count: int, offset: int = 0) -> bytes:
         """Reads bytes from an offset on."""
-        out = ctypes.create_string_buffer(max(count, 1))
+        out = ctypes.create_string_buffer(max(_signed(count, 32), 1))
         got = self._on_path("wt_pread", path, _signed(offset, 64), out, count)
         return out.raw[:got]
 
@@ -304,7 +305,7 @@ class Instance:
 
     def read_bytes(self, size: int = 65536) -> bytes:
         """Returns the bytes that read(2) would give: as many records as fit whole. BlockingIOError where none waits."""
-        out = ctypes.create_string_buffer(max(size, 1))
+        out = ctypes.create_string_buffer(max(_signed(size, 32), 1))
         count = self.tree._call("wt_read", self.number, out, size)
         return out.raw[:count]
 
