@@ -5,6 +5,8 @@ from .lines import paths_of, unescaped
 ISDIR, IGNORED, ATTRIB, DELETE_SELF, MOVE_SELF = 0x40000000, 0x8000, 0x4, 0x400, 0x800
 OPEN, ACCESS, CLOSE_NOWRITE = 0x20, 0x1, 0x10
 SIGNED = 1 << 63
+# Classes in which Linux opens what it then refuses to read or write.
+OPENING = ("path-text", "offset-sign")
 ORDERS = {"watch": "watch-refusal-order", "rename": "rename-refusal-order", "rename2": "rename-refusal-order"}
 
 
@@ -138,9 +140,10 @@ def names_of_difference(line, ours, theirs, files):
     """The classes of what a line shows on the two sides, or nothing where a difference has none."""
     (mine, heard), (other, told) = ours, theirs
     if mine.error != other.error or text_class(line, mine.error, other.error) == "path-text":
-        # (What is raised on one side alone follows from the call being accepted there, or opening a file first.)
         name = reply_class(line, mine.error, other.error, files)
-        return {name} if name else None
+        # What an accepted call raises follows from its being accepted; refused ones raise something only behind an open.
+        is_told = any(heard.values()) and mine.error or any(told.values()) and other.error and name not in OPENING
+        return None if is_told or not name else {name}
     answers = answer_classes(line, mine.words, other.words) if mine.words != other.words else set()
     events = event_classes(line, heard, told, mine) if heard != told else set()
     return None if answers is None or events is None else answers | events
