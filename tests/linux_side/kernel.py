@@ -202,6 +202,7 @@ def run_child(sender, lines, room, way):
     try:
         os.umask(0)
         if way == "folder":
+            os.chmod(room, 0o755)
             os.chdir(room)
             made = Kernel(room.encode())
         else:

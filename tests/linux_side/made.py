@@ -54,10 +54,10 @@ def filled_script(number, limit):
     """A script whose queue is filled to the limit of the kernel's queues but for a few records, and then told more."""
     chance = random.Random(SEED * 1_000_033 + number)
     text = [f"init {limit}", "mkdir /a 755", "create /a/a 644", "create /a/b 644", "watch 1 /a 0xfff"]
-    text += ["chmod /a/a 644", "chmod /a/b 644"] * (limit // 2 - 3)
+    text += ["chmod /a/a 700", "chmod /a/b 700"] * (limit // 2 - 3)
     text += ["truncate /a/b 0", "truncate /a/b 0"]
     for _ in range(40):
-        text.append(chance.choice(("chmod /a/a 644", "chmod /a/a 644", "chmod /a/b 644", "cat /a/a 0 1", "rename /a/a /a/a",
+        text.append(chance.choice(("chmod /a/a 700", "chmod /a/a 700", "chmod /a/b 700", "cat /a/a 0 1", "rename /a/a /a/a",
                                    "rename /a/b /a/c", "create /a/c 644", "unlink /a/c", "watch 1 /a 0xfff", "unwatch 1 1")))
         text += ["read 1 64"] * (chance.random() < 0.1)
     return "\n".join([*text, "read 1 4194304", "read 1 16"])
@@ -95,8 +95,8 @@ FULL = "limit-before-merge"
 
 def full_script(limit):
     """A script whose queue is just full when the last record comes again."""
-    text = [f"init {limit}", "mkdir /a 755", "create /a/a 644", "create /a/b 644", "watch 1 /a 0x4", *["chmod /a/b 644"] * (limit % 2)]
-    return "\n".join([*text, *["chmod /a/a 644", "chmod /a/b 644"] * (limit // 2), "chmod /a/b 644", "read 1 4194304"])
+    text = [f"init {limit}", "mkdir /a 755", "create /a/a 644", "create /a/b 644", "watch 1 /a 0x4", *["chmod /a/b 700"] * (limit % 2)]
+    return "\n".join([*text, *["chmod /a/a 700", "chmod /a/b 700"] * (limit // 2), "chmod /a/b 700", "read 1 4194304"])
 
 
 def scripts(limit):
