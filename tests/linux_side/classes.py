@@ -1,13 +1,16 @@
 """The classes of differences: for each a rule that says what the kernel answers, or raises, where the program does as it does."""
-from .files import ALL_EVENTS, MOST_BYTES, MOST_MODE, UNKNOWN_BITS, is_odd, names_of
+from .files import is_odd
 from .lines import paths_of, unescaped
+from .orders import ALL_EVENTS, refusals
 
 ISDIR, IGNORED, ATTRIB, DELETE_SELF, MOVE_SELF = 0x40000000, 0x8000, 0x4, 0x400, 0x800
 OPEN, ACCESS, CLOSE_NOWRITE = 0x20, 0x1, 0x10
-SIGNED = 1 << 63
+SIGNED, MOST_BYTES, MOST_MODE = 1 << 63, 1 << 24, 0o7777
+# Bits of a mask that no Linux knows: neither an event, nor a flag, nor one that it writes into records.
+UNKNOWN_BITS = 0xffffffff & ~(0xfff | 0xe000 | 0x07000000 | 0x70000000 | 0x80000000)
 # Classes in which Linux opens what it then refuses to read or write.
 OPENING = ("path-text", "offset-sign")
-ORDERS = {"watch": "watch-refusal-order", "rename": "rename-refusal-order", "rename2": "rename-refusal-order"}
+ORDER_NAMES = {"watch": "watch-refusal-order", "rename": "rename-refusal-order", "rename2": "rename-refusal-order"}
 
 
 def mode_of(line):
@@ -49,17 +52,10 @@ def reply_class(line, mine, other, files):
         return name
     if line.name == "unlink" and (mine, other) == ("EPERM", "EISDIR"):
         return "unlink-directory"
-    if (mine, other) == ("EISDIR", "ENOTEMPTY") and is_above(line):
-        return "rename-onto-above"
-    if mine and other and {mine, other} <= files.reasons(line):
-        return ORDERS.get(line.name, "refusal-order")
+    if mine and other and (mine, other) == refusals(files, line):
+        is_above = (mine, other) == ("EISDIR", "ENOTEMPTY")
+        return "rename-onto-above" if is_above else ORDER_NAMES.get(line.name, "refusal-order")
     return None
-
-
-def is_above(line):
-    """Whether a rename goes onto a directory above."""
-    old, new = (names_of(it) for it in paths_of(line))
-    return line.name in ("rename", "rename2") and old != new and old[:len(new)] == new
 
 
 def answer_classes(line, ours, theirs):
