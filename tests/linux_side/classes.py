@@ -92,7 +92,8 @@ def visit_classes(line, ours, theirs):
     """The classes of what a directory's reading or listing raises on Linux and not here."""
     if any(ours.values()):
         return None
-    kinds, name = ([OPEN, CLOSE_NOWRITE], "directory-read") if line.name == "cat" else ([OPEN, ACCESS, CLOSE_NOWRITE], "list-events")
+    is_read = line.name == "cat"
+    kinds, name = ([OPEN, CLOSE_NOWRITE], "directory-read") if is_read else ([OPEN, ACCESS, CLOSE_NOWRITE], "list-events")
     if not all(is_visit(it, kinds) for it in theirs.values()):
         return None
     is_used = any(it.mask == IGNORED for told in theirs.values() for it in told)

@@ -22,7 +22,8 @@ def program_replies(sides, lines):
     ran = subprocess.run([sides.program, "run"], input=text_of(lines), stdout=subprocess.PIPE, stderr=subprocess.PIPE, timeout=20)
     replies = replies_of(ran.stdout, lines)
     if ran.returncode != 0 or len(replies) != len(lines):
-        raise ValueError(f"the program ended with status {ran.returncode} and {len(replies)} of {len(lines)} replies: {ran.stderr}")
+        ended = f"status {ran.returncode} and {len(replies)} of {len(lines)} replies"
+        raise ValueError(f"the program ended with {ended}: {ran.stderr}")
     return replies
 
 

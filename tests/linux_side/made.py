@@ -3,11 +3,12 @@ import random
 
 from .lines import lines_of
 
-SEED, COUNT, FILLED = 20263, 240, 4
+SEED, COUNT, FILLED = 20263, 160, 4
 NAMES = "abc"
 MASKS = ["0xfff"] * 6 + ["0x80000fff"] * 3 + [
-    "0xc00", "0x404", "0x80000004", "0x80000400", "0x800", "0x100", "0x6c0", "0x1", "0x10", "0x80000020", "0x2000000a", "0x20000fff",
-    "0x10000fff", "0x30000001", "0x01000fff", "0x0", "0x1000", "0x10001", "0x04000fff", "0x02000fff", "0x01000000", "0x80000000",
+    "0xc00", "0x404", "0x80000004", "0x80000400", "0x800", "0x100", "0x6c0", "0x1", "0x10", "0x80000020", "0x2000000a",
+    "0x20000fff", "0x10000fff", "0x30000001", "0x01000fff", "0x0", "0x1000", "0x10001", "0x04000fff", "0x02000fff",
+    "0x01000000", "0x80000000",
 ]
 CALLS = [
     ("mkdir P M", 7), ("create P M", 9), ("write P N 6162", 4), ("write P N -", 1), ("cat P N 5", 4), ("truncate P N", 3),
@@ -15,7 +16,8 @@ CALLS = [
     ("list P", 3), ("watch I P B", 12), ("unwatch I W", 2), ("read I S", 8), ("close I", 1),
 ]
 MODES = ["755"] * 6 + ["644"] * 3 + ["0", "7777", "10000", "2755", "1700"]
-NUMBERS = ["0"] * 5 + ["1", "3", "9", "16777215", "16777216", "9223372036854775807", "9223372036854775808", "18446744073709551615"]
+NUMBERS = ["0"] * 5 + ["1", "3", "9", "16777215", "16777216", "9223372036854775807", "9223372036854775808",
+                       "18446744073709551615"]
 SIZES = ["4096"] * 4 + ["0", "15", "16", "31", "32", "64", "100"]
 FLAGS = ["0", "1", "1", "2", "2", "2", "3", "4", "5", "8"]
 LONG = "/" + 256 * "n"
@@ -72,11 +74,13 @@ SHOWN = {
     "directory-stat": "mkdir /d 755\nstat /d\nstat /",
     "list-order": "create /b 644\ncreate /a 644\ncreate /c 644\nlist /",
     "file-size": "create /f 644\nwrite /f 16777216 61\ntruncate /f 16777217",
-    "offset-sign": "create /f 644\nwrite /f 9223372036854775808 61\ncat /f 9223372036854775807 9\ntruncate /f 9223372036854775808",
+    "offset-sign": "create /f 644\nwrite /f 9223372036854775808 61\ncat /f 9223372036854775807 9\n"
+                   "truncate /f 9223372036854775808",
     "unlink-directory": "mkdir /d 755\nunlink /d\nunlink /",
     "refusal-order": f"create /f 644\nmkdir /f{LONG} 755\nlink /f/g {LONG}\nlink / /f/g",
-    "rename-refusal-order": f"mkdir /d 755\ncreate /f 644\nrename /none /\nrename2 /f / 1\nrename /none /f/g\nrename2 /d /d/e/g 1",
-    "watch-refusal-order": f"create /f 644\ninit\nwatch 2 /f 0x0\nwatch 2 {LONG} 0x1\nwatch 2 /f 0x0\nwatch 1 {LONG} 0x0",
+    "rename-refusal-order": "mkdir /d 755\ncreate /f 644\nrename /none /\nrename2 /f / 1\nrename /none /f/g\nrename2 /d /d/e/g 1",
+    "watch-refusal-order": f"create /f 644\ninit\nwatch 2 /f 0x0\nwatch 2 {LONG} 0x1\nwatch 1 {LONG} 0x0\nwatch 1 /f{LONG} 0x1\n"
+                           f"watch 1 /none{LONG} 0x1",
     "rename-onto-above": "mkdir /d 755\ncreate /d/f 644\nmkdir /d/e 755\ncreate /d/e/f 644\nrename /d/f /d\nrename /d/e/f /d",
     "whiteout": "create /f 644\nrename2 /f /g 4\nrename2 /f /g 5",
     "unknown-mask-bits": "init\nwatch 1 / 0x1100",
@@ -87,7 +91,8 @@ SHOWN = {
     "oneshot-list-events": "init\nmkdir /d 755\nwatch 1 /d 0x80000fff\nlist /d",
     "move-self-first": OVER + "watch 1 /d/a 0xfff\nwatch 1 /d/b 0xfff\nrename /d/a /d/b",
     "replaced-directory-attrib": OVER + "watch 1 /d/c 0xfff\nwatch 1 /d/e 0xfff\nrename /d/c /d/e",
-    "merge-without-cookie": "init\nmkdir /d 755\nwatch 1 /d 0x40\ncreate /d/f 644\nrename /d/f /f\nrename /f /d/f\nrename /d/f /f\nread 1 4096",
+    "merge-without-cookie": "init\nmkdir /d 755\nwatch 1 /d 0x40\ncreate /d/f 644\nrename /d/f /f\nrename /f /d/f\n"
+                            "rename /d/f /f\nread 1 4096",
     "one-limit-for-all": "init 1\nmkdir /d 755\nwatch 1 /d 0x100\ncreate /d/a 644\ncreate /d/b 644\nread 1 4096",
 }
 FULL = "limit-before-merge"
@@ -95,7 +100,8 @@ FULL = "limit-before-merge"
 
 def full_script(limit):
     """A script whose queue is just full when the last record comes again."""
-    text = [f"init {limit}", "mkdir /a 755", "create /a/a 644", "create /a/b 644", "watch 1 /a 0x4", *["chmod /a/b 700"] * (limit % 2)]
+    text = [f"init {limit}", "mkdir /a 755", "create /a/a 644", "create /a/b 644", "watch 1 /a 0x4"]
+    text += ["chmod /a/b 700"] * (limit % 2)
     return "\n".join([*text, *["chmod /a/a 700", "chmod /a/b 700"] * (limit // 2), "chmod /a/b 700", "read 1 4194304"])
 
 

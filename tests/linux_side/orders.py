@@ -11,7 +11,8 @@ ALL_EVENTS, MASK_CREATE, MASK_ADD, ONLYDIR = 0xfff, 0x10000000, 0x20000000, 0x01
 MAKE = ("text taken parent", "long parent name taken")
 RENAME = (
     "text flags_row root old exchanged below above_old parent taken file directory filled",
-    "unknown_flags long_old parent_old long parent old_root taken_root root old name taken exchanged below above_old above file directory filled",
+    "unknown_flags long_old parent_old long parent old_root taken_root root old name taken exchanged below above_old above "
+    "file directory filled",
 )
 WATCH = ("text instance mask_row old only_directory watched", "no_mask instance two_flags long_old old only_directory watched")
 ORDERS = {
