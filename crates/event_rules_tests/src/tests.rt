@@ -22,7 +22,7 @@ fn holds(rt: &impl Abort, what: &str, is_so: bool) {
     assert!(rt; is_so, "{what}");
 }
 
-/// A table on which calls are made one after another, each once more where memory was refused.
+/// A table on which calls are made one after another.
 #[derive(Drop)]
 struct Calls {
     alloc: Global,
@@ -73,15 +73,9 @@ fn say(notices: &[Notice], lines: &[Line]) -> bool {
 
 impl Calls {
     fn new(alloc: Global) -> Result<Calls, Refusal> {
-        let opened = opening_table(alloc);
-        let table = if opened.is_ok() {
-            opened?
-        } else {
-            opening_table(alloc)?
-        };
         Ok(Calls {
             alloc,
-            table,
+            table: opening_table(alloc)?,
             counts: Counts {
                 next_number: 2,
                 next_cookie: 1,
@@ -89,7 +83,8 @@ impl Calls {
         })
     }
 
-    fn made(&mut self, call: &FileCall) -> Result<Notices, Refusal> {
+    /// What the call tells.
+    fn told(&mut self, call: &FileCall) -> Result<Notices, Refusal> {
         let ready = check(&self.table, call, &self.counts, &Limits::full())?;
         let Some(next_number) = self.counts.next_number.checked_add(ready.numbers()) else {
             return Err(Refusal::NumbersSpent);
@@ -104,19 +99,8 @@ impl Calls {
         Ok(notices)
     }
 
-    /// What the call tells. One that lacks memory has changed nothing, and is made once more.
-    fn told(&mut self, call: &FileCall) -> Result<Notices, Refusal> {
-        match self.made(call) {
-            Err(Refusal::Enomem) => self.made(call),
-            told => told,
-        }
-    }
-
     fn path(&self, text: &str) -> Result<Path, Refusal> {
-        match Path::parse(self.alloc, text.as_bytes()) {
-            Err(Refusal::Enomem) => Path::parse(self.alloc, text.as_bytes()),
-            path => path,
-        }
+        Path::parse(self.alloc, text.as_bytes())
     }
 
     fn create(&mut self, path: &str) -> Result<Notices, Refusal> {
@@ -131,12 +115,7 @@ impl Calls {
 
     fn write(&mut self, path: &str, bytes: &[u8]) -> Result<Notices, Refusal> {
         let path = self.path(path)?;
-        let copied = Vec::from_slice(self.alloc, bytes);
-        let copied = if copied.is_ok() {
-            copied?
-        } else {
-            Vec::from_slice(self.alloc, bytes)?
-        };
+        let copied = Vec::from_slice(self.alloc, bytes)?;
         self.told(&FileCall::Write {
             path,
             offset: 0,
@@ -425,16 +404,13 @@ fn show(events: &[Event], records: &[Record]) -> bool {
             .all(|(event, record)| shows(event, record))
 }
 
-/// Watches a file. A call that lacks memory has changed nothing, and is made once more.
+/// Watches a file.
 fn watch(watches: &mut Watches, number: u32, bits: u32) -> Result<i32, Refusal> {
     let mask = Mask::of(bits);
     if let Some(refusal) = mask.fault() {
         return Err(refusal);
     }
-    match watches.add(number, mask, false) {
-        Err(Refusal::Enomem) => watches.add(number, mask, false),
-        watched => watched,
-    }
+    watches.add(number, mask, false)
 }
 
 /// The call raises just these events and ends just these watches, which are removed.
@@ -447,11 +423,7 @@ fn raises(
     drops: &[i32],
 ) -> Result<(), Refusal> {
     let notices = told?;
-    let staged = match stage(alloc, watches, notices.as_slice()) {
-        Err(Refusal::Enomem) => stage(alloc, watches, notices.as_slice()),
-        staged => staged,
-    };
-    let staged = staged?;
+    let staged = stage(alloc, watches, notices.as_slice())?;
     holds(
         rt,
         "show(staged.events.as_slice(), records)",

@@ -4,6 +4,7 @@ ghost use Rattle.event_sinks.specs.Writing.{live_of};
 mod audits;
 mod feeds;
 mod listeners;
+mod refused;
 
 use event_sinks::*;
 use record_codec::bits::{IN_CREATE, IN_Q_OVERFLOW};

@@ -1,6 +1,4 @@
 //! The locked tree from outside: what no contract can say of seats, pipes and threads.
-//!
-//! A step that lacks memory is made once more, and must then answer as if nothing had happened.
 
 ghost use Rattle.std.specs.Prelude.{◌≡◌, IfOk, IsTrue};
 ghost use Rattle.std.specs.Result.{ForOk};
@@ -8,6 +6,7 @@ ghost use Rattle.tree_core.specs.Calls.{is_plain};
 
 mod first;
 mod pipes;
+mod refused;
 mod seats;
 mod threads;
 
@@ -38,8 +37,15 @@ enum Step {
     Inits(Says),
     /// An instance watches the root for new files.
     Watches(u32, Says),
+    /// An instance watches a file for new files.
+    WatchesAt(u32, &'static str, Says),
     /// A file is made.
     Creates(&'static str, Says),
+    /// A file gets so many bytes.
+    Truncates(&'static str, u64, Says),
+    Links(&'static str, &'static str, Says),
+    Renames(&'static str, &'static str, Says),
+    Unlinks(&'static str, Says),
     Reads(u32, Says),
     Closes(u32, Says),
     Pumps(u32, Says),
@@ -217,8 +223,15 @@ impl<L: Ledger> Stage<L> {
         Some(match step {
             Step::Opens(limit, slots, wanted) => (self.opens(limit, slots), wanted),
             Step::Inits(wanted) => (self.calls(Ok(init())), wanted),
-            Step::Watches(instance, wanted) => (self.calls(watch(alloc, instance)), wanted),
+            Step::Watches(instance, wanted) => (self.calls(watch(alloc, instance, "/")), wanted),
+            Step::WatchesAt(instance, text, wanted) => {
+                (self.calls(watch(alloc, instance, text)), wanted)
+            }
             Step::Creates(text, wanted) => (self.calls(create(alloc, text)), wanted),
+            Step::Truncates(text, len, wanted) => (self.calls(truncate(alloc, text, len)), wanted),
+            Step::Links(old, new, wanted) => (self.calls(link(alloc, old, new)), wanted),
+            Step::Renames(old, new, wanted) => (self.calls(rename(alloc, old, new)), wanted),
+            Step::Unlinks(text, wanted) => (self.calls(unlink(alloc, text)), wanted),
             Step::Reads(instance, wanted) => (self.calls(Ok(read(instance))), wanted),
             Step::Closes(instance, wanted) => (self.calls(Ok(close(instance))), wanted),
             Step::Pumps(instance, wanted) => (self.pumps(instance), wanted),
@@ -248,13 +261,9 @@ impl<L: Ledger> Stage<L> {
         }
     }
 
-    // Whether a step comes to what is wanted. A call that lacks memory is made once more.
+    // Whether a step comes to what is wanted.
     fn goes_well(&mut self, step: Step) -> bool {
         match self.says(step) {
-            Some((Says::Fails(Refusal::Enomem), _)) => match self.says(step) {
-                Some((said, wanted)) => said == wanted,
-                None => false,
-            },
             Some((said, wanted)) => said == wanted,
             None => self.shows(step),
         }
@@ -295,10 +304,10 @@ fn close(instance: u32) -> Call
     Call::Close { instance }
 }
 
-fn watch(alloc: Global, instance: u32) -> Result<Call, Refusal>
+fn watch(alloc: Global, instance: u32, text: &str) -> Result<Call, Refusal>
     ensures { IfOk result (λ c. IsTrue (is_plain c)) }
 {
-    let path = Path::parse(alloc, "/".as_bytes())?;
+    let path = Path::parse(alloc, text.as_bytes())?;
     Ok(Call::AddWatch {
         instance,
         path,
@@ -318,6 +327,36 @@ fn mkdir(alloc: Global, text: &str) -> Result<Call, Refusal>
 {
     let path = Path::parse(alloc, text.as_bytes())?;
     Ok(Call::File(FileCall::Mkdir { path, mode: 0o755 }))
+}
+
+fn truncate(alloc: Global, text: &str, len: u64) -> Result<Call, Refusal>
+    ensures { IfOk result (λ c. IsTrue (is_plain c)) }
+{
+    let path = Path::parse(alloc, text.as_bytes())?;
+    Ok(Call::File(FileCall::Truncate { path, len }))
+}
+
+fn link(alloc: Global, old: &str, new: &str) -> Result<Call, Refusal>
+    ensures { IfOk result (λ c. IsTrue (is_plain c)) }
+{
+    let old = Path::parse(alloc, old.as_bytes())?;
+    let new = Path::parse(alloc, new.as_bytes())?;
+    Ok(Call::File(FileCall::Link { old, new }))
+}
+
+fn rename(alloc: Global, old: &str, new: &str) -> Result<Call, Refusal>
+    ensures { IfOk result (λ c. IsTrue (is_plain c)) }
+{
+    let old = Path::parse(alloc, old.as_bytes())?;
+    let new = Path::parse(alloc, new.as_bytes())?;
+    Ok(Call::File(FileCall::Rename { old, new }))
+}
+
+fn unlink(alloc: Global, text: &str) -> Result<Call, Refusal>
+    ensures { IfOk result (λ c. IsTrue (is_plain c)) }
+{
+    let path = Path::parse(alloc, text.as_bytes())?;
+    Ok(Call::File(FileCall::Unlink { path }))
 }
 
 // Whether it is a batch of this instance, of this place and of so many records.
@@ -347,14 +386,7 @@ fn start<L: Ledger>(
     Ok(stage.plays(steps))
 }
 
-fn start_branded(alloc: Global, limits: Limits, steps: &[Step]) -> Result<usize, Refusal> {
-    start::<Brand>(alloc, Blank::new(65537), limits, steps)
-}
-
-// How many steps go well with a new tree. A tree that lacks memory is made once more.
+// How many steps go well with a new tree.
 fn plays(alloc: Global, limits: Limits, steps: &[Step]) -> Option<usize> {
-    match start_branded(alloc, limits, steps) {
-        Ok(count) => Some(count),
-        Err(_) => start_branded(alloc, limits, steps).ok(),
-    }
+    start::<Brand>(alloc, Blank::new(65537), limits, steps).ok()
 }

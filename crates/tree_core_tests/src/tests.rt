@@ -1,6 +1,4 @@
 //! The tree from outside: each call with its answer, what is heard of it, and each limit at its last value.
-//!
-//! A step that lacks memory is made once more, and must then answer as if nothing had happened.
 
 mod calls;
 mod cuts;
@@ -9,6 +7,7 @@ mod instances;
 mod keeping;
 mod limits;
 mod refusals;
+mod refused;
 
 use inode_table::Kind;
 use record_codec::{Bytes, Event, Name, encode};
@@ -40,27 +39,12 @@ type Record<'a> = (i32, u32, u32, &'a str);
 
 // The root alone.
 fn opened(alloc: Global, limits: Limits) -> Result<State, Refusal> {
-    match State::new(alloc, limits) {
-        Err(Refusal::Enomem) => State::new(alloc, limits),
-        state => state,
-    }
-}
-
-// The same call once more.
-fn copied(call: &Call) -> Result<Call, Refusal> {
-    match call.copy() {
-        Err(Refusal::Enomem) => call.copy(),
-        copy => copy,
-    }
+    State::new(alloc, limits)
 }
 
 // Makes a call.
 fn made(state: &mut State, call: &Call) -> Result<Receipt, Refusal> {
-    let copy = copied(call)?;
-    match state.apply(CALLER, copy) {
-        Err(Refusal::Enomem) => state.apply(CALLER, copied(call)?),
-        receipt => receipt,
-    }
+    state.apply(CALLER, call.copy()?)
 }
 
 // Whether the last entry of the journal is this call with this reply.
@@ -152,20 +136,11 @@ fn watch_it(rt: &impl Abort, state: &State, number: u32, ids: &[u32]) {
 }
 
 fn path(alloc: Global, text: &str) -> Result<Path, Refusal> {
-    match Path::parse(alloc, text.as_bytes()) {
-        Err(Refusal::Enomem) => Path::parse(alloc, text.as_bytes()),
-        path => path,
-    }
+    Path::parse(alloc, text.as_bytes())
 }
 
 fn bytes(alloc: Global, slice: &[u8]) -> Result<Bytes, Refusal> {
-    let copy = Vec::from_slice(alloc, slice);
-    let copy = if copy.is_ok() {
-        copy?
-    } else {
-        Vec::from_slice(alloc, slice)?
-    };
-    Ok(Bytes::from_vec(copy))
+    Ok(Bytes::from_vec(Vec::from_slice(alloc, slice)?))
 }
 
 fn create(alloc: Global, text: &str) -> Result<Call, Refusal> {
@@ -296,21 +271,14 @@ fn contents(alloc: Global, slice: &[u8]) -> Result<Reply, Refusal> {
     Ok(Reply::File(Answer::Bytes(bytes(alloc, slice)?)))
 }
 
-fn names_of(alloc: Global, text: &str) -> Result<Reply, Refusal> {
+// The answer with the names of this path.
+fn names(alloc: Global, text: &str) -> Result<Reply, Refusal> {
     let path = path(alloc, text)?;
     let mut names = Vec::new(alloc);
     for name in path.names() {
         names.push(name.copy()?)?;
     }
     Ok(Reply::File(Answer::Names(Names::from_vec(names))))
-}
-
-// The answer with the names of this path.
-fn names(alloc: Global, text: &str) -> Result<Reply, Refusal> {
-    match names_of(alloc, text) {
-        Err(Refusal::Enomem) => names_of(alloc, text),
-        reply => reply,
-    }
 }
 
 fn file(number: u32, mode: u32, links: u64, size: u64) -> Result<Reply, Refusal> {
@@ -345,7 +313,8 @@ fn done() -> Result<Reply, Refusal> {
     Ok(Reply::Done)
 }
 
-fn spelled(alloc: Global, lines: &[Record]) -> Result<Reply, Refusal> {
+// The answer with the bytes of these records.
+fn records(alloc: Global, lines: &[Record]) -> Result<Reply, Refusal> {
     let mut events = Vec::new(alloc);
     for line in lines {
         events.push(Event {
@@ -356,12 +325,4 @@ fn spelled(alloc: Global, lines: &[Record]) -> Result<Reply, Refusal> {
         })?;
     }
     Ok(Reply::Records(Bytes::from_vec(encode(alloc, events.as_slice())?)))
-}
-
-// The answer with the bytes of these records.
-fn records(alloc: Global, lines: &[Record]) -> Result<Reply, Refusal> {
-    match spelled(alloc, lines) {
-        Err(Refusal::Enomem) => spelled(alloc, lines),
-        reply => reply,
-    }
 }

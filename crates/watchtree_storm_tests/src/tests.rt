@@ -3,6 +3,8 @@
 ghost use Rattle.std.specs.Prelude.{◌≡◌, ◌≤◌, true, IfOk, ⊤};
 ghost use Rattle.event_sinks.specs.Writing.{live_of};
 
+mod refused;
+
 use event_sinks::{Cause, CountSink, Ended, Gate, LineSink, SettleFault, Settled, Sink, settle};
 use record_codec::Bytes;
 use shared_tree::{Book, SeatLog, Tree};
@@ -163,30 +165,17 @@ fn counted(alloc: Global, count: &Arc<AtomicU64, Global>) -> Result<LineSink<Clo
     Ok(LineSink::new(alloc, Closings { count }))
 }
 
-// What a storm may come to where memory is wanting: a fault, a listener that did not end by the end batch, a book that is
-// not settled, or a settled book with fewer entries.
-fn is_short_of_memory(stormed: &Result<Stormed, StormFault>, most: u64) -> bool {
-    match stormed {
-        Err(StormFault::Memory) => true,
-        Ok(stormed) => match stormed.settled {
-            Ok(settled) => settled.entries == settled.calls && settled.entries <= most,
-            Err(SettleFault::CountDiffers { .. }) => false,
-            Err(_) => true,
-        },
-    }
-}
-
 #[test]
 fn a_storm_closes_both_sinks(rt: HostRuntime) -> Result<(), Fail> {
     let alloc = rt.alloc();
     let count = Arc::new(alloc, AtomicU64::new(0))?;
     let one = counted(alloc, &count)?;
     let other = counted(alloc, &count)?;
-    let stormed = storm(&rt, alloc, 4, &OpenGate, one, other);
+    let stormed = storm(&rt, alloc, 4, &OpenGate, one, other)?;
     holds(
         &rt,
-        "is_short_of_memory(&stormed, 25)",
-        is_short_of_memory(&stormed, 25),
+        "is_settled(&stormed, 25, 18)",
+        is_settled(&stormed, 25, 18),
     );
     equal(&rt, count.load(Ordering::SeqCst), 2);
     Ok(())

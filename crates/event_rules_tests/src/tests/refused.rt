@@ -2,12 +2,13 @@
 
 use super::*;
 use refuser::{refuse, was_refused};
+use tree_ops::RENAME_EXCHANGE;
 
 /// More growths than a call here has.
 const MOST: u32 = 60;
 
 /// How many calls there are.
-const CALLS: u32 = 12;
+const CALLS: u32 = 13;
 
 // A directory, files with one and two paths, and an empty directory.
 fn prepared(alloc: Global) -> Result<Calls, Refusal> {
@@ -58,7 +59,12 @@ fn call_of(calls: &Calls, which: u32) -> Result<FileCall, Refusal> {
             old: path,
             new: other,
         },
-        10 => FileCall::Stat { path },
+        10 => FileCall::Rename2 {
+            old: path,
+            new: other,
+            flags: RENAME_EXCHANGE,
+        },
+        11 => FileCall::Stat { path },
         _ => FileCall::List {
             path: calls.path("/d")?,
         },
@@ -135,7 +141,7 @@ fn each_growth_of_each_call(rt: HostRuntime) -> Result<(), Fail> {
         let call = call_of(&calls, which)?;
         let told = notices_refused(&calls, &call)?;
         let raised = stage_refused(alloc, &watches, noticed(&calls, &call)?.as_slice())?;
-        let grows = has_refuser && which < 10;
+        let grows = has_refuser && which < 11;
         let is_well = matches!(told, Some(count) if (count > 0) == grows)
             && matches!(raised, Some(count) if (count > 0) == grows);
         assert!(rt; is_well, "call {which}: {told:?}, {raised:?}");

@@ -12,7 +12,7 @@ use tree_core::Call;
 use tree_ops::FileCall;
 use tree_paths::{Limits, Path, Refusal};
 
-type End = Ended<MemorySink>;
+pub(super) type End = Ended<MemorySink>;
 
 /// Lets each turn through.
 #[derive(Drop)]
@@ -146,7 +146,11 @@ fn story_told<L: Ledger>(
 }
 
 // The same, with a listener that had so many turns.
-fn heard_out(alloc: Global, story: &str, steps: u64) -> Result<(Book, SeatLog, End), Refusal> {
+pub(super) fn heard_out(
+    alloc: Global,
+    story: &str,
+    steps: u64,
+) -> Result<(Book, SeatLog, End), Refusal> {
     let (book, log, feed) = story_told::<Brand>(alloc, Blank::new(65537), story.as_bytes())?;
     let listener = Listening::new(alloc, 7, feed, MemorySink::new(alloc));
     Ok((book, log, ended(listener.run(&Open, steps))?))

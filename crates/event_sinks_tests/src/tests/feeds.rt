@@ -90,10 +90,7 @@ fn fills<L: Ledger>(alloc: Global, blank: Blank, story: &[u8]) -> Result<Feed, R
     Ok(feed)
 }
 
-/// A feed with the batches of a story. Where that lacks memory, it is made once more.
+/// A feed with the batches of a story.
 pub(super) fn feed_of(alloc: Global, story: &str) -> Result<Feed, Refusal> {
-    match fills::<Brand>(alloc, Blank::new(65537), story.as_bytes()) {
-        Err(Refusal::Enomem) => fills::<Brand>(alloc, Blank::new(65537), story.as_bytes()),
-        feed => feed,
-    }
+    fills::<Brand>(alloc, Blank::new(65537), story.as_bytes())
 }

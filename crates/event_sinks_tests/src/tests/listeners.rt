@@ -1,4 +1,4 @@
-//! Listeners at feeds of a tree. Want of memory for a sink, or for a text, ends a test.
+//! Listeners at feeds of a tree.
 
 ghost use Rattle.std.specs.Prelude.{◌≡◌, ◌++◌, [], true, flat_map, length, None, ⊤};
 ghost use Rattle.std.specs.Io.KnownBytes.{Appends};
@@ -20,7 +20,7 @@ use tree_paths::Refusal;
 
 /// Lets the turns of one worker through, from a turn on.
 #[derive(Drop)]
-struct Lets {
+pub(super) struct Lets {
     who: u32,
     from: u64,
 }
@@ -38,13 +38,13 @@ impl Gate for Lets {
 }
 
 /// A gate that lets each turn of the listeners of these tests through.
-const EACH: Lets = Lets { who: 7, from: 0 };
+pub(super) const EACH: Lets = Lets { who: 7, from: 0 };
 
 /// What is told of a listener that has ended: its cause, how many batches it was handed, how many records its sink took,
 /// and whether that is open.
-type Told = (Cause, usize, u64, bool);
+pub(super) type Told = (Cause, usize, u64, bool);
 
-fn told<S: Sink>(ended: &Ended<S>) -> Told {
+pub(super) fn told<S: Sink>(ended: &Ended<S>) -> Told {
     let sink = ended.sink();
     (
         ended.cause(),
@@ -320,26 +320,6 @@ fn a_dropped_listener_closes_once(rt: HostRuntime) -> Result<(), Fail> {
         equal(&rt, (count, text.as_slice()), (count, *wants));
         count = count.saturating_add(1);
     }
-    Ok(())
-}
-
-/// Whether this may be told of a listener at five batches of a record each and the end batch, with memory or without.
-fn may_be_told(told: Told) -> bool {
-    let (cause, handed, taken, is_open) = told;
-    let as_caused = match cause {
-        Cause::Last => handed == 6 && taken == 5,
-        Cause::Memory => taken < 6 && handed as u64 == taken,
-        Cause::Sink(SinkFault::Memory) => taken < 5 && handed as u64 == taken + 1,
-        _ => false,
-    };
-    as_caused && !is_open
-}
-
-#[test]
-fn want_of_memory_ends_a_listener(rt: HostRuntime) -> Result<(), Fail> {
-    let alloc = rt.alloc();
-    let told = ran(alloc, "f!g!h!i!j!.", MemorySink::new(alloc), &EACH, 9)?;
-    assert!(rt; may_be_told(told), "{told:?}");
     Ok(())
 }
 

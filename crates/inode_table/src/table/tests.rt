@@ -334,16 +334,11 @@ impl Calls {
     }
 }
 
-// The place of the first step that fails, if any, of those that begin with a new table. A step that lacks memory has
-// changed nothing, and is made once more.
+// The place of the first step that fails, if any, of those that begin with a new table.
 fn failed(alloc: Global, steps: &[Step]) -> Result<Option<usize>, Refusal> {
     let mut calls = Calls::new(alloc)?;
     for (place, step) in steps.iter().enumerate() {
-        let holds = match calls.step(*step) {
-            Err(Refusal::Enomem) => calls.step(*step)?,
-            answer => answer?,
-        };
-        if !holds {
+        if !calls.step(*step)? {
             return Ok(Some(place));
         }
     }

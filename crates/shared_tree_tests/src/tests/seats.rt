@@ -53,6 +53,28 @@ fn a_cut_makes_room(rt: HostRuntime) {
 }
 
 #[test]
+fn the_last_instance(rt: HostRuntime) {
+    let steps = [
+        Step::Sits(Ok(())),
+        Step::Opens(2, 1, Says::Refused(Refusal::Einval)),
+        Step::Opens(1, 1, Says::Instance(1)),
+        Step::Opens(1, 1, Says::Refused(Refusal::Emfile)),
+        Step::Inits(Says::Refused(Refusal::Einval)),
+        Step::Closes(1, Says::Done),
+        Step::Opens(1, 1, Says::Instance(2)),
+        Step::Closes(2, Says::Done),
+        Step::Opens(1, 1, Says::Refused(Refusal::Emfile)),
+        Step::Counts(8),
+        Step::Stands(1, 8),
+    ];
+    let mut limits = Limits::full();
+    limits.queue = 1;
+    limits.instances = 1;
+    limits.ids = 2;
+    assert_eq!(rt; plays(rt.alloc(), limits, &steps), Some(steps.len()));
+}
+
+#[test]
 fn pipes_go_on_over_a_cut(rt: HostRuntime) {
     let steps = [
         Step::Sits(Ok(())),
@@ -74,4 +96,58 @@ fn pipes_go_on_over_a_cut(rt: HostRuntime) {
         plays(rt.alloc(), Limits::full(), &steps),
         Some(steps.len())
     );
+}
+
+// A watch is refused where an instance has as many as it may have. What a new watch comes to once that one has ended.
+fn last_watch(alloc: Global, limits: Limits, after: Says) -> bool {
+    let steps = [
+        Step::Sits(Ok(())),
+        Step::Opens(16, 1, Says::Instance(1)),
+        Step::Creates("/f", Says::File),
+        Step::Creates("/g", Says::File),
+        Step::Creates("/h", Says::Refused(Refusal::NumbersSpent)),
+        Step::WatchesAt(1, "/f", Says::Wd(1)),
+        Step::WatchesAt(1, "/g", Says::Refused(Refusal::Enospc)),
+        Step::WatchesAt(1, "/f", Says::Wd(1)),
+        Step::Unlinks("/f", Says::File),
+        Step::Creates("/f", Says::Refused(Refusal::NumbersSpent)),
+        Step::WatchesAt(1, "/g", after),
+        Step::Counts(10),
+        Step::Stands(1, 10),
+    ];
+    plays(alloc, limits, &steps) == Some(steps.len())
+}
+
+#[test]
+fn the_last_file_number_and_watch(rt: HostRuntime) {
+    let mut limits = Limits::full();
+    limits.numbers = 3;
+    limits.watches = 1;
+    let is_well = last_watch(rt.alloc(), limits, Says::Wd(2));
+    assert!(rt; is_well, "watches");
+    let mut limits = Limits::full();
+    limits.numbers = 3;
+    limits.wds = 1;
+    let is_well = last_watch(rt.alloc(), limits, Says::Refused(Refusal::Enospc));
+    assert!(rt; is_well, "watch descriptors");
+}
+
+#[test]
+fn the_last_byte_link_and_cookie(rt: HostRuntime) {
+    let steps = [
+        Step::Sits(Ok(())),
+        Step::Creates("/f", Says::File),
+        Step::Truncates("/f", 4, Says::File),
+        Step::Truncates("/f", 5, Says::Refused(Refusal::Efbig)),
+        Step::Links("/f", "/g", Says::Refused(Refusal::Emlink)),
+        Step::Renames("/f", "/g", Says::File),
+        Step::Renames("/g", "/f", Says::Refused(Refusal::CookiesSpent)),
+        Step::Counts(6),
+        Step::Stands(1, 6),
+    ];
+    let mut limits = Limits::full();
+    limits.file_bytes = 4;
+    limits.links = 1;
+    limits.cookies = 1;
+    assert_eq!(rt; plays(rt.alloc(), limits, &steps), Some(steps.len()));
 }

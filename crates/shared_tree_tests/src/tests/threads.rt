@@ -89,10 +89,7 @@ fn takes_branded<R: Threads + Wait + Sync>(rt: &R, alloc: Global) -> Result<bool
 
 #[test]
 fn a_feed_is_taken_while_the_tree_is_locked(rt: HostRuntime) {
-    let taken = match takes_branded(&rt, rt.alloc()) {
-        Err(_) => takes_branded(&rt, rt.alloc()),
-        taken => taken,
-    };
+    let taken = takes_branded(&rt, rt.alloc());
     assert!(rt; taken == Ok(true));
 }
 
@@ -113,7 +110,7 @@ fn writes_once<L: Ledger>(
     held.call(seat, chmod(alloc, mode)?)
 }
 
-// Makes so many calls. A call that lacks memory is made once more.
+// Makes so many calls.
 fn writes<L: Ledger>(
     rt: &impl Wait,
     tree: &Tree<L>,
@@ -125,9 +122,7 @@ fn writes<L: Ledger>(
     for mode in 0..count {
         let mut guard = tree.lock(rt);
         let held = &mut *guard;
-        if writes_once(held, &mut seat, alloc, mode).is_err() {
-            let _ = writes_once(held, &mut seat, alloc, mode);
-        }
+        let _ = writes_once(held, &mut seat, alloc, mode);
     }
     seat
 }
@@ -217,9 +212,6 @@ fn writes_branded<R: Threads + Wait + Sync>(rt: &R, alloc: Global) -> Result<boo
 
 #[test]
 fn two_threads_call_on_two_seats(rt: HostRuntime) {
-    let written = match writes_branded(&rt, rt.alloc()) {
-        Err(_) => writes_branded(&rt, rt.alloc()),
-        written => written,
-    };
+    let written = writes_branded(&rt, rt.alloc());
     assert!(rt; written == Ok(true));
 }

@@ -7,11 +7,7 @@ use tree_core::Kept;
 
 // Makes a call whose copy is kept.
 fn kept(state: &mut State, call: &Call) -> Result<(Receipt, Kept), Refusal> {
-    let copy = copied(call)?;
-    match state.keep(CALLER, copy) {
-        Err(Refusal::Enomem) => state.keep(CALLER, copied(call)?),
-        kept => kept,
-    }
+    state.keep(CALLER, call.copy()?)
 }
 
 // Whether the receipt and what is kept name the place of the journal's last entry.
@@ -79,18 +75,6 @@ fn calls_are_kept(rt: HostRuntime) -> Result<(), Fail> {
     Ok(())
 }
 
-// Pumps an instance.
-fn pumped(
-    state: &mut State,
-    id: u32,
-    bytes: u32,
-) -> Result<(Receipt, Kept, Option<Events>), Refusal> {
-    match state.pump(CALLER, id, bytes) {
-        Err(Refusal::Enomem) => state.pump(CALLER, id, bytes),
-        pumped => pumped,
-    }
-}
-
 // The reply that spells these events.
 fn spelled_by(alloc: Global, events: &Events) -> Result<Reply, Refusal> {
     let bytes = encode(alloc, events.as_slice())?;
@@ -102,10 +86,7 @@ fn spelled_reply(alloc: Global, events: &Option<Events>) -> Result<Reply, Refusa
     let Some(events) = events else {
         return Err(Refusal::Eagain);
     };
-    match spelled_by(alloc, events) {
-        Err(Refusal::Enomem) => spelled_by(alloc, events),
-        reply => reply,
-    }
+    spelled_by(alloc, events)
 }
 
 // The pump answers what is wanted, and so the journal and what is kept of it have it. Gives its records.
@@ -115,7 +96,7 @@ fn pumping(
     room: (u32, u32),
     wanted: Result<Reply, Refusal>,
 ) -> Option<Events> {
-    let (receipt, kept, events) = pumped(state, room.0, room.1).expect(rt, "a pump");
+    let (receipt, kept, events) = state.pump(CALLER, room.0, room.1).expect(rt, "a pump");
     let call = Call::Pump {
         instance: room.0,
         bytes: room.1,
@@ -175,7 +156,7 @@ fn refused_pumps_move_nothing(rt: HostRuntime) -> Result<(), Fail> {
 
 // Whether the call is equal to its copy.
 fn is_copied(call: &Call) -> bool {
-    match copied(call) {
+    match call.copy() {
         Ok(copy) => copy == *call,
         Err(_) => false,
     }
@@ -201,18 +182,10 @@ fn copies_of_calls(rt: HostRuntime) -> Result<(), Fail> {
     Ok(())
 }
 
-// The same reply once more.
-fn copied_reply(reply: &Reply) -> Result<Reply, Refusal> {
-    match reply.copy() {
-        Err(Refusal::Enomem) => reply.copy(),
-        copy => copy,
-    }
-}
-
 // The reply and its copy are equal.
 fn copies_reply(rt: &impl Abort, reply: Result<Reply, Refusal>) {
     let reply = reply.expect(rt, "a reply");
-    let copy = copied_reply(&reply);
+    let copy = reply.copy();
     is_wanted(rt, reply, copy);
 }
 

@@ -1,4 +1,4 @@
-use Rattle.shared_tree_tests.proofs.tests.start_branded.Given as goal
+use Rattle.shared_tree_tests.proofs.tests.plays.Given as goal
 
 abbrev pub ghosts-start : goal.ghosts-start
 ghosts-start a = record { name = a.blank.name; parts = a.blank.parts }
