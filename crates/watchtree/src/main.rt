@@ -12,8 +12,8 @@ use std::process::ExitCode;
 use std::sync::Wait;
 use std::thread::Threads;
 use std::{env, io};
-use watchtree_command::{Asked, Fault, asked_by, report};
-use watchtree_script::{RunFault, run_script};
+use watchtree_command::{Asked, Fault, asked_by, tell};
+use watchtree_script::run_script;
 use watchtree_storm::{OpenGate, storm};
 
 /// How many records each sink of a storm takes at most.
@@ -31,12 +31,7 @@ fn run_storm<W: Write, R: Threads + Wait + Sync>(
     let one: Box<dyn Sink> = Box::new(alloc, CountSink::new(alloc, MOST))?;
     let other: Box<dyn Sink> = Box::new(alloc, CountSink::new(alloc, MOST))?;
     let stormed = storm(rt, alloc, calls, &OpenGate, one, other)?;
-    let text = report(alloc, &stormed)?;
-    if output.write_all(&text).is_err() {
-        return Err(Fault::Run(RunFault::Write));
-    }
-    let _ = stormed.settled?;
-    Ok(())
+    tell(alloc, &stormed, output)
 }
 
 fn main(rt: HostRuntime) -> ExitCode {

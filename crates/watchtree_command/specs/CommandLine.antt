@@ -1,9 +1,16 @@
 -- What the words of the command line stand for.
-use Rattle.std.specs.Prelude.{◌≤◌, ℕ, ◌&&◌, nat_lt, nat_le, List, length, Option, Some, None, if◌then◌else◌}
+use Rattle.std.specs.Prelude.{◌≡◌, ◌≤◌, ⊤, ℕ, Bool, true, false, ◌&&◌, nat_lt, nat_le, List, [], ◌∷◌, length, Option, Some, None, codes}
+use Rattle.std.specs.Prelude.{drop, option_map, option_and_then, Result, Ok, Err, if◌then◌else◌}
 use Rattle.std.specs.Char.{is_ascii_digit}
-use Rattle.std.specs.List.{list_all}
+use Rattle.std.specs.List.{list_all, list_any}
+use Rattle.std.specs.Str.{bytes_eq}
 use Rattle.std.specs.Str.Parse.{digits_value}
+use Rattle.clap.specs.Simple.{on_top}
+use Rattle.clap.specs.Words.{App, Kinds, Row, Rule, Shape, Text, fault_of, first_of, new_app, new_rule, subcommand_of, with_rule, with_subcommand}
+use Rattle.clap.specs.declared.builder.action.ArgAction.TheVariants.{Set}
 use Rattle.tree_paths.specs.Greatest.{most_queue}
+use Rattle.watchtree_command.specs.declared.fault.Fault.{Fault}
+use Rattle.watchtree_command.specs.declared.fault.Fault.TheVariants as fault
 use Rattle.watchtree_command.specs.declared.command_line.Asked.{Asked}
 use Rattle.watchtree_command.specs.declared.command_line.Asked.TheVariants.{Run, Storm}
 
@@ -33,3 +40,55 @@ number_of least most text =
     if nat_lt 0 (length text) && nat_le (length text) most_digits && list_all is_ascii_digit text
     && nat_le least (digits_value 10 text) && nat_le (digits_value 10 text) most
     then Some (digits_value 10 text) else None
+
+-- the number that was given, or the usual one
+abbrev pub number_or : ℕ → ℕ → ℕ → Option (List ℕ) → Option ℕ
+number_or usual least most None = Some usual
+number_or usual least most (Some text) = number_of least most text
+
+-- a command to clap: it has no flags of its own for help and version
+abbrev pub without_flags : Shape → Shape
+without_flags s = record s { disable_help_flag = true; disable_version_flag = true }
+
+-- and a subcommand with one option, which has a value
+abbrev pub with_option : Text → Text → Shape
+with_option name option =
+    (with_rule (on_top without_flags (new_app name)) (record (new_rule option) { long = Some option; action = Some Set })).top
+
+abbrev pub needs_subcommand : Shape → Shape
+needs_subcommand s = record (without_flags s) { disable_help_subcommand = true; subcommand_required = true }
+
+-- the program to clap: `run [--queue VALUE]` or `storm [--calls VALUE]`
+abbrev pub program : App
+program =
+    with_subcommand (with_subcommand (on_top needs_subcommand (new_app (codes "watchtree")))
+    (with_option (codes "run") (codes "queue"))) (with_option (codes "storm") (codes "calls"))
+
+-- what a subcommand asks for, with the values of its options: a queue of 16,384 or a limit of 1 to 65,535, and 100 calls or 1
+-- to 1,000
+abbrev pub asked_in : Text × List Row → Option Asked
+asked_in s =
+    if bytes_eq s.0 (codes "run") then option_map Run (number_or 16384 1 65535 (first_of (codes "queue") s.1))
+    else if bytes_eq s.0 (codes "storm") then option_map Storm (number_or 100 1 1000 (first_of (codes "calls") s.1))
+    else None
+
+abbrev pub is_dashes : Text → Bool
+is_dashes word = bytes_eq word (codes "--")
+
+-- clap finds no fault
+abbrev pub unless_fault : {A : Type 0} → Kinds → Option A → Option A
+unless_fault [] asked = asked
+unless_fault _ asked = None
+
+-- what the words ask for: clap takes them, and none behind the first is `--`
+abbrev pub asked_of : List Text → Option Asked
+asked_of words =
+    if list_any is_dashes (drop 1 words) then None
+    else unless_fault (fault_of program words) (option_and_then asked_in (subcommand_of program words))
+
+-- what is answered: what the words ask for, that they ask for nothing, or want of memory
+abbrev pub Asks : Option Asked → Result Asked Fault → Type 0
+Asks asked (Ok a) = asked ≡ Some a
+Asks asked (Err fault.CommandLine) = asked ≡ None
+Asks asked (Err fault.Memory) = ⊤
+Asks asked (Err _) = ⊥

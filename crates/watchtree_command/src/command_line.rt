@@ -1,15 +1,17 @@
 //! The command line: `watchtree run [--queue N]`, `watchtree storm [--calls N]`.
 
-ghost use Rattle.std.specs.Prelude.{◌≡◌, ◌<◌, ◌≤◌, ◌^◌, IfOk, IfSome, length, true};
+ghost use Rattle.std.specs.Prelude.{◌≡◌, ◌≢◌, ◌⊎◌, ◌<◌, ◌≤◌, ◌^◌, IfErr, IfOk, IfSome, None, Some, drop, false, length, map, option_and_then, option_map, true};
 ghost use Rattle.std.specs.Char.{is_ascii_digit};
-ghost use Rattle.std.specs.List.{list_all};
+ghost use Rattle.std.specs.List.{list_all, list_any};
 ghost use Rattle.std.specs.Option.{SomeIff};
 ghost use Rattle.std.specs.Str.Parse.{digits_value};
-ghost use Rattle.watchtree_command.specs.CommandLine.{number_of, IsAsked};
+ghost use Rattle.std.specs.String.{string_bytes};
+ghost use Rattle.clap.specs.Words.{app_of, first_of, found_of, rows_of, shape_of, subcommand_rows_of};
+ghost use Rattle.watchtree_command.specs.CommandLine.{Asks, IsAsked, asked_in, asked_of, is_dashes, number_of, number_or, program, with_option};
 
 use crate::fault::Fault;
 use clap::error::ErrorKind;
-use clap::{Arg, ArgAction, Command};
+use clap::{Arg, ArgAction, ArgMatches, Command};
 use std::alloc::{AllocError, Global};
 
 /// The limit of an instance that names none, unless the command line gives another.
@@ -51,51 +53,111 @@ pub enum Asked {
 /// # Errors
 /// [`Fault::CommandLine`], where the words are no `run` and no `storm`, or [`Fault::Memory`].
 pub fn asked_by(alloc: Global, words: &[String]) -> Result<Asked, Fault>
-    ensures { IfOk result IsAsked }
+    ensures asks { Asks (asked_of (map string_bytes words.now)) result }
+    ensures range { IfOk result IsAsked }
 {
     // To clap this word ends the options.
-    if words.iter().any(|word| word.as_str() == "--") {
+    if ends_options(words) {
         return Err(Fault::CommandLine);
     }
     let command = command(alloc)?;
-    let matches = match command.try_get_matches_from(words) {
-        Ok(matches) => matches,
-        Err(error) => {
-            return Err(match error.kind() {
-                ErrorKind::OutOfMemory => Fault::Memory,
-                _ => Fault::CommandLine,
-            });
-        }
-    };
-    if let Some(run) = matches.subcommand_matches("run") {
-        let queue = number_or(run.get_str("queue"), QUEUE, QUEUE_MIN, QUEUE_MAX)?;
+    match command.try_get_matches_from(words) {
+        Ok(matches) => asked_in(&matches),
+        Err(error) => Err(fault_by(error.kind())),
+    }
+}
+
+// Whether a word behind the first is `--`.
+fn ends_options(words: &[String]) -> bool
+    ensures { result ≡ list_any is_dashes (drop 1 (map string_bytes words.now)) }
+{
+    !words.is_empty() && has_dashes(&words[1..])
+}
+
+// Whether a word is `--`.
+fn has_dashes(words: &[String]) -> bool
+    ensures { result ≡ list_any is_dashes (map string_bytes words.now) }
+{
+    let mut found = false;
+    for word in words {
+        found = found || word.as_str() == "--";
+    }
+    found
+}
+
+// The fault of words that clap does not take.
+fn fault_by(kind: ErrorKind) -> Fault
+    ensures memory { kind ≡ ErrorKind.OutOfMemory → result ≡ Fault.Memory }
+    ensures words { kind ≢ ErrorKind.OutOfMemory → result ≡ Fault.CommandLine }
+    ensures either { (result ≡ Fault.Memory) ⊎ (result ≡ Fault.CommandLine) }
+{
+    match kind {
+        ErrorKind::OutOfMemory => Fault::Memory,
+        _ => Fault::CommandLine,
+    }
+}
+
+// What the subcommand that clap found asks for.
+fn asked_in(matches: &ArgMatches<'_>) -> Result<Asked, Fault>
+    ensures asks { Asks (option_and_then asked_in (subcommand_rows_of matches.now)) result }
+    ensures range { IfOk result IsAsked }
+{
+    match matches.subcommand() {
+        Some((name, found)) => asked_at(name, found),
+        None => Err(Fault::CommandLine),
+    }
+}
+
+// What a subcommand asks for, with what clap found behind it.
+fn asked_at(name: &str, found: &ArgMatches<'_>) -> Result<Asked, Fault>
+    ensures asks { Asks (asked_in (name.now, rows_of (found_of found.now))) result }
+    ensures range { IfOk result IsAsked }
+{
+    if name == "run" {
+        let queue = number_in(found, "queue", QUEUE, QUEUE_MIN, QUEUE_MAX)?;
         return Ok(Asked::Run { queue });
     }
-    if let Some(storm) = matches.subcommand_matches("storm") {
-        let calls = number_or(storm.get_str("calls"), CALLS, CALLS_MIN, CALLS_MAX)?;
+    if name == "storm" {
+        let calls = number_in(found, "calls", CALLS, CALLS_MIN, CALLS_MAX)?;
         return Ok(Asked::Storm { calls });
     }
     Err(Fault::CommandLine)
 }
 
-fn command<'a>(alloc: Global) -> Result<Command<'a>, AllocError> {
+// The number that an option has, or the usual one.
+fn number_in(
+    found: &ArgMatches<'_>,
+    option: &str,
+    usual: u32,
+    least: u32,
+    most: u32,
+) -> Result<u32, Fault>
+    requires { (least ≤ usual) × (usual ≤ most) }
+    ensures ok { IfOk result (λ n. number_or usual least most (first_of option.now (rows_of (found_of found.now))) ≡ Some n) }
+    ensures err { IfErr result (λ fault. (fault ≡ Fault.CommandLine) × (number_or usual least most (first_of option.now (rows_of (found_of found.now))) ≡ None)) }
+    ensures range { IfOk result (λ n. (least ≤ n) × (n ≤ most)) }
+{
+    number_or(found.get_str(option), usual, least, most)
+}
+
+fn command<'a>(alloc: Global) -> Result<Command<'a>, AllocError>
+    ensures { IfOk result (λ c. app_of c ≡ program) }
+{
     let run = subcommand(alloc, "run", "queue")?;
     let storm = subcommand(alloc, "storm", "calls")?;
     Command::new(alloc, "watchtree")
         .disable_help_flag(true)
-        .disable_help_subcommand(true)
         .disable_version_flag(true)
+        .disable_help_subcommand(true)
         .subcommand_required(true)
         .subcommand(run)?
         .subcommand(storm)
 }
 
 // A subcommand with an option that has a value.
-fn subcommand<'a>(
-    alloc: Global,
-    name: &'a str,
-    option: &'a str,
-) -> Result<Command<'a>, AllocError> {
+fn subcommand<'a>(alloc: Global, name: &'a str, option: &'a str) -> Result<Command<'a>, AllocError>
+    ensures { IfOk result (λ c. shape_of c ≡ with_option name.entry.now option.entry.now) }
+{
     let option = Arg::new(alloc, option).long(option).action(ArgAction::Set);
     Command::new(alloc, name)
         .disable_help_flag(true)
@@ -106,7 +168,9 @@ fn subcommand<'a>(
 // The number that was given, or the usual one.
 fn number_or(given: Option<&str>, usual: u32, least: u32, most: u32) -> Result<u32, Fault>
     requires { (least ≤ usual) × (usual ≤ most) }
-    ensures { IfOk result (λ n. (least ≤ n) × (n ≤ most)) }
+    ensures ok { IfOk result (λ n. number_or usual least most (option_map (λ s. s.now) given.entry) ≡ Some n) }
+    ensures err { IfErr result (λ fault. (fault ≡ Fault.CommandLine) × (number_or usual least most (option_map (λ s. s.now) given.entry) ≡ None)) }
+    ensures range { IfOk result (λ n. (least ≤ n) × (n ≤ most)) }
 {
     let Some(number) = given else {
         return Ok(usual);

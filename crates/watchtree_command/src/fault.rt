@@ -22,7 +22,7 @@ pub enum Fault {
     /// The run of a script ended early.
     #[error("{0}")]
     Run(RunFault),
-    /// The book of a storm was not settled.
+    /// The book of a storm was not settled. Want of memory to settle it is [`Fault::Memory`].
     #[error("settle: {0}")]
     Settle(SettleFault),
 }
@@ -54,6 +54,10 @@ impl Fault {
 }
 
 impl From<AllocError> for Fault {
+    ghost use Rattle.watchtree_command.specs.declared.fault.Fault.TheVariants.{Memory};
+
+    ghost from_gives = { λ _ fault. fault ≡ Memory };
+
     fn from(_error: AllocError) -> Fault {
         Fault::Memory
     }
@@ -74,14 +78,5 @@ impl<T: Drop> From<AllocFailed<T>> for Fault {
 impl From<StormFault> for Fault {
     fn from(_fault: StormFault) -> Fault {
         Fault::Memory
-    }
-}
-
-impl From<SettleFault> for Fault {
-    fn from(fault: SettleFault) -> Fault {
-        match fault {
-            SettleFault::Memory => Fault::Memory,
-            _ => Fault::Settle(fault),
-        }
     }
 }

@@ -8,4 +8,4 @@ mod lines;
 
 pub use command_line::{Asked, asked_by};
 pub use fault::Fault;
-pub use lines::report;
+pub use lines::{report, tell};

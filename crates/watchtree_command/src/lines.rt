@@ -1,13 +1,43 @@
 //! What is printed of a storm.
 
-ghost use Rattle.std.specs.Prelude.{◌≡◌, ◌++◌, IfOk, OnOk};
+ghost use Rattle.std.specs.Prelude.{◌≡◌, ◌++◌, IfErr, IfOk, IsOk, OnOk};
+ghost use Rattle.std.specs.Io.KnownBytes.{Appends};
 ghost use Rattle.std.specs.List.{flat_map};
-ghost use Rattle.watchtree_command.specs.Report.{cause_word, listener_line, report_of};
+ghost use Rattle.record_codec.specs.Ports.{faults_of, inner_of};
+ghost use Rattle.watchtree_command.specs.Report.{EndTells, cause_word, listener_line, report_of, told_faults};
 
-use event_sinks::Cause;
+use crate::fault::Fault;
+use event_sinks::{Cause, SettleFault};
 use itoa::Buffer;
+use record_codec::Port;
 use std::alloc::{AllocError, Global};
+use std::io::Write;
+use watchtree_script::RunFault;
 use watchtree_storm::Stormed;
+
+/// Writes the lines of a storm, as [`report`] has them, and says how the program ends: well only where they were written
+/// whole and the book is settled.
+///
+/// # Errors
+/// The first that holds: [`Fault::Memory`], where there is no memory for the lines, and none is written;
+/// [`RunFault::Write`], where a write failed, and a front of them is written; [`Fault::Settle`] with the fault of the
+/// book, or [`Fault::Memory`], where there was no memory to settle it.
+pub fn tell<W: Write>(alloc: Global, stormed: &Stormed, output: &mut Port<W>) -> Result<(), Fault>
+    ensures settled { OnOk result (IsOk stormed.now.settled) }
+    ensures lines { OnOk result (Appends (W.contents (inner_of output.old)) (W.contents (inner_of output.new)) (report_of stormed.now)) }
+    ensures err { IfErr result (λ fault. EndTells stormed.now fault (W.contents (inner_of output.old)) (W.contents (inner_of output.new))) }
+    ensures faults { faults_of output.new ≡ told_faults result (faults_of output.old) }
+{
+    let text = report(alloc, stormed)?;
+    if output.write_all(&text).is_err() {
+        return Err(Fault::Run(RunFault::Write));
+    }
+    match stormed.settled {
+        Ok(_) => Ok(()),
+        Err(SettleFault::Memory) => Err(Fault::Memory),
+        Err(fault) => Err(Fault::Settle(fault)),
+    }
+}
 
 /// The lines of a storm: its entries, its listeners, and `settled` where the book is.
 ///
