@@ -116,3 +116,14 @@ module _ {S : Type 0} (record_list : S → List Event) (page : S → Page) where
         let sink : new ≡ old.sink = rests (λ none. absurd (cc)) in
         let on : WritesBatches record_list page first handed old.sink old.handed.items (Some is) = subst (λ (o : Option Cause). WritesBatches record_list page first handed old.sink old.handed.items o) (same ∙ sym why) f in
         subst (λ (bs : List Batch). WritesBatches record_list page first handed new bs (Some is)) (sym all) (subst (λ (s : S). WritesBatches record_list page first handed s old.handed.items (Some is)) (sym sink) on)
+
+-- a listener that had ended stays as it was
+module _ {S : Type 0} (first : Listening S) where
+  still_over : (l : Listening S) → l ≡ first → first.cause ≢ None → l.cause ≢ None
+  still_over l same over = subst (λ (x : Listening S). x.cause ≢ None) (sym same) over
+
+  pub stays_over : (old new : Listening S) → old ≡ first → (old.cause ≢ None → new ≡ old) → first.cause ≢ None → new ≡ first
+  stays_over old new same rests over = rests (still_over old same over) ∙ same
+
+  pub over_still : (l : Listening S) (new : S) → l ≡ first → (l.cause ≢ None → new ≡ l.sink) → first.cause ≢ None → new ≡ first.sink
+  over_still l new same rests over = rests (still_over l same over) ∙ ap (λ (x : Listening S). x.sink) same

@@ -208,6 +208,7 @@ impl<S: Sink> Listening<S> {
         ensures turns { (h : Heard) × Reaches (G.may_pass gate.now) turns (heard_by S.record_list S.live self) h × (ended_of S.record_list S.live result ≡ ended_by h Turns) }
         ensures answers { self.cause ≡ None → AnswersBatches S.record_list S.may_answer self.sink self.handed.items result.sink result.handed.items (Some result.cause) }
         ensures writes { self.cause ≡ None → WritesBatches S.record_list S.page self.sink self.handed.items result.sink result.handed.items (Some result.cause) }
+        ensures rests { self.cause ≢ None → result.sink ≡ self.sink }
     {
         let mut listener = self;
         for turn in 0..turns {

@@ -2,7 +2,7 @@ use Rattle.std.proofs.Common.{◌+◌, ap, arith, refl, rules}
 use Rattle.event_sinks.specs.declared.listener.Cause.TheVariants.{Turns}
 use Rattle.event_sinks.specs.Heard.{Heard, heard_by}
 use Rattle.event_sinks.proofs.Answering.{end_answers, turn_answers}
-use Rattle.event_sinks.proofs.Paging.{end_writes, nothing_put, turn_writes}
+use Rattle.event_sinks.proofs.Paging.{end_writes, nothing_put, over_still, stays_over, turn_writes}
 use Rattle.event_sinks.proofs.Hearing.{reaches_more, reaches_next}
 use Rattle.event_sinks.proofs.listener.Listening.run.Goals as goal
 
@@ -53,6 +53,7 @@ loop-turn-preserved g c =
       reaches = reaches_next passes c.loop-turn.turn (heard_by list g.S.Sink.live first) before after c.loop-turn.invariant.reaches c.is_over_at.ensures.turn;
       answers = λ on. turn_answers list g.S.Sink.may_answer first.sink first.handed.items old.sink new.sink old.handed.items new.handed.items passes c.loop-turn.turn old.cause new.cause before after refl refl refl refl refl refl c.is_over_at.ensures.turn (c.loop-turn.invariant.answers on) c.is_over_at.ensures.answers;
       writes = λ on. turn_writes list g.S.Sink.page first.sink first.handed.items old new old.cause refl (c.loop-turn.invariant.writes on) c.is_over_at.ensures.writes c.is_over_at.ensures.rests;
+      rests = λ over. stays_over first old new (c.loop-turn.invariant.rests over) c.is_over_at.ensures.rests over;
     }
 
 pub returns-then-is_over_at-clause-writes : goal.returns-then-is_over_at-clause-writes
@@ -76,3 +77,12 @@ returns-clause-writes g c on =
     let last = c.end-2.result in
     let ended = c.end-2.ensures.ended in
     end_writes list page first.sink first.handed.items new last.sink last.handed.items new.cause last.cause Turns refl (ap (λ (h : Heard). h.handed) ended) (ap (λ (h : Heard). h.cause) ended) (nothing_put list page new.sink) (c.loop-turn.invariant.writes on) c.end-2.ensures.writes c.end-2.ensures.rests
+
+pub returns-then-is_over_at-clause-rests : goal.returns-then-is_over_at-clause-rests
+returns-then-is_over_at-clause-rests g c over =
+    let first = c.args.self in
+    let new = c.is_over_at.new.self in
+    over_still first new c.end.result.sink (stays_over first c.loop-turn.listener new (c.loop-turn.invariant.rests over) c.is_over_at.ensures.rests over) c.end.ensures.rests over
+
+pub returns-clause-rests : goal.returns-clause-rests
+returns-clause-rests g c over = over_still c.args.self c.loop-turn.listener c.end-2.result.sink (c.loop-turn.invariant.rests over) c.end-2.ensures.rests over
