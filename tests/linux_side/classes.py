@@ -1,5 +1,5 @@
 """The classes of differences: for each a rule that says what the kernel answers, or raises, where the program does as it does."""
-from .files import is_odd
+from .files import is_odd, names_of
 from .lines import paths_of, unescaped
 from .orders import ALL_EVENTS, refusals
 
@@ -58,14 +58,20 @@ def reply_class(line, mine, other, files):
     return None
 
 
-def answer_classes(line, ours, theirs):
+def tmpfs_counts(files, path):
+    """The links and the size that tmpfs gives to a directory: 20 bytes for each entry, `.` and `..` among them."""
+    below = files.names_in(path)
+    return str(2 + sum(files.kind(it) == "d" for it in below)), str(20 * (2 + len(below)))
+
+
+def answer_classes(line, ours, theirs, files):
     """The classes of two answers, or nothing where a difference has none."""
     if line.name == "list" and ours[0] == theirs[0] and list(ours[1:]) == sorted(theirs[1:], key=bytes_of):
         return {"list-order"}
     if line.name == "stat" and ours[:2] == theirs[:2] and ours[1] == "d":
-        found = {"directory-stat"} if ours[3:] != theirs[3:] else set()
         apart = int(ours[2], 8) ^ int(theirs[2], 8)
-        return None if apart & ~0o6000 else found | ({"set-id-bits"} if apart else set())
+        is_known = theirs[3:] == tmpfs_counts(files, names_of(paths_of(line)[0])) and not apart & ~0o6000
+        return {"directory-stat"} | ({"set-id-bits"} if apart else set()) if is_known else None
     return None
 
 
@@ -141,6 +147,6 @@ def names_of_difference(line, ours, theirs, files):
         # What an accepted call raises follows from its being accepted; refused ones raise something only behind an open.
         is_told = any(heard.values()) and mine.error or any(told.values()) and other.error and name not in OPENING
         return None if is_told or not name else {name}
-    answers = answer_classes(line, mine.words, other.words) if mine.words != other.words else set()
+    answers = answer_classes(line, mine.words, other.words, files) if mine.words != other.words else set()
     events = event_classes(line, heard, told, mine) if heard != told else set()
     return None if answers is None or events is None else answers | events

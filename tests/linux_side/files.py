@@ -76,5 +76,6 @@ class Files:
         above = names[:-1]
         return self.find(above) or ("ENOTDIR" if self.kind(above) == "f" else None)
 
-    def has_names(self, names):
-        return any(it and it[:-1] == names for it in self.nodes)
+    def names_in(self, names):
+        """The paths of what stands in a directory."""
+        return [it for it in self.nodes if it and it[:-1] == names]

@@ -3,7 +3,7 @@ import random
 
 from .lines import lines_of
 
-SEED, COUNT, FILLED = 20263, 160, 4
+SEED, COUNT, FILLED = 20263, 160, 2
 NAMES = "abc"
 MASKS = ["0xfff"] * 6 + ["0x80000fff"] * 3 + [
     "0xc00", "0x404", "0x80000004", "0x80000400", "0x800", "0x100", "0x6c0", "0x1", "0x10", "0x80000020", "0x2000000a",

@@ -82,7 +82,7 @@ class Rows:
         return "ENOTDIR" if self.kinds[0] == "f" else None
 
     def filled_old(self):
-        return "ENOTEMPTY" if self.files.has_names(self.path) else None
+        return "ENOTEMPTY" if self.files.names_in(self.path) else None
 
     def flags_row(self):
         return "EINVAL" if self.all_flags not in (0, 1, 2) else None
@@ -121,7 +121,7 @@ class Rows:
         return "EISDIR" if self.replaces(("f", "d")) else None
 
     def filled(self):
-        return "ENOTEMPTY" if self.replaces(("d", "d")) and self.path != self.new and self.files.has_names(self.new) else None
+        return "ENOTEMPTY" if self.replaces(("d", "d")) and self.path != self.new and self.files.names_in(self.new) else None
 
     def instance(self):
         number = int(self.line.words[0])
