@@ -15,9 +15,8 @@ fn holds(rt: &impl Abort, what: &str, is_so: bool) {
     assert!(rt; is_so, "{what}");
 }
 
-/// Watches a file. A call that lacks memory has changed nothing, and is made once more.
+/// Watches a file.
 fn watch(
-    rt: &impl Abort,
     watches: &mut Watches,
     number: u32,
     bits: u32,
@@ -27,17 +26,7 @@ fn watch(
     if let Some(refusal) = mask.fault() {
         return Err(refusal);
     }
-    let before = (watches.len(), watches.next_wd(), watches.of(number));
-    match watches.add(number, mask, is_directory) {
-        Err(Refusal::Enomem) => {
-            assert_eq!(rt;
-                (watches.len(), watches.next_wd(), watches.of(number)),
-                before
-            );
-            watches.add(number, mask, is_directory)
-        }
-        answer => answer,
-    }
+    watches.add(number, mask, is_directory)
 }
 
 #[test]
@@ -104,25 +93,21 @@ fn joins_and_replaces(rt: HostRuntime) {
     let mut watches = Watches::new(rt.alloc(), &Limits::full());
     equal(&rt, watches.of(7), None);
     holds(&rt, "watches.is_empty()", watches.is_empty());
-    equal(
-        &rt,
-        watch(&rt, &mut watches, 7, bits::IN_CREATE, true),
-        Ok(1),
-    );
+    equal(&rt, watch(&mut watches, 7, bits::IN_CREATE, true), Ok(1));
     equal(&rt, watches.of(7), Some((1, 0x100)));
-    equal(&rt, watch(&rt, &mut watches, 7, 0xa000_0200, true), Ok(1));
+    equal(&rt, watch(&mut watches, 7, 0xa000_0200, true), Ok(1));
     equal(&rt, watches.of(7), Some((1, 0x8000_0300)));
-    equal(&rt, watch(&rt, &mut watches, 7, 0x2000_0001, true), Ok(1));
+    equal(&rt, watch(&mut watches, 7, 0x2000_0001, true), Ok(1));
     equal(&rt, watches.of(7), Some((1, 0x8000_0301)));
-    equal(&rt, watch(&rt, &mut watches, 7, 0x0100_0200, true), Ok(1));
+    equal(&rt, watch(&mut watches, 7, 0x0100_0200, true), Ok(1));
     equal(&rt, watches.of(7), Some((1, 0x200)));
 
     // A file that is not watched yet gets the bits of the call, also to be joined.
-    equal(&rt, watch(&rt, &mut watches, 3, 0x2600_4002, false), Ok(2));
+    equal(&rt, watch(&mut watches, 3, 0x2600_4002, false), Ok(2));
     equal(&rt, watches.of(3), Some((2, 0x2)));
     equal(
         &rt,
-        watch(&rt, &mut watches, 3, 0x0100_0fff, false),
+        watch(&mut watches, 3, 0x0100_0fff, false),
         Err(Refusal::Enotdir),
     );
     equal(&rt, watches.of(3), Some((2, 0x2)));
@@ -130,12 +115,12 @@ fn joins_and_replaces(rt: HostRuntime) {
     // Under MASK_CREATE a file that is watched already is refused, once ONLYDIR was looked at, and keeps its bits.
     equal(
         &rt,
-        watch(&rt, &mut watches, 3, 0x1000_0001, false),
+        watch(&mut watches, 3, 0x1000_0001, false),
         Err(Refusal::Eexist),
     );
     equal(
         &rt,
-        watch(&rt, &mut watches, 3, 0x1100_0001, false),
+        watch(&mut watches, 3, 0x1100_0001, false),
         Err(Refusal::Enotdir),
     );
     equal(&rt, watches.of(3), Some((2, 0x2)));
@@ -150,8 +135,8 @@ fn ends(rt: HostRuntime) {
     for number in [9, 4, 6] {
         holds(
             &rt,
-            "watch(&rt, &mut watches, number, bits::IN_ALL_EVENTS, false).is_ok()",
-            watch(&rt, &mut watches, number, bits::IN_ALL_EVENTS, false).is_ok(),
+            "watch(&mut watches, number, bits::IN_ALL_EVENTS, false).is_ok()",
+            watch(&mut watches, number, bits::IN_ALL_EVENTS, false).is_ok(),
         );
     }
     equal(&rt, watches.number_of(1), Some(9));
@@ -170,7 +155,7 @@ fn ends(rt: HostRuntime) {
     equal(&rt, watches.remove(3), Err(Refusal::Einval));
     equal(
         &rt,
-        watch(&rt, &mut watches, 9, bits::IN_ALL_EVENTS, false),
+        watch(&mut watches, 9, bits::IN_ALL_EVENTS, false),
         Ok(4),
     );
     equal(&rt, watches.len(), 2);
@@ -181,60 +166,36 @@ fn limits(rt: HostRuntime) {
     let mut limits = Limits::full();
     limits.watches = 1;
     let mut watches = Watches::new(rt.alloc(), &limits);
+    equal(&rt, watch(&mut watches, 5, bits::IN_MODIFY, false), Ok(1));
     equal(
         &rt,
-        watch(&rt, &mut watches, 5, bits::IN_MODIFY, false),
-        Ok(1),
-    );
-    equal(
-        &rt,
-        watch(&rt, &mut watches, 6, bits::IN_MODIFY, false),
+        watch(&mut watches, 6, bits::IN_MODIFY, false),
         Err(Refusal::Enospc),
     );
     equal(
         &rt,
-        watch(&rt, &mut watches, 6, 0x0100_0002, false),
+        watch(&mut watches, 6, 0x0100_0002, false),
         Err(Refusal::Enotdir),
     );
-    equal(
-        &rt,
-        watch(&rt, &mut watches, 5, bits::IN_ATTRIB, false),
-        Ok(1),
-    );
+    equal(&rt, watch(&mut watches, 5, bits::IN_ATTRIB, false), Ok(1));
     equal(&rt, watches.drop_file(5), Some(1));
-    equal(
-        &rt,
-        watch(&rt, &mut watches, 6, bits::IN_MODIFY, false),
-        Ok(2),
-    );
+    equal(&rt, watch(&mut watches, 6, bits::IN_MODIFY, false), Ok(2));
 
     let mut limits = Limits::full();
     limits.wds = 2;
     let mut watches = Watches::new(rt.alloc(), &limits);
+    equal(&rt, watch(&mut watches, 5, bits::IN_MODIFY, false), Ok(1));
+    equal(&rt, watch(&mut watches, 6, bits::IN_MODIFY, false), Ok(2));
     equal(
         &rt,
-        watch(&rt, &mut watches, 5, bits::IN_MODIFY, false),
-        Ok(1),
-    );
-    equal(
-        &rt,
-        watch(&rt, &mut watches, 6, bits::IN_MODIFY, false),
-        Ok(2),
-    );
-    equal(
-        &rt,
-        watch(&rt, &mut watches, 7, bits::IN_MODIFY, false),
+        watch(&mut watches, 7, bits::IN_MODIFY, false),
         Err(Refusal::Enospc),
     );
     equal(&rt, watches.remove(1), Ok(()));
     equal(
         &rt,
-        watch(&rt, &mut watches, 7, bits::IN_MODIFY, false),
+        watch(&mut watches, 7, bits::IN_MODIFY, false),
         Err(Refusal::Enospc),
     );
-    equal(
-        &rt,
-        watch(&rt, &mut watches, 6, bits::IN_ATTRIB, false),
-        Ok(2),
-    );
+    equal(&rt, watch(&mut watches, 6, bits::IN_ATTRIB, false), Ok(2));
 }

@@ -9,7 +9,7 @@ use std::test::Fail;
 const MOST: u32 = 100;
 
 /// How many calls there are, and how many probes.
-const CALLS: u32 = 18;
+const CALLS: u32 = 19;
 
 const PROBES: u32 = 16;
 
@@ -33,6 +33,7 @@ fn call_of(alloc: Global, which: u32) -> Result<Call, Refusal> {
         14 => unwatch(1, 1),
         15 => read(1, ALL),
         16 => pump(2, ALL),
+        17 => exchange(alloc, "/g", "/e"),
         _ => close(1),
     }
 }
@@ -406,6 +407,7 @@ fn in_large(alloc: Global, which: u32) -> Result<Call, Refusal> {
         11 => init(10),
         12 => watch(alloc, 1, "/d8/f/02", 0xfff),
         13 => unwatch(1, 2),
+        14 => exchange(alloc, "/d8/f", "/d7/e"),
         _ => close(1),
     }
 }
@@ -414,7 +416,7 @@ fn in_large(alloc: Global, which: u32) -> Result<Call, Refusal> {
 fn two_hundred_growths_do(rt: HostRuntime) -> Result<(), Fail> {
     let alloc = rt.alloc();
     let mut tree = large(alloc)?;
-    for which in 0..15 {
+    for which in 0..16 {
         let call = in_large(alloc, which)?;
         let _ = refuse_from(alloc, 201);
         let told = tree.apply(CALLER, call);

@@ -9,7 +9,7 @@ use refuser::{refuse, refuse_from, was_refused};
 const MOST: u32 = 200;
 
 /// How many calls there are.
-const CALLS: u32 = 14;
+const CALLS: u32 = 15;
 
 // A directory with more names than a node of an ordered map takes, files with one and two paths, and an empty directory.
 fn prepared(alloc: Global) -> Result<Calls, Refusal> {
@@ -33,7 +33,7 @@ fn mkdir(calls: &mut Calls, text: &str) -> Result<Answer, Refusal> {
     calls.made(&FileCall::Mkdir { path, mode: 0o755 })
 }
 
-// A call of each kind, none of which is refused there. The last six take no memory.
+// A call of each kind, none of which is refused there. The last seven take no memory.
 fn call_of(calls: &Calls, which: u32) -> Result<FileCall, Refusal> {
     let path = calls.path("/g")?;
     let new = calls.path("/d/new")?;
@@ -76,9 +76,14 @@ fn small_call_of(calls: &Calls, path: Path, which: u32) -> Result<FileCall, Refu
         },
         11 => FileCall::Stat { path },
         12 => FileCall::Truncate { path, len: 1 },
-        _ => FileCall::Rename {
+        13 => FileCall::Rename {
             old: path,
             new: calls.path("/d/f")?,
+        },
+        _ => FileCall::Rename2 {
+            old: path,
+            new: calls.path("/h")?,
+            flags: RENAME_EXCHANGE,
         },
     })
 }
