@@ -14,10 +14,12 @@ ORDER_NAMES = {"watch": "watch-refusal-order", "rename": "rename-refusal-order",
 
 
 def mode_of(line):
+    """The mode that a line names, or 0."""
     return int(line.words[1], 8) if line.name in ("mkdir", "create", "chmod") else 0
 
 
 def mask_of(line):
+    """The mask that a line names, or 0."""
     return int(line.words[2], 16) if line.name == "watch" else 0
 
 

@@ -89,12 +89,14 @@ class Queue:
         self.limit, self.rules, self.waiting = limit, rules, []
 
     def repeats(self, record):
+        """Whether a record is merged with the last one that waits."""
         last = self.waiting[-1] if self.waiting else None
         if last and "merge-without-cookie" in self.rules:
             last, record = last._replace(cookie=0), record._replace(cookie=0)
         return last == record and record.mask != IGNORED
 
     def offer(self, record):
+        """Merges, keeps or loses a record, by the rules in their order."""
         is_full = len(self.waiting) >= self.limit
         if is_full and "limit-before-merge" in self.rules:
             self.waiting += [MARK] * (MARK not in self.waiting)
@@ -106,6 +108,7 @@ class Queue:
             self.waiting.append(record)
 
     def read(self, count):
+        """The reply to a read of so many bytes."""
         given = []
         if not self.waiting:
             return Reply("EAGAIN", (), ())
@@ -161,6 +164,7 @@ def compare_queues(sides, lines, raised, found):
 
 
 def first_difference(lines, ours, theirs):
+    """The first line with two replies, and both."""
     return next((it for it in zip(lines, ours, theirs) if it[1] != it[2]))
 
 

@@ -5,6 +5,7 @@ MOST_NAME = 255
 
 
 def names_of(text):
+    """The names of a path's text."""
     return tuple(it for it in text.split(b"/") if it)
 
 
@@ -45,6 +46,7 @@ class Files:
             self.closed.add(int(line.words[0]))
 
     def move(self, old, new, is_exchange):
+        """Moves what is at a path and below it; two paths of one file stay."""
         if self.nodes[old] is self.nodes.get(new):
             return
         taken, given = self.taken_out(old), self.taken_out(new)
@@ -58,6 +60,7 @@ class Files:
         return {it[len(top):]: self.nodes.pop(it) for it in below}
 
     def kind(self, names):
+        """`d`, `f` or nothing."""
         return self.nodes[names].kind if names in self.nodes else None
 
     def find(self, names):

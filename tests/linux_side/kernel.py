@@ -64,6 +64,7 @@ class Kernel:
         return scripts.Reply(None, tuple(str(it) for it in answer or ()), ())
 
     def opened(self, path, flags, mode=0):
+        """A file that was opened."""
         return asked(LIBRARY.open(self.path(path), flags | os.O_CLOEXEC, ctypes.c_uint(mode)))
 
     def do_mkdir(self, path, mode):
@@ -140,6 +141,7 @@ class Kernel:
         return [len(self.handles)]
 
     def handle(self, number):
+        """The kernel's handle of an instance, -1 where none is open."""
         return self.handles.get(int(number), -1)
 
     def do_watch(self, number, path, mask):

@@ -7,6 +7,7 @@ ROW = re.compile(r"^\| `([a-z-]+)` \|", re.M)
 
 
 def page(docs, name):
+    """The text of a page."""
     with open(os.path.join(docs, name), encoding="utf-8") as it:
         return it.read()
 
