@@ -10,12 +10,12 @@ if TYPE_CHECKING:
 TRACKS = 3
 
 STYLE = """
-:root { color-scheme: light dark; --ink: #1b1f24; --soft: #57606a; --paper: #fff; --line: #d0d7de; --band: #f6f8fa;
+:root { color-scheme: light dark; --ink: #1b1f24; --soft: #57606a; --ground: #fff; --line: #d0d7de; --band: #f6f8fa;
   --fill: #9ec5fe; --joined: #0b5cad; --merged: #6e5494; --lost: #b42318; --read: #1a7f37; }
-@media (prefers-color-scheme: dark) { :root { --ink: #e6edf3; --soft: #9da7b1; --paper: #0d1117; --line: #3d444d;
+@media (prefers-color-scheme: dark) { :root { --ink: #e6edf3; --soft: #9da7b1; --ground: #0d1117; --line: #3d444d;
   --band: #151b23; --fill: #1f4b80; --joined: #79b8ff; --merged: #c8a6ff; --lost: #ff9d94; --read: #6bd58a; } }
 * { box-sizing: border-box; }
-body { margin: 0; padding: 1rem; background: var(--paper); color: var(--ink); font: 15px/1.45 system-ui, sans-serif; }
+body { margin: 0; padding: 1rem; background: var(--ground); color: var(--ink); font: 15px/1.45 system-ui, sans-serif; }
 h1 { font-size: 1.3rem; margin: 0 0 .3rem; overflow-wrap: anywhere; }
 p { margin: .3rem 0; max-width: 60rem; }
 ul.key { display: flex; flex-wrap: wrap; gap: .3rem 1rem; padding: 0; margin: .6rem 0; list-style: none; }
