@@ -141,3 +141,23 @@ fn plain_calls(rt: HostRuntime) -> Result<(), Fail> {
     is_plain(&rt, close(1), true);
     Ok(())
 }
+
+// A receipt of a close, with its place.
+fn done_at(place: u64) -> Receipt {
+    Receipt {
+        place,
+        reply: Reply::Done,
+    }
+}
+
+/// Receipts are equal where their places and replies are.
+#[test]
+fn receipts_are_of_their_places(rt: HostRuntime) {
+    let other = Receipt {
+        place: 3,
+        reply: Reply::Wd(1),
+    };
+    holds(&rt, "the same", done_at(3) == done_at(3));
+    holds(&rt, "another place", done_at(3) != done_at(4));
+    holds(&rt, "another reply", done_at(3) != other);
+}

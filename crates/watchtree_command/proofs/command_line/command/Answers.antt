@@ -1,7 +1,7 @@
 use Rattle.std.proofs.Common.{rules, ◌≡◌, ◌∙◌, ◌&&◌, Bool, true, false, not, ap, ap₂, codes, refl}
 use Rattle.std.proofs.lemmas.Result.{IfOk-weaker}
 use Rattle.clap.specs.Simple.{on_top}
-use Rattle.clap.specs.Words.{App, Shape, app_of, new_app, shape_of, with_subcommand}
+use Rattle.clap.specs.Words.{Shape, app_of, new_app, shape_of, with_subcommand}
 use Rattle.watchtree_command.specs.CommandLine.{needs_subcommand, with_option}
 use Rattle.watchtree_command.proofs.command_line.command.Goals as goal
 

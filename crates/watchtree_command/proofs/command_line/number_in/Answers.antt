@@ -1,4 +1,4 @@
-use Rattle.std.proofs.Common.{◌≡◌, ◌∙◌, rules, map, option_map}
+use Rattle.std.proofs.Common.{◌≡◌, ◌∙◌, rules, option_map}
 use Rattle.clap.specs.Words.{first_of, found_of, rows_of}
 use Rattle.clap.proofs.WalkLemmas.{first_value-rows}
 use Rattle.watchtree_command.proofs.command_line.number_in.Goals as goal
