@@ -1,13 +1,12 @@
 -- What the seats of a storm keep.
-use Rattle.std.proofs.Common.{◌≡◌, ◌∙◌, ◌⊎◌, ◌+◌, ◌++◌, ℕ, zero, suc, List, [], ◌∷◌, refl, ap, inl, inr, add-one}
+use Rattle.std.proofs.Common.{◌≡◌, ◌∙◌, ◌+◌, ◌++◌, ℕ, zero, suc, List, [], ◌∷◌, refl, ap, inl, add-one}
 use Rattle.tree_ops.specs.declared.call.FileCall.TheVariants as file
-use Rattle.tree_core.specs.declared.call.Call.{Call}
 use Rattle.tree_core.specs.declared.call.Call.TheVariants as call
 use Rattle.tree_core.specs.declared.reply.Kept.{Kept}
 use Rattle.tree_core.specs.declared.reply.Receipt.{Receipt}
 use Rattle.shared_tree.specs.declared.seat.SeatLog.{SeatLog}
 use Rattle.shared_tree.specs.Seats.{Seated, seated}
-use Rattle.watchtree_storm.specs.Storm.{AreTurns, HasBegun, IsClosing, IsDirectory, IsListening, IsTurn, IsWhole, KeepsOrNot, Part, seat_of}
+use Rattle.watchtree_storm.specs.Storm.{AreTurns, HasBegun, IsDirectory, IsListening, IsTurn, IsWhole, Part, seat_of}
 
 -- no turn
 pub first-turn : (w : Part) (s : Seated) → AreTurns w 0 s s
@@ -24,15 +23,6 @@ pub no-turns : (w : Part) (n : ℕ) (s : Seated) → AreTurns w n s s
 unfolding AreTurns
 no-turns w zero s = refl
 no-turns w (suc n) s = (s, no-turns w n s, (s, inl refl, inl refl))
-
--- a seat keeps its number
-keeps-number : (c : Call) (old new : Seated) → KeepsOrNot c old new → new.number ≡ old.number
-keeps-number c old new (inl e) = ap (λ (s : Seated). s.number) e
-keeps-number c old new (inr k) = ap (λ (s : Seated). s.number) k.2
-
-pub closing-number : (old new : Seated) → IsClosing old new → new.number ≡ old.number
-closing-number old new k =
-    keeps-number _ k.2 new k.6 ∙ keeps-number _ k.1 k.2 k.5 ∙ keeps-number _ k.0 k.1 k.4 ∙ keeps-number _ old k.0 k.3
 
 -- what is said of a seat holds of its log
 pub whole-of-log : (l : SeatLog) (s : Seated) → (l.number ≡ s.number) × (l.kept ≡ s.kept) → IsWhole s → IsWhole (seat_of l)
