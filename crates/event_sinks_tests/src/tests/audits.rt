@@ -5,9 +5,12 @@ ghost use Rattle.tree_core.specs.Calls.{is_plain};
 
 use super::feeds::{tells, watches};
 use super::*;
-use shared_tree::{Book, Feed, Held, KeptCalls, Seat, SeatLog};
+use shared_tree::{Book, Feed, Held, KeptCalls, Pass, Seat, SeatLog, Tree};
 use std::marker::Brand;
 use std::sync::ledger::{Blank, Ledger};
+use std::sync::{Mutex, Wait};
+use std::thread;
+use std::thread::Threads;
 use tree_core::Call;
 use tree_ops::FileCall;
 use tree_paths::{Limits, Path, Refusal};
@@ -345,4 +348,148 @@ fn sizes(end: &End) -> Option<(usize, usize, usize)> {
         )),
         _ => None,
     }
+}
+
+#[test]
+fn a_full_sink_is_not_ended(rt: HostRuntime) -> Result<(), Fail> {
+    let alloc = rt.alloc();
+    let (book, log, feed) = story_told::<Brand>(alloc, Blank::new(65537), b"fg!.")?;
+    let end = Listening::new(alloc, 7, feed, CountSink::new(alloc, 1)).run(&Open, 9);
+    equal(&rt, end.cause(), Cause::Sink(SinkFault::Full));
+    let mut logs = Vec::new(alloc);
+    logs.push(log)?;
+    let mut ended = Vec::new(alloc);
+    ended.push(end)?;
+    let settled = answered(settle(alloc, book, logs, ended))?;
+    equal(&rt, settled, Err(SettleFault::NotEnded(1)));
+    Ok(())
+}
+
+/// How many batches a large book hands over before the end batch.
+const BATCHES: u64 = 5_000;
+
+// A file is made, looked at and taken away, and what was told of it is pumped.
+fn turns<L: Ledger>(alloc: Global, held: &mut Held<L>, seat: &mut Seat<L>) -> Result<(), Refusal> {
+    held.call(seat, create(alloc)?)?;
+    let path = Path::parse(alloc, b"/f")?;
+    held.call(seat, Call::File(FileCall::Stat { path }))?;
+    let path = Path::parse(alloc, b"/f")?;
+    held.call(seat, Call::File(FileCall::Unlink { path }))?;
+    held.pump(seat, 1, 4096)?;
+    Ok(())
+}
+
+fn create(alloc: Global) -> Result<Call, Refusal>
+    ensures { IfOk result (λ call. IsTrue (is_plain call)) }
+{
+    let path = Path::parse(alloc, b"/f")?;
+    Ok(Call::File(FileCall::Create { path, mode: 0o644 }))
+}
+
+// The book of a tree with so many batches, the log, and the feed.
+fn large<L: Ledger>(alloc: Global, blank: Blank) -> Result<(Book, SeatLog, Feed), Refusal>
+    requires name { blank.name ≡ L.name }
+    requires parts { (blank.parts ≡ L.parts) × (blank.parts ≡ 65537) }
+{
+    let (mut held, mut pass) = Held::<L>::new(alloc, blank, Limits::full())?;
+    let mut seat = pass.seat()?;
+    let feed = watches(alloc, &mut held, &mut seat, 16, 8_192)?;
+    for _ in 0..BATCHES {
+        turns(alloc, &mut held, &mut seat)?;
+    }
+    held.call(&mut seat, Call::Close { instance: 1 })?;
+    let log = pass.join(seat);
+    Ok((held.dissolve(pass), log, feed))
+}
+
+#[test]
+fn a_large_book_is_settled(rt: HostRuntime) -> Result<(), Fail> {
+    let alloc = rt.alloc();
+    let (book, log, feed) = large::<Brand>(alloc, Blank::new(65537))?;
+    let end = Listening::new(alloc, 7, feed, MemorySink::new(alloc)).run(&Open, BATCHES + 1);
+    let end = ended(end)?;
+    equal(&rt, end.cause(), Cause::Last);
+    equal(&rt, end.sink().taken(), BATCHES);
+    let whole = settles(alloc, book, [Some(log), None], [Some(end), None])?;
+    let count = 4 * BATCHES + 3;
+    equal(
+        &rt,
+        whole,
+        Ok(Settled {
+            entries: count,
+            calls: count,
+        }),
+    );
+    Ok(())
+}
+
+// Makes a directory a hundred times over: all but the first of these calls are refused, and all are entries.
+fn insists<L: Ledger>(
+    rt: &impl Wait,
+    alloc: Global,
+    tree: &Tree<L>,
+    seat: Seat<L>,
+    name: u8,
+) -> Seat<L> {
+    let mut seat = seat;
+    for _ in 0..100 {
+        if let Ok(call) = mkdir(alloc, &[b'/', name]) {
+            let _ = tree.lock(rt).call(&mut seat, call);
+        }
+    }
+    seat
+}
+
+// The book of a tree on which two threads made calls, with no pump and no gate, and the logs. Its law is called through a
+// guard.
+fn written<L: Ledger + Send + Sync, R: Threads + Wait + Sync>(
+    rt: &R,
+    alloc: Global,
+    blank: Blank,
+) -> Result<(Book, Vec<SeatLog>), Refusal>
+    requires name { blank.name ≡ L.name }
+    requires parts { (blank.parts ≡ L.parts) × (blank.parts ≡ 65537) }
+{
+    let (mut held, mut pass): (Held<L>, Pass<L>) = Held::<L>::new(alloc, blank, Limits::full())?;
+    let mut main = pass.seat()?;
+    let first = pass.seat()?;
+    let second = pass.seat()?;
+    let mut logs = Vec::with_capacity(alloc, 3)?;
+    held.call(&mut main, mkdir(alloc, b"/d")?)?;
+    let tree: Tree<L> = Mutex::new(held);
+    let shared = &tree;
+    let (first, second) = thread::join(
+        rt,
+        move || insists(rt, alloc, shared, first, b'a'),
+        move || insists(rt, alloc, shared, second, b'b'),
+    );
+    tree.lock(rt).law();
+    logs.push_reserved(pass.join(main));
+    logs.push_reserved(pass.join(first));
+    logs.push_reserved(pass.join(second));
+    Ok((tree.into_inner().dissolve(pass), logs))
+}
+
+fn both_written<R: Threads + Wait + Sync>(
+    rt: &R,
+    alloc: Global,
+) -> Result<(Book, Vec<SeatLog>), Refusal> {
+    written::<Brand, R>(rt, alloc, Blank::new(65537))
+}
+
+#[test]
+fn two_threads_without_pumps_are_settled(rt: HostRuntime) -> Result<(), Fail> {
+    let alloc = rt.alloc();
+    let (book, logs) = both_written(&rt, alloc)?;
+    let none: Vec<End> = Vec::new(alloc);
+    let whole = answered(settle(alloc, book, logs, none))?;
+    equal(
+        &rt,
+        whole,
+        Ok(Settled {
+            entries: 201,
+            calls: 201,
+        }),
+    );
+    Ok(())
 }

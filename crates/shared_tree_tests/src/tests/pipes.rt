@@ -113,3 +113,49 @@ fn a_full_pipe_whose_listener_is_gone_stays_open(rt: HostRuntime) {
         Some(steps.len())
     );
 }
+
+#[test]
+fn a_pipe_has_the_places_that_were_asked_for(rt: HostRuntime) {
+    let steps = [
+        Step::Sits(Ok(())),
+        Step::Opens(16, 3, Says::Instance(1)),
+        Step::Watches(1, Says::Wd(1)),
+        Step::Creates("/f", Says::File),
+        Step::Pumps(1, Says::Records),
+        Step::Creates("/g", Says::File),
+        Step::Pumps(1, Says::Records),
+        Step::Creates("/h", Says::File),
+        Step::Pumps(1, Says::Records),
+        Step::Creates("/i", Says::File),
+        Step::Pumps(1, Says::Fails(Refusal::PipeFull)),
+        Step::Gives(1, 4, 1),
+        Step::Pumps(1, Says::Records),
+        Step::Closes(1, Says::Fails(Refusal::PipeFull)),
+    ];
+    assert_eq!(rt;
+        plays(rt.alloc(), Limits::full(), &steps),
+        Some(steps.len())
+    );
+}
+
+#[test]
+fn a_full_pipe_is_found_before_a_full_journal(rt: HostRuntime) {
+    let mut limits = Limits::full();
+    limits.journal = 5;
+    let steps = [
+        Step::Sits(Ok(())),
+        Step::Opens(16, 1, Says::Instance(1)),
+        Step::Watches(1, Says::Wd(1)),
+        Step::Creates("/f", Says::File),
+        Step::Pumps(1, Says::Records),
+        Step::Creates("/g", Says::File),
+        Step::Creates("/h", Says::Fails(Refusal::JournalFull)),
+        Step::Pumps(1, Says::Fails(Refusal::PipeFull)),
+        Step::Closes(1, Says::Fails(Refusal::PipeFull)),
+        Step::Gives(1, 4, 1),
+        Step::Pumps(1, Says::Fails(Refusal::JournalFull)),
+        Step::Closes(1, Says::Fails(Refusal::JournalFull)),
+        Step::Counts(5),
+    ];
+    assert_eq!(rt; plays(rt.alloc(), limits, &steps), Some(steps.len()));
+}

@@ -94,24 +94,39 @@ impl<L: Ledger> Stage<L> {
         })
     }
 
+    // Makes a step. Whether it lacked memory, and whether it came to what is wanted.
+    fn tries(&mut self, step: Step) -> (bool, bool) {
+        match self.says(step) {
+            Some((said, wanted)) => (said == Says::Fails(Refusal::Enomem), said == wanted),
+            None => (false, false),
+        }
+    }
+
     // What comes of a step of which growth `k` is refused.
     fn refused_at(&mut self, does: Does, k: u32) -> Came {
         let _ = refuse(self.alloc, k);
-        let (is_refused, is_done) = match does {
-            Does::Cut => match self.held.cut() {
-                Ok(_) => (false, true),
-                Err(refusal) => (refusal == Refusal::Enomem, false),
-            },
-            Does::Step(step) => match self.says(step) {
-                Some((said, wanted)) => (said == Says::Fails(Refusal::Enomem), said == wanted),
-                None => (false, false),
-            },
+        let tried = match does {
+            Does::Cut => cut_short(&self.held.cut()),
+            Does::Step(step) => self.tries(step),
         };
-        match was_refused(self.alloc) {
-            true if is_refused => Came::Refused,
-            false if is_done => Came::Done,
-            _ => Came::Wrong,
-        }
+        came_of(was_refused(self.alloc), tried)
+    }
+}
+
+// Whether a cut lacked memory, and whether it was made.
+fn cut_short(told: &Result<u64, Refusal>) -> (bool, bool) {
+    match told {
+        Ok(_) => (false, true),
+        Err(refusal) => (*refusal == Refusal::Enomem, false),
+    }
+}
+
+// What came of it, where a growth was refused or not.
+fn came_of(is_refused: bool, (lacked, is_done): (bool, bool)) -> Came {
+    match is_refused {
+        true if lacked => Came::Refused,
+        false if is_done => Came::Done,
+        _ => Came::Wrong,
     }
 }
 
