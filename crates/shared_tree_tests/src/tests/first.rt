@@ -9,7 +9,7 @@ fn first_tree<L: Ledger>(alloc: Global, blank: Blank) -> Result<Option<Batch>, R
     let (mut held, mut pass) = Held::<L>::new(alloc, blank, Limits::full())?;
     let mut seat = pass.seat()?;
     let (_, feed) = held.open_piped(&mut seat, 16, 4)?;
-    held.call(&mut seat, watch(alloc, 1)?)?;
+    held.call(&mut seat, watch(alloc, 1, "/")?)?;
     held.call(&mut seat, create(alloc, "/f")?)?;
     held.pump(&mut seat, 1, 4096)?;
     let Some(mut feed) = feed else {
