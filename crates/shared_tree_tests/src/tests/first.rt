@@ -1,5 +1,7 @@
 //! The first example of README in Rattle.
 
+ghost use Rattle.std.specs.Prelude.{◌≡◌};
+
 use super::*;
 
 fn first_tree<L: Ledger>(alloc: Global, blank: Blank) -> Result<Option<Batch>, Refusal>
