@@ -49,16 +49,16 @@ def page_of(run: watchtree_trace.Run) -> Page:
 
 def fates(run: watchtree_trace.Run, instance: int):
     """What became of each record, with the line that read it."""
-    rows = run.lanes[instance].rows
-    return [(line, watchtree_trace_page.mask_of(told), told.fate, told.read_at) for line, row in rows.items() for told in row.told]
+    every = [(line, told) for line, row in run.lanes[instance].rows.items() for told in row.told]
+    return [(line, watchtree_trace_page.mask_of(told), told.fate, told.read_at) for line, told in every]
 
 
 class Trace(unittest.TestCase):
     def test_a_record_joins_merges_or_is_lost(self):
-        run = run_of("init 1\nwatch 1 / 0x600\ncreate /a 644\nunlink /a\nmkdir /b 755\nrmdir /b\nread 1 64\nread 1 64\n")
-        self.assertEqual(
-            fates(run, 1), [(4, "DELETE", "joined", 7), (6, "DELETE|ISDIR", "lost", None), (6, "Q_OVERFLOW", "joined", 7)]
-        )
+        calls = "create /a 644\nunlink /a\nmkdir /b 755\nrmdir /b\nread 1 64\nread 1 64\n"
+        run = run_of(f"init 1\nwatch 1 / 0x600\n{calls}")
+        lost = [(6, "DELETE|ISDIR", "lost", None), (6, "Q_OVERFLOW", "joined", 7)]
+        self.assertEqual(fates(run, 1), [(4, "DELETE", "joined", 7), *lost])
         run = run_of("mkdir /d 755\ninit\nwatch 1 /d 0x4\nchmod /d 700\nchmod /d 711\nread 1 64\n")
         self.assertEqual([it[2:] for it in fates(run, 1)], [("joined", 6), ("merged", None)])
 

@@ -28,7 +28,7 @@ class Fault(Exception):
 
 
 class Told:
-    """A record that a call raised for an instance, what became of it ('joined', 'merged' or 'lost'), and the line that read it."""
+    """A record that a call raised, what became of it ('joined', 'merged' or 'lost'), and the line that read it."""
 
     def __init__(self, event: Event, fate: str, line: int) -> None:
         self.event, self.fate, self.line = event, fate, line
@@ -101,8 +101,9 @@ class Lane:
 
     def check(self, at: int) -> None:
         """Compares the queue with that of the tree."""
-        if self.rows[at].waiting != len(self.queue):
-            raise Fault(f"line {at}: {self.rows[at].waiting} records wait in instance {self.number}, not {len(self.queue)}")
+        waiting = self.rows[at].waiting
+        if waiting != len(self.queue):
+            raise Fault(f"line {at}: {waiting} records wait in instance {self.number}, not {len(self.queue)}")
 
 
 class Call(NamedTuple):
@@ -153,7 +154,7 @@ class Run:
             self.shadow.cut()
 
     def _look(self, at: int, words: List[str], records: Optional[List[str]]) -> None:
-        """Looks what became of each instance. `records` are the lines of a read, and None where the call was refused."""
+        """Looks what became of each instance. The records are a read's lines, and None where the call was refused."""
         for lane in self.lanes.values():
             if not lane.is_open:
                 continue

@@ -28,7 +28,8 @@ thead small { display: block; font-weight: 400; color: var(--soft); }
 tbody th { font-weight: 400; color: var(--soft); text-align: right; }
 td.call { min-width: 14rem; max-width: 26rem; overflow-wrap: anywhere; }
 td.reply { min-width: 8.5rem; max-width: 14rem; overflow-wrap: anywhere; }
-td.lane { position: relative; min-width: 17rem; height: 1.7rem; border-left: 1px solid var(--line); padding: .15rem .4rem .15rem 5.6rem; }
+td.lane { position: relative; min-width: 17rem; height: 1.7rem; border-left: 1px solid var(--line);
+  padding: .15rem .4rem .15rem 5.6rem; }
 td.on { background: linear-gradient(var(--soft), var(--soft)) 4rem 0 / 2px 100% no-repeat,
   linear-gradient(var(--fill), var(--fill)) 0 0 / calc(4rem * var(--part)) 100% no-repeat; }
 td.far { background: linear-gradient(var(--fill), var(--fill)) 0 0 / calc(4rem * var(--part)) 100% no-repeat; }
@@ -38,8 +39,8 @@ tr.refused td.reply { color: var(--lost); }
 .brackets i { position: absolute; top: 0; bottom: -1px; width: .4rem; border-left: 2px solid var(--read); }
 .brackets i.from, .brackets i.only { top: .6rem; border-top: 2px solid var(--read); }
 .brackets i.to, .brackets i.only { bottom: .5rem; border-bottom: 2px solid var(--read); }
-.mark { display: inline-block; border: 1px solid currentColor; border-radius: .3rem; padding: 0 .35rem; margin: 0 .2rem .15rem 0;
-  overflow-wrap: anywhere; }
+.mark { display: inline-block; border: 1px solid currentColor; border-radius: .3rem; overflow-wrap: anywhere;
+  padding: 0 .35rem; margin: 0 .2rem .15rem 0; }
 .joined { color: var(--joined); } .merged { color: var(--merged); border-style: dashed; }
 .lost { color: var(--lost); border-style: double; border-width: 3px; text-decoration: line-through; }
 .mark b { font-weight: 600; } .mark a { color: inherit; }
@@ -69,8 +70,9 @@ function go(row) {
 }
 document.querySelector("tbody").addEventListener("keydown", event => {
   const all = shown(), at = all.indexOf(event.target.closest("tr"));
-  const to = { ArrowDown: at + 1, ArrowUp: at - 1, PageDown: Math.min(at + 20, all.length - 1), PageUp: Math.max(at - 20, 0),
-    Home: 0, End: all.length - 1 }[event.key];
+  const last = all.length - 1;
+  const to = { ArrowDown: at + 1, ArrowUp: at - 1, Home: 0, End: last,
+    PageDown: Math.min(at + 20, last), PageUp: Math.max(at - 20, 0) }[event.key];
   if (to === undefined) return;
   event.preventDefault();
   go(all[to]);
@@ -169,7 +171,8 @@ def write(out: TextIO, name: str, run: "Run") -> None:
         '<li>the bar: how many records wait</li><li><span class="took">[</span> what one read took</li>'
         '<li><label><input type="checkbox" id="quiet"> hide calls that told nobody anything</label></li></ul>'
         "<p>Arrow keys, Page Up, Page Down, Home and End go from call to call.</p>"
-        '<div class="wide"><table><thead><tr><th scope="col">Line</th><th scope="col">Call</th><th scope="col">Reply</th>'
+        '<div class="wide"><table><thead><tr>'
+        '<th scope="col">Line</th><th scope="col">Call</th><th scope="col">Reply</th>'
         f'{"".join(map(head, lanes, scales))}</tr></thead><tbody>\n'
     )
     for call in run.calls:
