@@ -5,7 +5,9 @@ ghost use Rattle.event_sinks.specs.Writing.{live_of};
 
 mod refused;
 
-use event_sinks::{Cause, CountSink, Ended, Gate, LineSink, SettleFault, Settled, Sink, settle};
+use event_sinks::{
+    Cause, CountSink, Ended, Gate, LineSink, SettleFault, Settled, Sink, SinkFault, settle,
+};
 use record_codec::Bytes;
 use shared_tree::{Book, SeatLog, Tree};
 use std::alloc::Global;
@@ -127,6 +129,24 @@ fn a_storm_has_its_figures(rt: HostRuntime) -> Result<(), Fail> {
         "is_settled(&calm, 4009, 4500)",
         is_settled(&calm, 4009, 4500),
     );
+    Ok(())
+}
+
+// A storm of three calls each, whose first sink has room for three records.
+fn half_full<R: Threads + Wait + Sync>(rt: &R, alloc: Global) -> Result<Stormed, StormFault> {
+    let one = CountSink::new(alloc, 3);
+    let other = CountSink::new(alloc, 99);
+    storm(rt, alloc, 3, &OpenGate, one, other)
+}
+
+#[test]
+fn each_listener_has_its_own_sink(rt: HostRuntime) -> Result<(), Fail> {
+    let ended = half_full(&rt, rt.alloc())?;
+    let listeners = ended.listeners.as_slice();
+    let full = Some(&(1, Cause::Sink(SinkFault::Full), 3));
+    let last = Some(&(2, Cause::Last, 16));
+    holds(&rt, "listeners.first() == full", listeners.first() == full);
+    holds(&rt, "listeners.last() == last", listeners.last() == last);
     Ok(())
 }
 
