@@ -12,7 +12,7 @@ use Rattle.tree_core.specs.declared.reply.Entry.{Entry}
 use Rattle.tree_core.specs.declared.reply.Kept.{Kept}
 use Rattle.shared_tree.specs.declared.pipe.Batch.{Batch}
 use Rattle.shared_tree.specs.declared.seat.SeatLog.{SeatLog}
-use Rattle.shared_tree.specs.Calls.{Bound, IsSent}
+use Rattle.shared_tree.specs.Calls.{BookContents, IsSent}
 use Rattle.tree_core.specs.Journal.{last_place}
 use Rattle.shared_tree.specs.Handed.{CutsPartBatches, EndBatchesComeLast, handed, handed_since, piped_of}
 use Rattle.shared_tree.specs.Held.{IsIn, Lacks}
@@ -46,19 +46,19 @@ served_so cut batches es p served otherwise =
     (λ second. second.1 refl)
     (subst (λ (xs : List Outcome). IsServedOtherwise cut batches xs p) served.1 otherwise).1
 
-not_ended : (b : Bound) (es : List Outcome) (n : ℕ) → IsServedAt b es n → IsIn b.pipes n → IsUnended (of_instance n es) → ⊥
+not_ended : (b : BookContents) (es : List Outcome) (n : ℕ) → IsServedAt b es n → IsIn b.pipes n → IsUnended (of_instance n es) → ⊥
 not_ended b es n (inl served) is_in unended = served_ended b.state.place (batches_of b n) (of_instance n es) served.1 unended
 not_ended b es n (inr none) is_in unended = in_and_lacks b.pipes n is_in none.0
 
-handed_otherwise : (b : Bound) (es : List Outcome) (n p : ℕ) → IsServedAt b es n → IsIn b.pipes n × IsServedOtherwise b.state.place (batches_of b n) (of_instance n es) p → ⊥
+handed_otherwise : (b : BookContents) (es : List Outcome) (n p : ℕ) → IsServedAt b es n → IsIn b.pipes n × IsServedOtherwise b.state.place (batches_of b n) (of_instance n es) p → ⊥
 handed_otherwise b es n p (inl served) fault = served_so b.state.place (batches_of b n) (of_instance n es) p served.1 fault.1
 handed_otherwise b es n p (inr none) fault = in_and_lacks b.pipes n fault.0 none.0
 
-handed_to_none : (b : Bound) (es : List Outcome) (n p : ℕ) → IsServedAt b es n → Lacks b.pipes n × (of_instance n es ≢ []) × (p ≡ 0) → ⊥
+handed_to_none : (b : BookContents) (es : List Outcome) (n p : ℕ) → IsServedAt b es n → Lacks b.pipes n × (of_instance n es ≢ []) × (p ≡ 0) → ⊥
 handed_to_none b es n p (inl served) fault = in_and_lacks b.pipes n served.0 fault.0
 handed_to_none b es n p (inr none) fault = fault.1 none.1
 
-fault_at : (b : Bound) (es : List Outcome) (n : ℕ) (f : SettleFault) → IsServedAt b es n → IsFaultAt b es n f → ⊥
+fault_at : (b : BookContents) (es : List Outcome) (n : ℕ) (f : SettleFault) → IsServedAt b es n → IsFaultAt b es n f → ⊥
 fault_at b es n (CountDiffers entries calls) served fault = fault
 fault_at b es n (Stray m) served fault = fault
 fault_at b es n (NotEnded m) served fault = not_ended b es n served fault.1 fault.2
@@ -154,7 +154,7 @@ sent-whole f (m ∷ ns) zero n bs at there =
 sent-whole f (m ∷ ns) (suc k) n bs at there = sent-whole f ns k n bs at there
 
 -- a front that ends with an end batch is all, and since the cut it is what the journal hands over
-all_of_it : EndBatchesComeLast → CutsPartBatches → (b : Bound) (n : ℕ) (handed before rest : List Batch) (last : Batch) → (sends : IsSent b.state b.pipes b.sent) → handed ≡ before ++ last ∷ [] → last.records ≡ [] → IsSentTo b n (handed ++ rest)
+all_of_it : EndBatchesComeLast → CutsPartBatches → (b : BookContents) (n : ℕ) (handed before rest : List Batch) (last : Batch) → (sends : IsSent b.state b.pipes b.sent) → handed ≡ before ++ last ∷ [] → last.records ≡ [] → IsSentTo b n (handed ++ rest)
     → since b.state.place handed ≡ batches_of b n
 all_of_it come_last parts b n given before rest last sends is none (k, at, sent) =
     let es = sends.past ++ b.state.entries in

@@ -9,7 +9,7 @@ use Rattle.event_sinks.specs.declared.listener.Cause.{Cause}
 use Rattle.event_sinks.specs.declared.listener.Cause.TheVariants as cause
 use Rattle.event_sinks.specs.declared.listener.Step.{Step}
 use Rattle.event_sinks.specs.declared.listener.Step.TheVariants as step
-use Rattle.event_sinks.specs.Heard.{Answers, AnswersBatches, Heard, IsTurn, Steps, cause_or}
+use Rattle.event_sinks.specs.Listeners.{Answers, AnswersBatches, ListenerState, IsTurn, Steps, cause_or}
 use Rattle.event_sinks.specs.Sinks.{Foretells, MayAnswer}
 
 pub foretells_on : (a b c : MayAnswer) (xs ys : List Event) → Foretells a xs b → Foretells b ys c → Foretells a (xs ++ ys) c
@@ -24,7 +24,7 @@ pub records_of-append : (xs ys : List Batch) → records_of (xs ++ ys) ≡ recor
 records_of-append [] ys = refl
 records_of-append (x ∷ xs) ys = ap (λ (r : List Event). x.records ++ r) (records_of-append xs ys) ∙ sym (append_assoc x.records (records_of xs) (records_of ys))
 
-still_ended : (passes : ℕ → ℕ → Bool → Type 0) (turn : ℕ) (old new : Heard) (c : Cause) → old.cause ≡ Some c → IsTurn passes turn old new → new ≡ old
+still_ended : (passes : ℕ → ℕ → Bool → Type 0) (turn : ℕ) (old new : ListenerState) (c : Cause) → old.cause ≡ Some c → IsTurn passes turn old new → new ≡ old
 still_ended passes turn old new c is (inr p) = p.1
 still_ended passes turn old new c is (inl p) = by_step p.1.0 p.1.1
   where
@@ -71,14 +71,14 @@ module _ {S : Type 0} (record_list : S → List Event) (may_answer : S → MayAn
 
   -- the sink, what was handed and the cause of a listener that goes on, and of what it was
   module _ (first : S) (handed : List Batch) (old new : S) (before after : List Batch) where
-    pub turn_answers : (passes : ℕ → ℕ → Bool → Type 0) (turn : ℕ) (was is : Option Cause) (h h' : Heard) → h.cause ≡ was → h.handed ≡ before → h.list ≡ record_list old → h'.cause ≡ is → h'.handed ≡ after → h'.list ≡ record_list new
+    pub turn_answers : (passes : ℕ → ℕ → Bool → Type 0) (turn : ℕ) (was is : Option Cause) (h h' : ListenerState) → h.cause ≡ was → h.handed ≡ before → h.list ≡ record_list old → h'.cause ≡ is → h'.handed ≡ after → h'.list ≡ record_list new
         → IsTurn passes turn h h' → AnswersBatches record_list may_answer first handed old before was → (was ≡ None → AnswersBatches record_list may_answer old before new after is) → AnswersBatches record_list may_answer first handed new after is
     turn_answers passes turn None is h h' w0 w1 w2 i0 i1 i2 goes f g = batches_on first old new handed before after is f (g refl)
     turn_answers passes turn (Some c) is h h' w0 w1 w2 i0 i1 i2 goes f g =
         let same : h' ≡ h = still_ended passes turn h h' c w0 goes in
-        let why : is ≡ Some c = sym i0 ∙ (ap (λ (x : Heard). x.cause) same ∙ w0) in
-        let all : after ≡ before = sym i1 ∙ (ap (λ (x : Heard). x.handed) same ∙ w1) in
-        let list : record_list new ≡ record_list old = sym i2 ∙ (ap (λ (x : Heard). x.list) same ∙ w2) in
+        let why : is ≡ Some c = sym i0 ∙ (ap (λ (x : ListenerState). x.cause) same ∙ w0) in
+        let all : after ≡ before = sym i1 ∙ (ap (λ (x : ListenerState). x.handed) same ∙ w1) in
+        let list : record_list new ≡ record_list old = sym i2 ∙ (ap (λ (x : ListenerState). x.list) same ∙ w2) in
         subst (λ (o : Option Cause). AnswersBatches record_list may_answer first handed new after o) (sym why) (f.0, all ∙ f.1, closed_after first old new (records_of f.0) c list f.2)
 
     -- and of one that has ended

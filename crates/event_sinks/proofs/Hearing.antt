@@ -8,7 +8,7 @@ use Rattle.event_sinks.specs.declared.listener.Cause.{Cause}
 use Rattle.event_sinks.specs.declared.listener.Cause.TheVariants as cause
 use Rattle.event_sinks.specs.declared.listener.Step.{Step}
 use Rattle.event_sinks.specs.declared.listener.Step.TheVariants as step
-use Rattle.event_sinks.specs.Heard.{Heard, HasRecords, IsEndedBy, IsHeard, IsTook, IsTurn, Puts, Reaches, Steps, Takes}
+use Rattle.event_sinks.specs.Listeners.{ListenerState, HasRecords, IsEndedBy, IsSoundListener, IsTook, IsTurn, Puts, Reaches, Steps, Takes}
 use Rattle.shared_tree.specs.Handed.{records_of}
 
 records_of-snoc : (bs : List Batch) (b : Batch) → records_of (bs ++ b ∷ []) ≡ records_of bs ++ b.records
@@ -66,7 +66,7 @@ ended_after handed b list list' (Some cause.Given) had puts = absurd puts
 ended_after handed b list list' (Some cause.Memory) had puts = absurd puts
 
 -- a batch was taken
-takes_sound : (old : Heard) (b : Batch) (new : Heard) → IsHeard old → Takes old b new → IsHeard new
+takes_sound : (old : ListenerState) (b : Batch) (new : ListenerState) → IsSoundListener old → Takes old b new → IsSoundListener new
 takes_sound old b new h t =
     let Took : Option Cause → Type 0 = λ o. IsTook old.handed (drop old.started old.list) o in
     let Ended : Option Cause → Type 0 = λ o. IsEndedBy old.handed o in
@@ -88,7 +88,7 @@ takes_sound old b new h t =
     }
 
 -- there was no memory for one more batch
-stays_sound : (old : Heard) → IsHeard old → old.cause ≡ None → IsHeard (record old { live = false; cause = Some cause.Memory })
+stays_sound : (old : ListenerState) → IsSoundListener old → old.cause ≡ None → IsSoundListener (record old { is_open = false; cause = Some cause.Memory })
 stays_sound old h on =
     let Took : Option Cause → Type 0 = λ o. IsTook old.handed (drop old.started old.list) o in
     let Ended : Option Cause → Type 0 = λ o. IsEndedBy old.handed o in
@@ -100,21 +100,21 @@ stays_sound old h on =
       within = h.within;
     }
 
-pub steps_sound : (old new : Heard) (s : Step) → IsHeard old → Steps old new s → IsHeard new
-steps_sound old new step.Idle h steps = subst IsHeard (sym steps.1) h
+pub steps_sound : (old new : ListenerState) (s : Step) → IsSoundListener old → Steps old new s → IsSoundListener new
+steps_sound old new step.Idle h steps = subst IsSoundListener (sym steps.1) h
 steps_sound old new step.Took h steps = takes_sound old steps.0 new h steps.1
-steps_sound old new step.Over h (inl p) = subst IsHeard (sym p.1) h
-steps_sound old new step.Over h (inr p) = subst IsHeard (sym p.1) (stays_sound old h p.0)
+steps_sound old new step.Over h (inl p) = subst IsSoundListener (sym p.1) h
+steps_sound old new step.Over h (inr p) = subst IsSoundListener (sym p.1) (stays_sound old h p.0)
 
 module _ (passes : ℕ → ℕ → Bool → Type 0) where
   -- one turn more
-  pub reaches_next : (n : ℕ) (a b c : Heard) → Reaches passes n a b → IsTurn passes n b c → Reaches passes (n + 1) a c
+  pub reaches_next : (n : ℕ) (a b c : ListenerState) → Reaches passes n a b → IsTurn passes n b c → Reaches passes (n + 1) a c
   reaches_next n a b c r t = let P : ℕ → Type 0 = λ k. Reaches passes k a c in subst P (sym (add-one n)) (b, r, t)
 
-  reaches_idly : (n k : ℕ) (a b : Heard) → b.cause ≢ None → Reaches passes n a b → Reaches passes (n + k) a b
+  reaches_idly : (n k : ℕ) (a b : ListenerState) → b.cause ≢ None → Reaches passes n a b → Reaches passes (n + k) a b
   reaches_idly n zero a b over r = let P : ℕ → Type 0 = λ m. Reaches passes m a b in let e : n ≡ n + 0 = omega arith in subst P e r
   reaches_idly n (suc k) a b over r = let P : ℕ → Type 0 = λ m. Reaches passes m a b in let e : suc (n + k) ≡ n + suc k = omega arith in subst P e (b, reaches_idly n k a b over r, inr (inr over, refl))
 
   -- turns more of one that has ended
-  pub reaches_more : (n m : ℕ) (a b : Heard) → n ≤ m → b.cause ≢ None → Reaches passes n a b → Reaches passes m a b
+  pub reaches_more : (n m : ℕ) (a b : ListenerState) → n ≤ m → b.cause ≢ None → Reaches passes n a b → Reaches passes m a b
   reaches_more n m a b within over r = let P : ℕ → Type 0 = λ k. Reaches passes k a b in let e : n + (m - n) ≡ m = omega arith in subst P e (reaches_idly n (m - n) a b over r)

@@ -4,7 +4,7 @@ use Rattle.std.specs.Prelude.{⊤, slice_get}
 use Rattle.std.proofs.lemmas.Bool.{cases_eq, eq-eqb, ne_eqb}
 use Rattle.std.proofs.lemmas.List.{take_more}
 use Rattle.std.proofs.lemmas.Option.{get_or_from_slice_get, slice_get_within}
-use Rattle.tree_core.specs.Histories.{where_same}
+use Rattle.tree_core.specs.Histories.{if_same}
 use Rattle.event_sinks.specs.declared.served.Track.{Track}
 use Rattle.event_sinks.specs.Audited.{Outcome, of_instance}
 use Rattle.event_sinks.specs.Tracks.{IsFirst, IsNoted, is_any, noted, noted_in, start}
@@ -53,14 +53,14 @@ module _ (pipes : List ℕ) (es : List Outcome) (n i : ℕ) (e : Outcome) (at : 
 of_both : (n : ℕ) (es fs : List Outcome) → of_instance n (es ++ fs) ≡ of_instance n es ++ of_instance n fs
 of_both n [] fs = refl
 of_both n (e ∷ es) fs =
-    ap (λ (xs : List Outcome). where_same e.instance n (e ∷ []) ++ xs) (of_both n es fs)
-    ∙ sym (append_assoc (where_same e.instance n (e ∷ [])) (of_instance n es) (of_instance n fs))
+    ap (λ (xs : List Outcome). if_same e.instance n (e ∷ []) ++ xs) (of_both n es fs)
+    ∙ sym (append_assoc (if_same e.instance n (e ∷ [])) (of_instance n es) (of_instance n fs))
 
-of_more : (n : ℕ) (es : List Outcome) (i : ℕ) (e : Outcome) → slice_get es i ≡ Some e → of_instance n (take (i + 1) es) ≡ of_instance n (take i es) ++ where_same e.instance n (e ∷ [])
+of_more : (n : ℕ) (es : List Outcome) (i : ℕ) (e : Outcome) → slice_get es i ≡ Some e → of_instance n (take (i + 1) es) ≡ of_instance n (take i es) ++ if_same e.instance n (e ∷ [])
 of_more n es i e at =
     ap (of_instance n) (take_more es i e (slice_get_within es i e at) ∙ ap (λ (x : Outcome). take i es ++ x ∷ []) (get_or_from_slice_get es i e e at))
     ∙ of_both n (take i es) (e ∷ [])
-    ∙ ap (λ (xs : List Outcome). of_instance n (take i es) ++ xs) (append-nil (where_same e.instance n (e ∷ [])))
+    ∙ ap (λ (xs : List Outcome). of_instance n (take i es) ++ xs) (append-nil (if_same e.instance n (e ∷ [])))
 
 of_own : (n : ℕ) (es : List Outcome) (i : ℕ) (e : Outcome) → slice_get es i ≡ Some e → n ≡ e.instance → of_instance n (take (i + 1) es) ≡ of_instance n (take i es) ++ e ∷ []
 of_own n es i e at own =

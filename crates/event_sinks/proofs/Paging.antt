@@ -12,7 +12,7 @@ use Rattle.shared_tree.specs.Handed.{records_of}
 use Rattle.event_sinks.specs.declared.listener.Cause.{Cause}
 use Rattle.event_sinks.specs.declared.listener.Cause.TheVariants as cause
 use Rattle.event_sinks.specs.declared.listener.Listening.{Listening}
-use Rattle.event_sinks.specs.Heard.{cause_or}
+use Rattle.event_sinks.specs.Listeners.{cause_or}
 use Rattle.event_sinks.specs.Pages.{ClosesText, UnfailingTextsAreWhole, Gains, Page, Writes, WritesBatches, WritesClose, WritesRecords}
 use Rattle.event_sinks.proofs.Answering.{records_of-append}
 

@@ -13,7 +13,7 @@ use Rattle.tree_core.specs.Histories.{where_records}
 use Rattle.tree_core.specs.Tree.{Tree, after, reply_of}
 use Rattle.tree_core.specs.Journal.{IsLawfulFrom}
 use Rattle.shared_tree.specs.declared.pipe.Batch.{Batch}
-use Rattle.shared_tree.specs.Calls.{Bound}
+use Rattle.shared_tree.specs.Calls.{BookContents}
 use Rattle.shared_tree.specs.Handed.{AreOfEvents, BatchesAreAnswered, batch, handed_by, handed_from, handed_since, hands, where_done}
 use Rattle.event_sinks.specs.declared.served.Track.{Track}
 use Rattle.event_sinks.specs.Audited.{Outcome, batches_of}
@@ -88,22 +88,22 @@ rest_events (b ∷ bs) rest h = rest_events bs rest h.1
 
 -- ---- the tracks
 
-goes_on : (b : Bound) (es : List Outcome) (n : ℕ) (bs left : List Batch) (old new : Option Track) → IsTracked b es (bs ++ left) n old → Goes b.state.place es bs old new → IsTracked b es left n new
+goes_on : (b : BookContents) (es : List Outcome) (n : ℕ) (bs left : List Batch) (old new : Option Track) → IsTracked b es (bs ++ left) n old → Goes b.state.place es bs old new → IsTracked b es left n new
 goes_on b es n bs left None new h g = subst (IsTracked b es left n) (sym g) (record { is_noted = h.is_noted; tells = tt })
 goes_on b es n bs left (Some t) new h g =
     subst (IsTracked b es left n) (sym g.1) (record { is_noted = h.is_noted; tells = λ o c. h.tells o (g.2 left o c) })
 
 -- these entries are left, from a tree on, behind this place
-pub record IsPassed (b : Bound) (es : List Outcome) (t : Tree) (passed : ℕ) (left : List Entry) (track : ℕ → Option Track) : Type 0 where
+pub record IsPassed (b : BookContents) (es : List Outcome) (t : Tree) (passed : ℕ) (left : List Entry) (track : ℕ → Option Track) : Type 0 where
   pub lawful : IsLawfulFrom t left
   pub events : (n : ℕ) → AreOfEvents (handed_from t (passed + 1) left n)
   pub tracked : (n : ℕ) → IsTracked b es (handed_from t (passed + 1) left n) n (track n)
 
-pub passed_none : (b : Bound) (es : List Outcome) (track : ℕ → Option Track) → IsLawfulFrom b.state.start b.state.entries → ((n : ℕ) → AreOfEvents (batches_of b n)) → ((n : ℕ) → IsTracked b es (batches_of b n) n (track n)) → IsPassed b es b.state.start b.state.place b.state.entries track
+pub passed_none : (b : BookContents) (es : List Outcome) (track : ℕ → Option Track) → IsLawfulFrom b.state.start b.state.entries → ((n : ℕ) → AreOfEvents (batches_of b n)) → ((n : ℕ) → IsTracked b es (batches_of b n) n (track n)) → IsPassed b es b.state.start b.state.place b.state.entries track
 unfolding handed_since
 passed_none b es track lawful events tracked = record { lawful = lawful; events = events; tracked = tracked }
 
-module _ (answered : BatchesAreAnswered) (b : Bound) (es : List Outcome) (t : Tree) (passed : ℕ) (e : Entry) (old new : ℕ → Option Track) where
+module _ (answered : BatchesAreAnswered) (b : BookContents) (es : List Outcome) (t : Tree) (passed : ℕ) (e : Entry) (old new : ℕ → Option Track) where
   passed_on : (left : List Entry) → IsPassed b es t passed (e ∷ left) old → ((o : Option Batch) → HandsOver e (passed + 1) o → (n : ℕ) → Goes b.state.place es (hands o n) (old n) (new n)) → IsPassed b es (after t e.call) (passed + 1) left new
   passed_on left h goes =
       let o : Option Batch = handed_by t (passed + 1) e.call in

@@ -13,7 +13,7 @@ use Rattle.std.proofs.lemmas.List.Elements.{All-head, All-tail}
 use Rattle.std.proofs.lemmas.Map.{lookup-none}
 use Rattle.std.proofs.lemmas.Map.Entries.{lookup_tail, none_below_head}
 use Rattle.std.proofs.lemmas.Map.Keys.{sorted_tail}
-use Rattle.shared_tree.specs.Calls.{Bound}
+use Rattle.shared_tree.specs.Calls.{BookContents}
 use Rattle.event_sinks.specs.declared.audit.SettleFault.{SettleFault}
 use Rattle.event_sinks.specs.declared.served.Track.{Track}
 use Rattle.event_sinks.specs.Audited.{IsFaultAt, IsFirstFault, IsServedAt, Outcome}
@@ -23,12 +23,12 @@ abbrev Entry : Type 0
 Entry = ℕ × Track
 
 -- these tracks are left: their numbers rise, they are known, and every number that has none was served
-pub record IsWalked (b : Bound) (es : List Outcome) (left : List (ℕ × Track)) : Type 0 where
+pub record IsWalked (b : BookContents) (es : List Outcome) (left : List (ℕ × Track)) : Type 0 where
   pub rise : IsStrictlySortedBy nat_cmp (keys_of left)
   pub tracked : All (λ (e : ℕ × Track). IsTracked b es [] e.0 (Some e.1)) left
   pub served : (n : ℕ) → lookup (is_at (nat_cmp n)) left ≡ None → IsServedAt b es n
 
-module _ (b : Bound) (es : List Outcome) where
+module _ (b : BookContents) (es : List Outcome) where
   untracked : (n : ℕ) → IsTracked b es [] n None → IsServedAt b es n
   untracked n h = inr h.is_noted
 

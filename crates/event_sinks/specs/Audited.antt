@@ -3,11 +3,11 @@ use Rattle.std.specs.Prelude.{◌≡◌, ◌≢◌, ◌<◌, ◌≤◌, ◌+◌,
 use Rattle.std.specs.List.{filter, flat_map}
 use Rattle.tree_core.specs.declared.reply.Entry.{Entry}
 use Rattle.tree_core.specs.declared.reply.Kept.{Kept}
-use Rattle.tree_core.specs.Histories.{where_same}
+use Rattle.tree_core.specs.Histories.{if_same}
 use Rattle.shared_tree.specs.declared.pipe.Batch.{Batch}
 use Rattle.shared_tree.specs.declared.seat.SeatLog.{SeatLog}
 use Rattle.tree_core.specs.Journal.{last_place}
-use Rattle.shared_tree.specs.Calls.{Bound, IsSent}
+use Rattle.shared_tree.specs.Calls.{BookContents, IsSent}
 use Rattle.shared_tree.specs.Handed.{handed_since}
 use Rattle.shared_tree.specs.Held.{IsIn, Lacks}
 use Rattle.event_sinks.specs.declared.audit.Settled.{Settled}
@@ -60,7 +60,7 @@ outcomes es = map outcome_of es
 -- those of one instance, in the order handed in
 abbrev pub of_instance : ℕ → List Outcome → List Outcome
 of_instance n [] = []
-of_instance n (e ∷ es) = where_same e.instance n (e ∷ []) ++ of_instance n es
+of_instance n (e ∷ es) = if_same e.instance n (e ∷ []) ++ of_instance n es
 
 -- the batches since the cut: their places are above its own
 abbrev pub since : ℕ → List Batch → List Batch
@@ -72,15 +72,15 @@ abbrev pub IsServed : ℕ → List Batch → List Outcome → Type 0
 IsServed cut batches es = (e : Outcome) × (es ≡ e ∷ []) × (e.cause ≡ Last) × (since cut e.handed ≡ batches)
 
 -- what the entries of the book, which are those since the cut, hand to an instance
-abbrev pub batches_of : Bound → ℕ → List Batch
+abbrev pub batches_of : BookContents → ℕ → List Batch
 batches_of b n = handed_since b.state n
 
 -- what the book's pipe of a number was sent
-abbrev pub IsSentTo : Bound → ℕ → List Batch → Type 0
+abbrev pub IsSentTo : BookContents → ℕ → List Batch → Type 0
 IsSentTo b n bs = (k : ℕ) × (slice_get b.pipes k ≡ Some n) × (slice_get b.sent k ≡ Some bs)
 
 -- a number is a pipe of the book, and was served, or it is none, and no listener ended for it
-abbrev pub IsServedAt : Bound → List Outcome → ℕ → Type 0
+abbrev pub IsServedAt : BookContents → List Outcome → ℕ → Type 0
 IsServedAt b es n = (IsIn b.pipes n × IsServed b.state.place (batches_of b n) (of_instance n es)) ⊎ (Lacks b.pipes n × (of_instance n es ≡ []))
 
 -- the place of the first batch that is not the one handed at its position, or of the first one handed past the end
@@ -102,34 +102,34 @@ IsServedOtherwise cut batches [] p = ⊥
 IsServedOtherwise cut batches (e ∷ es) p = (e.cause ≡ Last) × (Differs batches (since cut e.handed) p ⊎ ((since cut e.handed ≡ batches) × (es ≢ []) × (p ≡ 0)))
 
 -- what is wrong with a number. A listener for a number that is no pipe of the book is told as place 0
-abbrev pub IsFaultAt : Bound → List Outcome → ℕ → SettleFault → Type 0
+abbrev pub IsFaultAt : BookContents → List Outcome → ℕ → SettleFault → Type 0
 IsFaultAt b es n (NotEnded m) = (m ≡ n) × IsIn b.pipes n × IsUnended (of_instance n es)
 IsFaultAt b es n (HandedDiffers m p) = (m ≡ n) × ((IsIn b.pipes n × IsServedOtherwise b.state.place (batches_of b n) (of_instance n es) p) ⊎ (Lacks b.pipes n × (of_instance n es ≢ []) × (p ≡ 0)))
 IsFaultAt b es n _ = ⊥
 
 -- what is wrong with the least number with which anything is
-abbrev pub IsFirstFault : Bound → List Outcome → SettleFault → Type 0
+abbrev pub IsFirstFault : BookContents → List Outcome → SettleFault → Type 0
 IsFirstFault b es f = (n : ℕ) × IsFaultAt b es n f × ((m : ℕ) → m < n → IsServedAt b es m)
 
 -- ---- the whole
 
 -- the book, the logs and the listeners agree: the journal has as many entries as the seats kept calls, each kept call is
 -- the entry at its place, a seat's in their order and each place once, and each pipe was served
-pub record IsAudited (b : Bound) (logs : List SeatLog) (es : List Outcome) : Type 0 where
+pub record IsAudited (b : BookContents) (logs : List SeatLog) (es : List Outcome) : Type 0 where
   pub counted : b.entries ≡ calls_of logs
   pub kept : AreKept b.state.place b.state.entries logs
   pub served : (n : ℕ) → IsServedAt b es n
 
 -- the fault is the first that holds: the counts, then the logs, then the numbers. More calls than a u64 holds are told as
 -- its greatest value
-abbrev pub IsFault : Bound → List SeatLog → List Outcome → SettleFault → Type 0
+abbrev pub IsFault : BookContents → List SeatLog → List Outcome → SettleFault → Type 0
 IsFault b logs es Memory = ⊤
 IsFault b logs es (CountDiffers entries calls) = (b.entries ≢ calls_of logs) × (entries ≡ b.entries) × (calls ≡ min (calls_of logs) 18446744073709551615)
 IsFault b logs es (Stray n) = (b.entries ≡ calls_of logs) × IsStray b.state.place b.state.entries logs n
 IsFault b logs es f = (b.entries ≡ calls_of logs) × AreKept b.state.place b.state.entries logs × IsFirstFault b es f
 
 -- what settling answers: all agree, and as many entries and calls are told; or this is the first fault that holds
-abbrev pub Settles : Bound → List SeatLog → List Outcome → Result Settled SettleFault → Type 0
+abbrev pub Settles : BookContents → List SeatLog → List Outcome → Result Settled SettleFault → Type 0
 Settles b logs es (Ok s) = IsAudited b logs es × (s.entries ≡ b.entries) × (s.calls ≡ b.entries)
 Settles b logs es (Err f) = IsFault b logs es f
 
@@ -137,16 +137,16 @@ Settles b logs es (Err f) = IsFault b logs es f
 
 -- where the book, the logs and the listeners agree, no fault holds of them, want of memory aside
 abbrev pub FaultsContradictTheAudit : Type 0
-FaultsContradictTheAudit = (b : Bound) (logs : List SeatLog) (es : List Outcome) (f : SettleFault) → IsFault b logs es f → f ≢ Memory → IsAudited b logs es → ⊥
+FaultsContradictTheAudit = (b : BookContents) (logs : List SeatLog) (es : List Outcome) (f : SettleFault) → IsFault b logs es f → f ≢ Memory → IsAudited b logs es → ⊥
 
 -- where they agree, each place of the journal was kept by exactly one call
 abbrev pub AuditsAgree : Type 0
-AuditsAgree = (b : Bound) (logs : List SeatLog) (es : List Outcome) → b.entries ≡ last_place b.state → IsAudited b logs es → (p : ℕ) → 0 < p → p ≤ b.entries → count_by (λ q. q == p) (flat_map places logs) ≡ 1
+AuditsAgree = (b : BookContents) (logs : List SeatLog) (es : List Outcome) → b.entries ≡ last_place b.state → IsAudited b logs es → (p : ℕ) → 0 < p → p ≤ b.entries → count_by (λ q. q == p) (flat_map places logs) ≡ 1
 
 -- where the first listener that ended for a pipe was handed a front of what the pipe was sent that ends with an end batch, it
 -- was handed all of it: it never differs at a place above 0
 abbrev pub FrontsAreWhole : Type 0
 FrontsAreWhole =
-    (b : Bound) (es more : List Outcome) (e : Outcome) (n p : ℕ) (before rest : List Batch) (last : Batch)
+    (b : BookContents) (es more : List Outcome) (e : Outcome) (n p : ℕ) (before rest : List Batch) (last : Batch)
     → IsSent b.state b.pipes b.sent → of_instance n es ≡ e ∷ more → e.handed ≡ before ++ last ∷ [] → last.records ≡ [] → IsSentTo b n (e.handed ++ rest)
     → IsFaultAt b es n (HandedDiffers n p) → p ≡ 0

@@ -3,7 +3,7 @@ pub mod Lines
 pub mod Writing
 pub mod Pages
 pub mod Stopping
-pub mod Heard
+pub mod Listeners
 pub mod Audited
 pub mod Marked
 pub mod Tracks

@@ -14,16 +14,16 @@ Foretells before taken after = (more : List Event) (next : Event) (answer : Resu
 -- the records that a sink took, the oldest first, and whether it is open
 pub record Taking : Type 0 where
   pub records : List Event
-  pub live : Bool
+  pub is_open : Bool
 
 abbrev pub taking : List Event → Bool → Taking
-taking records live = record { records = records; live = live }
+taking records is_open = record { records = records; is_open = is_open }
 
 -- the same of a sink that takes `most` records
 pub record Counting : Type 0 where
   pub most : ℕ
   pub records : List Event
-  pub live : Bool
+  pub is_open : Bool
 
 abbrev pub counting : ℕ → List Event → Bool → Counting
-counting most records live = record { most = most; records = records; live = live }
+counting most records is_open = record { most = most; records = records; is_open = is_open }

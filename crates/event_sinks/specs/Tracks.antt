@@ -10,7 +10,7 @@ use Rattle.tree_core.specs.declared.reply.Entry.{Entry}
 use Rattle.tree_core.specs.declared.reply.Reply.{Reply}
 use Rattle.tree_core.specs.declared.reply.Reply.TheVariants as reply
 use Rattle.shared_tree.specs.declared.pipe.Batch.{Batch}
-use Rattle.shared_tree.specs.Calls.{Bound}
+use Rattle.shared_tree.specs.Calls.{BookContents}
 use Rattle.shared_tree.specs.Handed.{hands}
 use Rattle.shared_tree.specs.Held.{IsIn, Lacks}
 use Rattle.event_sinks.specs.declared.listener.Cause.TheVariants.{Last}
@@ -118,12 +118,12 @@ IsNoted pipes es found n None = Lacks pipes n × (found ≡ [])
 IsNoted pipes es found n (Some t) = IsPiped pipes n t.is_piped × IsFirst es found t.first t.is_again × (t.is_piped ≡ false → found ≢ [])
 
 -- what comes of the rest tells what is to be told of all batches of the number
-abbrev pub Tells : Bound → List Outcome → List Batch → ℕ → Option Track → Type 0
+abbrev pub Tells : BookContents → List Outcome → List Batch → ℕ → Option Track → Type 0
 Tells b es left n None = ⊤
 Tells b es left n (Some t) = (o : Option ℕ) → Comes b.state.place left (handed_at es t.first) t.progress o → IsDifference (batches_of b n) (since b.state.place (handed_at es t.first)) o
 
 -- what is known of a number while these batches are still to be handed to it
-pub record IsTracked (b : Bound) (es : List Outcome) (left : List Batch) (n : ℕ) (o : Option Track) : Type 0 where
+pub record IsTracked (b : BookContents) (es : List Outcome) (left : List Batch) (n : ℕ) (o : Option Track) : Type 0 where
   pub is_noted : IsNoted b.pipes es (of_instance n es) n o
   pub tells : Tells b es left n o
 

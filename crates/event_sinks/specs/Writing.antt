@@ -12,8 +12,8 @@ abbrev pub records_of : {W : Type 0} → LineSink W → List Event
 records_of sink = sink.records.items
 
 -- whether it is open
-abbrev pub live_of : {W : Type 0} → LineSink W → Bool
-live_of sink = sink.open
+abbrev pub is_open_of : {W : Type 0} → LineSink W → Bool
+is_open_of sink = sink.is_open
 
 -- the port that it writes to
 abbrev pub port_of : {W : Type 0} → LineSink W → Port W

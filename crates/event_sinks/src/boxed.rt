@@ -7,7 +7,7 @@ use record_codec::Event;
 impl Sink for Box<dyn Sink> {
     ghost record_list = { λ b. (Sink-box b).record_list b.value };
 
-    ghost live = { λ b. (Sink-box b).live b.value };
+    ghost is_open = { λ b. (Sink-box b).is_open b.value };
 
     ghost may_answer = { λ b before event answer. (Sink-box b).may_answer b.value before event answer };
 

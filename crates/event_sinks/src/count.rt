@@ -15,7 +15,7 @@ use std::marker::Model;
 pub struct CountSink {
     most: u64,
     records: Vec<Event>,
-    open: bool,
+    is_open: bool,
 }
 
 impl Drop for CountSink {
@@ -23,7 +23,7 @@ impl Drop for CountSink {
         let CountSink {
             most: _,
             records: _,
-            open: _,
+            is_open: _,
         } = self;
     }
 }
@@ -34,7 +34,7 @@ impl Model for CountSink {
 
     ghost Value = { Counting };
 
-    ghost view = { λ s. counting s.most s.records.items s.open };
+    ghost view = { λ s. counting s.most s.records.items s.is_open };
 
     ghost invariant = { λ s. length s.records.items ≤ s.most };
 }
@@ -47,7 +47,7 @@ impl CountSink {
         CountSink {
             most,
             records: Vec::new(alloc),
-            open: true,
+            is_open: true,
         }
     }
 }
@@ -55,14 +55,14 @@ impl CountSink {
 impl Sink for CountSink {
     ghost record_list = { λ s. s.records };
 
-    ghost live = { λ s. s.live };
+    ghost is_open = { λ s. s.is_open };
 
     ghost may_answer = { λ s before _ answer. ((answer ≡ Err Full) ↔ (length s.records + length before ≡ s.most)) × (answer ≢ Err Write) };
 
     ghost page = { λ _. blank };
 
     fn put(&mut self, event: &Event) -> Result<(), SinkFault>
-        requires { self.old.live ≡ true }
+        requires { self.old.is_open ≡ true }
         ensures ok { OnOk result (self.new ≡ counting self.old.most (self.old.records ++ event.now ∷ []) true) }
         ensures err { OnErr result (self.new ≡ self.old) }
         ensures full { (result ≡ Err Full) ↔ (length self.old.records ≡ self.old.most) }
@@ -77,14 +77,14 @@ impl Sink for CountSink {
     }
 
     fn close(&mut self)
-        requires { self.old.live ≡ true }
+        requires { self.old.is_open ≡ true }
         ensures { self.new ≡ counting self.old.most self.old.records false }
     {
-        self.open = false;
+        self.is_open = false;
     }
 
     fn is_open(&self) -> bool {
-        self.open
+        self.is_open
     }
 
     fn taken(&self) -> u64 {

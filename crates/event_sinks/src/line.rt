@@ -4,7 +4,7 @@ ghost use Rattle.std.specs.Prelude.{◌≡◌, ◌≢◌, ◌++◌, [], ◌∷�
 ghost use Rattle.record_codec.specs.Ports.{inner_of, faults_of};
 ghost use Rattle.event_sinks.specs.Lines.{line_of, closing_line, PutsLine, WritesAll, WritesClosing, WritesFront};
 ghost use Rattle.event_sinks.specs.declared.fault.SinkFault.TheVariants.{Full};
-ghost use Rattle.event_sinks.specs.Writing.{live_of, page_of, port_of, records_of};
+ghost use Rattle.event_sinks.specs.Writing.{is_open_of, page_of, port_of, records_of};
 
 use crate::fault::SinkFault;
 use crate::sink::Sink;
@@ -20,14 +20,14 @@ pub struct LineSink<W: Write + Send + Drop> {
     port: Port<W>,
     records: Vec<Event>,
     line: Vec<u8>,
-    open: bool,
+    is_open: bool,
 }
 
 impl<W: Write + Send + Drop> LineSink<W> {
     /// An open sink that took nothing, and wrote nothing. It takes no memory yet.
     pub fn new(alloc: Global, writer: W) -> LineSink<W>
         ensures list { records_of result ≡ [] }
-        ensures live { live_of result ≡ true }
+        ensures is_open { is_open_of result ≡ true }
         ensures writer { inner_of (port_of result) ≡ writer }
         ensures faults { faults_of (port_of result) ≡ 0 }
     {
@@ -35,7 +35,7 @@ impl<W: Write + Send + Drop> LineSink<W> {
             port: Port::new(writer),
             records: Vec::new(alloc),
             line: Vec::new(alloc),
-            open: true,
+            is_open: true,
         }
     }
 }
@@ -43,17 +43,17 @@ impl<W: Write + Send + Drop> LineSink<W> {
 impl<W: Write + Send + Drop> Sink for LineSink<W> {
     ghost record_list = { λ s. records_of s };
 
-    ghost live = { λ s. live_of s };
+    ghost is_open = { λ s. is_open_of s };
 
     ghost may_answer = { λ _ _ _ answer. answer ≢ Err Full };
 
     ghost page = { λ s. page_of W.contents s };
 
     fn put(&mut self, event: &Event) -> Result<(), SinkFault>
-        requires { live_of self.old ≡ true }
+        requires { is_open_of self.old ≡ true }
         ensures ok { OnOk result (records_of self.new ≡ records_of self.old ++ event.now ∷ []) }
         ensures err { OnErr result (records_of self.new ≡ records_of self.old) }
-        ensures stays { live_of self.new ≡ true }
+        ensures stays { is_open_of self.new ≡ true }
         ensures written { PutsLine W.contents (port_of self.old) (line_of event.now) result (port_of self.new) }
     {
         let copy = event.copy()?;
@@ -71,17 +71,17 @@ impl<W: Write + Send + Drop> Sink for LineSink<W> {
     }
 
     fn close(&mut self)
-        requires { live_of self.old ≡ true }
+        requires { is_open_of self.old ≡ true }
         ensures list { records_of self.new ≡ records_of self.old }
-        ensures closed { live_of self.new ≡ false }
+        ensures closed { is_open_of self.new ≡ false }
         ensures written { WritesClosing W.contents (port_of self.old) (closing_line (length (records_of self.old))) (port_of self.new) }
     {
-        self.open = false;
+        self.is_open = false;
         let _ = write_closing(&mut self.port, self.records.len());
     }
 
     fn is_open(&self) -> bool {
-        self.open
+        self.is_open
     }
 
     fn taken(&self) -> u64 {
@@ -95,9 +95,9 @@ impl<W: Write + Send + Drop> Drop for LineSink<W> {
             mut port,
             records,
             line: _,
-            open,
+            is_open,
         } = self;
-        if open {
+        if is_open {
             let _ = write_closing(&mut port, records.len());
         }
     }

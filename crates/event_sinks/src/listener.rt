@@ -2,7 +2,7 @@
 
 ghost use Rattle.std.specs.Prelude.{◌≡◌, ◌≢◌, [], true, length, None};
 ghost use Rattle.event_sinks.specs.declared.listener.Cause.TheVariants.{Given, Turns};
-ghost use Rattle.event_sinks.specs.Heard.{Answers, AnswersBatches, Heard, IsHeard, IsFromOutside, IsTurn, Puts, Reaches, Steps, ended_by, ended_of, heard, heard_by};
+ghost use Rattle.event_sinks.specs.Listeners.{Answers, AnswersBatches, ListenerState, IsSoundListener, IsFromOutside, IsTurn, Puts, Reaches, Steps, ended_by, state_of_ended, listener_state, state_of_listener};
 ghost use Rattle.event_sinks.specs.Pages.{WritesBatches, WritesClose, WritesRecords};
 
 use crate::fault::SinkFault;
@@ -92,8 +92,8 @@ impl<S: Drop> Drop for Ended<S> {
 
 // Puts the records of a batch one by one, until one is refused. Why the listener ends with this batch, if it does.
 fn put_batch<S: Sink>(sink: &mut S, batch: &Batch) -> Option<Cause>
-    requires { S.live sink.old ≡ true }
-    ensures live { S.live sink.new ≡ true }
+    requires { S.is_open sink.old ≡ true }
+    ensures is_open { S.is_open sink.new ≡ true }
     ensures puts { Puts (S.record_list sink.old) batch.now.records (S.record_list sink.new) result }
     ensures answers { Answers S.record_list S.may_answer sink.old batch.now.records sink.new result }
     ensures writes { WritesRecords S.record_list S.page sink.old batch.now.records sink.new result }
@@ -109,10 +109,10 @@ fn put_batch<S: Sink>(sink: &mut S, batch: &Batch) -> Option<Cause>
 impl<S: Sink> Listening<S> {
     /// A listener at a feed. It takes no memory yet.
     pub fn new(alloc: Global, number: u32, feed: Feed, sink: S) -> Listening<S>
-        requires live { S.live sink ≡ true }
-        ensures heard { heard_by S.record_list S.live result ≡ heard number feed [] (length (S.record_list sink)) (S.record_list sink) true None }
+        requires is_open { S.is_open sink ≡ true }
+        ensures state { state_of_listener S.record_list S.is_open result ≡ listener_state number feed [] (length (S.record_list sink)) (S.record_list sink) true None }
         ensures sink { result.sink ≡ sink }
-        ensures sound { IsHeard (heard_by S.record_list S.live result) }
+        ensures sound { IsSoundListener (state_of_listener S.record_list S.is_open result) }
     {
         let started = sink.taken();
         Listening {
@@ -127,9 +127,9 @@ impl<S: Sink> Listening<S> {
 
     /// Makes room for one more batch, takes one where one has come, and puts its records one by one. It never waits.
     pub fn step(&mut self) -> Step
-        requires { IsHeard (heard_by S.record_list S.live self.old) }
-        ensures sound { IsHeard (heard_by S.record_list S.live self.new) }
-        ensures steps { Steps (heard_by S.record_list S.live self.old) (heard_by S.record_list S.live self.new) result }
+        requires { IsSoundListener (state_of_listener S.record_list S.is_open self.old) }
+        ensures sound { IsSoundListener (state_of_listener S.record_list S.is_open self.new) }
+        ensures steps { Steps (state_of_listener S.record_list S.is_open self.old) (state_of_listener S.record_list S.is_open self.new) result }
         ensures answers { self.old.cause ≡ None → AnswersBatches S.record_list S.may_answer self.old.sink self.old.handed.items self.new.sink self.new.handed.items self.new.cause }
         ensures writes { self.old.cause ≡ None → WritesBatches S.record_list S.page self.old.sink self.old.handed.items self.new.sink self.new.handed.items self.new.cause }
         ensures rests { self.old.cause ≢ None → self.new ≡ self.old }
@@ -155,9 +155,9 @@ impl<S: Sink> Listening<S> {
 
     // Steps where the gate lets this turn through. Whether nothing more can come.
     fn is_over_at<G: Gate>(&mut self, gate: &G, turn: u64) -> bool
-        requires { IsHeard (heard_by S.record_list S.live self.old) }
-        ensures sound { IsHeard (heard_by S.record_list S.live self.new) }
-        ensures turn { IsTurn (G.may_pass gate.now) turn (heard_by S.record_list S.live self.old) (heard_by S.record_list S.live self.new) }
+        requires { IsSoundListener (state_of_listener S.record_list S.is_open self.old) }
+        ensures sound { IsSoundListener (state_of_listener S.record_list S.is_open self.new) }
+        ensures turn { IsTurn (G.may_pass gate.now) turn (state_of_listener S.record_list S.is_open self.old) (state_of_listener S.record_list S.is_open self.new) }
         ensures over { result ≡ true → self.new.cause ≢ None }
         ensures answers { self.old.cause ≡ None → AnswersBatches S.record_list S.may_answer self.old.sink self.old.handed.items self.new.sink self.new.handed.items self.new.cause }
         ensures writes { self.old.cause ≡ None → WritesBatches S.record_list S.page self.old.sink self.old.handed.items self.new.sink self.new.handed.items self.new.cause }
@@ -168,10 +168,10 @@ impl<S: Sink> Listening<S> {
 
     // Ends it for this cause, where none came before.
     fn end(self, given: Cause) -> Ended<S>
-        requires sound { IsHeard (heard_by S.record_list S.live self) }
+        requires sound { IsSoundListener (state_of_listener S.record_list S.is_open self) }
         requires given { IsFromOutside given }
-        ensures sound { IsHeard (ended_of S.record_list S.live result) }
-        ensures ended { ended_of S.record_list S.live result ≡ ended_by (heard_by S.record_list S.live self) given }
+        ensures sound { IsSoundListener (state_of_ended S.record_list S.is_open result) }
+        ensures ended { state_of_ended S.record_list S.is_open result ≡ ended_by (state_of_listener S.record_list S.is_open self) given }
         ensures writes { self.cause ≡ None → WritesClose S.record_list S.page self.sink result.sink }
         ensures rests { self.cause ≢ None → result.sink ≡ self.sink }
     {
@@ -203,9 +203,9 @@ impl<S: Sink> Listening<S> {
     /// Steps in each of so many turns that the gate lets through, and ends. It ends before its turns are over where
     /// nothing more can come.
     pub fn run<G: Gate>(self, gate: &G, turns: u64) -> Ended<S>
-        requires { IsHeard (heard_by S.record_list S.live self) }
-        ensures sound { IsHeard (ended_of S.record_list S.live result) }
-        ensures turns { (h : Heard) × Reaches (G.may_pass gate.now) turns (heard_by S.record_list S.live self) h × (ended_of S.record_list S.live result ≡ ended_by h Turns) }
+        requires { IsSoundListener (state_of_listener S.record_list S.is_open self) }
+        ensures sound { IsSoundListener (state_of_ended S.record_list S.is_open result) }
+        ensures turns { (h : ListenerState) × Reaches (G.may_pass gate.now) turns (state_of_listener S.record_list S.is_open self) h × (state_of_ended S.record_list S.is_open result ≡ ended_by h Turns) }
         ensures answers { self.cause ≡ None → AnswersBatches S.record_list S.may_answer self.sink self.handed.items result.sink result.handed.items (Some result.cause) }
         ensures writes { self.cause ≡ None → WritesBatches S.record_list S.page self.sink self.handed.items result.sink result.handed.items (Some result.cause) }
         ensures rests { self.cause ≢ None → result.sink ≡ self.sink }
@@ -221,9 +221,9 @@ impl<S: Sink> Listening<S> {
 
     /// Ends it where it stands: a sink that is open is closed.
     pub fn finish(self) -> Ended<S>
-        requires { IsHeard (heard_by S.record_list S.live self) }
-        ensures sound { IsHeard (ended_of S.record_list S.live result) }
-        ensures ended { ended_of S.record_list S.live result ≡ ended_by (heard_by S.record_list S.live self) Given }
+        requires { IsSoundListener (state_of_listener S.record_list S.is_open self) }
+        ensures sound { IsSoundListener (state_of_ended S.record_list S.is_open result) }
+        ensures ended { state_of_ended S.record_list S.is_open result ≡ ended_by (state_of_listener S.record_list S.is_open self) Given }
         ensures writes { self.cause ≡ None → WritesClose S.record_list S.page self.sink result.sink }
         ensures rests { self.cause ≢ None → result.sink ≡ self.sink }
     {

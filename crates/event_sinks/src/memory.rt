@@ -14,14 +14,14 @@ use std::marker::Model;
 /// Keeps a copy of each record.
 pub struct MemorySink {
     records: Vec<Event>,
-    open: bool,
+    is_open: bool,
 }
 
 impl Drop for MemorySink {
     fn drop(self) {
         let MemorySink {
             records: _,
-            open: _,
+            is_open: _,
         } = self;
     }
 }
@@ -31,7 +31,7 @@ impl Model for MemorySink {
 
     ghost Value = { Taking };
 
-    ghost view = { λ s. taking s.records.items s.open };
+    ghost view = { λ s. taking s.records.items s.is_open };
 }
 
 impl MemorySink {
@@ -41,7 +41,7 @@ impl MemorySink {
     {
         MemorySink {
             records: Vec::new(alloc),
-            open: true,
+            is_open: true,
         }
     }
 }
@@ -49,14 +49,14 @@ impl MemorySink {
 impl Sink for MemorySink {
     ghost record_list = { λ s. s.records };
 
-    ghost live = { λ s. s.live };
+    ghost is_open = { λ s. s.is_open };
 
     ghost may_answer = { λ _ _ _ answer. IfErr answer (λ fault. fault ≡ Memory) };
 
     ghost page = { λ _. blank };
 
     fn put(&mut self, event: &Event) -> Result<(), SinkFault>
-        requires { self.old.live ≡ true }
+        requires { self.old.is_open ≡ true }
         ensures ok { OnOk result (self.new ≡ taking (self.old.records ++ event.now ∷ []) true) }
         ensures err { OnErr result (self.new ≡ self.old) }
         ensures memory { IfErr result (λ fault. fault ≡ Memory) }
@@ -67,11 +67,11 @@ impl Sink for MemorySink {
     }
 
     fn close(&mut self) {
-        self.open = false;
+        self.is_open = false;
     }
 
     fn is_open(&self) -> bool {
-        self.open
+        self.is_open
     }
 
     fn taken(&self) -> u64 {

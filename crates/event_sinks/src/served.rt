@@ -2,7 +2,7 @@
 
 ghost use Rattle.std.specs.Prelude.{◌≡◌, ◌↔◌, ◌==◌, ℕ, true, [], ◌∷◌, Option, Some, IfOk, IsTrue, MatchOption, OnOk, if◌then◌else◌, option_map};
 ghost use Rattle.shared_tree.specs.declared.pipe.Batch.{Batch};
-ghost use Rattle.shared_tree.specs.Calls.{Bound};
+ghost use Rattle.shared_tree.specs.Calls.{BookContents};
 ghost use Rattle.shared_tree.specs.Held.{IsIn, Lacks};
 ghost use Rattle.std.specs.Prelude.{◌<◌, drop, get_or, length};
 ghost use Rattle.shared_tree.specs.Handed.{batch};
@@ -217,7 +217,7 @@ fn first_fault<S>(
     ended: &[Ended<S>],
     cut: u64,
 ) -> Option<SettleFault>
-    ensures { (b : Bound) → b.state.place ≡ cut → ((n : ℕ) → IsTracked b (outcomes ended.now) [] n (track_at tracks.now n)) → MatchOption result ((n : ℕ) → IsServedAt b (outcomes ended.now) n) (λ f. IsFirstFault b (outcomes ended.now) f) }
+    ensures { (b : BookContents) → b.state.place ≡ cut → ((n : ℕ) → IsTracked b (outcomes ended.now) [] n (track_at tracks.now n)) → MatchOption result ((n : ℕ) → IsServedAt b (outcomes ended.now) n) (λ f. IsFirstFault b (outcomes ended.now) f) }
 {
     for (number, track) in tracks {
         if let Some(fault) = fault_of(*number, track, ended, cut) {
@@ -229,7 +229,7 @@ fn first_fault<S>(
 
 // What is wrong with an instance, once all batches were compared.
 fn fault_of<S>(number: u32, track: &Track, ended: &[Ended<S>], cut: u64) -> Option<SettleFault>
-    ensures { (b : Bound) → b.state.place ≡ cut → IsTracked b (outcomes ended.now) [] number (Some track.now) → MatchOption result (IsServedAt b (outcomes ended.now) number) (λ f. IsFaultAt b (outcomes ended.now) number f) }
+    ensures { (b : BookContents) → b.state.place ≡ cut → IsTracked b (outcomes ended.now) [] number (Some track.now) → MatchOption result (IsServedAt b (outcomes ended.now) number) (λ f. IsFaultAt b (outcomes ended.now) number f) }
 {
     let differing = |place| SettleFault::HandedDiffers {
         instance: number,

@@ -17,7 +17,7 @@ pub trait Sink: Send + Drop {
     ghost record_list: { Self → List Event };
 
     /// Whether it is open.
-    ghost live: { Self → Bool };
+    ghost is_open: { Self → Bool };
 
     /// What it may answer where it is put this record, once it has taken those before it.
     ghost may_answer: { Self → List Event → Event → Result (Unit {0}) SinkFault → Type 0 };
@@ -30,10 +30,10 @@ pub trait Sink: Send + Drop {
     /// # Errors
     /// The sink's own; `Full` where it takes no more records. It has then taken nothing, and is still open.
     fn put(&mut self, event: &Event) -> Result<(), SinkFault>
-        requires { live self.old ≡ true }
+        requires { is_open self.old ≡ true }
         ensures ok { OnOk result (record_list self.new ≡ record_list self.old ++ event.now ∷ []) }
         ensures err { OnErr result (record_list self.new ≡ record_list self.old) }
-        ensures stays { live self.new ≡ true }
+        ensures stays { is_open self.new ≡ true }
         ensures answer { may_answer self.old [] event.now result }
         ensures page { PutsText (page self.old) event.now result (page self.new) }
 
@@ -42,14 +42,14 @@ pub trait Sink: Send + Drop {
 
     /// Ends it: it takes no more records.
     fn close(&mut self)
-        requires { live self.old ≡ true }
+        requires { is_open self.old ≡ true }
         ensures list { record_list self.new ≡ record_list self.old }
-        ensures closed { live self.new ≡ false }
+        ensures closed { is_open self.new ≡ false }
         ensures page { ClosesText (page self.old) (length (record_list self.old)) (page self.new) };
 
     /// Whether it is open.
     fn is_open(&self) -> bool
-        ensures { result ≡ live self.now };
+        ensures { result ≡ is_open self.now };
 
     /// How many records it took.
     fn taken(&self) -> u64

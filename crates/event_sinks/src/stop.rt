@@ -20,7 +20,7 @@ pub struct StopSink<S: Sink> {
 impl<S: Sink> StopSink<S> {
     /// A sink that passes on to `inner`, until that took `most` records through it.
     pub fn new(inner: S, most: u64) -> StopSink<S>
-        requires { S.live inner ≡ true }
+        requires { S.is_open inner ≡ true }
         ensures inner { inner_of result ≡ inner }
         ensures left { left_of result ≡ most }
     {
@@ -31,17 +31,17 @@ impl<S: Sink> StopSink<S> {
 impl<S: Sink> Sink for StopSink<S> {
     ghost record_list = { λ s. S.record_list (inner_of s) };
 
-    ghost live = { λ s. S.live (inner_of s) };
+    ghost is_open = { λ s. S.is_open (inner_of s) };
 
     ghost may_answer = { λ s. StopsAt (left_of s) (S.may_answer (inner_of s)) };
 
     ghost page = { λ s. S.page (inner_of s) };
 
     fn put(&mut self, event: &Event) -> Result<(), SinkFault>
-        requires { S.live (inner_of self.old) ≡ true }
+        requires { S.is_open (inner_of self.old) ≡ true }
         ensures ok { OnOk result (S.record_list (inner_of self.new) ≡ S.record_list (inner_of self.old) ++ event.now ∷ []) }
         ensures err { OnErr result (S.record_list (inner_of self.new) ≡ S.record_list (inner_of self.old)) }
-        ensures stays { S.live (inner_of self.new) ≡ true }
+        ensures stays { S.is_open (inner_of self.new) ≡ true }
 
         ensures page { PutsText (S.page (inner_of self.old)) event.now result (S.page (inner_of self.new)) }
 

@@ -1,5 +1,5 @@
 ghost use Rattle.std.specs.Prelude.{◌≡◌, true};
-ghost use Rattle.event_sinks.specs.Writing.{live_of};
+ghost use Rattle.event_sinks.specs.Writing.{is_open_of};
 
 mod audits;
 mod feeds;
@@ -98,8 +98,8 @@ impl Write for Meter {
 
 /// Puts the record so many times, or until it is refused. Want of memory ends the test.
 fn put_all<S: Sink>(sink: &mut S, event: &Event, times: u64) -> Result<Option<SinkFault>, Fail>
-    requires { S.live sink.old ≡ true }
-    ensures { S.live sink.new ≡ true }
+    requires { S.is_open sink.old ≡ true }
+    ensures { S.is_open sink.new ≡ true }
 {
     for _ in 0..times {
         match sink.put(event) {
@@ -113,7 +113,7 @@ fn put_all<S: Sink>(sink: &mut S, event: &Event, times: u64) -> Result<Option<Si
 
 /// Puts three records and closes. Answers the fault, how many it took, and whether it was open before and after.
 fn three<S: Sink>(mut sink: S, event: &Event) -> Result<(Option<SinkFault>, u64, bool, bool), Fail>
-    requires { S.live sink ≡ true }
+    requires { S.is_open sink ≡ true }
 {
     let fault = put_all(&mut sink, event, 3)?;
     let before = sink.is_open();
@@ -128,7 +128,7 @@ fn takes_three<S: Sink>(
     event: &Event,
     wanted: (Option<SinkFault>, u64),
 ) -> Result<(), Fail>
-    requires { S.live sink ≡ true }
+    requires { S.is_open sink ≡ true }
 {
     let (fault, taken, before, after) = three(sink, event)?;
     equal(rt, (fault, taken), wanted);

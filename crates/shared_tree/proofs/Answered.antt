@@ -11,11 +11,11 @@ use Rattle.tree_core.specs.declared.call.Call.TheVariants as call
 use Rattle.tree_core.specs.declared.reply.Reply.{Reply}
 use Rattle.tree_core.specs.declared.reply.Reply.TheVariants as reply
 use Rattle.tree_core.specs.Tree.{Tree, read_answer, refusal_of, reply_by, reply_of}
-use Rattle.tree_core.specs.Histories.{oldest, read_by, records_for, where_open, where_records, where_same}
+use Rattle.tree_core.specs.Histories.{oldest, read_by, records_for, where_open, where_records, if_same}
 use Rattle.shared_tree.specs.declared.pipe.Batch.{Batch}
 use Rattle.shared_tree.specs.Handed.{batch, handed_by, where_done, IsAnswered}
 
-same-id : (id : ℕ) (xs : List Event) → where_same id id xs ≡ xs
+same-id : (id : ℕ) (xs : List Event) → if_same id id xs ≡ xs
 same-id id xs = by (eqb id id) refl
   where
     by : (x : Bool) → eqb id id ≡ x → cond x xs [] ≡ xs
@@ -31,7 +31,7 @@ pump-answered : (place id bytes : ℕ) (b : Batch) (r : Option Refusal) (o : Opt
 pump-answered place id bytes b (Some why) o e = absurd (cc)
 pump-answered place id bytes b None None e = absurd (cc)
 pump-answered place id bytes b None (Some i) e =
-    let is : batch id place (where_same id id (oldest bytes i)) ≡ b = some-is (batch id place (where_same id id (oldest bytes i))) b e in (
+    let is : batch id place (if_same id id (oldest bytes i)) ≡ b = some-is (batch id place (if_same id id (oldest bytes i))) b e in (
       ap (λ (x : Batch). x.place) (sym is),
       ap (λ (x : Batch). x.instance) (sym is),
       ap (λ (rs : List Event). reply.Records (spelling rs)) (sym (same-id id (oldest bytes i)) ∙ ap (λ (x : Batch). x.records) is),

@@ -24,7 +24,7 @@ use Rattle.tree_core.specs.Histories.{pumped, read_by, where_records}
 use Rattle.shared_tree.specs.Pipes.{Piped}
 use Rattle.shared_tree.specs.Seats.{Seated}
 use Rattle.shared_tree.specs.Handed.{AreOfEvents, batch, handed_by, handed_from, handed_since, hands, piped_by, piped_of, where_done}
-use Rattle.shared_tree.specs.Calls.{Enters, HasPipe, IsForPipe}
+use Rattle.shared_tree.specs.Calls.{JoinsJournal, HasPipe, IsForPipe}
 use Rattle.shared_tree.specs.Held.{closed_of, deliver, end_of, sents, IsFilled, IsHeldWhole, IsIn, IsLooked, IsReady, Rises}
 use Rattle.shared_tree.proofs.Steps.{Told, end_of-handed, hands-none, next-init, plain-makes-none, opened-by, piped_by-cases, IsMade, WasOpen}
 
@@ -422,7 +422,7 @@ pump-sound : (id place : ℕ) (x : Option (List Event)) → IfSome x AreEvents �
 pump-sound id place None is = tt
 pump-sound id place (Some rs) is = is
 
-pub held-call : (tells : Told) (s longer : Journaled) (seat left : Seated) (c : Call) (r : Receipt) (ns : List ℕ) (xss : List (List Batch)) (total more : ℕ) (closed : Option ℕ) (o : Option Batch) → IsHeldWhole s ns xss total → Enters s seat c longer left r
+pub held-call : (tells : Told) (s longer : Journaled) (seat left : Seated) (c : Call) (r : Receipt) (ns : List ℕ) (xss : List (List Batch)) (total more : ℕ) (closed : Option ℕ) (o : Option Batch) → IsHeldWhole s ns xss total → JoinsJournal s seat c longer left r
     → IsTrue (is_plain c) → more ≡ total + 1 → closed ≡ closed_of c → o ≡ end_of closed r.place r.reply → IsHeldWhole longer ns (deliver o ns xss) more
 held-call tells s longer seat left c r ns xss total more closed o held enters plain one shut is =
     let e : Entry = record { caller = seat.number; call = c; reply = r.reply } in
@@ -432,14 +432,14 @@ held-call tells s longer seat left c r ns xss total more closed o held enters pl
     held-carries tells s longer e ns xss total more o held enters.entry enters.reply (plain-makes-none c r.reply plain) one batch (end-sound (now s) (last_place s + 1) c plain)
 
 pub held-pump : (tells : Told) (s longer : Journaled) (seat left : Seated) (id bytes : ℕ) (r : Receipt) (ns : List ℕ) (xss : List (List Batch)) (total more : ℕ) (rs : Option (List Event)) (o : Option Batch) → IsHeldWhole s ns xss total
-    → Enters s seat (call.Pump id bytes) longer left r → more ≡ total + 1 → rs ≡ pumped (now s) id bytes → IfSome rs AreEvents → o ≡ option_map (batch id r.place) rs → IsHeldWhole longer ns (deliver o ns xss) more
+    → JoinsJournal s seat (call.Pump id bytes) longer left r → more ≡ total + 1 → rs ≡ pumped (now s) id bytes → IfSome rs AreEvents → o ≡ option_map (batch id r.place) rs → IsHeldWhole longer ns (deliver o ns xss) more
 held-pump tells s longer seat left id bytes r ns xss total more rs o held enters one given events is =
     let e : Entry = record { caller = seat.number; call = call.Pump id bytes; reply = r.reply } in
     let handed_over : o ≡ handed_by (now s) (last_place s + 1) (call.Pump id bytes) =
     is ∙ ap (λ x. option_map (batch id r.place) x) given ∙ ap (λ (p : ℕ). handed_by (now s) p (call.Pump id bytes)) (next-place s longer e r.place enters.entry enters.place) in
     held-carries tells s longer e ns xss total more o held enters.entry enters.reply refl one handed_over (pump-sound id (last_place s + 1) (pumped (now s) id bytes) (subst (λ x. IfSome x AreEvents) given events))
 
-pub held-open : (tells : Told) (s longer : Journaled) (seat left : Seated) (limit : ℕ) (r : Receipt) (ns : List ℕ) (xss : List (List Batch)) (total more : ℕ) → IsHeldWhole s ns xss total → Enters s seat (call.Init limit true) longer left r
+pub held-open : (tells : Told) (s longer : Journaled) (seat left : Seated) (limit : ℕ) (r : Receipt) (ns : List ℕ) (xss : List (List Batch)) (total more : ℕ) → IsHeldWhole s ns xss total → JoinsJournal s seat (call.Init limit true) longer left r
     → more ≡ total + 1 → IsHeldWhole longer (ns ++ piped_by (call.Init limit true) r.reply) (xss ++ map (λ (id : ℕ). []) (piped_by (call.Init limit true) r.reply)) more
 held-open tells s longer seat left limit r ns xss total more held enters one = held-opens tells s longer seat.number limit r.reply ns xss total more held enters.entry enters.reply one
 

@@ -16,7 +16,7 @@ use Rattle.tree_core.specs.declared.reply.Entry.{Entry}
 use Rattle.tree_core.specs.declared.reply.Reply.{Reply}
 use Rattle.tree_core.specs.declared.reply.Reply.TheVariants as reply
 use Rattle.tree_core.specs.Tree.{Tree, opening, read_answer, refusal_of, reply_by, reply_of, after}
-use Rattle.tree_core.specs.Histories.{oldest, pumped, read_by, read_in, records_for, where_open, where_records, where_same}
+use Rattle.tree_core.specs.Histories.{oldest, pumped, read_by, read_in, records_for, where_open, where_records, if_same}
 use Rattle.tree_core.specs.Journal.{IsLawful, IsLawfulFrom}
 use Rattle.shared_tree.specs.declared.pipe.Batch.{Batch}
 use Rattle.shared_tree.specs.Handed.{batch, handed, handed_by, handed_from, hands, piped_by, piped_of, records_of, where_done, SentIsRead}
@@ -44,7 +44,7 @@ no-records : (x : Bool) → ◌≡◌ {A = List Event} [] (cond x [] [])
 no-records true = refl
 no-records false = refl
 
-given-records : (from place id : ℕ) (o : Option (List Event)) → records_of (hands (option_map (batch from place) o) id) ≡ where_same from id (unwrap_or o [])
+given-records : (from place id : ℕ) (o : Option (List Event)) → records_of (hands (option_map (batch from place) o) id) ≡ if_same from id (unwrap_or o [])
 given-records from place id None = no-records (eqb from id)
 given-records from place id (Some rs) = records-where (eqb from id) (batch from place rs)
 
@@ -63,7 +63,7 @@ pump-reads bytes None None f = refl
 pump-reads bytes None (Some i) f = refl
 
 -- a pump reads of one instance
-pump-here : (t : Tree) (from bytes id : ℕ) → where_same from id (read_by t (call.Pump from bytes) from) ≡ read_by t (call.Pump from bytes) id
+pump-here : (t : Tree) (from bytes id : ℕ) → if_same from id (read_by t (call.Pump from bytes) from) ≡ read_by t (call.Pump from bytes) id
 unfolding read_by
 pump-here t from bytes id = by (eqb from id) refl
   where
@@ -93,7 +93,7 @@ module _ (tells : Told) (t : Tree) (place id : ℕ) (pipes : (i : Instance) → 
   sent-by (call.Read from bytes) = sym (reads-none from bytes (eqb from id) refl (refusal_of t (call.Read from bytes)) refl (instance_of t.instances id) refl)
   sent-by (call.Pump from bytes) =
       given-records from place id (pumped t from bytes)
-      ∙ ap (where_same from id) (pump-reads bytes (refusal_of t (call.Pump from bytes)) (instance_of t.instances from) (records_for (call.Pump from bytes) from))
+      ∙ ap (if_same from id) (pump-reads bytes (refusal_of t (call.Pump from bytes)) (instance_of t.instances from) (records_for (call.Pump from bytes) from))
       ∙ pump-here t from bytes id
   sent-by (call.Close from) =
       done-records from place id (reply_of t (call.Close from))

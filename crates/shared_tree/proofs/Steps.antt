@@ -13,7 +13,7 @@ use Rattle.tree_core.specs.declared.call.Call.TheVariants as call
 use Rattle.tree_core.specs.declared.reply.Reply.{Reply}
 use Rattle.tree_core.specs.declared.reply.Reply.TheVariants as reply
 use Rattle.tree_core.specs.Tree.{Tree, cookie_now, number_seen, refusal_of, reply_by, reply_of, accepted, tree_by, after, after_init, after_reading}
-use Rattle.tree_core.specs.Histories.{read_by, where_records, where_same}
+use Rattle.tree_core.specs.Histories.{read_by, where_records, if_same}
 use Rattle.tree_core.specs.TurnLaws.{RepliesTell}
 use Rattle.tree_core.proofs.Opened.{left_of, instance_of-accepted}
 use Rattle.shared_tree.specs.declared.pipe.Batch.{Batch}
@@ -28,7 +28,7 @@ Told = (t : Tree) (c : Call) → RepliesTell t c
 
 -- ---- what a call hands over
 
-same-or-not : (from id : ℕ) (b : Batch) → (from ≡ id → ⊥) → where_same from id (b ∷ []) ≡ []
+same-or-not : (from id : ℕ) (b : Batch) → (from ≡ id → ⊥) → if_same from id (b ∷ []) ≡ []
 same-or-not from id b apart = by (eqb from id) refl
   where
     by : (x : Bool) → eqb from id ≡ x → cond x (b ∷ []) [] ≡ []

@@ -19,7 +19,7 @@ use Rattle.tree_core.specs.Journal.{Journaled, IsLawful, IsLawfulFrom, IsPast, c
 use Rattle.tree_core.specs.Tree.{Tree, opening, reply_of, after}
 use Rattle.tree_core.proofs.Lawful.{limits-now, tree_after-append}
 use Rattle.shared_tree.specs.declared.pipe.Batch.{Batch}
-use Rattle.shared_tree.specs.Calls.{Enters, HandsOver, Holding, IsForPipe, IsSent, IsWhyNot, holding}
+use Rattle.shared_tree.specs.Calls.{JoinsJournal, HandsOver, TreeWithPipes, IsForPipe, IsSent, IsWhyNot, tree_with_pipes}
 use Rattle.shared_tree.specs.Handed.{AreOfEvents, batch, handed, handed_by, handed_from, handed_since, hands, piped_by, CutsPartBatches}
 use Rattle.shared_tree.specs.Held.{IsFilled, IsHeld, IsHeldWhole, closed_of, deliver, end_of, sents, whole}
 use Rattle.shared_tree.specs.Law.{HasPipesOfPiped}
@@ -46,8 +46,8 @@ past-entry : (s longer : Journaled) (e : Entry) (past : List Entry) → longer �
 past-entry s longer e past more is = subst (λ (j : Journaled). IsPast j.start j.place past) (sym more) is
 
 -- a call enters the whole journal as it enters what is kept of it
-Enters-whole : (s longer : Journaled) (past : List Entry) (seat left : Seated) (c : Call) (r : Receipt) → IsPast s.start s.place past → Enters s seat c longer left r → Enters (whole s past) seat c (whole longer past) left r
-Enters-whole s longer past seat left c r is enters =
+JoinsJournal-whole : (s longer : Journaled) (past : List Entry) (seat left : Seated) (c : Call) (r : Receipt) → IsPast s.start s.place past → JoinsJournal s seat c longer left r → JoinsJournal (whole s past) seat c (whole longer past) left r
+JoinsJournal-whole s longer past seat left c r is enters =
     let e : Entry = record { caller = seat.number; call = c; reply = r.reply } in
     record {
       entry = ap (λ j. whole j past) enters.entry ∙ (λ i. record { start = opening s.start.limits; place = 0; entries = sym (append_assoc past s.entries (e ∷ [])) i });
@@ -67,28 +67,28 @@ unfolding opening
 held-new limits = record { past = []; is_past = no-past limits; held = keeping.held-new limits }
 
 module _ (tells : Told) (s longer : Journaled) (seat left : Seated) (r : Receipt) (ns : List ℕ) (xss : List (List Batch)) (total more : ℕ) (held : IsHeld s ns xss total) where
-  pub held-call : (c : Call) (closed : Option ℕ) (o : Option Batch) → Enters s seat c longer left r → IsTrue (is_plain c) → more ≡ total + 1 → closed ≡ closed_of c → o ≡ end_of closed r.place r.reply → IsHeld longer ns (deliver o ns xss) more
+  pub held-call : (c : Call) (closed : Option ℕ) (o : Option Batch) → JoinsJournal s seat c longer left r → IsTrue (is_plain c) → more ≡ total + 1 → closed ≡ closed_of c → o ≡ end_of closed r.place r.reply → IsHeld longer ns (deliver o ns xss) more
   held-call c closed o enters plain one shut is = record {
     past = held.past;
     is_past = past-entry s longer _ held.past enters.entry held.is_past;
-    held = keeping.held-call tells (whole s held.past) (whole longer held.past) seat left c r ns xss total more closed o held.held (Enters-whole s longer held.past seat left c r held.is_past enters) plain one shut is;
+    held = keeping.held-call tells (whole s held.past) (whole longer held.past) seat left c r ns xss total more closed o held.held (JoinsJournal-whole s longer held.past seat left c r held.is_past enters) plain one shut is;
   }
 
-  pub held-pump : (id bytes : ℕ) (rs : Option (List Event)) (o : Option Batch) → Enters s seat (call.Pump id bytes) longer left r → more ≡ total + 1 → rs ≡ pumped (now s) id bytes → IfSome rs AreEvents → o ≡ option_map (batch id r.place) rs
+  pub held-pump : (id bytes : ℕ) (rs : Option (List Event)) (o : Option Batch) → JoinsJournal s seat (call.Pump id bytes) longer left r → more ≡ total + 1 → rs ≡ pumped (now s) id bytes → IfSome rs AreEvents → o ≡ option_map (batch id r.place) rs
       → IsHeld longer ns (deliver o ns xss) more
   held-pump id bytes rs o enters one given events is = record {
     past = held.past;
     is_past = past-entry s longer _ held.past enters.entry held.is_past;
     held =
-        keeping.held-pump tells (whole s held.past) (whole longer held.past) seat left id bytes r ns xss total more rs o held.held (Enters-whole s longer held.past seat left (call.Pump id bytes) r held.is_past enters) one
+        keeping.held-pump tells (whole s held.past) (whole longer held.past) seat left id bytes r ns xss total more rs o held.held (JoinsJournal-whole s longer held.past seat left (call.Pump id bytes) r held.is_past enters) one
         (given ∙ ap (λ t. pumped t id bytes) (sym (now-whole s held.past held.is_past))) events is;
   }
 
-  pub held-open : (limit : ℕ) → Enters s seat (call.Init limit true) longer left r → more ≡ total + 1 → IsHeld longer (ns ++ piped_by (call.Init limit true) r.reply) (xss ++ map (λ (id : ℕ). []) (piped_by (call.Init limit true) r.reply)) more
+  pub held-open : (limit : ℕ) → JoinsJournal s seat (call.Init limit true) longer left r → more ≡ total + 1 → IsHeld longer (ns ++ piped_by (call.Init limit true) r.reply) (xss ++ map (λ (id : ℕ). []) (piped_by (call.Init limit true) r.reply)) more
   held-open limit enters one = record {
     past = held.past;
     is_past = past-entry s longer _ held.past enters.entry held.is_past;
-    held = keeping.held-open tells (whole s held.past) (whole longer held.past) seat left limit r ns xss total more held.held (Enters-whole s longer held.past seat left (call.Init limit true) r held.is_past enters) one;
+    held = keeping.held-open tells (whole s held.past) (whole longer held.past) seat left limit r ns xss total more held.held (JoinsJournal-whole s longer held.past seat left (call.Init limit true) r held.is_past enters) one;
   }
 
 module _ (s : Journaled) (ns : List ℕ) (total : ℕ) where
@@ -118,7 +118,7 @@ held-lengths s ns xss total held = held-length (whole s held.past) ns xss total 
 pub held-counted : (s : Journaled) (ns : List ℕ) (xss : List (List Batch)) (total : ℕ) → IsHeld s ns xss total → total ≡ last_place s
 held-counted s ns xss total held = held.held.counted ∙ last-whole s held.past held.is_past
 
-pub held-pipes-of-piped : (s : Journaled) (ns : List ℕ) (xss : List (List Batch)) (total : ℕ) → IsHeld s ns xss total → HasPipesOfPiped (holding s ns xss total)
+pub held-pipes-of-piped : (s : Journaled) (ns : List ℕ) (xss : List (List Batch)) (total : ℕ) → IsHeld s ns xss total → HasPipesOfPiped (tree_with_pipes s ns xss total)
 held-pipes-of-piped s ns xss total held = λ id i at. held.held.with_pipe id i (ap (λ t. instance_of t.instances id) (now-whole s held.past held.is_past) ∙ at)
 
 -- ---- a cut
@@ -234,7 +234,7 @@ held-events s ns xss total id held =
 
 -- ---- what a call does beside its entry
 
-pub hands-call : (old new : Holding) (seat left : Seated) (c : Call) (r : Receipt) (closed : Option ℕ) (o : Option Batch) → Enters old.state seat c new.state left r → IsTrue (is_plain c) → closed ≡ closed_of c → o ≡ end_of closed r.place r.reply
+pub hands-call : (old new : TreeWithPipes) (seat left : Seated) (c : Call) (r : Receipt) (closed : Option ℕ) (o : Option Batch) → JoinsJournal old.state seat c new.state left r → IsTrue (is_plain c) → closed ≡ closed_of c → o ≡ end_of closed r.place r.reply
     → new.pipes ≡ old.pipes → new.sent ≡ deliver o old.pipes old.sent → new.total ≡ old.total + 1 → HandsOver old c r new
 hands-call old new seat left c r closed o enters plain shut is pipes sent one =
     let none = plain-makes-none c r.reply plain in
@@ -245,7 +245,7 @@ hands-call old new seat left c r closed o enters plain shut is pipes sent one =
       counted = one;
     }
 
-pub hands-pump : (old new : Holding) (id bytes : ℕ) (r : Receipt) (rs : Option (List Event)) (o : Option Batch) → rs ≡ pumped (now old.state) id bytes → o ≡ option_map (batch id r.place) rs
+pub hands-pump : (old new : TreeWithPipes) (id bytes : ℕ) (r : Receipt) (rs : Option (List Event)) (o : Option Batch) → rs ≡ pumped (now old.state) id bytes → o ≡ option_map (batch id r.place) rs
     → new.pipes ≡ old.pipes → new.sent ≡ deliver o old.pipes old.sent → new.total ≡ old.total + 1 → HandsOver old (call.Pump id bytes) r new
 hands-pump old new id bytes r rs o given is pipes sent one = record {
   pipes_are = pipes ∙ sym (append-nil old.pipes);
@@ -253,7 +253,7 @@ hands-pump old new id bytes r rs o given is pipes sent one = record {
   counted = one;
 }
 
-pub hands-open : (old new : Holding) (limit : ℕ) (r : Receipt) → length old.pipes ≡ length old.sent → new.pipes ≡ old.pipes ++ piped_by (call.Init limit true) r.reply
+pub hands-open : (old new : TreeWithPipes) (limit : ℕ) (r : Receipt) → length old.pipes ≡ length old.sent → new.pipes ≡ old.pipes ++ piped_by (call.Init limit true) r.reply
     → new.sent ≡ old.sent ++ map (λ (id : ℕ). []) (piped_by (call.Init limit true) r.reply) → new.total ≡ old.total + 1 → HandsOver old (call.Init limit true) r new
 hands-open old new limit r len pipes sent one = record {
   pipes_are = pipes;

@@ -18,14 +18,14 @@ use Rattle.shared_tree.specs.Held.{deliver}
 
 -- the tree with its journal, the instances that were made with a pipe, what each pipe was sent in the order in which the pipes
 -- were made, and the ledger's total
-pub record Holding : Type 0 where
+pub record TreeWithPipes : Type 0 where
   pub state : Journaled
   pub pipes : List ℕ
   pub sent : List (List Batch)
   pub total : ℕ
 
-abbrev pub holding : Journaled → List ℕ → List (List Batch) → ℕ → Holding
-holding state pipes sent total = record { state = state; pipes = pipes; sent = sent; total = total }
+abbrev pub tree_with_pipes : Journaled → List ℕ → List (List Batch) → ℕ → TreeWithPipes
+tree_with_pipes state pipes sent total = record { state = state; pipes = pipes; sent = sent; total = total }
 
 -- the pipes are those of the instances that the whole journal made with one, and each was sent what it hands to its
 -- instance. The whole journal is what was cut off, and the entries since
@@ -37,14 +37,14 @@ pub record IsSent (state : Journaled) (pipes : List ℕ) (sent : List (List Batc
 
 -- what a call does beside its entry: an instance with a pipe that it made has a pipe more, which was sent nothing; the batch
 -- that it hands over joins what the pipe of its instance was sent; and the ledger's total is one more
-pub record HandsOver (old : Holding) (c : Call) (r : Receipt) (new : Holding) : Type 0 where
+pub record HandsOver (old : TreeWithPipes) (c : Call) (r : Receipt) (new : TreeWithPipes) : Type 0 where
   pub pipes_are : new.pipes ≡ old.pipes ++ piped_by c r.reply
   pub sent_are : new.sent ≡ deliver (handed_by (now old.state) r.place c) old.pipes old.sent ++ map (λ id. []) (piped_by c r.reply)
   pub counted : new.total ≡ old.total + 1
 
 -- a call by a seat is one entry more, under the seat's number and with the reply of the tree before it. The seat keeps
 -- this one call more
-pub record Enters (old : Journaled) (seat : Seated) (c : Call) (new : Journaled) (left : Seated) (r : Receipt) : Type 0 where
+pub record JoinsJournal (old : Journaled) (seat : Seated) (c : Call) (new : Journaled) (left : Seated) (r : Receipt) : Type 0 where
   pub entry : new ≡ with_entry old (record { caller = seat.number; call = c; reply = r.reply })
   pub reply : r.reply ≡ reply_of (now old) c
   pub place : r.place ≡ last_place new
@@ -80,7 +80,7 @@ pub record IsWhyNot (old : Journaled) (c : Call) (e : Refusal) : Type 0 where
 
 -- what contracts see of a journal that has ended: the state, the place of its last entry, the numbers of its pipes, and what
 -- each was sent
-pub record Bound : Type 0 where
+pub record BookContents : Type 0 where
   pub state : Journaled
   pub entries : ℕ
   pub pipes : List ℕ

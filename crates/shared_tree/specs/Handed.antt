@@ -11,7 +11,7 @@ use Rattle.tree_core.specs.declared.reply.Entry.{Entry}
 use Rattle.tree_core.specs.declared.reply.Reply.{Reply}
 use Rattle.tree_core.specs.declared.reply.Reply.TheVariants as reply
 use Rattle.tree_core.specs.Tree.{Tree, opening, reply_of, after}
-use Rattle.tree_core.specs.Histories.{pumped, read_in, where_same}
+use Rattle.tree_core.specs.Histories.{pumped, read_in, if_same}
 use Rattle.tree_core.specs.Journal.{Journaled, IsLawful, IsPast}
 use Rattle.shared_tree.specs.declared.pipe.Batch.{Batch}
 
@@ -32,7 +32,7 @@ handed_by t place _ = None
 -- that batch, where it is the instance's
 abbrev pub hands : Option Batch → ℕ → List Batch
 hands None id = []
-hands (Some b) id = where_same b.instance id (b ∷ [])
+hands (Some b) id = if_same b.instance id (b ∷ [])
 
 abbrev pub handed_from : Tree → ℕ → List Entry → ℕ → List Batch
 handed_from t place [] id = []

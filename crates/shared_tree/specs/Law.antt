@@ -13,7 +13,7 @@ use Rattle.tree_core.specs.Journal.{Journaled, now}
 use Rattle.tree_core.specs.Histories.{events, joined, raised_by, raised_in, read_in}
 use Rattle.tree_core.specs.QueueLaws.{AreAccountedFor, FindsTheUnread, IsInOrder, bytes_read}
 use Rattle.tree_core.specs.TurnLaws.{AddsNothing, AreInTurn, EndsOnce, cookies_in, cookies_used}
-use Rattle.shared_tree.specs.Calls.{Holding}
+use Rattle.shared_tree.specs.Calls.{TreeWithPipes}
 use Rattle.shared_tree.specs.Held.{IsIn}
 
 -- at each entry of a journal this is true of the tree before it and of its call
@@ -45,5 +45,5 @@ pub record HasCookiesInTurn (s : Journaled) : Type 0 where
   pub ties : AtEach TiesMoves s.start s.entries
 
 -- an open instance has a pipe exactly where it was made with one
-abbrev pub HasPipesOfPiped : Holding → Type 0
+abbrev pub HasPipesOfPiped : TreeWithPipes → Type 0
 HasPipesOfPiped h = (id : ℕ) (i : Instance) → instance_of (now h.state).instances id ≡ Some i → IsTrue i.is_piped ↔ IsIn h.pipes id

@@ -32,18 +32,18 @@ impl Drop for Book {
 }
 
 impl Model for Book {
-    ghost use Rattle.shared_tree.specs.Calls.{Bound};
-    ghost use Rattle.shared_tree.specs.Codes.{bound_code};
-    ghost use Rattle.shared_tree.specs.Bound.{IsBound};
+    ghost use Rattle.shared_tree.specs.Calls.{BookContents};
+    ghost use Rattle.shared_tree.specs.Codes.{book_contents_code};
+    ghost use Rattle.shared_tree.specs.Book.{IsBook};
     ghost use Rattle.shared_tree.specs.Held.{sents};
 
-    ghost Value = { Bound };
+    ghost Value = { BookContents };
 
-    ghost coded = { bound_code };
+    ghost coded = { book_contents_code };
 
     ghost view = { λ b. record { state = b.core; entries = b.entries; pipes = b.numbers.items; sent = sents b.pipes.items } };
 
-    ghost invariant = { λ b. IsBound b.core b.entries b.numbers.items (sents b.pipes.items) };
+    ghost invariant = { λ b. IsBook b.core b.entries b.numbers.items (sents b.pipes.items) };
 }
 
 impl Book {

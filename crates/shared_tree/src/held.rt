@@ -14,7 +14,7 @@ ghost use Rattle.tree_core.specs.TurnLaws.{EndsOnce};
 ghost use Rattle.shared_tree.specs.Pipes.{feed_of};
 ghost use Rattle.shared_tree.specs.Seats.{passing};
 ghost use Rattle.shared_tree.specs.Handed.{AreOfEvents, batch, handed_since, piped_by};
-ghost use Rattle.shared_tree.specs.Calls.{holding, Enters, HandsOver, IsSent, HasPipe, IsUnable, IsWhyNot};
+ghost use Rattle.shared_tree.specs.Calls.{tree_with_pipes, JoinsJournal, HandsOver, IsSent, HasPipe, IsUnable, IsWhyNot};
 ghost use Rattle.shared_tree.specs.Law.{AtEach, HasCookiesInTurn, HasPipesOfPiped, IsTold, RefusedAddsNothing};
 ghost use Rattle.shared_tree.specs.Held.{sents, pushed_at, deliver, closed_of, end_of, FreeAt, IsFilled, IsLacking, IsLooked, IsPlaceOf, IsReady, IsRising};
 
@@ -60,15 +60,15 @@ impl<L: Ledger> Drop for Held<L> {
 }
 
 impl<L: Ledger> Model for Held<L> {
-    ghost use Rattle.shared_tree.specs.Calls.{Holding, holding};
-    ghost use Rattle.shared_tree.specs.Codes.{holding_code};
+    ghost use Rattle.shared_tree.specs.Calls.{TreeWithPipes, tree_with_pipes};
+    ghost use Rattle.shared_tree.specs.Codes.{tree_with_pipes_code};
     ghost use Rattle.shared_tree.specs.Held.{IsHeld, sents};
 
-    ghost Value = { Holding };
+    ghost Value = { TreeWithPipes };
 
-    ghost coded = { holding_code };
+    ghost coded = { tree_with_pipes_code };
 
-    ghost view = { λ h. holding h.core h.numbers.items (sents h.pipes.items) h.book.total };
+    ghost view = { λ h. tree_with_pipes h.core h.numbers.items (sents h.pipes.items) h.book.total };
 
     ghost invariant = { λ h. IsHeld h.core h.numbers.items (sents h.pipes.items) h.book.total };
 }
@@ -103,7 +103,7 @@ fn enter<L: Ledger>(
     seat: &mut Seat<L>,
     call: Call,
 ) -> Result<Receipt, Refusal>
-    ensures ok { IfOk result (λ r. Enters core.old seat.old call core.new seat.new r) }
+    ensures ok { IfOk result (λ r. JoinsJournal core.old seat.old call core.new seat.new r) }
     ensures total { OnOk result (book.new.total ≡ book.old.total + 1) }
     ensures room { OnOk result (¬ IsSpent core.old) }
     ensures err { OnErr result ((core.new ≡ core.old) × (seat.new ≡ seat.old) × (book.new.total ≡ book.old.total)) }
@@ -129,7 +129,7 @@ fn enter_pump<L: Ledger>(
     instance: u32,
     bytes: u32,
 ) -> Result<(Receipt, Option<Events>), Refusal>
-    ensures ok { IfOk result (λ r. Enters core.old seat.old (Pump instance bytes) core.new seat.new r.0) }
+    ensures ok { IfOk result (λ r. JoinsJournal core.old seat.old (Pump instance bytes) core.new seat.new r.0) }
     ensures records { IfOk result (λ r. r.1 ≡ pumped (now core.old) instance bytes) }
     ensures events { IfOk result (λ r. IfSome r.1 AreEvents) }
     ensures total { OnOk result (book.new.total ≡ book.old.total + 1) }
@@ -312,7 +312,7 @@ impl<L: Ledger> Held<L> {
     pub fn new(alloc: Global, blank: Blank, limits: Limits) -> Result<(Held<L>, Pass<L>), Refusal>
         requires name { blank.name ≡ L.name }
         requires parts { (blank.parts ≡ L.parts) × (blank.parts ≡ 65537) }
-        ensures held { IfOk result (λ r. r.0 ≡ holding (opened limits) [] [] 0) }
+        ensures held { IfOk result (λ r. r.0 ≡ tree_with_pipes (opened limits) [] [] 0) }
         ensures pass { IfOk result (λ r. r.1 ≡ passing 65537 0 0 limits.seats) }
         ensures err { IfErr result (λ e. e ≡ Enomem) }
     {
@@ -382,7 +382,7 @@ impl<L: Ledger> Held<L> {
     /// - `ENOMEM`, where there is no memory for the call.
     pub fn call(&mut self, seat: &mut Seat<L>, call: Call) -> Result<Receipt, Refusal>
         requires plain { IsTrue (is_plain call) }
-        ensures ok { IfOk result (λ r. Enters self.old.state seat.old call self.new.state seat.new r) }
+        ensures ok { IfOk result (λ r. JoinsJournal self.old.state seat.old call self.new.state seat.new r) }
         ensures hands { IfOk result (λ r. HandsOver self.old call r self.new) }
         ensures room { OnOk result (¬ IsSpent self.old.state) }
         ensures err { OnErr result ((self.new ≡ self.old) × (seat.new ≡ seat.old)) }
@@ -418,7 +418,7 @@ impl<L: Ledger> Held<L> {
         instance: u32,
         bytes: u32,
     ) -> Result<Receipt, Refusal>
-        ensures ok { IfOk result (λ r. Enters self.old.state seat.old (Pump instance bytes) self.new.state seat.new r) }
+        ensures ok { IfOk result (λ r. JoinsJournal self.old.state seat.old (Pump instance bytes) self.new.state seat.new r) }
         ensures hands { IfOk result (λ r. HandsOver self.old (Pump instance bytes) r self.new) }
         ensures room { OnOk result (¬ IsSpent self.old.state) }
         ensures err { OnErr result ((self.new ≡ self.old) × (seat.new ≡ seat.old)) }
@@ -454,7 +454,7 @@ impl<L: Ledger> Held<L> {
         slots: usize,
     ) -> Result<(Receipt, Option<Feed>), Refusal>
         requires slots { (1 ≤ slots) × (slots ≤ 65536) }
-        ensures ok { IfOk result (λ r. Enters self.old.state seat.old (Init limit true) self.new.state seat.new r.0) }
+        ensures ok { IfOk result (λ r. JoinsJournal self.old.state seat.old (Init limit true) self.new.state seat.new r.0) }
         ensures feed { IfOk result (λ r. r.1 ≡ feed_of r.0.reply slots) }
         ensures hands { IfOk result (λ r. HandsOver self.old (Init limit true) r.0 self.new) }
         ensures room { OnOk result (¬ IsSpent self.old.state) }

@@ -14,11 +14,11 @@ use Rattle.tree_ops.specs.Refused.{refused, cookies_of}
 use Rattle.tree_ops.specs.After as ops
 use Rattle.event_rules.specs.Table.{notices_of}
 use Rattle.instance_table.specs.Instances.{all_changed, told}
-use Rattle.tree_core.specs.declared.machine.Machine.{Machine}
+use Rattle.tree_core.specs.declared.file_system.FileSystem.{FileSystem}
 use Rattle.tree_core.specs.Calls.{has_list}
 use Rattle.tree_core.specs.Tree.{Tree, cookie_now, counts_of, after_file}
-use Rattle.tree_core.specs.Machines.{IsMachineOf}
-use Rattle.tree_core.proofs.Serving.{IsMachineOf-table}
+use Rattle.tree_core.specs.FileSystems.{IsFileSystemOf}
+use Rattle.tree_core.proofs.Serving.{IsFileSystemOf-table}
 use Rattle.tree_core.proofs.Counted.{IsCounted-filed}
 
 -- a table on which a call was carried out, and what that answered
@@ -52,17 +52,17 @@ lists-change-nothing w counts (Status p) e = (refl, refl)
 lists-change-nothing w counts (Listed p) e = (refl, refl)
 
 -- a call that was carried out and answers a list left the tree as it was
-pub IsMachineOf-listed : (t : Tree) (m : Machine) (f : FileCall) (u : table.Tree) (said : Answer) → IsMachineOf t m → IsCarriedOut t f u said → has_list said ≡ true → IsMachineOf t (record m { table = u })
-IsMachineOf-listed t m f u said is done e =
+pub IsFileSystemOf-listed : (t : Tree) (m : FileSystem) (f : FileCall) (u : table.Tree) (said : Answer) → IsFileSystemOf t m → IsCarriedOut t f u said → has_list said ≡ true → IsFileSystemOf t (record m { table = u })
+IsFileSystemOf-listed t m f u said is done e =
     let same = lists-change-nothing t.world (counts_of t) f (ap has_list (sym done.answer) ∙ e) in
     let below : HasNumbersBelow u t.next_number = λ k v at. omega (arith, done.below k v at, same.1) in
-    IsMachineOf-table t m u is (subst (λ (w : World). Stands u w) same.0 done.world) below
+    IsFileSystemOf-table t m u is (subst (λ (w : World). Stands u w) same.0 done.world) below
 
-pub IsMachineOf-filed : (t : Tree) (m n : Machine) (f : FileCall) (said : Answer) → IsMachineOf t m → refused t.world t.limits (counts_of t) f ≡ None → IsCarriedOut t f n.table said
+pub IsFileSystemOf-filed : (t : Tree) (m n : FileSystem) (f : FileCall) (said : Answer) → IsFileSystemOf t m → refused t.world t.limits (counts_of t) f ≡ None → IsCarriedOut t f n.table said
     → n.limits ≡ m.limits → n.next_number ≡ m.next_number + ops.numbers_of f → n.next_cookie ≡ m.next_cookie + cookies_of t.world f → n.next_id ≡ m.next_id
-    → n.instances ≡ all_changed m.instances (told (notices_of t.world f (cookie_now t.next_cookie))) → IsMachineOf (after_file t f) n
+    → n.instances ≡ all_changed m.instances (told (notices_of t.world f (cookie_now t.next_cookie))) → IsFileSystemOf (after_file t f) n
 unfolding after_file
-IsMachineOf-filed t m n f said is none done limits number cookie id instances = record {
+IsFileSystemOf-filed t m n f said is none done limits number cookie id instances = record {
   limits = limits ∙ is.limits;
   world = done.world;
   below = done.below;

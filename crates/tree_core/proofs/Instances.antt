@@ -27,9 +27,9 @@ use Rattle.watch_table.specs.Masks.{known, mask_fault}
 use Rattle.watch_table.specs.Watching.{add_refusal, wd_added}
 use Rattle.instance_table.specs.declared.instance.Instance.{Instance}
 use Rattle.instance_table.specs.Instances.{Instances, instance_of, changed, changed_by, watching}
-use Rattle.tree_core.specs.declared.machine.Machine.{Machine}
+use Rattle.tree_core.specs.declared.file_system.FileSystem.{FileSystem}
 use Rattle.tree_core.specs.declared.reply.Reply.TheVariants as reply
-use Rattle.tree_core.specs.Machines.{IsMachineOf}
+use Rattle.tree_core.specs.FileSystems.{IsFileSystemOf}
 use Rattle.tree_core.specs.Tree.{Tree, init_rows, add_watch_rows, seen_fault, read_rows, watch_answer, number_seen, after_add_watch}
 
 -- ---- which instances are open after a change
@@ -100,10 +100,10 @@ alone : (o : Option Refusal) → first_row (o ∷ []) ≡ o
 alone None = refl
 alone (Some r) = refl
 
--- ---- the machine of a tree with other instances
+-- ---- the file system of a tree with other instances
 
-module _ (t : Tree) (m : Machine) (stands : IsMachineOf t m) where
-  with-instances : (x y : Instances) → x ≡ y → ((q : ℕ) → IsSome (instance_of y q) → IsSome (instance_of t.instances q)) → IsMachineOf (record t { instances = y }) (record m { instances = x })
+module _ (t : Tree) (m : FileSystem) (stands : IsFileSystemOf t m) where
+  with-instances : (x y : Instances) → x ≡ y → ((q : ℕ) → IsSome (instance_of y q) → IsSome (instance_of t.instances q)) → IsFileSystemOf (record t { instances = y }) (record m { instances = x })
   with-instances x y same opened = record {
     limits = stands.limits;
     world = stands.world;
@@ -121,21 +121,21 @@ module _ (t : Tree) (m : Machine) (stands : IsMachineOf t m) where
   }
 
   -- one changed
-  pub IsMachineOf-changed : (x : Instances) (id : ℕ) (change : Instance → Instance) → x ≡ changed m.instances id change
-      → IsMachineOf (record t { instances = changed t.instances id change }) (record m { instances = x })
-  IsMachineOf-changed x id change e =
+  pub IsFileSystemOf-changed : (x : Instances) (id : ℕ) (change : Instance → Instance) → x ≡ changed m.instances id change
+      → IsFileSystemOf (record t { instances = changed t.instances id change }) (record m { instances = x })
+  IsFileSystemOf-changed x id change e =
       with-instances x (changed t.instances id change) (e ∙ ap (λ n. changed n id change) stands.instances) (λ q h. opened-changed t.instances id change q h)
 
   -- one was closed
-  pub IsMachineOf-closed : (x : Instances) (id : ℕ) → x ≡ finmap.remove m.instances id
-      → IsMachineOf (record t { instances = finmap.remove t.instances id }) (record m { instances = x })
-  IsMachineOf-closed x id e =
+  pub IsFileSystemOf-closed : (x : Instances) (id : ℕ) → x ≡ finmap.remove m.instances id
+      → IsFileSystemOf (record t { instances = finmap.remove t.instances id }) (record m { instances = x })
+  IsFileSystemOf-closed x id e =
       with-instances x (finmap.remove t.instances id) (e ∙ ap (λ n. finmap.remove n id) stands.instances) (λ q h. opened-cut t.instances id q h)
 
   -- one was opened, under the number that comes next
-  pub IsMachineOf-opened : (x : Instances) (make : Limits → Instance) → x ≡ finmap.insert m.instances m.next_id (make m.limits) → m.next_id ≤ m.limits.ids
-      → IsMachineOf (record t { next_id = t.next_id + 1; instances = finmap.insert t.instances t.next_id (make t.limits) }) (record m { next_id = m.next_id + 1; instances = x })
-  IsMachineOf-opened x make e few = record {
+  pub IsFileSystemOf-opened : (x : Instances) (make : Limits → Instance) → x ≡ finmap.insert m.instances m.next_id (make m.limits) → m.next_id ≤ m.limits.ids
+      → IsFileSystemOf (record t { next_id = t.next_id + 1; instances = finmap.insert t.instances t.next_id (make t.limits) }) (record m { next_id = m.next_id + 1; instances = x })
+  IsFileSystemOf-opened x make e few = record {
     limits = stands.limits;
     world = stands.world;
     below = stands.below;
@@ -159,7 +159,7 @@ module _ (t : Tree) (m : Machine) (stands : IsMachineOf t m) where
     };
   }
 
-  -- what is read of the instances of a machine is read of those of its tree
+  -- what is read of the instances of a file system is read of those of its tree
   pub there : (id : ℕ) → instance_of m.instances id ≡ instance_of t.instances id
   there id = ap (λ n. instance_of n id) stands.instances
 
@@ -203,10 +203,10 @@ module _ (t : Tree) (m : Machine) (stands : IsMachineOf t m) where
         sym (ap (λ o. watch_answer (number_seen (look t.world p)) o) (sym (there id) ∙ is)
         ∙ ap (λ o. reply.Wd (wd_added i.watches (number_seen o))) (looks p ∙ at))
 
-    pub IsMachineOf-watching : (seen : Seen) (x : Instances) → look_in m.table p ≡ Some seen → x ≡ changed m.instances id (watching seen.number n) → IsMachineOf (after_add_watch t id p mask) (record m { instances = x })
+    pub IsFileSystemOf-watching : (seen : Seen) (x : Instances) → look_in m.table p ≡ Some seen → x ≡ changed m.instances id (watching seen.number n) → IsFileSystemOf (after_add_watch t id p mask) (record m { instances = x })
     unfolding after_add_watch
-    IsMachineOf-watching seen x at now =
-        IsMachineOf-changed x id (watching (number_seen (look t.world p)) (known mask))
+    IsFileSystemOf-watching seen x at now =
+        IsFileSystemOf-changed x id (watching (number_seen (look t.world p)) (known mask))
         (now ∙ ap (λ o. changed m.instances id (watching (number_seen o) n)) (sym (looks p ∙ at)) ∙ ap (λ k. changed m.instances id (watching (number_seen (look t.world p)) k)) e)
 
   pub add-bad-there : (id : ℕ) (p : List (List ℕ)) (mask : ℕ) → instance_of m.instances id ≡ None → first_row (add_watch_rows (look t.world) p (known mask) (instance_of t.instances id)) ≡ Some Ebadf

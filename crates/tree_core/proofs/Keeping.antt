@@ -3,55 +3,55 @@ use Rattle.std.proofs.Common.{◌≡◌, ℕ, ◌+◌, ◌^◌, ◌<◌, ◌≤�
 use Rattle.record_codec.specs.Records.{AreEvents}
 use Rattle.tree_paths.specs.declared.limits.Limits.{Limits}
 use Rattle.instance_table.specs.Instances.{WaitingAreEvents}
-use Rattle.tree_core.specs.declared.machine.Machine.{Machine}
+use Rattle.tree_core.specs.declared.file_system.FileSystem.{FileSystem}
 use Rattle.tree_core.specs.declared.reply.Entry.{Entry}
 use Rattle.tree_core.specs.declared.snapshot.Snapshot.{Snapshot}
 use Rattle.tree_core.specs.declared.state.State.TheInside.{Inside}
 use Rattle.tree_core.specs.Tree.{Tree, opening, reply_of, after}
 use Rattle.tree_core.specs.Journal.{Journaled, HasPast, IsLawfulFrom, cut_off, last_place, now, opened, with_entry}
-use Rattle.tree_core.specs.Machines.{IsMachineOf}
+use Rattle.tree_core.specs.FileSystems.{IsFileSystemOf}
 use Rattle.tree_core.specs.Histories.{read_in}
 use Rattle.tree_core.specs.Kept.{IsKept, journal_of, tree_of}
 use Rattle.tree_core.specs.Snapshots.{IsSnapshotOf}
 use Rattle.tree_core.specs.TurnLaws.{TreesAreSound}
 use Rattle.tree_core.proofs.Lawful.{HasPast-cut, HasPast-opening, lawful-entry, limits-now, now-cut, now-entry, now-opened, pasts-make-whole, sound-now}
 use Rattle.tree_core.proofs.Shown.{tree_of-snapshot}
-use Rattle.tree_core.proofs.Spelled.{events-of-machine, read-events, read-more}
+use Rattle.tree_core.proofs.Spelled.{events-of-file_system, read-events, read-more}
 
-module _ (a b : Inside) (is : IsKept a) (snapshot : b.snapshot ≡ a.snapshot) (limits : b.machine.limits ≡ a.machine.limits) where
+module _ (a b : Inside) (is : IsKept a) (snapshot : b.snapshot ≡ a.snapshot) (limits : b.file_system.limits ≡ a.file_system.limits) where
   shown-still : IsSnapshotOf (journal_of b).start (journal_of b).place b.snapshot
   shown-still = subst (λ (p : Limits × Snapshot). IsSnapshotOf (tree_of p.0 p.1) p.1.place p.1) (λ i. (sym limits i, sym snapshot i)) is.shown
 
-  -- the same journal, and another machine that stands for it
-  pub IsKept-same : b.journal.items ≡ a.journal.items → IsMachineOf (now (journal_of a)) b.machine → IsKept b
+  -- the same journal, and another file system that stands for it
+  pub IsKept-same : b.journal.items ≡ a.journal.items → IsFileSystemOf (now (journal_of a)) b.file_system → IsKept b
   IsKept-same items stands =
       let same : journal_of a ≡ journal_of b = λ i. record { start = tree_of (sym limits i) (sym snapshot i); place = (sym snapshot i).place; entries = sym items i } in
       record {
         shown = shown-still;
         past = subst (λ (s : Journaled). HasPast s.start s.place) same is.past;
         lawful = subst (λ (s : Journaled). IsLawfulFrom s.start s.entries) same is.lawful;
-        stands = subst (λ (s : Journaled). IsMachineOf (now s) b.machine) same stands;
+        stands = subst (λ (s : Journaled). IsFileSystemOf (now s) b.file_system) same stands;
         waited = subst (λ (s : Journaled). WaitingAreEvents s.start.instances) same is.waited;
         read = subst (λ (s : Journaled). (id : ℕ) → AreEvents (read_in s.start s.entries id)) same is.read;
         few = subst (λ (p : Limits × List Entry). length p.1 ≤ p.0.journal) (λ i. (sym limits i, sym items i)) is.few;
         small = subst (λ (s : Journaled). last_place s < 2 ^ 64) same is.small;
       }
 
-  -- one entry more, and a machine that stands for the tree after its call
-  pub IsKept-more : (e : Entry) → b.journal.items ≡ a.journal.items ++ e ∷ [] → length a.journal.items < a.machine.limits.journal → last_place (journal_of a) + 1 < 2 ^ 64
-      → e.reply ≡ reply_of (now (journal_of a)) e.call → IsMachineOf (after (now (journal_of a)) e.call) b.machine → WaitingAreEvents a.machine.instances → IsKept b
+  -- one entry more, and a file system that stands for the tree after its call
+  pub IsKept-more : (e : Entry) → b.journal.items ≡ a.journal.items ++ e ∷ [] → length a.journal.items < a.file_system.limits.journal → last_place (journal_of a) + 1 < 2 ^ 64
+      → e.reply ≡ reply_of (now (journal_of a)) e.call → IsFileSystemOf (after (now (journal_of a)) e.call) b.file_system → WaitingAreEvents a.file_system.instances → IsKept b
   unfolding now
   IsKept-more e items room small reply stands waits =
       let same : with_entry (journal_of a) e ≡ journal_of b = λ i. record { start = tree_of (sym limits i) (sym snapshot i); place = (sym snapshot i).place; entries = sym items i } in
       let more : length (a.journal.items ++ e ∷ []) ≡ length a.journal.items + 1 = length-append a.journal.items (e ∷ []) in
       let t = now (journal_of a) in
       let more-read : (id : ℕ) → AreEvents (read_in (journal_of a).start (a.journal.items ++ e ∷ []) id) =
-      λ id. read-more (journal_of a).start a.journal.items e id (is.read id) (read-events t (events-of-machine t a.machine is.stands waits) e.call id) in
+      λ id. read-more (journal_of a).start a.journal.items e id (is.read id) (read-events t (events-of-file_system t a.file_system is.stands waits) e.call id) in
       record {
         shown = shown-still;
         past = subst (λ (s : Journaled). HasPast s.start s.place) same is.past;
         lawful = subst (λ (s : Journaled). IsLawfulFrom s.start s.entries) same (lawful-entry (journal_of a) e is.lawful reply);
-        stands = subst (λ (s : Journaled). IsMachineOf (now s) b.machine) same (subst (λ (t : Tree). IsMachineOf t b.machine) (sym (now-entry (journal_of a) e)) stands);
+        stands = subst (λ (s : Journaled). IsFileSystemOf (now s) b.file_system) same (subst (λ (t : Tree). IsFileSystemOf t b.file_system) (sym (now-entry (journal_of a) e)) stands);
         waited = subst (λ (s : Journaled). WaitingAreEvents s.start.instances) same is.waited;
         read = subst (λ (s : Journaled). (id : ℕ) → AreEvents (read_in s.start s.entries id)) same more-read;
         few = subst (λ (p : Limits × List Entry). length p.1 ≤ p.0.journal) (λ i. (sym limits i, sym items i)) (omega (arith, more, room));
@@ -59,43 +59,43 @@ module _ (a b : Inside) (is : IsKept a) (snapshot : b.snapshot ≡ a.snapshot) (
       }
 
 -- a cut: the snapshot of the tree, and no entry
-pub IsKept-cut : TreesAreSound → (a b : Inside) → IsKept a → b.machine ≡ a.machine → b.journal.items ≡ [] → (place : ℕ) → place ≡ last_place (journal_of a) → IsSnapshotOf (now (journal_of a)) place b.snapshot
-    → WaitingAreEvents a.machine.instances → (journal_of b ≡ cut_off (journal_of a)) × IsKept b
-IsKept-cut sound a b is machine none place at given waits =
+pub IsKept-cut : TreesAreSound → (a b : Inside) → IsKept a → b.file_system ≡ a.file_system → b.journal.items ≡ [] → (place : ℕ) → place ≡ last_place (journal_of a) → IsSnapshotOf (now (journal_of a)) place b.snapshot
+    → WaitingAreEvents a.file_system.instances → (journal_of b ≡ cut_off (journal_of a)) × IsKept b
+IsKept-cut sound a b is file_system none place at given waits =
     let s = journal_of a in
     let shows : IsSnapshotOf (now s) (last_place s) b.snapshot = subst (λ p. IsSnapshotOf (now s) p b.snapshot) at given in
     let whole = pasts-make-whole sound s is.past.0 is.past.1 is.lawful in
-    let limits : (now s).limits ≡ b.machine.limits = limits-now s ∙ sym (ap (λ (m : Machine). m.limits) machine) in
-    let told : tree_of b.machine.limits b.snapshot ≡ now s = ap (λ l. tree_of l b.snapshot) (sym limits) ∙ tree_of-snapshot (now s) (last_place s) b.snapshot (sound-now sound s whole.sound) shows in
+    let limits : (now s).limits ≡ b.file_system.limits = limits-now s ∙ sym (ap (λ (m : FileSystem). m.limits) file_system) in
+    let told : tree_of b.file_system.limits b.snapshot ≡ now s = ap (λ l. tree_of l b.snapshot) (sym limits) ∙ tree_of-snapshot (now s) (last_place s) b.snapshot (sound-now sound s whole.sound) shows in
     let same : journal_of b ≡ cut_off s = λ i. record { start = told i; place = shows.last_place i; entries = none i } in (
       same,
       record {
         shown = subst (λ (j : Journaled). IsSnapshotOf j.start j.place b.snapshot) (sym same) shows;
         past = subst (λ (j : Journaled). HasPast j.start j.place) (sym same) (HasPast-cut sound s is.past is.lawful);
         lawful = subst (λ (j : Journaled). IsLawfulFrom j.start j.entries) (sym same) tt;
-        stands = subst (λ (j : Journaled). IsMachineOf (now j) b.machine) (sym same) (now-cut s b.machine (subst (IsMachineOf (now s)) (sym machine) is.stands));
-        waited = subst (λ (j : Journaled). WaitingAreEvents j.start.instances) (sym same) (events-of-machine (now s) a.machine is.stands waits);
+        stands = subst (λ (j : Journaled). IsFileSystemOf (now j) b.file_system) (sym same) (now-cut s b.file_system (subst (IsFileSystemOf (now s)) (sym file_system) is.stands));
+        waited = subst (λ (j : Journaled). WaitingAreEvents j.start.instances) (sym same) (events-of-file_system (now s) a.file_system is.stands waits);
         read = subst (λ (j : Journaled). (id : ℕ) → AreEvents (read_in j.start j.entries id)) (sym same) (λ id. tt);
-        few = let least = b.machine.limits.journal_in.0 in omega (arith, ap length none);
+        few = let least = b.file_system.limits.journal_in.0 in omega (arith, ap length none);
         small = subst (λ (j : Journaled). last_place j < 2 ^ 64) (sym same) (let h = is.small in omega arith);
       },
     )
 
 -- a new state: the snapshot of the opening tree, and no entry
-pub IsKept-new : TreesAreSound → (limits : Limits) (b : Inside) → IsMachineOf (opening limits) b.machine → b.journal.items ≡ [] → IsSnapshotOf (opening limits) 0 b.snapshot → WaitingAreEvents b.machine.instances → (journal_of b ≡ opened limits) × IsKept b
-IsKept-new sound limits b machine none shows waits =
-    let same_limits : b.machine.limits ≡ (opening limits).limits = machine.limits in
-    let told : tree_of b.machine.limits b.snapshot ≡ opening limits = ap (λ l. tree_of l b.snapshot) same_limits ∙ tree_of-snapshot (opening limits) 0 b.snapshot (sound.opened limits) shows in
+pub IsKept-new : TreesAreSound → (limits : Limits) (b : Inside) → IsFileSystemOf (opening limits) b.file_system → b.journal.items ≡ [] → IsSnapshotOf (opening limits) 0 b.snapshot → WaitingAreEvents b.file_system.instances → (journal_of b ≡ opened limits) × IsKept b
+IsKept-new sound limits b file_system none shows waits =
+    let same_limits : b.file_system.limits ≡ (opening limits).limits = file_system.limits in
+    let told : tree_of b.file_system.limits b.snapshot ≡ opening limits = ap (λ l. tree_of l b.snapshot) same_limits ∙ tree_of-snapshot (opening limits) 0 b.snapshot (sound.opened limits) shows in
     let same : journal_of b ≡ opened limits = λ i. record { start = told i; place = shows.last_place i; entries = none i } in (
       same,
       record {
         shown = subst (λ (j : Journaled). IsSnapshotOf j.start j.place b.snapshot) (sym same) shows;
         past = subst (λ (j : Journaled). HasPast j.start j.place) (sym same) (HasPast-opening limits);
         lawful = subst (λ (j : Journaled). IsLawfulFrom j.start j.entries) (sym same) tt;
-        stands = subst (λ (j : Journaled). IsMachineOf (now j) b.machine) (sym same) (now-opened limits b.machine machine);
-        waited = subst (λ (j : Journaled). WaitingAreEvents j.start.instances) (sym same) (events-of-machine (opening limits) b.machine machine waits);
+        stands = subst (λ (j : Journaled). IsFileSystemOf (now j) b.file_system) (sym same) (now-opened limits b.file_system file_system);
+        waited = subst (λ (j : Journaled). WaitingAreEvents j.start.instances) (sym same) (events-of-file_system (opening limits) b.file_system file_system waits);
         read = subst (λ (j : Journaled). (id : ℕ) → AreEvents (read_in j.start j.entries id)) (sym same) (λ id. tt);
-        few = let least = b.machine.limits.journal_in.0 in omega (arith, ap length none);
+        few = let least = b.file_system.limits.journal_in.0 in omega (arith, ap length none);
         small = subst (λ (j : Journaled). last_place j < 2 ^ 64) (sym same) (omega arith);
       },
     )

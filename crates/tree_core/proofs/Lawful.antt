@@ -7,10 +7,10 @@ use Rattle.instance_table.specs.Instances.{Instances, instance_of}
 use Rattle.tree_core.specs.declared.call.Call.{Call}
 use Rattle.tree_core.specs.declared.call.Call.TheVariants as call
 use Rattle.tree_core.specs.declared.reply.Entry.{Entry}
-use Rattle.tree_core.specs.declared.machine.Machine.{Machine}
+use Rattle.tree_core.specs.declared.file_system.FileSystem.{FileSystem}
 use Rattle.tree_core.specs.CutLaws.{GoesOn, IsWhole}
 use Rattle.tree_core.specs.Journal.{Journaled, HasPast, IsLawfulFrom, IsLawful, IsPast, cut_off, last_place, now, opened, stands_for, tree_after, waiting_in, with_entry}
-use Rattle.tree_core.specs.Machines.{IsMachineOf}
+use Rattle.tree_core.specs.FileSystems.{IsFileSystemOf}
 use Rattle.tree_core.specs.Sound.{IsSoundTree}
 use Rattle.tree_core.specs.Tree.{Tree, opening, refusal_of, reply_of, accepted, after, after_file, after_init, after_add_watch, after_rm_watch, after_accepted_read, after_close, tree_by}
 use Rattle.tree_core.specs.TurnLaws.{TreesAreSound}
@@ -99,11 +99,11 @@ unfolding now
 sound-now sound s is = sound.stay s.start s.entries is
 
 -- a cut leaves the tree as it is
-pub now-cut : (s : Journaled) (m : Machine) → IsMachineOf (now s) m → IsMachineOf (now (cut_off s)) m
+pub now-cut : (s : Journaled) (m : FileSystem) → IsFileSystemOf (now s) m → IsFileSystemOf (now (cut_off s)) m
 unfolding now
 now-cut s m is = is
 
-pub now-opened : (limits : Limits) (m : Machine) → IsMachineOf (opening limits) m → IsMachineOf (now (opened limits)) m
+pub now-opened : (limits : Limits) (m : FileSystem) → IsFileSystemOf (opening limits) m → IsFileSystemOf (now (opened limits)) m
 unfolding now
 now-opened limits m is = is
 
@@ -125,7 +125,7 @@ pub HasPast-opening : (limits : Limits) → HasPast (opening limits) 0
 unfolding IsLawful stands_for opening
 HasPast-opening limits = ([], record { lawful = tt; places = refl; leads = refl })
 
--- what waits, by the open instance of a machine that stands for the tree
-pub waiting_in-machine : (t : Tree) (m : Machine) (id : ℕ) (o : Option Instance) → IsMachineOf t m → o ≡ instance_of m.instances id → option_map (λ (i : Instance). length i.queue.waiting) o ≡ waiting_in t id
+-- what waits, by the open instance of a file system that stands for the tree
+pub waiting_in-file_system : (t : Tree) (m : FileSystem) (id : ℕ) (o : Option Instance) → IsFileSystemOf t m → o ≡ instance_of m.instances id → option_map (λ (i : Instance). length i.queue.waiting) o ≡ waiting_in t id
 unfolding waiting_in
-waiting_in-machine t m id o is there = ap (option_map (λ (i : Instance). length i.queue.waiting)) (there ∙ ap (λ (x : Instances). instance_of x id) is.instances)
+waiting_in-file_system t m id o is there = ap (option_map (λ (i : Instance). length i.queue.waiting)) (there ∙ ap (λ (x : Instances). instance_of x id) is.instances)

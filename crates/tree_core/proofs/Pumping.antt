@@ -9,13 +9,13 @@ use Rattle.tree_paths.specs.declared.refusal.Refusal.{Refusal}
 use Rattle.instance_table.specs.declared.instance.Instance.{Instance}
 use Rattle.instance_table.specs.Instances.{instance_of}
 use Rattle.tree_core.specs.declared.call.Call.TheVariants as call
-use Rattle.tree_core.specs.declared.machine.Pumped.{Pumped}
-use Rattle.tree_core.specs.declared.machine.Replies.{Replies}
+use Rattle.tree_core.specs.declared.file_system.Pumped.{Pumped}
+use Rattle.tree_core.specs.declared.file_system.Replies.{Replies}
 use Rattle.tree_core.specs.declared.reply.Reply.{Reply}
 use Rattle.tree_core.specs.declared.reply.Reply.TheVariants as reply
 use Rattle.tree_core.specs.Tree.{Tree, refusal_of, reply_of, read_answer}
 use Rattle.tree_core.specs.Histories.{oldest, pumped, read_by, records_for, where_open, where_records}
-use Rattle.tree_core.specs.Machines.{replies_in}
+use Rattle.tree_core.specs.FileSystems.{replies_in}
 use Rattle.tree_core.proofs.Instances.{read-open}
 use Rattle.tree_core.proofs.Serving.{reply_of-accepted, reply_of-refused}
 

@@ -7,12 +7,12 @@ use Rattle.inode_table.specs.Tree as table
 use Rattle.inode_table.specs.Stands.{Stands}
 use Rattle.tree_ops.specs.ReadyCall.{HasNumbersBelow}
 use Rattle.tree_core.specs.declared.call.Call.{Call}
-use Rattle.tree_core.specs.declared.machine.Machine.{Machine}
-use Rattle.tree_core.specs.declared.machine.Replies.{Replies}
+use Rattle.tree_core.specs.declared.file_system.FileSystem.{FileSystem}
+use Rattle.tree_core.specs.declared.file_system.Replies.{Replies}
 use Rattle.tree_core.specs.declared.reply.Reply.{Reply}
 use Rattle.tree_core.specs.declared.reply.Reply.TheVariants as reply
 use Rattle.tree_core.specs.Tree.{Tree, refusal_of, answer_of, accepted, reply_by, tree_by, reply_of, after}
-use Rattle.tree_core.specs.Machines.{IsMachineOf, Serves, copies_of}
+use Rattle.tree_core.specs.FileSystems.{IsFileSystemOf, Executes, copies_of}
 
 pub reply_of-refused : (t : Tree) (c : Call) (r : Refusal) → refusal_of t c ≡ Some r → reply_of t c ≡ reply.Refused r
 reply_of-refused t c r e = ap (λ o. reply_by o (answer_of t c)) e
@@ -26,10 +26,10 @@ reply_of-accepted t c e = ap (λ o. reply_by o (answer_of t c)) e
 pub after-accepted : (t : Tree) (c : Call) → refusal_of t c ≡ None → after t c ≡ accepted t c
 after-accepted t c e = ap (λ o. tree_by o t (accepted t c)) e
 
--- want of memory, at which the machine still stands for each tree that it stood for
-pub Serves-err : (old new : Machine) (c : Call) (keeps : Bool) (result : Result Replies Refusal) (r : Refusal) → IsErrAnd result (λ e. e ≡ r) → r ≡ Enomem → new.limits ≡ old.limits → ((t : Tree) → IsMachineOf t old → IsMachineOf t new) → Serves old c keeps result new
-Serves-err old new c keeps (Ok x) r is memory limits kept = absurd is
-Serves-err old new c keeps (Err y) r is memory limits kept = record {
+-- want of memory, at which the file system still stands for each tree that it stood for
+pub Executes-err : (old new : FileSystem) (c : Call) (keeps : Bool) (result : Result Replies Refusal) (r : Refusal) → IsErrAnd result (λ e. e ≡ r) → r ≡ Enomem → new.limits ≡ old.limits → ((t : Tree) → IsFileSystemOf t old → IsFileSystemOf t new) → Executes old c keeps result new
+Executes-err old new c keeps (Ok x) r is memory limits kept = absurd is
+Executes-err old new c keeps (Err y) r is memory limits kept = record {
   replies = λ t at. tt;
   tree = λ t at. tt;
   err = kept;
@@ -37,57 +37,57 @@ Serves-err old new c keeps (Err y) r is memory limits kept = record {
   limits = limits;
 }
 
-module _ (m : Machine) (c : Call) (keeps : Bool) where
+module _ (m : FileSystem) (c : Call) (keeps : Bool) where
   -- a call that every tree refuses
-  pub refused-serves : (r : Refusal) (out : Replies) → out ≡ copies_of keeps (reply.Refused r) → ((t : Tree) → IsMachineOf t m → refusal_of t c ≡ Some r) → Serves m c keeps (Ok out) m
+  pub refused-serves : (r : Refusal) (out : Replies) → out ≡ copies_of keeps (reply.Refused r) → ((t : Tree) → IsFileSystemOf t m → refusal_of t c ≡ Some r) → Executes m c keeps (Ok out) m
   refused-serves r out is refused = record {
     replies = λ t s. is ∙ ap (copies_of keeps) (sym (reply_of-refused t c r (refused t s)));
-    tree = λ t s. subst (λ (u : Tree). IsMachineOf u m) (sym (after-refused t c r (refused t s))) s;
+    tree = λ t s. subst (λ (u : Tree). IsFileSystemOf u m) (sym (after-refused t c r (refused t s))) s;
     err = λ t s. tt;
     memory = tt;
     limits = refl;
   }
 
   -- a call that every tree accepts
-  pub accepted-serves : (out : Replies) (new : Machine) (answer : Reply) → out ≡ copies_of keeps answer
-      → ((t : Tree) → IsMachineOf t m → refusal_of t c ≡ None)
-      → ((t : Tree) → IsMachineOf t m → answer ≡ answer_of t c)
-      → ((t : Tree) → IsMachineOf t m → IsMachineOf (accepted t c) new)
-      → new.limits ≡ m.limits → Serves m c keeps (Ok out) new
+  pub accepted-serves : (out : Replies) (new : FileSystem) (answer : Reply) → out ≡ copies_of keeps answer
+      → ((t : Tree) → IsFileSystemOf t m → refusal_of t c ≡ None)
+      → ((t : Tree) → IsFileSystemOf t m → answer ≡ answer_of t c)
+      → ((t : Tree) → IsFileSystemOf t m → IsFileSystemOf (accepted t c) new)
+      → new.limits ≡ m.limits → Executes m c keeps (Ok out) new
   accepted-serves out new answer is passes answers leads limits = record {
     replies = λ t s. is ∙ ap (copies_of keeps) (answers t s ∙ sym (reply_of-accepted t c (passes t s)));
-    tree = λ t s. subst (λ (u : Tree). IsMachineOf u new) (sym (after-accepted t c (passes t s))) (leads t s);
+    tree = λ t s. subst (λ (u : Tree). IsFileSystemOf u new) (sym (after-accepted t c (passes t s))) (leads t s);
     err = λ t s. tt;
     memory = tt;
     limits = limits;
   }
 
   -- a call that every tree accepts, and that may want memory
-  pub result-serves : (result : Result Replies Refusal) (new next : Machine) (answer : Reply)
-      → ((t : Tree) → IsMachineOf t m → refusal_of t c ≡ None)
-      → ((t : Tree) → IsMachineOf t m → answer ≡ answer_of t c)
-      → ((t : Tree) → IsMachineOf t m → IsMachineOf (accepted t c) next)
+  pub result-serves : (result : Result Replies Refusal) (new next : FileSystem) (answer : Reply)
+      → ((t : Tree) → IsFileSystemOf t m → refusal_of t c ≡ None)
+      → ((t : Tree) → IsFileSystemOf t m → answer ≡ answer_of t c)
+      → ((t : Tree) → IsFileSystemOf t m → IsFileSystemOf (accepted t c) next)
       → next.limits ≡ m.limits
       → IfOk result (λ r. r ≡ copies_of keeps answer) → OnOk result (new ≡ next)
-      → OnErr result (new ≡ m) → IfErr result (λ e. e ≡ Enomem) → Serves m c keeps result new
+      → OnErr result (new ≡ m) → IfErr result (λ e. e ≡ Enomem) → Executes m c keeps result new
   result-serves (Ok out) new next answer passes answers leads limits is ok err memory =
-      subst (Serves m c keeps (Ok out)) (sym ok) (accepted-serves out next answer is passes answers leads limits)
+      subst (Executes m c keeps (Ok out)) (sym ok) (accepted-serves out next answer is passes answers leads limits)
   result-serves (Err e) new next answer passes answers leads limits is ok err memory =
-      subst (Serves m c keeps (Err e)) (sym err) (Serves-err m m c keeps (Err e) e refl memory refl (λ t s. s))
+      subst (Executes m c keeps (Err e)) (sym err) (Executes-err m m c keeps (Err e) e refl memory refl (λ t s. s))
 
   -- a call that every tree accepts, where the copy of its answer takes no memory
-  pub answered-serves : (result : Result Replies Refusal) (new : Machine) (answer : Reply)
-      → ((t : Tree) → IsMachineOf t m → refusal_of t c ≡ None)
-      → ((t : Tree) → IsMachineOf t m → answer ≡ answer_of t c)
-      → ((t : Tree) → IsMachineOf t m → IsMachineOf (accepted t c) new)
+  pub answered-serves : (result : Result Replies Refusal) (new : FileSystem) (answer : Reply)
+      → ((t : Tree) → IsFileSystemOf t m → refusal_of t c ≡ None)
+      → ((t : Tree) → IsFileSystemOf t m → answer ≡ answer_of t c)
+      → ((t : Tree) → IsFileSystemOf t m → IsFileSystemOf (accepted t c) new)
       → new.limits ≡ m.limits
-      → IfOk result (λ r. r ≡ copies_of keeps answer) → OnErr result (false ≡ true) → Serves m c keeps result new
+      → IfOk result (λ r. r ≡ copies_of keeps answer) → OnErr result (false ≡ true) → Executes m c keeps result new
   answered-serves (Ok out) new answer passes answers leads limits is memory = accepted-serves out new answer is passes answers leads limits
   answered-serves (Err e) new answer passes answers leads limits is memory = absurd (cc)
 
 -- another table that stands for the same files
-pub IsMachineOf-table : (t : Tree) (m : Machine) (u : table.Tree) → IsMachineOf t m → Stands u t.world → HasNumbersBelow u t.next_number → IsMachineOf t (record m { table = u })
-IsMachineOf-table t m u is world below = record {
+pub IsFileSystemOf-table : (t : Tree) (m : FileSystem) (u : table.Tree) → IsFileSystemOf t m → Stands u t.world → HasNumbersBelow u t.next_number → IsFileSystemOf t (record m { table = u })
+IsFileSystemOf-table t m u is world below = record {
   limits = is.limits;
   world = world;
   below = below;

@@ -7,7 +7,7 @@ use Rattle.instance_table.specs.declared.instance.Instance.{Instance}
 use Rattle.instance_table.specs.Instances.{Instances, WaitingAreEvents, instance_of, waiting_of}
 use Rattle.tree_core.specs.declared.call.Call.{Call}
 use Rattle.tree_core.specs.declared.call.Call.TheVariants as call
-use Rattle.tree_core.specs.declared.machine.Machine.{Machine}
+use Rattle.tree_core.specs.declared.file_system.FileSystem.{FileSystem}
 use Rattle.tree_core.specs.declared.reply.Entry.{Entry}
 use Rattle.tree_core.specs.declared.reply.Reply.{Reply}
 use Rattle.tree_core.specs.declared.reply.Reply.TheVariants as reply
@@ -15,7 +15,7 @@ use Rattle.tree_core.specs.Tree.{Tree, refusal_of, answer_of, number_seen, read_
 use Rattle.tree_core.specs.Journal.{tree_after}
 use Rattle.tree_core.specs.Calls.{IsSpelled}
 use Rattle.tree_core.specs.Histories.{oldest, read_by, read_in, records_for, where_open}
-use Rattle.tree_core.specs.Machines.{IsMachineOf}
+use Rattle.tree_core.specs.FileSystems.{IsFileSystemOf}
 use Rattle.inode_table.specs.World.{look}
 use Rattle.event_queue.specs.Reads.{fitting}
 
@@ -92,9 +92,9 @@ module _ (t : Tree) (waits : WaitingAreEvents t.instances) where
       by (Some r) = tt
       by None = answer-spelled c
 
--- a machine and its tree have the same instances
-pub events-of-machine : (t : Tree) (m : Machine) → IsMachineOf t m → WaitingAreEvents m.instances → WaitingAreEvents t.instances
-events-of-machine t m is waits = subst WaitingAreEvents is.instances waits
+-- a file system and its tree have the same instances
+pub events-of-file_system : (t : Tree) (m : FileSystem) → IsFileSystemOf t m → WaitingAreEvents m.instances → WaitingAreEvents t.instances
+events-of-file_system t m is waits = subst WaitingAreEvents is.instances waits
 
 -- ---- a journal
 

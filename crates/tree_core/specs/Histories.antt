@@ -26,13 +26,13 @@ where_open (Some refusal) o f = []
 where_open None None f = []
 where_open None (Some i) f = f i
 
-abbrev pub where_same : {A : Type 0} → ℕ → ℕ → List A → List A
-where_same id other xs = if id == other then xs else []
+abbrev pub if_same : {A : Type 0} → ℕ → ℕ → List A → List A
+if_same id other xs = if id == other then xs else []
 
 -- the events that an accepted call raises for an open instance: inotify(7), "inotify events", and inotify_rm_watch(2)
 abbrev pub events_for : Tree → Call → ℕ → Instance → List Event
 events_for t (call.File f) id i = events_of i.watches (notices_of t.world f (cookie_now t.next_cookie))
-events_for t (call.RmWatch from wd) id i = where_same from id (ignored wd ∷ [])
+events_for t (call.RmWatch from wd) id i = if_same from id (ignored wd ∷ [])
 events_for t _ id i = []
 
 -- as many of the oldest records as fit
@@ -41,8 +41,8 @@ oldest bytes i = take (fitting bytes i.queue.waiting) i.queue.waiting
 
 -- the records that an accepted call reads of an open instance
 abbrev pub records_for : Call → ℕ → Instance → List Event
-records_for (call.Read from bytes) id i = where_same from id (oldest bytes i)
-records_for (call.Pump from bytes) id i = where_same from id (oldest bytes i)
+records_for (call.Read from bytes) id i = if_same from id (oldest bytes i)
+records_for (call.Pump from bytes) id i = if_same from id (oldest bytes i)
 records_for _ id i = []
 
 -- an event that was raised, and the queue that it found

@@ -16,7 +16,7 @@ use Rattle.tree_core.specs.declared.reply.Reply.TheVariants as reply
 use Rattle.tree_core.specs.Tree.{Tree}
 use Rattle.tree_core.specs.Journal.{IsLawfulFrom, Journaled, now, tree_after}
 use Rattle.tree_core.specs.Sound.{IsSoundTree}
-use Rattle.tree_core.specs.Histories.{Raised, raised_by, raised_in, read_in, fate, is_keeping, is_merging, is_losing, joined, kept, where_same}
+use Rattle.tree_core.specs.Histories.{Raised, raised_by, raised_in, read_in, fate, is_keeping, is_merging, is_losing, joined, kept, if_same}
 
 -- ---- what was read, and what waits
 
@@ -37,8 +37,8 @@ bytes_in _ = []
 
 -- the bytes that a call read of an instance
 abbrev pub bytes_of : ℕ → Call → Reply → List ℕ
-bytes_of id (call.Read from count) r = where_same from id (bytes_in r)
-bytes_of id (call.Pump from count) r = where_same from id (bytes_in r)
+bytes_of id (call.Read from count) r = if_same from id (bytes_in r)
+bytes_of id (call.Pump from count) r = if_same from id (bytes_in r)
 bytes_of id _ r = []
 
 -- the bytes that were read of an instance, in order

@@ -19,7 +19,7 @@ use Rattle.tree_core.specs.declared.reply.Reply.TheVariants as reply
 use Rattle.tree_core.specs.Sound.{IsSoundTree, NothingFollowsIgnored}
 use Rattle.tree_core.specs.Tree.{Tree, opening, cookie_now, refusal_of, reply_of, after}
 use Rattle.tree_core.specs.Journal.{IsLawfulFrom, tree_after}
-use Rattle.tree_core.specs.Histories.{Raised, raised_by, raised_in, read_by, events, joined, where_same}
+use Rattle.tree_core.specs.Histories.{Raised, raised_by, raised_in, read_by, events, joined, if_same}
 
 -- the opening tree is sound, and a sound tree stays so
 pub record TreesAreSound : Type 0 where
@@ -102,7 +102,7 @@ wd_in _ = []
 
 -- the descriptors that an instance gave, in order
 abbrev pub wds_of : ℕ → Call → Reply → List ℤ
-wds_of id (call.AddWatch by path mask) r = where_same by id (wd_in r)
+wds_of id (call.AddWatch by path mask) r = if_same by id (wd_in r)
 wds_of id _ r = []
 
 abbrev pub wds_given : ℕ → List Entry → List ℤ

@@ -3,7 +3,7 @@
 
 mod call;
 mod cut_laws;
-mod machine;
+mod file_system;
 mod queue_laws;
 mod reply;
 mod snapshot;

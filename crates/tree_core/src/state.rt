@@ -3,7 +3,7 @@ ghost use Rattle.std.specs.Prelude.{◌≡◌, ◌↔◌, ◌-◌, ◌+◌, ◌^
 ghost use Rattle.record_codec.specs.Records.{AreEvents, spelling};
 ghost use Rattle.instance_table.specs.Instances.{WaitingAreEvents, watchers_of};
 ghost use Rattle.tree_core.specs.Histories.{pumped};
-ghost use Rattle.tree_core.specs.Machines.{copies_of};
+ghost use Rattle.tree_core.specs.FileSystems.{copies_of};
 ghost use Rattle.tree_core.specs.Tree.{reply_of};
 ghost use Rattle.tree_core.specs.Calls.{IsKeptAs, IsSpelled};
 ghost use Rattle.tree_core.specs.QueueLaws.{RecordsAreEvents};
@@ -14,7 +14,7 @@ ghost use Rattle.tree_core.specs.Sound.{IsSoundTree};
 
 use crate::call::Call;
 use crate::cut_laws::pasts_make_whole;
-use crate::machine::{Machine, Pumped, Replies};
+use crate::file_system::{FileSystem, Pumped, Replies};
 use crate::reply::{Entry, Kept, Receipt, Reply};
 use crate::snapshot::Snapshot;
 use crate::turn_laws::trees_are_sound;
@@ -29,7 +29,7 @@ use tree_paths::{Limits, Refusal};
 /// entries since: the files, the watches and what waits are what these stand for. The journal is lawful at each moment:
 /// each reply in it is the one that the tree gives after the calls before.
 pub struct State {
-    machine: Machine,
+    file_system: FileSystem,
     snapshot: Snapshot,
     journal: Vec<Entry>,
 }
@@ -37,7 +37,7 @@ pub struct State {
 impl Drop for State {
     fn drop(self) {
         let State {
-            machine: _,
+            file_system: _,
             snapshot: _,
             journal: _,
         } = self;
@@ -69,11 +69,11 @@ impl State {
         ensures err { IfErr result (λ refusal. refusal ≡ Refusal.Enomem) }
     {
         trees_are_sound();
-        let machine = Machine::new(alloc, limits)?;
-        let snapshot = machine.snapshot(0)?;
-        machine.instances.law();
+        let file_system = FileSystem::new(alloc, limits)?;
+        let snapshot = file_system.snapshot(0)?;
+        file_system.instances.law();
         Ok(State {
-            machine,
+            file_system,
             snapshot,
             journal: Vec::new(alloc),
         })
@@ -95,9 +95,13 @@ impl State {
         ensures full { (result ≡ Err Refusal.JournalFull) ↔ IsSpent self.old }
         ensures errors { IfErr result (λ e. (e ≡ Refusal.JournalFull) ⊎ (e ≡ Refusal.Enomem)) }
     {
-        make_room(&mut self.journal, &self.machine.limits, self.snapshot.place)?;
-        self.machine.instances.law();
-        let replies = self.machine.answer(&call, false)?;
+        make_room(
+            &mut self.journal,
+            &self.file_system.limits,
+            self.snapshot.place,
+        )?;
+        self.file_system.instances.law();
+        let replies = self.file_system.answer(&call, false)?;
         let Replies {
             journaled,
             given,
@@ -130,12 +134,16 @@ impl State {
         ensures full { (result ≡ Err Refusal.JournalFull) ↔ IsSpent self.old }
         ensures errors { IfErr result (λ e. (e ≡ Refusal.JournalFull) ⊎ (e ≡ Refusal.Enomem)) }
     {
-        make_room(&mut self.journal, &self.machine.limits, self.snapshot.place)?;
+        make_room(
+            &mut self.journal,
+            &self.file_system.limits,
+            self.snapshot.place,
+        )?;
         let copy = call.copy()?;
-        self.machine.instances.law();
-        let replies = self.machine.answer(&call, true)?;
+        self.file_system.instances.law();
+        let replies = self.file_system.answer(&call, true)?;
         let place = self.snapshot.place + self.journal.len() as u64 + 1;
-        let (receipt, reply, kept) = taken_apart(replies, place, copy);
+        let (receipt, reply, kept) = split_replies(replies, place, copy);
         self.journal.push_reserved(Entry {
             caller,
             call,
@@ -166,11 +174,15 @@ impl State {
         ensures full { (result ≡ Err Refusal.JournalFull) ↔ IsSpent self.old }
         ensures errors { IfErr result (λ e. (e ≡ Refusal.JournalFull) ⊎ (e ≡ Refusal.Enomem)) }
     {
-        make_room(&mut self.journal, &self.machine.limits, self.snapshot.place)?;
-        self.machine.instances.law();
-        let Pumped { replies, records } = self.machine.pump_out(instance, bytes)?;
+        make_room(
+            &mut self.journal,
+            &self.file_system.limits,
+            self.snapshot.place,
+        )?;
+        self.file_system.instances.law();
+        let Pumped { replies, records } = self.file_system.pump_out(instance, bytes)?;
         let place = self.snapshot.place + self.journal.len() as u64 + 1;
-        let (receipt, reply, kept) = taken_apart(replies, place, Call::Pump { instance, bytes });
+        let (receipt, reply, kept) = split_replies(replies, place, Call::Pump { instance, bytes });
         self.journal.push_reserved(Entry {
             caller,
             call: Call::Pump { instance, bytes },
@@ -186,7 +198,7 @@ impl State {
         ensures past { HasPast self.now.start self.now.place }
         ensures events { RecordsAreEvents self.now }
     {
-        self.machine.instances.law();
+        self.file_system.instances.law();
         self.journal.as_slice()
     }
 
@@ -221,11 +233,11 @@ impl State {
         ensures errors { IfErr result (λ e. e ≡ Refusal.Enomem) }
     {
         trees_are_sound();
-        self.machine.instances.law();
+        self.file_system.instances.law();
         let place = self.snapshot.place + self.journal.len() as u64;
-        self.snapshot = self.machine.snapshot(place)?;
+        self.snapshot = self.file_system.snapshot(place)?;
         // The room goes back with the entries, so that memory is bounded by what stands since the cut.
-        self.journal = Vec::new(self.machine.alloc);
+        self.journal = Vec::new(self.file_system.alloc);
         Ok(place)
     }
 
@@ -233,7 +245,7 @@ impl State {
     pub fn waiting(&self, instance: u32) -> Option<usize>
         ensures { result ≡ waiting_in (now self.now) instance }
     {
-        let opened = self.machine.instances.get(instance)?;
+        let opened = self.file_system.instances.get(instance)?;
         Some(opened.queue.len())
     }
 
@@ -241,14 +253,14 @@ impl State {
     pub fn watchers(&self, number: u32) -> &[u32]
         ensures { result.now ≡ watchers_of (now self.now).instances number }
     {
-        self.machine.instances.watchers(number)
+        self.file_system.instances.watchers(number)
     }
 
     /// How many more calls the journal takes before the next cut: its limit less its entries.
     pub fn free_entries(&self) -> u64
         ensures { result ≡ self.now.start.limits.journal - length self.now.entries }
     {
-        (self.machine.limits.journal as u64).saturating_sub(self.journal.len() as u64)
+        (self.file_system.limits.journal as u64).saturating_sub(self.journal.len() as u64)
     }
 }
 
@@ -273,7 +285,7 @@ fn make_room(journal: &mut Vec<Entry>, limits: &Limits, place: u64) -> Result<()
 }
 
 // The receipt, the journal's reply, and what is kept of a call.
-fn taken_apart(replies: Replies, place: u64, call: Call) -> (Receipt, Reply, Kept)
+fn split_replies(replies: Replies, place: u64, call: Call) -> (Receipt, Reply, Kept)
     requires { (r : ReplyValue) × (replies ≡ copies_of true r) }
     ensures receipt { result.0 ≡ record { place = place; reply = replies.given } }
     ensures journaled { result.1 ≡ replies.journaled }

@@ -12,7 +12,7 @@ use std::process::ExitCode;
 use std::sync::Wait;
 use std::thread::Threads;
 use std::{env, io};
-use watchtree_command::{Asked, Fault, asked_by, tell};
+use watchtree_command::{Fault, Invocation, invocation_from, tell};
 use watchtree_script::run_script;
 use watchtree_storm::{OpenGate, storm};
 
@@ -38,18 +38,18 @@ fn main(rt: HostRuntime) -> ExitCode {
     let alloc = rt.alloc();
     let asked = match env::args(&rt) {
         Ok(args) => match args.collect::<Vec<String>>(alloc) {
-            Ok(words) => asked_by(alloc, &words),
+            Ok(words) => invocation_from(alloc, &words),
             Err(_) => Err(Fault::Memory),
         },
         Err(error) => Err(Fault::of_words(error.kind())),
     };
     let mut output = Port::new(io::writer(&rt));
     let ended = match asked {
-        Ok(Asked::Run { queue }) => {
+        Ok(Invocation::Run { queue }) => {
             let mut input = Port::new(rt.reader());
             run_script(alloc, &mut input, &mut output, queue).map_err(Fault::Run)
         }
-        Ok(Asked::Storm { calls }) => run_storm(&rt, alloc, calls, &mut output),
+        Ok(Invocation::Storm { calls }) => run_storm(&rt, alloc, calls, &mut output),
         Err(fault) => Err(fault),
     };
     match ended {

@@ -5,8 +5,8 @@ use Rattle.clap.specs.Words.{App, HasMatchesOf, IsAmong, Kinds, Text, fault_of, 
 use Rattle.clap.specs.declared.parser.matches.ArgMatches.{ArgMatches}
 use Rattle.clap.specs.declared.error.kind.ErrorKind.{ErrorKind}
 use Rattle.clap.proofs.OnLiterals.{clap_on_literals}
-use Rattle.watchtree_command.specs.CommandLine.{Asks, asked_in, asked_of, is_dashes, program, unless_fault}
-use Rattle.watchtree_command.specs.declared.command_line.Asked.{Asked}
+use Rattle.watchtree_command.specs.CommandLine.{Invokes, invocation_in, invocation_of, is_dashes, program, unless_fault}
+use Rattle.watchtree_command.specs.declared.command_line.Invocation.{Invocation}
 use Rattle.watchtree_command.specs.declared.fault.Fault.{Fault}
 use Rattle.watchtree_command.specs.declared.fault.Fault.TheVariants as fault
 
@@ -19,31 +19,31 @@ simple : is_simple program ≡ true
 unfolding clap_on_literals
 simple = refl
 
-abbrev Found : Bool → Kinds → Option Asked → Option Asked
+abbrev Found : Bool → Kinds → Option Invocation → Option Invocation
 Found dashes faults asked = if dashes then None else unless_fault faults asked
 
-pub taken : (words : List Text) (a : App) (m : ArgMatches) (r : Result Asked Fault) → a ≡ program → list_any is_dashes (drop 1 words) ≡ false
+pub taken : (words : List Text) (a : App) (m : ArgMatches) (r : Result Invocation Fault) → a ≡ program → list_any is_dashes (drop 1 words) ≡ false
     → (is_simple_and_free a ≡ true → fault_of a words ≡ []) → HasMatchesOf a words m
-    → Asks (option_and_then asked_in (subcommand_rows_of m)) r → Asks (asked_of words) r
+    → Invokes (option_and_then invocation_in (subcommand_rows_of m)) r → Invokes (invocation_of words) r
 taken words a m r is dashes faults matches asks =
     let none : fault_of program words ≡ [] = subst (λ a. fault_of a words ≡ []) is (faults (ap is_simple_and_free is ∙ free)) in
     let rows : subcommand_rows_of m ≡ subcommand_of program words = (matches (ap is_simple is ∙ simple)).1 ∙ ap (λ a. subcommand_of a words) is in
-    let asked = option_and_then asked_in (subcommand_of program words) in
-    let found : asked_of words ≡ asked = ap (λ d. Found d (fault_of program words) asked) dashes ∙ ap (λ f. Found false f asked) none in
-    subst (λ o. Asks o r) (ap (option_and_then asked_in) rows ∙ sym found) asks
+    let asked = option_and_then invocation_in (subcommand_of program words) in
+    let found : invocation_of words ≡ asked = ap (λ d. Found d (fault_of program words) asked) dashes ∙ ap (λ f. Found false f asked) none in
+    subst (λ o. Invokes o r) (ap (option_and_then invocation_in) rows ∙ sym found) asks
 
-no_more : (dashes : Bool) (k : ErrorKind) (faults : Kinds) (asked : Option Asked) → IsAmong k faults → Found dashes faults asked ≡ None
+no_more : (dashes : Bool) (k : ErrorKind) (faults : Kinds) (asked : Option Invocation) → IsAmong k faults → Found dashes faults asked ≡ None
 no_more true k faults asked h = refl
 no_more false k [] asked h = absurd h
 no_more false k (x ∷ xs) asked h = refl
 
 pub refused : (words : List Text) (a : App) (k oom : ErrorKind) (f : Fault) → a ≡ program
     → (is_simple_and_free a ≡ true → (k ≡ oom) ⊎ IsAmong k (fault_of a words))
-    → (k ≡ oom → f ≡ fault.Memory) → (f ≡ fault.Memory) ⊎ (f ≡ fault.CommandLine) → Asks (asked_of words) (Err f)
+    → (k ≡ oom → f ≡ fault.Memory) → (f ≡ fault.Memory) ⊎ (f ≡ fault.CommandLine) → Invokes (invocation_of words) (Err f)
 refused words a k oom f is faults memory either =
     go either (faults (ap is_simple_and_free is ∙ free))
   where
-    go : (f ≡ fault.Memory) ⊎ (f ≡ fault.CommandLine) → (k ≡ oom) ⊎ IsAmong k (fault_of a words) → Asks (asked_of words) (Err f)
+    go : (f ≡ fault.Memory) ⊎ (f ≡ fault.CommandLine) → (k ≡ oom) ⊎ IsAmong k (fault_of a words) → Invokes (invocation_of words) (Err f)
     go (inl e) _ = rw e tt
     go (inr _) (inl o) = rw (memory o) tt
     go (inr e) (inr h) =

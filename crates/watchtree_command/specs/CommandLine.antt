@@ -11,8 +11,8 @@ use Rattle.clap.specs.declared.builder.action.ArgAction.TheVariants.{Set}
 use Rattle.tree_paths.specs.Greatest.{most_queue}
 use Rattle.watchtree_command.specs.declared.fault.Fault.{Fault}
 use Rattle.watchtree_command.specs.declared.fault.Fault.TheVariants as fault
-use Rattle.watchtree_command.specs.declared.command_line.Asked.{Asked}
-use Rattle.watchtree_command.specs.declared.command_line.Asked.TheVariants.{Run, Storm}
+use Rattle.watchtree_command.specs.declared.command_line.Invocation.{Invocation}
+use Rattle.watchtree_command.specs.declared.command_line.Invocation.TheVariants.{Run, Storm}
 
 -- the least limit of a queue. The greatest is that of every queue
 abbrev pub least_queue : ℕ
@@ -26,9 +26,9 @@ abbrev pub IsStormCalls : ℕ → Type 0
 IsStormCalls calls = (1 ≤ calls) × (calls ≤ 1000)
 
 -- what the words ask for is within its range
-abbrev pub IsAsked : Asked → Type 0
-IsAsked (Run queue) = IsQueueLimit queue
-IsAsked (Storm calls) = IsStormCalls calls
+abbrev pub IsInvocation : Invocation → Type 0
+IsInvocation (Run queue) = IsQueueLimit queue
+IsInvocation (Storm calls) = IsStormCalls calls
 
 -- how many digits a number may have
 abbrev pub most_digits : ℕ
@@ -66,8 +66,8 @@ program =
 
 -- what a subcommand asks for, with the values of its options: a queue of 16,384 or a limit of 1 to 65,535, and 100 calls or 1
 -- to 1,000
-abbrev pub asked_in : Text × List Row → Option Asked
-asked_in s =
+abbrev pub invocation_in : Text × List Row → Option Invocation
+invocation_in s =
     if bytes_eq s.0 (codes "run") then option_map Run (number_or 16384 1 65535 (first_of (codes "queue") s.1))
     else if bytes_eq s.0 (codes "storm") then option_map Storm (number_or 100 1 1000 (first_of (codes "calls") s.1))
     else None
@@ -81,14 +81,14 @@ unless_fault [] asked = asked
 unless_fault _ asked = None
 
 -- what the words ask for: clap takes them, and none behind the first is `--`
-abbrev pub asked_of : List Text → Option Asked
-asked_of words =
+abbrev pub invocation_of : List Text → Option Invocation
+invocation_of words =
     if list_any is_dashes (drop 1 words) then None
-    else unless_fault (fault_of program words) (option_and_then asked_in (subcommand_of program words))
+    else unless_fault (fault_of program words) (option_and_then invocation_in (subcommand_of program words))
 
 -- what is answered: what the words ask for, that they ask for nothing, or want of memory
-abbrev pub Asks : Option Asked → Result Asked Fault → Type 0
-Asks asked (Ok a) = asked ≡ Some a
-Asks asked (Err fault.CommandLine) = asked ≡ None
-Asks asked (Err fault.Memory) = ⊤
-Asks asked (Err _) = ⊥
+abbrev pub Invokes : Option Invocation → Result Invocation Fault → Type 0
+Invokes asked (Ok a) = asked ≡ Some a
+Invokes asked (Err fault.CommandLine) = asked ≡ None
+Invokes asked (Err fault.Memory) = ⊤
+Invokes asked (Err _) = ⊥

@@ -7,7 +7,7 @@ ghost use Rattle.std.specs.Option.{SomeIff};
 ghost use Rattle.std.specs.Str.Parse.{digits_value};
 ghost use Rattle.std.specs.String.{string_bytes};
 ghost use Rattle.clap.specs.Words.{app_of, first_of, found_of, rows_of, shape_of, subcommand_rows_of};
-ghost use Rattle.watchtree_command.specs.CommandLine.{Asks, IsAsked, asked_in, asked_of, is_dashes, number_of, number_or, program, with_option};
+ghost use Rattle.watchtree_command.specs.CommandLine.{Invokes, IsInvocation, invocation_in, invocation_of, is_dashes, number_of, number_or, program, with_option};
 
 use crate::fault::Fault;
 use clap::error::ErrorKind;
@@ -33,7 +33,7 @@ const CALLS_MAX: u32 = 1_000;
 
 /// What the command line asks for.
 #[derive(Clone, Copy, Debug, PartialEq, Eq)]
-pub enum Asked {
+pub enum Invocation {
     /// `run`, with the limit of an instance that names none.
     Run {
         /// From 1 to 65,535.
@@ -52,9 +52,9 @@ pub enum Asked {
 ///
 /// # Errors
 /// [`Fault::CommandLine`], where the words are no `run` and no `storm`, or [`Fault::Memory`].
-pub fn asked_by(alloc: Global, words: &[String]) -> Result<Asked, Fault>
-    ensures asks { Asks (asked_of (map string_bytes words.now)) result }
-    ensures range { IfOk result IsAsked }
+pub fn invocation_from(alloc: Global, words: &[String]) -> Result<Invocation, Fault>
+    ensures asks { Invokes (invocation_of (map string_bytes words.now)) result }
+    ensures range { IfOk result IsInvocation }
 {
     // To clap this word ends the options.
     if ends_options(words) {
@@ -62,7 +62,7 @@ pub fn asked_by(alloc: Global, words: &[String]) -> Result<Asked, Fault>
     }
     let command = command(alloc)?;
     match command.try_get_matches_from(words) {
-        Ok(matches) => asked_in(&matches),
+        Ok(matches) => invocation_in(&matches),
         Err(error) => Err(fault_by(error.kind())),
     }
 }
@@ -98,28 +98,28 @@ fn fault_by(kind: ErrorKind) -> Fault
 }
 
 // What the subcommand that clap found asks for.
-fn asked_in(matches: &ArgMatches<'_>) -> Result<Asked, Fault>
-    ensures asks { Asks (option_and_then asked_in (subcommand_rows_of matches.now)) result }
-    ensures range { IfOk result IsAsked }
+fn invocation_in(matches: &ArgMatches<'_>) -> Result<Invocation, Fault>
+    ensures asks { Invokes (option_and_then invocation_in (subcommand_rows_of matches.now)) result }
+    ensures range { IfOk result IsInvocation }
 {
     match matches.subcommand() {
-        Some((name, found)) => asked_at(name, found),
+        Some((name, found)) => invocation_at(name, found),
         None => Err(Fault::CommandLine),
     }
 }
 
 // What a subcommand asks for, with what clap found behind it.
-fn asked_at(name: &str, found: &ArgMatches<'_>) -> Result<Asked, Fault>
-    ensures asks { Asks (asked_in (name.now, rows_of (found_of found.now))) result }
-    ensures range { IfOk result IsAsked }
+fn invocation_at(name: &str, found: &ArgMatches<'_>) -> Result<Invocation, Fault>
+    ensures asks { Invokes (invocation_in (name.now, rows_of (found_of found.now))) result }
+    ensures range { IfOk result IsInvocation }
 {
     if name == "run" {
         let queue = number_in(found, "queue", QUEUE, QUEUE_MIN, QUEUE_MAX)?;
-        return Ok(Asked::Run { queue });
+        return Ok(Invocation::Run { queue });
     }
     if name == "storm" {
         let calls = number_in(found, "calls", CALLS, CALLS_MIN, CALLS_MAX)?;
-        return Ok(Asked::Storm { calls });
+        return Ok(Invocation::Storm { calls });
     }
     Err(Fault::CommandLine)
 }

@@ -6,6 +6,6 @@ mod command_line;
 mod fault;
 mod lines;
 
-pub use command_line::{Asked, asked_by};
+pub use command_line::{Invocation, invocation_from};
 pub use fault::Fault;
 pub use lines::{report, tell};

@@ -11,7 +11,7 @@ use std::process::Abort;
 use std::sync::Wait;
 use std::test::Fail;
 use std::thread::Threads;
-use watchtree_command::{Asked, Fault, asked_by, tell};
+use watchtree_command::{Fault, Invocation, invocation_from, tell};
 use watchtree_script::{RunFault, ScriptFault};
 use watchtree_storm::{OpenGate, storm};
 
@@ -21,25 +21,25 @@ fn equal<T: PartialEq + Debug + Drop>(rt: &impl Abort, got: T, wanted: T) {
 }
 
 // What words ask for, behind the program's name. They are parted by single spaces.
-fn asked(alloc: Global, line: &str) -> Result<Result<Asked, Fault>, Fail> {
+fn asked(alloc: Global, line: &str) -> Result<Result<Invocation, Fault>, Fail> {
     let mut words = Vec::new(alloc);
     words.push(format!(in alloc; "watchtree")?)?;
     for word in line.split(' ') {
         words.push(format!(in alloc; "{word}")?)?;
     }
-    Ok(asked_by(alloc, &words))
+    Ok(invocation_from(alloc, &words))
 }
 
 #[test]
 fn words_ask(rt: HostRuntime) -> Result<(), Fail> {
     for (line, wanted) in [
-        ("run", Asked::Run { queue: 16_384 }),
-        ("run --queue 1", Asked::Run { queue: 1 }),
-        ("run --queue=65535", Asked::Run { queue: 65_535 }),
-        ("run --queue 00005", Asked::Run { queue: 5 }),
-        ("storm", Asked::Storm { calls: 100 }),
-        ("storm --calls 1", Asked::Storm { calls: 1 }),
-        ("storm --calls=1000", Asked::Storm { calls: 1_000 }),
+        ("run", Invocation::Run { queue: 16_384 }),
+        ("run --queue 1", Invocation::Run { queue: 1 }),
+        ("run --queue=65535", Invocation::Run { queue: 65_535 }),
+        ("run --queue 00005", Invocation::Run { queue: 5 }),
+        ("storm", Invocation::Storm { calls: 100 }),
+        ("storm --calls 1", Invocation::Storm { calls: 1 }),
+        ("storm --calls=1000", Invocation::Storm { calls: 1_000 }),
     ] {
         equal(&rt, asked(rt.alloc(), line)?, Ok(wanted));
     }
@@ -88,7 +88,11 @@ fn other_words_are_refused(rt: HostRuntime) -> Result<(), Fail> {
     ] {
         equal(&rt, asked(rt.alloc(), line)?, Err(Fault::CommandLine));
     }
-    equal(&rt, asked_by(rt.alloc(), &[]), Err(Fault::CommandLine));
+    equal(
+        &rt,
+        invocation_from(rt.alloc(), &[]),
+        Err(Fault::CommandLine),
+    );
     Ok(())
 }
 

@@ -15,8 +15,8 @@ use Rattle.watchtree_script.specs.declared.line.Line.{Line}
 use Rattle.watchtree_script.specs.declared.line.Line.TheVariants.{Silent, Cut, Run}
 use Rattle.watchtree_script.specs.declared.line.LineError.{LineError}
 use Rattle.watchtree_script.specs.declared.line.LineError.TheVariants.{Fault, Refused, Memory}
-use Rattle.watchtree_script.specs.declared.line.Shown.{Shown}
-use Rattle.watchtree_script.specs.declared.line.Shown.TheVariants as shown
+use Rattle.watchtree_script.specs.declared.line.OutputFormat.{OutputFormat}
+use Rattle.watchtree_script.specs.declared.line.OutputFormat.TheVariants as format
 use Rattle.watchtree_script.specs.Replies.{AreEventsIn, IsReadText, IsReplyText, event_line, ok_line}
 use Rattle.watchtree_script.specs.Commands.{line_of}
 use Rattle.watchtree_script.specs.Script.{caller, Prints, PrintsLine, Replies, Cuts, PrintsLineBy, PrintsBy, AmpleReplies, AmpleCuts}
@@ -66,14 +66,14 @@ reply-one old call reply other new after (inr a) (inr b) = (a.answer ∙ sym b.a
 events-one : (bytes : List ℕ) (es ns : List Event) → AreEventsIn bytes es → AreEventsIn bytes ns → es ≡ ns
 events-one bytes es ns a b = sym (one_spelling es ns a.0 b.0 (sym b.1 ∙ a.1))
 
-read-one : (how : Shown) (bytes text other : List ℕ) → IsReadText how bytes text → IsReadText how bytes other → text ≡ other
-read-one shown.Plain bytes text other p q = p ∙ sym q
-read-one shown.Records bytes text other p q =
+read-one : (how : OutputFormat) (bytes text other : List ℕ) → IsReadText how bytes text → IsReadText how bytes other → text ≡ other
+read-one format.Plain bytes text other p q = p ∙ sym q
+read-one format.Records bytes text other p q =
     let T : List Event → List ℕ = λ events. ok_line (decimal (length bytes)) ++ flat_map event_line events in
     p.2 ∙ ap T (events-one bytes p.0 q.0 p.1 q.1) ∙ sym q.2
-read-one shown.Hexadecimal bytes text other p q = p ∙ sym q
+read-one format.Hexadecimal bytes text other p q = p ∙ sym q
 
-text-one : (how : Shown) (reply : Reply) (text other : List ℕ) → IsReplyText how reply text → IsReplyText how reply other → text ≡ other
+text-one : (how : OutputFormat) (reply : Reply) (text other : List ℕ) → IsReplyText how reply text → IsReplyText how reply other → text ≡ other
 text-one how (replies.File answer) text other p q = p ∙ sym q
 text-one how (replies.Instance id) text other p q = p ∙ sym q
 text-one how (replies.Wd wd) text other p q = p ∙ sym q

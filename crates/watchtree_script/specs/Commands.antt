@@ -11,8 +11,8 @@ use Rattle.tree_core.specs.declared.call.Call.TheVariants as call
 use Rattle.watchtree_script.specs.declared.fault.ScriptFault.TheVariants.{BadByte, UnknownCommand, WrongNumber}
 use Rattle.watchtree_script.specs.declared.line.Command.{Command}
 use Rattle.watchtree_script.specs.declared.line.Command.TheVariants as command
-use Rattle.watchtree_script.specs.declared.line.Shown.{Shown}
-use Rattle.watchtree_script.specs.declared.line.Shown.TheVariants as shown
+use Rattle.watchtree_script.specs.declared.line.OutputFormat.{OutputFormat}
+use Rattle.watchtree_script.specs.declared.line.OutputFormat.TheVariants as format
 use Rattle.watchtree_script.specs.declared.line.Line.{Line}
 use Rattle.watchtree_script.specs.declared.line.Line.TheVariants.{Silent, Cut, Run}
 use Rattle.watchtree_script.specs.declared.line.LineError.{LineError}
@@ -178,31 +178,31 @@ unwatch_call id wd = do
 -- ---- the table
 
 -- words that are read ask for the call that is made of them, and its reply is shown so
-abbrev pub asking : {A : Type 0} → Shown → (A → Call) → Result A LineError → Result Line LineError
+abbrev pub asking : {A : Type 0} → OutputFormat → (A → Call) → Result A LineError → Result Line LineError
 asking how f (Ok x) = Ok (Run (f x) how)
 asking how f (Err e) = Err e
 
 -- the rows of the table: a command with the words behind it. An init without a number takes the limit of the run
 abbrev pub row_of : ℕ → Command → List (List ℕ) → Result Line LineError
-row_of queue command.Mkdir words = asking shown.Plain (λ w. call.File (file.Mkdir w.0 w.1)) (two words path_and_mode)
-row_of queue command.Create words = asking shown.Plain (λ w. call.File (file.Create w.0 w.1)) (two words path_and_mode)
-row_of queue command.Write words = asking shown.Plain (λ c. c) (three words write_call)
-row_of queue command.Cat words = asking shown.Plain (λ c. c) (three words cat_call)
-row_of queue command.Truncate words = asking shown.Plain (λ c. c) (two words truncate_call)
-row_of queue command.Chmod words = asking shown.Plain (λ w. call.File (file.Chmod w.0 w.1)) (two words path_and_mode)
-row_of queue command.Link words = asking shown.Plain (λ w. call.File (file.Link w.0 w.1)) (two words old_and_new)
-row_of queue command.Unlink words = asking shown.Plain (λ p. call.File (file.Unlink p)) (one words a_path)
-row_of queue command.Rmdir words = asking shown.Plain (λ p. call.File (file.Rmdir p)) (one words a_path)
-row_of queue command.Rename words = asking shown.Plain (λ w. call.File (file.Rename w.0 w.1)) (two words old_and_new)
-row_of queue command.Rename2 words = asking shown.Plain (λ c. c) (three words rename2_call)
-row_of queue command.Stat words = asking shown.Plain (λ p. call.File (file.Stat p)) (one words a_path)
-row_of queue command.List words = asking shown.Plain (λ p. call.File (file.List p)) (one words a_path)
-row_of queue command.Init words = asking shown.Plain (λ n. call.Init n false) (none_or_one words (Ok queue) u32_word)
-row_of queue command.Watch words = asking shown.Plain (λ c. c) (three words watch_call)
-row_of queue command.Unwatch words = asking shown.Plain (λ c. c) (two words unwatch_call)
-row_of queue command.Read words = asking shown.Records (λ w. call.Read w.0 w.1) (two words id_and_bytes)
-row_of queue command.Hex words = asking shown.Hexadecimal (λ w. call.Read w.0 w.1) (two words id_and_bytes)
-row_of queue command.Close words = asking shown.Plain (λ id. call.Close id) (one words u32_word)
+row_of queue command.Mkdir words = asking format.Plain (λ w. call.File (file.Mkdir w.0 w.1)) (two words path_and_mode)
+row_of queue command.Create words = asking format.Plain (λ w. call.File (file.Create w.0 w.1)) (two words path_and_mode)
+row_of queue command.Write words = asking format.Plain (λ c. c) (three words write_call)
+row_of queue command.Cat words = asking format.Plain (λ c. c) (three words cat_call)
+row_of queue command.Truncate words = asking format.Plain (λ c. c) (two words truncate_call)
+row_of queue command.Chmod words = asking format.Plain (λ w. call.File (file.Chmod w.0 w.1)) (two words path_and_mode)
+row_of queue command.Link words = asking format.Plain (λ w. call.File (file.Link w.0 w.1)) (two words old_and_new)
+row_of queue command.Unlink words = asking format.Plain (λ p. call.File (file.Unlink p)) (one words a_path)
+row_of queue command.Rmdir words = asking format.Plain (λ p. call.File (file.Rmdir p)) (one words a_path)
+row_of queue command.Rename words = asking format.Plain (λ w. call.File (file.Rename w.0 w.1)) (two words old_and_new)
+row_of queue command.Rename2 words = asking format.Plain (λ c. c) (three words rename2_call)
+row_of queue command.Stat words = asking format.Plain (λ p. call.File (file.Stat p)) (one words a_path)
+row_of queue command.List words = asking format.Plain (λ p. call.File (file.List p)) (one words a_path)
+row_of queue command.Init words = asking format.Plain (λ n. call.Init n false) (none_or_one words (Ok queue) u32_word)
+row_of queue command.Watch words = asking format.Plain (λ c. c) (three words watch_call)
+row_of queue command.Unwatch words = asking format.Plain (λ c. c) (two words unwatch_call)
+row_of queue command.Read words = asking format.Records (λ w. call.Read w.0 w.1) (two words id_and_bytes)
+row_of queue command.Hex words = asking format.Hexadecimal (λ w. call.Read w.0 w.1) (two words id_and_bytes)
+row_of queue command.Close words = asking format.Plain (λ id. call.Close id) (one words u32_word)
 row_of queue command.Cut words = if length words == 0 then Ok Cut else Err (Fault WrongNumber)
 
 abbrev pub row_of_word : ℕ → Option Command → List (List ℕ) → Result Line LineError

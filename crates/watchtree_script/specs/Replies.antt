@@ -14,8 +14,8 @@ use Rattle.tree_ops.specs.declared.answer.Answer.{Answer}
 use Rattle.tree_ops.specs.declared.answer.Answer.TheVariants as answer
 use Rattle.tree_core.specs.declared.reply.Reply.{Reply}
 use Rattle.tree_core.specs.declared.reply.Reply.TheVariants as reply
-use Rattle.watchtree_script.specs.declared.line.Shown.{Shown}
-use Rattle.watchtree_script.specs.declared.line.Shown.TheVariants.{Plain, Records, Hexadecimal}
+use Rattle.watchtree_script.specs.declared.line.OutputFormat.{OutputFormat}
+use Rattle.watchtree_script.specs.declared.line.OutputFormat.TheVariants.{Plain, Records, Hexadecimal}
 
 -- ok, and a value
 abbrev pub ok_line : List ℕ → List ℕ
@@ -71,16 +71,16 @@ AreEventsIn bytes events = AreEvents events × (bytes ≡ spelling events)
 
 -- the reply of a read: the number of bytes that were read, and behind it nothing more, a line for each record, or one line of the
 -- bytes in hexadecimal
-abbrev pub IsReadText : Shown → List ℕ → List ℕ → Type 0
+abbrev pub IsReadText : OutputFormat → List ℕ → List ℕ → Type 0
 IsReadText Plain bytes text = text ≡ ok_line (decimal (length bytes))
 IsReadText Records bytes text = (events : List Event) × AreEventsIn bytes events × (text ≡ ok_line (decimal (length bytes)) ++ flat_map event_line events)
 IsReadText Hexadecimal bytes text = text ≡ ok_line (decimal (length bytes)) ++ (codes "  " ++ encode_lower bytes ++ codes "\n")
 
 -- the text of a reply, as its command shows it
-abbrev pub IsReplyText : Shown → Reply → List ℕ → Type 0
-IsReplyText shown (reply.File answer) text = text ≡ answer_text answer
-IsReplyText shown (reply.Instance id) text = text ≡ ok_line (decimal id)
-IsReplyText shown (reply.Wd wd) text = text ≡ ok_line (signed_decimal wd)
-IsReplyText shown (reply.Records bytes) text = IsReadText shown bytes text
-IsReplyText shown reply.Done text = text ≡ done_line
-IsReplyText shown (reply.Refused refusal) text = text ≡ refusal_text refusal
+abbrev pub IsReplyText : OutputFormat → Reply → List ℕ → Type 0
+IsReplyText format (reply.File answer) text = text ≡ answer_text answer
+IsReplyText format (reply.Instance id) text = text ≡ ok_line (decimal id)
+IsReplyText format (reply.Wd wd) text = text ≡ ok_line (signed_decimal wd)
+IsReplyText format (reply.Records bytes) text = IsReadText format bytes text
+IsReplyText format reply.Done text = text ≡ done_line
+IsReplyText format (reply.Refused refusal) text = text ≡ refusal_text refusal

@@ -62,7 +62,7 @@ Cuts old text new = AmpleCuts old text new ⊎ ((text ≡ refusal_text Enomem) �
 abbrev pub PrintsLineBy : (Journaled → Call → Reply → Journaled → Type 0) → (Journaled → List ℕ → Journaled → Type 0) → Journaled → Result Line LineError → List ℕ → Journaled → Type 0
 PrintsLineBy R C old (Ok Silent) text new = (text ≡ []) × (new ≡ old)
 PrintsLineBy R C old (Ok Cut) text new = C old text new
-PrintsLineBy R C old (Ok (Run call shown)) text new = (reply : Reply) × R old call reply new × IsReplyText shown reply text
+PrintsLineBy R C old (Ok (Run call format)) text new = (reply : Reply) × R old call reply new × IsReplyText format reply text
 PrintsLineBy R C old (Err (Refused refusal)) text new = (text ≡ refusal_text refusal) × (new ≡ old)
 PrintsLineBy R C old (Err (Fault fault)) text new = ⊥
 PrintsLineBy R C old (Err Memory) text new = ⊥
@@ -71,7 +71,7 @@ PrintsLineBy R C old (Err Memory) text new = ⊥
 abbrev pub HasRun : Journaled → Result Line LineError → Journaled → Type 0
 HasRun old (Ok Silent) new = ⊥
 HasRun old (Ok Cut) new = new ≡ cut_off old
-HasRun old (Ok (Run call shown)) new = (reply : Reply) × IsAnswered old call reply new
+HasRun old (Ok (Run call format)) new = (reply : Reply) × IsAnswered old call reply new
 HasRun old (Err e) new = ⊥
 
 -- nothing was done, or the line was run

@@ -59,7 +59,7 @@ pub enum Command {
 
 /// How the records of a reply are shown.
 #[derive(Clone, Copy, Debug, PartialEq, Eq)]
-pub enum Shown {
+pub enum OutputFormat {
     /// By their number of bytes alone.
     Plain,
     /// By a line of each too.
@@ -76,7 +76,7 @@ pub enum Line {
     /// A cut of the journal, whose place is printed.
     Cut,
     /// A call, whose reply is printed.
-    Run { call: Call, shown: Shown },
+    Run { call: Call, format: OutputFormat },
 }
 
 /// Why a line asks for no call.

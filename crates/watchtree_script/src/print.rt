@@ -5,7 +5,7 @@ ghost use Rattle.std.specs.List.{flat_map};
 ghost use Rattle.watchtree_script.specs.Replies.{ok_line, done_line, hexadecimal, name_line, event_line, kind_letter, mode_text, octal_digit, refusal_text, answer_text, AreEventsIn, IsReadText, IsReplyText};
 ghost use Rattle.tree_core.specs.Calls.{IsSpelled};
 
-use crate::line::Shown;
+use crate::line::OutputFormat;
 use inode_table::Kind;
 use itoa::{Buffer, Integer};
 use record_codec::{Event, Name, append_name, append_record_line, decode};
@@ -15,16 +15,20 @@ use tree_ops::Answer;
 use tree_paths::Refusal;
 
 /// Adds a reply to an empty text, as its command shows it.
-pub(crate) fn push_reply(text: &mut Vec<u8>, shown: Shown, reply: &Reply) -> Result<(), AllocError>
+pub(crate) fn push_reply(
+    text: &mut Vec<u8>,
+    format: OutputFormat,
+    reply: &Reply,
+) -> Result<(), AllocError>
     requires empty { text.old.items ≡ [] }
     requires spelled { IsSpelled reply.now }
-    ensures { OnOk result (IsReplyText shown reply.now text.new.items) }
+    ensures { OnOk result (IsReplyText format reply.now text.new.items) }
 {
     match reply {
         Reply::File(answer) => push_answer(text, answer),
         Reply::Instance(id) => push_ok(text, *id),
         Reply::Wd(wd) => push_ok(text, *wd),
-        Reply::Records(bytes) => push_read(text, shown, bytes.as_slice()),
+        Reply::Records(bytes) => push_read(text, format, bytes.as_slice()),
         Reply::Done => push_done(text),
         Reply::Refused(refusal) => push_refusal(text, *refusal),
     }
@@ -168,19 +172,19 @@ pub(crate) fn push_ok<I: Integer>(text: &mut Vec<u8>, value: I) -> Result<(), Al
 }
 
 // The reply of a read, in an empty text: the number of bytes that were read, and their records as they are shown.
-fn push_read(text: &mut Vec<u8>, shown: Shown, bytes: &[u8]) -> Result<(), AllocError>
+fn push_read(text: &mut Vec<u8>, format: OutputFormat, bytes: &[u8]) -> Result<(), AllocError>
     requires empty { text.old.items ≡ [] }
     requires spelled { IsSpelled (Reply.Records bytes.now) }
-    ensures { OnOk result (IsReadText shown bytes.now text.new.items) }
+    ensures { OnOk result (IsReadText format bytes.now text.new.items) }
 {
     push_ok(text, bytes.len())?;
-    match shown {
-        Shown::Plain => Ok(()),
-        Shown::Records => {
+    match format {
+        OutputFormat::Plain => Ok(()),
+        OutputFormat::Records => {
             let events = events_in(*text.allocator(), bytes)?;
             push_events(text, &events)
         }
-        Shown::Hexadecimal => {
+        OutputFormat::Hexadecimal => {
             let digits = hex::encode(*text.allocator(), bytes)?;
             text.extend_from_slice(b"  ")?;
             text.extend_from_slice(digits.as_bytes())?;

@@ -5,7 +5,7 @@ ghost use Rattle.watchtree_script.specs.Commands.{Gives, one, two, three, path_o
 ghost use Rattle.tree_core.specs.declared.call.Call.TheVariants as call;
 
 use crate::fault::ScriptFault;
-use crate::line::{Command, Line, LineError, Shown};
+use crate::line::{Command, Line, LineError, OutputFormat};
 use crate::pieces::Runs;
 use crate::words::{hex_word, i32_word, mask_word, mode_word, path_word, u32_word, u64_word};
 use std::alloc::Global;
@@ -55,8 +55,8 @@ impl<'a> Parser<'a> {
             Command::Init => self.init(),
             Command::Watch => self.watch(),
             Command::Unwatch => self.unwatch(),
-            Command::Read => self.read(Shown::Records),
-            Command::Hex => self.read(Shown::Hexadecimal),
+            Command::Read => self.read(OutputFormat::Records),
+            Command::Hex => self.read(OutputFormat::Hexadecimal),
             Command::Close => self.close(),
             Command::Cut => self.cut(),
         }
@@ -223,15 +223,15 @@ impl<'a> Parser<'a> {
 
     /// `read` and `hex`, which show the records so.
     #[tactic(auto, unfolding(crate::specs::Commands::id_and_bytes))]
-    fn read(&self, shown: Shown) -> Result<Line, LineError>
-        ensures { Gives result (asking shown (λ w. call.Read w.0 w.1) (two self.now.words id_and_bytes)) }
+    fn read(&self, format: OutputFormat) -> Result<Line, LineError>
+        ensures { Gives result (asking format (λ w. call.Read w.0 w.1) (two self.now.words id_and_bytes)) }
     {
         let (id, bytes) = self.two()?;
         let instance = u32_word(id)?;
         let bytes = u32_word(bytes)?;
         Ok(Line::Run {
             call: Call::Read { instance, bytes },
-            shown,
+            format,
         })
     }
 
@@ -334,10 +334,10 @@ fn path_of(alloc: Global, text: &[u8]) -> Result<Path, LineError>
 
 /// A call whose reply is one line.
 fn plain(call: Call) -> Line
-    ensures { result ≡ Line.Run call Shown.Plain }
+    ensures { result ≡ Line.Run call OutputFormat.Plain }
 {
     Line::Run {
         call,
-        shown: Shown::Plain,
+        format: OutputFormat::Plain,
     }
 }

@@ -165,9 +165,9 @@ fn push_line(text: &mut Vec<u8>, state: &mut State, line: Line) -> Result<(), Al
             Ok(place) => push_ok(text, place),
             Err(refusal) => push_refusal(text, refusal),
         },
-        Line::Run { call, shown } => {
+        Line::Run { call, format } => {
             let reply = reply_to(state, call);
-            push_reply(text, shown, &reply)
+            push_reply(text, format, &reply)
         }
     }
 }

@@ -2,7 +2,7 @@
 
 ghost use Rattle.std.specs.Prelude.{◌≡◌, ◌+◌, ◌≤◌, [], true, IfOk, OnOk};
 ghost use Rattle.shared_tree.specs.Seats.{seated};
-ghost use Rattle.event_sinks.specs.Heard.{IsHeard, heard_by};
+ghost use Rattle.event_sinks.specs.Listeners.{IsSoundListener, state_of_listener};
 ghost use Rattle.watchtree_storm.specs.Storm.{HasBegun, IsListening};
 
 use crate::fault::StormFault;
@@ -23,7 +23,7 @@ const QUEUE: u32 = 16_384;
 
 /// A tree with a directory that two instances watch, each with a pipe; its seats; and a listener at each pipe.
 #[derive(Drop)]
-pub struct Begun<L: Ledger, S> {
+pub struct ReadyStorm<L: Ledger, S> {
     /// The tree.
     pub held: Held<L>,
     /// What is left of the seats.
@@ -50,10 +50,10 @@ fn listen<L: Ledger, S: Sink>(
     sink: S,
 ) -> Result<Listening<S>, StormFault>
     requires slots { (1 ≤ slots) × (slots ≤ 65536) }
-    requires live { S.live sink ≡ true }
+    requires is_open { S.is_open sink ≡ true }
     ensures number { OnOk result (seat.new.number ≡ seat.old.number) }
     ensures kept { OnOk result (IsListening seat.old seat.new) }
-    ensures sound { IfOk result (λ l. IsHeard (heard_by S.record_list S.live l)) }
+    ensures sound { IfOk result (λ l. IsSoundListener (state_of_listener S.record_list S.is_open l)) }
 {
     let (_, feed) = held.open_piped(seat, QUEUE, slots)?;
     let Some(feed) = feed else {
@@ -81,15 +81,15 @@ pub fn begin<L: Ledger, S: Sink>(
     calls: u32,
     one: S,
     other: S,
-) -> Result<Begun<L, S>, StormFault>
+) -> Result<ReadyStorm<L, S>, StormFault>
     requires name { blank.name ≡ L.name }
     requires parts { (blank.parts ≡ L.parts) × (blank.parts ≡ 65537) }
-    requires live { (S.live one ≡ true) × (S.live other ≡ true) }
+    requires is_open { (S.is_open one ≡ true) × (S.is_open other ≡ true) }
     requires calls { calls ≤ 1000 }
     ensures shares { IfOk result (λ b. (b.pass.parts + 3 ≡ L.parts) × (b.pass.amount ≡ 0)) }
     ensures seats { IfOk result (λ b. (b.main.number ≡ 1) × (b.first ≡ seated 2 []) × (b.second ≡ seated 3 [])) }
     ensures begun { IfOk result (λ b. HasBegun b.main) }
-    ensures sound { IfOk result (λ b. IsHeard (heard_by S.record_list S.live b.one) × IsHeard (heard_by S.record_list S.live b.other)) }
+    ensures sound { IfOk result (λ b. IsSoundListener (state_of_listener S.record_list S.is_open b.one) × IsSoundListener (state_of_listener S.record_list S.is_open b.other)) }
 {
     let (mut held, mut pass) = Held::<L>::new(alloc, blank, Limits::full())?;
     let mut main = pass.seat()?;
@@ -100,7 +100,7 @@ pub fn begin<L: Ledger, S: Sink>(
     let slots = calls as usize + 2;
     let one = listen(alloc, &mut held, &mut main, 1, slots, one)?;
     let other = listen(alloc, &mut held, &mut main, 2, slots, other)?;
-    Ok(Begun {
+    Ok(ReadyStorm {
         held,
         pass,
         main,

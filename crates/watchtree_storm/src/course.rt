@@ -2,11 +2,11 @@
 
 ghost use Rattle.std.specs.Prelude.{◌≡◌, ◌+◌, ◌≤◌, ◌∷◌, [], true, IfOk};
 ghost use Rattle.event_sinks.specs.Audited.{Settles, calls_of, outcome_of};
-ghost use Rattle.event_sinks.specs.Heard.{IsHeard, ended_of, heard_by};
+ghost use Rattle.event_sinks.specs.Listeners.{IsSoundListener, state_of_ended, state_of_listener};
 ghost use Rattle.shared_tree.specs.Seats.{seated};
 ghost use Rattle.watchtree_storm.specs.Storm.{AreStormLogs, AreTurns, CountsAgree, HasBegun, IsWhole, first_part, second_part, told_of};
 
-use crate::beginning::{Begun, begin};
+use crate::beginning::{ReadyStorm, begin};
 use crate::fault::StormFault;
 use crate::writer::{Writer, close_both};
 use event_sinks::{Cause, Ended, Gate, SettleFault, Settled, Sink, settle};
@@ -20,7 +20,7 @@ use std::thread::Threads;
 
 /// What is left when all have ended: the book of the tree, the logs of its three seats, and both listeners.
 #[derive(Drop)]
-pub struct Ran<S> {
+pub struct FinishedStorm<S> {
     /// The book of the tree.
     pub book: Book,
     /// The logs of seats 1, 2 and 3, in this order.
@@ -31,7 +31,7 @@ pub struct Ran<S> {
 
 /// What a storm came to.
 #[derive(Drop)]
-pub struct Stormed {
+pub struct StormReport {
     /// How many entries the journal has.
     pub entries: u64,
     /// Of each listener its number, why it ended, and how many records its sink took.
@@ -40,19 +40,19 @@ pub struct Stormed {
     pub settled: Result<Settled, SettleFault>,
 }
 
-impl<S: Sink> Ran<S> {
+impl<S: Sink> FinishedStorm<S> {
     /// Settles the book.
     ///
     /// # Errors
     /// [`StormFault::Memory`], where there is none to tell of the listeners, whose sinks are closed.
-    pub fn settle(self, alloc: Global) -> Result<Stormed, StormFault>
+    pub fn settle(self, alloc: Global) -> Result<StormReport, StormFault>
         requires { self.book.entries ≡ calls_of self.logs.items }
         ensures entries { IfOk result (λ s. s.entries ≡ self.book.entries) }
         ensures listeners { IfOk result (λ s. s.listeners.items ≡ told_of S.record_list self.ended.0 ∷ told_of S.record_list self.ended.1 ∷ []) }
         ensures settled { IfOk result (λ s. Settles self.book self.logs.items (outcome_of self.ended.0 ∷ outcome_of self.ended.1 ∷ []) s.settled) }
         ensures counts { IfOk result (λ s. CountsAgree s.settled) }
     {
-        let Ran {
+        let FinishedStorm {
             book,
             logs,
             ended: (one, other),
@@ -64,7 +64,7 @@ impl<S: Sink> Ran<S> {
         let mut ended = Vec::with_capacity(alloc, 2)?;
         ended.push_reserved(one);
         ended.push_reserved(other);
-        Ok(Stormed {
+        Ok(StormReport {
             entries,
             listeners,
             settled: settle(alloc, book, logs, ended),
@@ -94,17 +94,17 @@ pub fn run<L: Ledger + Send + Sync, S: Sink, G: Gate, R: Threads + Wait + Sync>(
     gate: &G,
     one: S,
     other: S,
-) -> Result<Ran<S>, StormFault>
+) -> Result<FinishedStorm<S>, StormFault>
     requires name { blank.name ≡ L.name }
     requires parts { (blank.parts ≡ L.parts) × (blank.parts ≡ 65537) }
-    requires live { (S.live one ≡ true) × (S.live other ≡ true) }
+    requires is_open { (S.is_open one ≡ true) × (S.is_open other ≡ true) }
     requires calls { calls ≤ 1000 }
     ensures counts { IfOk result (λ r. r.book.entries ≡ calls_of r.logs.items) }
     ensures logs { IfOk result (λ r. AreStormLogs calls r.logs.items) }
-    ensures sinks { IfOk result (λ r. IsHeard (ended_of S.record_list S.live r.ended.0) × IsHeard (ended_of S.record_list S.live r.ended.1)) }
+    ensures sinks { IfOk result (λ r. IsSoundListener (state_of_ended S.record_list S.is_open r.ended.0) × IsSoundListener (state_of_ended S.record_list S.is_open r.ended.1)) }
 {
     let mut logs = Vec::with_capacity(alloc, 3)?;
-    let Begun {
+    let ReadyStorm {
         held,
         mut pass,
         main,
@@ -118,18 +118,18 @@ pub fn run<L: Ledger + Send + Sync, S: Sink, G: Gate, R: Threads + Wait + Sync>(
     let ((one, other), (main, (first, second))) = thread::join(
         rt,
         move || -> (Ended<S>, Ended<S>)
-            requires { IsHeard (heard_by S.record_list S.live one) × IsHeard (heard_by S.record_list S.live other) }
-            ensures { IsHeard (ended_of S.record_list S.live result.0) × IsHeard (ended_of S.record_list S.live result.1) }
+            requires { IsSoundListener (state_of_listener S.record_list S.is_open one) × IsSoundListener (state_of_listener S.record_list S.is_open other) }
+            ensures { IsSoundListener (state_of_ended S.record_list S.is_open result.0) × IsSoundListener (state_of_ended S.record_list S.is_open result.1) }
         {
             thread::join(
                 rt,
                 move || -> Ended<S>
-                    requires { IsHeard (heard_by S.record_list S.live one) }
-                    ensures { IsHeard (ended_of S.record_list S.live result) }
+                    requires { IsSoundListener (state_of_listener S.record_list S.is_open one) }
+                    ensures { IsSoundListener (state_of_ended S.record_list S.is_open result) }
                 { one.run(gate, gate.turns()) },
                 move || -> Ended<S>
-                    requires { IsHeard (heard_by S.record_list S.live other) }
-                    ensures { IsHeard (ended_of S.record_list S.live result) }
+                    requires { IsSoundListener (state_of_listener S.record_list S.is_open other) }
+                    ensures { IsSoundListener (state_of_ended S.record_list S.is_open result) }
                 { other.run(gate, gate.turns()) },
             )
         },
@@ -156,7 +156,7 @@ pub fn run<L: Ledger + Send + Sync, S: Sink, G: Gate, R: Threads + Wait + Sync>(
     logs.push_reserved(pass.join(first));
     logs.push_reserved(pass.join(second));
     let book = tree.into_inner().dissolve(pass);
-    Ok(Ran {
+    Ok(FinishedStorm {
         book,
         logs,
         ended: (one, other),
@@ -177,9 +177,9 @@ pub fn storm<S: Sink, G: Gate, R: Threads + Wait + Sync>(
     gate: &G,
     one: S,
     other: S,
-) -> Result<Stormed, StormFault>
+) -> Result<StormReport, StormFault>
     requires calls { (1 ≤ calls) × (calls ≤ 1000) }
-    requires live { (S.live one ≡ true) × (S.live other ≡ true) }
+    requires is_open { (S.is_open one ≡ true) × (S.is_open other ≡ true) }
     ensures { IfOk result (λ s. CountsAgree s.settled) }
 {
     run::<Brand, S, G, R>(rt, alloc, Blank::new(65537), calls, gate, one, other)?.settle(alloc)

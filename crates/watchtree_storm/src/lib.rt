@@ -1,7 +1,7 @@
 //! Two writers and two listeners at once, on one tree, and the books settled at the end.
 //!
 //! [`storm`] is the whole. Its steps are functions of their own: [`begin`], [`Writer::write`], [`close_both`], [`run`] and
-//! [`Ran::settle`].
+//! [`FinishedStorm::settle`].
 #![tactic(auto)]
 
 mod beginning;
@@ -10,8 +10,8 @@ mod fault;
 mod gates;
 mod writer;
 
-pub use beginning::{Begun, begin};
-pub use course::{Ran, Stormed, run, storm};
+pub use beginning::{ReadyStorm, begin};
+pub use course::{FinishedStorm, StormReport, run, storm};
 pub use fault::StormFault;
 pub use gates::OpenGate;
 pub use writer::{Writer, close_both};

@@ -1,7 +1,7 @@
 //! Storms: their figures, that the four run at once, and what can go wrong.
 
 ghost use Rattle.std.specs.Prelude.{◌≡◌, ◌≤◌, true, IfOk, ⊤};
-ghost use Rattle.event_sinks.specs.Writing.{live_of};
+ghost use Rattle.event_sinks.specs.Writing.{is_open_of};
 
 mod refused;
 
@@ -83,7 +83,7 @@ fn stormed<G: Gate, R: Threads + Wait + Sync>(
     alloc: Global,
     calls: u32,
     gate: &G,
-) -> Result<Stormed, Fail>
+) -> Result<StormReport, Fail>
     requires { (1 ≤ calls) × (calls ≤ 1000) }
 {
     let one: Box<dyn Sink> = Box::new(alloc, CountSink::new(alloc, 1_000_000))?;
@@ -98,7 +98,7 @@ fn are_last(listeners: &[(u32, Cause, u64)], taken: u64) -> bool {
         && listeners[1] == (2, Cause::Last, taken)
 }
 
-fn is_settled(stormed: &Stormed, entries: u64, taken: u64) -> bool {
+fn is_settled(stormed: &StormReport, entries: u64, taken: u64) -> bool {
     stormed.entries == entries
         && stormed.settled
             == Ok(Settled {
@@ -133,7 +133,7 @@ fn a_storm_has_its_figures(rt: HostRuntime) -> Result<(), Fail> {
 }
 
 // A storm of three calls each, whose first sink has room for three records.
-fn half_full<R: Threads + Wait + Sync>(rt: &R, alloc: Global) -> Result<Stormed, StormFault> {
+fn half_full<R: Threads + Wait + Sync>(rt: &R, alloc: Global) -> Result<StormReport, StormFault> {
     let one = CountSink::new(alloc, 3);
     let other = CountSink::new(alloc, 99);
     storm(rt, alloc, 3, &OpenGate, one, other)
@@ -179,7 +179,7 @@ impl Write for Closings {
 
 // A sink that counts its closing.
 fn counted(alloc: Global, count: &Arc<AtomicU64, Global>) -> Result<LineSink<Closings>, Fail>
-    ensures { IfOk result (λ sink. live_of sink ≡ true) }
+    ensures { IfOk result (λ sink. is_open_of sink ≡ true) }
 {
     let count = Arc::try_clone(count)?;
     Ok(LineSink::new(alloc, Closings { count }))
@@ -216,14 +216,14 @@ fn quiet<L: Ledger>(
     blank: Blank,
     second_writer: Writer,
     calls: u32,
-) -> Result<Ran<CountSink>, Fail>
+) -> Result<FinishedStorm<CountSink>, Fail>
     requires name { blank.name ≡ L.name }
     requires parts { (blank.parts ≡ L.parts) × (blank.parts ≡ 65537) }
     requires calls { calls ≤ 1000 }
 {
     let one = CountSink::new(alloc, 99);
     let other = CountSink::new(alloc, 99);
-    let Begun {
+    let ReadyStorm {
         held,
         mut pass,
         main,
@@ -242,7 +242,7 @@ fn quiet<L: Ledger>(
     logs.push(pass.join(second))?;
     let ended = (one.run(&OpenGate, 9), other.run(&OpenGate, 9));
     let book = tree.into_inner().dissolve(pass);
-    Ok(Ran { book, logs, ended })
+    Ok(FinishedStorm { book, logs, ended })
 }
 
 fn quiet_storm(
@@ -250,7 +250,7 @@ fn quiet_storm(
     alloc: Global,
     second_writer: Writer,
     calls: u32,
-) -> Result<Ran<CountSink>, Fail>
+) -> Result<FinishedStorm<CountSink>, Fail>
     requires { calls ≤ 1000 }
 {
     quiet::<Brand>(rt, alloc, Blank::new(65537), second_writer, calls)
@@ -387,7 +387,7 @@ fn four_at<G: Gate, R: Threads + Wait + Sync>(
     rt: &R,
     alloc: Global,
     gate: &G,
-) -> Result<Ran<CountSink>, StormFault> {
+) -> Result<FinishedStorm<CountSink>, StormFault> {
     let one = CountSink::new(alloc, 99);
     let other = CountSink::new(alloc, 99);
     run::<Brand, CountSink, G, R>(rt, alloc, Blank::new(65537), 4, gate, one, other)
@@ -404,7 +404,7 @@ fn kept(logs: &[SeatLog], at: usize) -> usize {
 #[test]
 fn another_trees_seat_is_stray(rt: HostRuntime) -> Result<(), Fail> {
     let alloc = rt.alloc();
-    let Ran {
+    let FinishedStorm {
         book,
         mut logs,
         ended: (one, other),
@@ -424,12 +424,16 @@ fn another_trees_seat_is_stray(rt: HostRuntime) -> Result<(), Fail> {
 }
 
 // A storm of four calls each, one writer after the other, whose journal is cut before they write.
-fn cut_before_it<L: Ledger>(rt: &impl Wait, alloc: Global, blank: Blank) -> Result<Stormed, Fail>
+fn cut_before_it<L: Ledger>(
+    rt: &impl Wait,
+    alloc: Global,
+    blank: Blank,
+) -> Result<StormReport, Fail>
     requires name { blank.name ≡ L.name }
     requires parts { (blank.parts ≡ L.parts) × (blank.parts ≡ 65537) }
 {
     let sinks = (CountSink::new(alloc, 99), CountSink::new(alloc, 99));
-    let Begun {
+    let ReadyStorm {
         mut held,
         mut pass,
         main,
@@ -451,7 +455,7 @@ fn cut_before_it<L: Ledger>(rt: &impl Wait, alloc: Global, blank: Blank) -> Resu
     logs.push(pass.join(second))?;
     let ended = (one.run(&OpenGate, 9), other.run(&OpenGate, 9));
     let book = tree.into_inner().dissolve(pass);
-    Ok(Ran { book, logs, ended }.settle(alloc)?)
+    Ok(FinishedStorm { book, logs, ended }.settle(alloc)?)
 }
 
 #[test]
@@ -485,7 +489,7 @@ fn one_after_the_other<L: Ledger>(
     requires parts { (blank.parts ≡ L.parts) × (blank.parts ≡ 65537) }
 {
     let gate = Four::closed(1_000);
-    let Begun {
+    let ReadyStorm {
         held,
         mut pass,
         main,

@@ -7,7 +7,7 @@ ghost use Rattle.shared_tree.specs.Handed.{records_of};
 ghost use Rattle.event_sinks.specs.declared.listener.Cause.TheVariants.{Last};
 ghost use Rattle.event_sinks.specs.Lines.{closing_line, line_of};
 ghost use Rattle.event_sinks.specs.Writing.{port_of};
-ghost use Rattle.event_sinks.specs.Heard.{IsHeard, heard, heard_by};
+ghost use Rattle.event_sinks.specs.Listeners.{IsSoundListener, listener_state, state_of_listener};
 
 use super::feeds::{feed_of, opens, tells};
 use super::*;
@@ -62,7 +62,7 @@ fn ran<S: Sink>(
     gate: &Lets,
     turns: u64,
 ) -> Result<Told, Refusal>
-    requires { S.live sink ≡ true }
+    requires { S.is_open sink ≡ true }
 {
     let feed = feed_of(alloc, story)?;
     let ended = Listening::new(alloc, 7, feed, sink).run(gate, turns);
@@ -71,8 +71,8 @@ fn ran<S: Sink>(
 
 /// Whether the next steps of a listener are these.
 fn steps<S: Sink>(listener: &mut Listening<S>, wanted: &[Step]) -> bool
-    requires { IsHeard (heard_by S.record_list S.live listener.old) }
-    ensures { IsHeard (heard_by S.record_list S.live listener.new) }
+    requires { IsSoundListener (state_of_listener S.record_list S.is_open listener.old) }
+    ensures { IsSoundListener (state_of_listener S.record_list S.is_open listener.new) }
 {
     for step in wanted {
         if listener.step() != *step {
@@ -89,7 +89,7 @@ fn stepped<S: Sink>(
     sink: S,
     wanted: &[Step],
 ) -> Result<(bool, Told), Refusal>
-    requires { S.live sink ≡ true }
+    requires { S.is_open sink ≡ true }
 {
     let feed = feed_of(alloc, story)?;
     let mut listener = Listening::new(alloc, 7, feed, sink);
@@ -268,7 +268,7 @@ fn a_listener_writes_its_records(rt: HostRuntime) -> Result<(), Fail> {
 
 /// Drops a listener after so many steps.
 fn drops<S: Sink>(mut listener: Listening<S>, count: u32)
-    requires { IsHeard (heard_by S.record_list S.live listener) }
+    requires { IsSoundListener (state_of_listener S.record_list S.is_open listener) }
 {
     for _ in 0..count {
         let _ = listener.step();
@@ -277,12 +277,12 @@ fn drops<S: Sink>(mut listener: Listening<S>, count: u32)
 
 /// The same in another thread.
 fn drops_elsewhere<S: Sink, R: Threads>(rt: &R, listener: Listening<S>, count: u32)
-    requires { IsHeard (heard_by S.record_list S.live listener) }
+    requires { IsSoundListener (state_of_listener S.record_list S.is_open listener) }
 {
     let _ = thread::join(
         rt,
         move || -> ()
-            requires { IsHeard (heard_by S.record_list S.live listener) }
+            requires { IsSoundListener (state_of_listener S.record_list S.is_open listener) }
         { drops(listener, count) },
         || {},
     );
@@ -325,8 +325,8 @@ fn a_dropped_listener_closes_once(rt: HostRuntime) -> Result<(), Fail> {
 
 /// A listener with a sink in a box.
 fn boxed(alloc: Global, feed: Feed, sink: Box<dyn Sink>) -> Listener
-    requires { ⟦<Box<dyn Sink> as Sink>⟧.live sink ≡ true }
-    ensures { IsHeard (heard_by ⟦<Box<dyn Sink> as Sink>⟧.record_list ⟦<Box<dyn Sink> as Sink>⟧.live result) }
+    requires { ⟦<Box<dyn Sink> as Sink>⟧.is_open sink ≡ true }
+    ensures { IsSoundListener (state_of_listener ⟦<Box<dyn Sink> as Sink>⟧.record_list ⟦<Box<dyn Sink> as Sink>⟧.is_open result) }
 {
     Listener::new(alloc, 1, feed, sink)
 }

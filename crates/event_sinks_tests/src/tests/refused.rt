@@ -14,7 +14,7 @@ const MOST: u32 = 100;
 
 // What is told of a listener of which growth `k` is refused, and whether one was.
 fn refused_at<S: Sink>(alloc: Global, feed: Feed, sink: S, k: u32) -> (Told, bool)
-    requires { S.live sink ≡ true }
+    requires { S.is_open sink ≡ true }
 {
     let listener = Listening::new(alloc, 7, feed, sink);
     let _ = refuse(alloc, k);

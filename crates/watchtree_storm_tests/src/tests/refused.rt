@@ -8,7 +8,7 @@ const GROWTHS: u32 = 2_000;
 
 // What a storm may come to where memory is wanting: a fault, a listener that did not end by the end batch, a book that is
 // not settled, or a settled book with fewer entries.
-fn is_short_of_memory(stormed: &Result<Stormed, StormFault>, most: u64) -> bool {
+fn is_short_of_memory(stormed: &Result<StormReport, StormFault>, most: u64) -> bool {
     match stormed {
         Err(StormFault::Memory) => true,
         Ok(stormed) => match stormed.settled {

@@ -1,6 +1,6 @@
 use Rattle.std.proofs.Common.{◌+◌, ap, arith, refl, rules}
 use Rattle.event_sinks.specs.declared.listener.Cause.TheVariants.{Turns}
-use Rattle.event_sinks.specs.Heard.{Heard, heard_by}
+use Rattle.event_sinks.specs.Listeners.{ListenerState, state_of_listener}
 use Rattle.event_sinks.proofs.Answering.{end_answers, turn_answers}
 use Rattle.event_sinks.proofs.Paging.{end_writes, nothing_put, over_still, stays_over, turn_writes}
 use Rattle.event_sinks.proofs.Hearing.{reaches_more, reaches_next}
@@ -9,15 +9,15 @@ use Rattle.event_sinks.proofs.listener.Listening.run.Goals as goal
 pub returns-then-is_over_at-clause-turns : goal.returns-then-is_over_at-clause-turns
 returns-then-is_over_at-clause-turns g c =
     let passes = g.G.Gate.may_pass c.args.gate.now in
-    let old = heard_by g.S.Sink.record_list g.S.Sink.live c.args.self in
-    let mid = heard_by g.S.Sink.record_list g.S.Sink.live c.loop-turn.listener in
-    let new = heard_by g.S.Sink.record_list g.S.Sink.live c.is_over_at.new.self in
+    let old = state_of_listener g.S.Sink.record_list g.S.Sink.is_open c.args.self in
+    let mid = state_of_listener g.S.Sink.record_list g.S.Sink.is_open c.loop-turn.listener in
+    let new = state_of_listener g.S.Sink.record_list g.S.Sink.is_open c.is_over_at.new.self in
     let next = reaches_next passes c.loop-turn.turn old mid new c.loop-turn.invariant.reaches c.is_over_at.ensures.turn in
     (new, reaches_more passes (c.loop-turn.turn + 1) c.args.turns old new (omega arith) (c.is_over_at.ensures.over (search rules)) next, search rules)
 
 pub returns-clause-turns : goal.returns-clause-turns
 returns-clause-turns g c =
-    let new = heard_by g.S.Sink.record_list g.S.Sink.live c.loop-turn.listener in
+    let new = state_of_listener g.S.Sink.record_list g.S.Sink.is_open c.loop-turn.listener in
     (new, search rules, search rules)
 
 pub returns-then-is_over_at-clause-answers : goal.returns-then-is_over_at-clause-answers
@@ -28,8 +28,8 @@ returns-then-is_over_at-clause-answers g c on =
     let new = c.is_over_at.new.self in
     let last = c.end.result in
     let ended = c.end.ensures.ended in
-    let turned = turn_answers list may c.args.self.sink c.args.self.handed.items old.sink new.sink old.handed.items new.handed.items (g.G.Gate.may_pass c.args.gate.now) c.loop-turn.turn old.cause new.cause (heard_by list g.S.Sink.live old) (heard_by list g.S.Sink.live new) refl refl refl refl refl refl c.is_over_at.ensures.turn (c.loop-turn.invariant.answers on) c.is_over_at.ensures.answers in
-    end_answers list may c.args.self.sink c.args.self.handed.items new.sink last.sink new.handed.items last.handed.items new.cause last.cause Turns (ap (λ (h : Heard). h.handed) ended) (ap (λ (h : Heard). h.list) ended) (ap (λ (h : Heard). h.cause) ended) (λ records. tt) turned
+    let turned = turn_answers list may c.args.self.sink c.args.self.handed.items old.sink new.sink old.handed.items new.handed.items (g.G.Gate.may_pass c.args.gate.now) c.loop-turn.turn old.cause new.cause (state_of_listener list g.S.Sink.is_open old) (state_of_listener list g.S.Sink.is_open new) refl refl refl refl refl refl c.is_over_at.ensures.turn (c.loop-turn.invariant.answers on) c.is_over_at.ensures.answers in
+    end_answers list may c.args.self.sink c.args.self.handed.items new.sink last.sink new.handed.items last.handed.items new.cause last.cause Turns (ap (λ (h : ListenerState). h.handed) ended) (ap (λ (h : ListenerState). h.list) ended) (ap (λ (h : ListenerState). h.cause) ended) (λ records. tt) turned
 
 pub returns-clause-answers : goal.returns-clause-answers
 returns-clause-answers g c on =
@@ -37,7 +37,7 @@ returns-clause-answers g c on =
     let new = c.loop-turn.listener in
     let last = c.end-2.result in
     let ended = c.end-2.ensures.ended in
-    end_answers list g.S.Sink.may_answer c.args.self.sink c.args.self.handed.items new.sink last.sink new.handed.items last.handed.items new.cause last.cause Turns (ap (λ (h : Heard). h.handed) ended) (ap (λ (h : Heard). h.list) ended) (ap (λ (h : Heard). h.cause) ended) (λ records. tt) (c.loop-turn.invariant.answers on)
+    end_answers list g.S.Sink.may_answer c.args.self.sink c.args.self.handed.items new.sink last.sink new.handed.items last.handed.items new.cause last.cause Turns (ap (λ (h : ListenerState). h.handed) ended) (ap (λ (h : ListenerState). h.list) ended) (ap (λ (h : ListenerState). h.cause) ended) (λ records. tt) (c.loop-turn.invariant.answers on)
 
 pub loop-turn-preserved : goal.loop-turn-preserved
 loop-turn-preserved g c =
@@ -45,12 +45,12 @@ loop-turn-preserved g c =
     let first = c.args.self in
     let old = c.loop-turn.listener in
     let new = c.is_over_at.new.self in
-    let before = heard_by list g.S.Sink.live old in
-    let after = heard_by list g.S.Sink.live new in
+    let before = state_of_listener list g.S.Sink.is_open old in
+    let after = state_of_listener list g.S.Sink.is_open new in
     let passes = g.G.Gate.may_pass c.args.gate.now in
     record {
       sound = c.is_over_at.ensures.sound;
-      reaches = reaches_next passes c.loop-turn.turn (heard_by list g.S.Sink.live first) before after c.loop-turn.invariant.reaches c.is_over_at.ensures.turn;
+      reaches = reaches_next passes c.loop-turn.turn (state_of_listener list g.S.Sink.is_open first) before after c.loop-turn.invariant.reaches c.is_over_at.ensures.turn;
       answers = λ on. turn_answers list g.S.Sink.may_answer first.sink first.handed.items old.sink new.sink old.handed.items new.handed.items passes c.loop-turn.turn old.cause new.cause before after refl refl refl refl refl refl c.is_over_at.ensures.turn (c.loop-turn.invariant.answers on) c.is_over_at.ensures.answers;
       writes = λ on. turn_writes list g.S.Sink.page first.sink first.handed.items old new old.cause refl (c.loop-turn.invariant.writes on) c.is_over_at.ensures.writes c.is_over_at.ensures.rests;
       rests = λ over. stays_over first old new (c.loop-turn.invariant.rests over) c.is_over_at.ensures.rests over;
@@ -66,7 +66,7 @@ returns-then-is_over_at-clause-writes g c on =
     let last = c.end.result in
     let ended = c.end.ensures.ended in
     let turned = turn_writes list page first.sink first.handed.items old new old.cause refl (c.loop-turn.invariant.writes on) c.is_over_at.ensures.writes c.is_over_at.ensures.rests in
-    end_writes list page first.sink first.handed.items new last.sink last.handed.items new.cause last.cause Turns refl (ap (λ (h : Heard). h.handed) ended) (ap (λ (h : Heard). h.cause) ended) (nothing_put list page new.sink) turned c.end.ensures.writes c.end.ensures.rests
+    end_writes list page first.sink first.handed.items new last.sink last.handed.items new.cause last.cause Turns refl (ap (λ (h : ListenerState). h.handed) ended) (ap (λ (h : ListenerState). h.cause) ended) (nothing_put list page new.sink) turned c.end.ensures.writes c.end.ensures.rests
 
 pub returns-clause-writes : goal.returns-clause-writes
 returns-clause-writes g c on =
@@ -76,7 +76,7 @@ returns-clause-writes g c on =
     let new = c.loop-turn.listener in
     let last = c.end-2.result in
     let ended = c.end-2.ensures.ended in
-    end_writes list page first.sink first.handed.items new last.sink last.handed.items new.cause last.cause Turns refl (ap (λ (h : Heard). h.handed) ended) (ap (λ (h : Heard). h.cause) ended) (nothing_put list page new.sink) (c.loop-turn.invariant.writes on) c.end-2.ensures.writes c.end-2.ensures.rests
+    end_writes list page first.sink first.handed.items new last.sink last.handed.items new.cause last.cause Turns refl (ap (λ (h : ListenerState). h.handed) ended) (ap (λ (h : ListenerState). h.cause) ended) (nothing_put list page new.sink) (c.loop-turn.invariant.writes on) c.end-2.ensures.writes c.end-2.ensures.rests
 
 pub returns-then-is_over_at-clause-rests : goal.returns-then-is_over_at-clause-rests
 returns-then-is_over_at-clause-rests g c over =

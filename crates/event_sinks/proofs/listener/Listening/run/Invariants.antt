@@ -1,12 +1,12 @@
 use Rattle.std.proofs.Common.{◌≡◌, ◌≢◌, None}
-use Rattle.event_sinks.specs.Heard.{heard_by, AnswersBatches, IsHeard, Reaches}
+use Rattle.event_sinks.specs.Listeners.{state_of_listener, AnswersBatches, IsSoundListener, Reaches}
 use Rattle.event_sinks.specs.Pages.{WritesBatches}
 use Rattle.event_sinks.proofs.listener.Listening.run.Given as goal
 
 abbrev pub invariant-loop-turn : goal.invariant-loop-turn
 invariant-loop-turn g l = record {
-  sound : IsHeard (heard_by g.S.Sink.record_list g.S.Sink.live l.listener);
-  reaches : Reaches (g.G.Gate.may_pass l.fn.gate) l.turn (heard_by g.S.Sink.record_list g.S.Sink.live l.fn.self) (heard_by g.S.Sink.record_list g.S.Sink.live l.listener);
+  sound : IsSoundListener (state_of_listener g.S.Sink.record_list g.S.Sink.is_open l.listener);
+  reaches : Reaches (g.G.Gate.may_pass l.fn.gate) l.turn (state_of_listener g.S.Sink.record_list g.S.Sink.is_open l.fn.self) (state_of_listener g.S.Sink.record_list g.S.Sink.is_open l.listener);
   answers : l.fn.self.cause ≡ None → AnswersBatches g.S.Sink.record_list g.S.Sink.may_answer l.fn.self.sink l.fn.self.handed.items l.listener.sink l.listener.handed.items l.listener.cause;
   writes : l.fn.self.cause ≡ None → WritesBatches g.S.Sink.record_list g.S.Sink.page l.fn.self.sink l.fn.self.handed.items l.listener.sink l.listener.handed.items l.listener.cause;
   rests : l.fn.self.cause ≢ None → l.listener ≡ l.fn.self;

@@ -1,5 +1,5 @@
 use Rattle.std.proofs.Common.{List, ℕ, length, refl, sym, ap, subst, ◌∙◌}
-use Rattle.shared_tree.specs.Calls.{HandsOver, Holding, holding}
+use Rattle.shared_tree.specs.Calls.{HandsOver, TreeWithPipes, tree_with_pipes}
 use Rattle.shared_tree.specs.Held.{deliver, sents}
 use Rattle.std.proofs.Common.{Result}
 use Rattle.std.specs.Prelude.{IfErr}
@@ -25,9 +25,9 @@ invariant_of-self-2 g c =
 pub returns-clause-hands : goal.returns-clause-hands
 returns-clause-hands g c =
     let a = c.self.inside in
-    let old : Holding = holding a.core a.numbers.items (sents a.pipes.items) a.book.total in
-    let new : Holding = holding c.enter.new.core a.numbers.items (sents c.hand_over.new.pipes.items) c.enter.new.book.total in
-    subst (λ (h : Holding). HandsOver h c.args.call c.in_ok-receipt.receipt new) c.self.view_is
+    let old : TreeWithPipes = tree_with_pipes a.core a.numbers.items (sents a.pipes.items) a.book.total in
+    let new : TreeWithPipes = tree_with_pipes c.enter.new.core a.numbers.items (sents c.hand_over.new.pipes.items) c.enter.new.book.total in
+    subst (λ (h : TreeWithPipes). HandsOver h c.args.call c.in_ok-receipt.receipt new) c.self.view_is
     (hands-call old new c.args.seat.now c.enter.new.seat c.args.call c.in_ok-receipt.receipt c.closed_by-closed.result c.end_batch-batch.result c.in_ok-receipt.ensures.ok c.requires.plain c.closed_by-closed.ensures c.end_batch-batch.ensures
     refl (c.hand_over.ensures ∙ (λ i. deliver c.end_batch-batch.result (c.as_slice-2.ensures.value i) (c.in_ok-at.ensures.sent i))) c.in_ok-receipt.ensures.total)
 
@@ -35,7 +35,7 @@ pub returns-in_err-at-clause-errors : goal.returns-in_err-at-clause-errors
 returns-in_err-at-clause-errors g c =
     let a = c.self.inside in
     let p = err_from_is_err_and c.from_residual.result c.from_residual.ensures.1 in
-    subst (λ (h : Holding). IfErr c.from_residual.result (λ e. IsWhyNot h.state c.args.call e)) c.self.view_is
+    subst (λ (h : TreeWithPipes). IfErr c.from_residual.result (λ e. IsWhyNot h.state c.args.call e)) c.self.view_is
     (subst (λ (x : Result Receipt Refusal). IfErr x (λ e. IsWhyNot a.core c.args.call e)) (sym p.1)
     (subst (λ (e : Refusal). IsWhyNot a.core c.args.call e) (sym p.2)
     (close-why a.core a.numbers.items c.as_slice.result.now (sents a.pipes.items) a.book.total c.args.call c.closed_by-closed.result c.in_err-at.field-0.0 c.self.invariant c.as_slice.ensures.value c.closed_by-closed.ensures c.in_err-at.ensures.err)))
@@ -44,7 +44,7 @@ pub returns-in_err-receipt-clause-errors : goal.returns-in_err-receipt-clause-er
 returns-in_err-receipt-clause-errors g c =
     let a = c.self.inside in
     let p = err_from_is_err_and c.from_residual-in_err-receipt.result c.from_residual-in_err-receipt.ensures.1 in
-    subst (λ (h : Holding). IfErr c.from_residual-in_err-receipt.result (λ e. IsWhyNot h.state c.args.call e)) c.self.view_is
+    subst (λ (h : TreeWithPipes). IfErr c.from_residual-in_err-receipt.result (λ e. IsWhyNot h.state c.args.call e)) c.self.view_is
     (subst (λ (x : Result Receipt Refusal). IfErr x (λ e. IsWhyNot a.core c.args.call e)) (sym p.1)
     (subst (λ (e : Refusal). IsWhyNot a.core c.args.call e) (sym p.2)
     (why-not a.core c.args.call c.in_err-receipt.field-0.0 c.in_err-receipt.ensures.errors)))

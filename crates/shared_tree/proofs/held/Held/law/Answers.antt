@@ -6,7 +6,7 @@ use Rattle.tree_core.specs.Journal.{now}
 use Rattle.tree_core.specs.QueueLaws.{RecordsAreEvents}
 use Rattle.tree_core.specs.Sound.{IsSoundTree}
 use Rattle.tree_core.specs.TurnLaws.{EndsOnce}
-use Rattle.shared_tree.specs.Calls.{Holding, IsSent}
+use Rattle.shared_tree.specs.Calls.{TreeWithPipes, IsSent}
 use Rattle.shared_tree.specs.Handed.{AreOfEvents, handed_since}
 use Rattle.shared_tree.specs.Held.{sents}
 use Rattle.shared_tree.specs.Law.{AtEach, HasCookiesInTurn, HasPipesOfPiped, IsTold, RefusedAddsNothing, TiesMoves}
@@ -17,14 +17,14 @@ use Rattle.shared_tree.proofs.held.Held.law.Goals as goal
 pub returns-clause-sound : goal.returns-clause-sound
 returns-clause-sound g c =
     let a = c.self.inside in
-    subst (λ (h : Holding). IsSoundTree h.state.start) c.self.view_is (c.pasts_make_whole.ensures a.core c.self.invariant.past c.self.invariant.is_past c.journal.ensures.lawful).sound
+    subst (λ (h : TreeWithPipes). IsSoundTree h.state.start) c.self.view_is (c.pasts_make_whole.ensures a.core c.self.invariant.past c.self.invariant.is_past c.journal.ensures.lawful).sound
 
 pub returns-clause-told : goal.returns-clause-told
 unfolding now
 returns-clause-told g c =
     let a = c.self.inside in
     let sound = (c.pasts_make_whole.ensures a.core c.self.invariant.past c.self.invariant.is_past c.journal.ensures.lawful).sound in
-    subst (λ (h : Holding). (id : ℕ) → IsTold h.state id) c.self.view_is (λ id. record {
+    subst (λ (h : TreeWithPipes). (id : ℕ) → IsTold h.state id) c.self.view_is (λ id. record {
       order = c.reads_are_in_order.ensures a.core.start a.core.entries id sound;
       bytes = c.bytes_are_of_records.ensures a.core.start a.core.entries id c.journal.ensures.lawful;
       accounted = c.events_are_accounted_for.ensures.fates a.core.start a.core.entries id sound;
@@ -32,7 +32,7 @@ returns-clause-told g c =
     })
 
 pub returns-clause-records : goal.returns-clause-records
-returns-clause-records g c = subst (λ (h : Holding). RecordsAreEvents h.state) c.self.view_is c.journal.ensures.events
+returns-clause-records g c = subst (λ (h : TreeWithPipes). RecordsAreEvents h.state) c.self.view_is c.journal.ensures.events
 
 pub returns-clause-cookies : goal.returns-clause-cookies
 returns-clause-cookies g c = record {
@@ -44,7 +44,7 @@ pub returns-clause-ends : goal.returns-clause-ends
 returns-clause-ends g c =
     let a = c.self.inside in
     let sound = (c.pasts_make_whole.ensures a.core c.self.invariant.past c.self.invariant.is_past c.journal.ensures.lawful).sound in
-    subst (λ (h : Holding). (id : ℕ) → EndsOnce (waiting_of (instance_of h.state.start.instances id)) (raised_in h.state.start h.state.entries id)) c.self.view_is (λ id. c.watches_end_once.ensures.ends a.core.start a.core.entries id sound)
+    subst (λ (h : TreeWithPipes). (id : ℕ) → EndsOnce (waiting_of (instance_of h.state.start.instances id)) (raised_in h.state.start h.state.entries id)) c.self.view_is (λ id. c.watches_end_once.ensures.ends a.core.start a.core.entries id sound)
 
 pub returns-clause-refused : goal.returns-clause-refused
 returns-clause-refused g c = at_each RefusedAddsNothing (λ t d refusal. (c.replies_tell.ensures t d).refused refusal) c.args.self.now.state.start c.args.self.now.state.entries
@@ -57,9 +57,9 @@ returns-clause-with_pipe g c =
 pub returns-clause-sent : goal.returns-clause-sent
 returns-clause-sent g c =
     let a = c.self.inside in
-    subst (λ (h : Holding). IsSent h.state h.pipes h.sent) c.self.view_is (held-sends a.core a.numbers.items a.book.total (sents a.pipes.items) c.self.invariant)
+    subst (λ (h : TreeWithPipes). IsSent h.state h.pipes h.sent) c.self.view_is (held-sends a.core a.numbers.items a.book.total (sents a.pipes.items) c.self.invariant)
 
 pub returns-clause-events : goal.returns-clause-events
 returns-clause-events g c =
     let a = c.self.inside in
-    subst (λ (h : Holding). (id : ℕ) → AreOfEvents (handed_since h.state id)) c.self.view_is (λ id. held-events a.core a.numbers.items (sents a.pipes.items) a.book.total id c.self.invariant)
+    subst (λ (h : TreeWithPipes). (id : ℕ) → AreOfEvents (handed_since h.state id)) c.self.view_is (λ id. held-events a.core a.numbers.items (sents a.pipes.items) a.book.total id c.self.invariant)

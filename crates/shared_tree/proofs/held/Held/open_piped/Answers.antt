@@ -5,7 +5,7 @@ use Rattle.std.specs.Prelude.{IfErr}
 use Rattle.std.proofs.lemmas.Result.{err_from_is_err_and}
 use Rattle.tree_paths.specs.declared.refusal.Refusal.{Refusal}
 use Rattle.tree_core.specs.declared.reply.Receipt.{Receipt}
-use Rattle.shared_tree.specs.Calls.{HandsOver, Holding, IsUnable, holding}
+use Rattle.shared_tree.specs.Calls.{HandsOver, TreeWithPipes, IsUnable, tree_with_pipes}
 use Rattle.shared_tree.specs.Handed.{piped_by}
 use Rattle.shared_tree.specs.Held.{sents}
 use Rattle.shared_tree.specs.Pipes.{Fed, Piped}
@@ -22,9 +22,9 @@ invariant_of-self-2 g c =
 pub returns-clause-hands : goal.returns-clause-hands
 returns-clause-hands g c =
     let a = c.self.inside in
-    let old : Holding = holding a.core a.numbers.items (sents a.pipes.items) a.book.total in
-    let new : Holding = holding c.enter.new.core c.keep_pipe-feed.new.numbers.items (sents c.keep_pipe-feed.new.pipes.items) c.enter.new.book.total in
-    subst (λ (h : Holding). HandsOver h (call.Init c.args.limit true) c.in_ok-receipt.receipt new) c.self.view_is
+    let old : TreeWithPipes = tree_with_pipes a.core a.numbers.items (sents a.pipes.items) a.book.total in
+    let new : TreeWithPipes = tree_with_pipes c.enter.new.core c.keep_pipe-feed.new.numbers.items (sents c.keep_pipe-feed.new.pipes.items) c.enter.new.book.total in
+    subst (λ (h : TreeWithPipes). HandsOver h (call.Init c.args.limit true) c.in_ok-receipt.receipt new) c.self.view_is
     (hands-open old new c.args.limit c.in_ok-receipt.receipt (held-lengths a.core a.numbers.items (sents a.pipes.items) a.book.total c.self.invariant)
     (c.keep_pipe-feed.ensures.numbers c.args.limit ∙ ap (λ (ns : List ℕ). ns ++ piped_by (call.Init c.args.limit true) c.in_ok-receipt.receipt.reply) c.in_ok-pipe.ensures.numbers)
     (c.keep_pipe-feed.ensures.pipes c.args.limit ∙ ap (λ (ps : List Piped). sents ps ++ map (λ (id : ℕ). []) (piped_by (call.Init c.args.limit true) c.in_ok-receipt.receipt.reply)) c.in_ok-pipe.ensures.pipes)
@@ -34,7 +34,7 @@ pub returns-in_err-pipe-clause-errors : goal.returns-in_err-pipe-clause-errors
 returns-in_err-pipe-clause-errors g c =
     let a = c.self.inside in
     let p = err_from_is_err_and c.from_residual.result c.from_residual.ensures.1 in
-    subst (λ (h : Holding). IfErr c.from_residual.result (λ e. IsUnable h.state e)) c.self.view_is
+    subst (λ (h : TreeWithPipes). IfErr c.from_residual.result (λ e. IsUnable h.state e)) c.self.view_is
     (subst (λ (x : Result (Receipt × Option Fed) Refusal). IfErr x (λ e. IsUnable a.core e)) (sym p.1)
     (subst (λ (e : Refusal). IsUnable a.core e) (sym p.2)
     (unable a.core c.in_err-pipe.field-0.0 c.in_err-pipe.ensures.errors)))
@@ -43,7 +43,7 @@ pub returns-in_err-receipt-clause-errors : goal.returns-in_err-receipt-clause-er
 returns-in_err-receipt-clause-errors g c =
     let a = c.self.inside in
     let p = err_from_is_err_and c.from_residual-in_err-receipt.result c.from_residual-in_err-receipt.ensures.1 in
-    subst (λ (h : Holding). IfErr c.from_residual-in_err-receipt.result (λ e. IsUnable h.state e)) c.self.view_is
+    subst (λ (h : TreeWithPipes). IfErr c.from_residual-in_err-receipt.result (λ e. IsUnable h.state e)) c.self.view_is
     (subst (λ (x : Result (Receipt × Option Fed) Refusal). IfErr x (λ e. IsUnable a.core e)) (sym p.1)
     (subst (λ (e : Refusal). IsUnable a.core e) (sym p.2)
     (unable a.core c.in_err-receipt.field-0.0 c.in_err-receipt.ensures.errors)))

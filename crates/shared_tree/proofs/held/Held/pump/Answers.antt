@@ -1,5 +1,5 @@
 use Rattle.std.proofs.Common.{List, ℕ, length, refl, sym, ap, subst, ◌∙◌}
-use Rattle.shared_tree.specs.Calls.{HandsOver, Holding, holding}
+use Rattle.shared_tree.specs.Calls.{HandsOver, TreeWithPipes, tree_with_pipes}
 use Rattle.tree_core.specs.declared.call.Call.TheVariants as call
 use Rattle.shared_tree.specs.Held.{deliver, sents}
 use Rattle.std.proofs.Common.{Result}
@@ -26,9 +26,9 @@ invariant_of-self-2 g c =
 pub returns-clause-hands : goal.returns-clause-hands
 returns-clause-hands g c =
     let a = c.self.inside in
-    let old : Holding = holding a.core a.numbers.items (sents a.pipes.items) a.book.total in
-    let new : Holding = holding c.enter_pump.new.core a.numbers.items (sents c.hand_over.new.pipes.items) c.enter_pump.new.book.total in
-    subst (λ (h : Holding). HandsOver h (call.Pump c.args.instance c.args.bytes) c.in_ok-receipt.receipt new) c.self.view_is
+    let old : TreeWithPipes = tree_with_pipes a.core a.numbers.items (sents a.pipes.items) a.book.total in
+    let new : TreeWithPipes = tree_with_pipes c.enter_pump.new.core a.numbers.items (sents c.hand_over.new.pipes.items) c.enter_pump.new.book.total in
+    subst (λ (h : TreeWithPipes). HandsOver h (call.Pump c.args.instance c.args.bytes) c.in_ok-receipt.receipt new) c.self.view_is
     (hands-pump old new c.args.instance c.args.bytes c.in_ok-receipt.receipt c.in_ok-receipt.records c.pumped_batch-batch.result c.in_ok-receipt.ensures.records c.pumped_batch-batch.ensures
     refl (c.hand_over.ensures ∙ (λ i. deliver c.pumped_batch-batch.result (c.as_slice-2.ensures.value i) (c.in_ok-at.ensures.sent i))) c.in_ok-receipt.ensures.total)
 
@@ -36,7 +36,7 @@ pub returns-in_err-at-clause-errors : goal.returns-in_err-at-clause-errors
 returns-in_err-at-clause-errors g c =
     let a = c.self.inside in
     let p = err_from_is_err_and c.from_residual.result c.from_residual.ensures.1 in
-    subst (λ (h : Holding). IfErr c.from_residual.result (λ e. IsWhyNot h.state (call.Pump c.args.instance c.args.bytes) e)) c.self.view_is
+    subst (λ (h : TreeWithPipes). IfErr c.from_residual.result (λ e. IsWhyNot h.state (call.Pump c.args.instance c.args.bytes) e)) c.self.view_is
     (subst (λ (x : Result Receipt Refusal). IfErr x (λ e. IsWhyNot a.core (call.Pump c.args.instance c.args.bytes) e)) (sym p.1)
     (subst (λ (e : Refusal). IsWhyNot a.core (call.Pump c.args.instance c.args.bytes) e) (sym p.2)
     (pump-why a.core a.numbers.items c.as_slice.result.now (sents a.pipes.items) a.book.total c.args.instance c.args.bytes c.in_err-at.field-0.0 c.self.invariant c.as_slice.ensures.value c.in_err-at.ensures.err)))
@@ -45,7 +45,7 @@ pub returns-in_err-receipt-clause-errors : goal.returns-in_err-receipt-clause-er
 returns-in_err-receipt-clause-errors g c =
     let a = c.self.inside in
     let p = err_from_is_err_and c.from_residual-in_err-receipt.result c.from_residual-in_err-receipt.ensures.1 in
-    subst (λ (h : Holding). IfErr c.from_residual-in_err-receipt.result (λ e. IsWhyNot h.state (call.Pump c.args.instance c.args.bytes) e)) c.self.view_is
+    subst (λ (h : TreeWithPipes). IfErr c.from_residual-in_err-receipt.result (λ e. IsWhyNot h.state (call.Pump c.args.instance c.args.bytes) e)) c.self.view_is
     (subst (λ (x : Result Receipt Refusal). IfErr x (λ e. IsWhyNot a.core (call.Pump c.args.instance c.args.bytes) e)) (sym p.1)
     (subst (λ (e : Refusal). IsWhyNot a.core (call.Pump c.args.instance c.args.bytes) e) (sym p.2)
     (why-not a.core (call.Pump c.args.instance c.args.bytes) c.in_err-receipt.field-0.0 c.in_err-receipt.ensures.errors)))

@@ -1,20 +1,20 @@
 use Rattle.std.proofs.Common.{refl, ◌≡◌, [], ◌∷◌, ◌++◌, false, Ok, Err, sym, ap, subst, ◌∙◌}
 use Rattle.tree_core.specs.declared.reply.Entry.{Entry}
-use Rattle.tree_core.specs.declared.machine.Replies.{Replies}
+use Rattle.tree_core.specs.declared.file_system.Replies.{Replies}
 use Rattle.tree_core.specs.Journal.{now, with_entry}
 use Rattle.tree_core.specs.Kept.{journal_of, tree_of}
 use Rattle.tree_core.specs.Tree.{reply_of}
-use Rattle.tree_core.specs.Machines.{Serves}
+use Rattle.tree_core.specs.FileSystems.{Executes}
 use Rattle.tree_core.specs.Calls.{IsSpelled}
-use Rattle.tree_core.proofs.Spelled.{events-of-machine, reply-spelled}
+use Rattle.tree_core.proofs.Spelled.{events-of-file_system, reply-spelled}
 use Rattle.tree_core.proofs.Keeping.{IsKept-same, IsKept-more}
 use Rattle.tree_core.proofs.state.State.apply.Goals as goal
 
 pub invariant_of-self-in_err-replies : goal.invariant_of-self-in_err-replies
 invariant_of-self-in_err-replies c =
     let a = c.self.inside in
-    let served : Serves a.machine c.args.call false (Err c.in_err-replies.field-0.0) c.answer.new.self = c.in_err-replies.ensures in
-    IsKept-same a (record { machine = c.answer.new.self; snapshot = a.snapshot; journal = c.make_room.new.journal }) c.self.invariant refl served.limits c.make_room.ensures.items
+    let served : Executes a.file_system c.args.call false (Err c.in_err-replies.field-0.0) c.answer.new.self = c.in_err-replies.ensures in
+    IsKept-same a (record { file_system = c.answer.new.self; snapshot = a.snapshot; journal = c.make_room.new.journal }) c.self.invariant refl served.limits c.make_room.ensures.items
     (served.err (now (journal_of a)) c.self.invariant.stands)
 
 pub invariant_of-self-2 : goal.invariant_of-self-2
@@ -22,9 +22,9 @@ invariant_of-self-2 c =
     let a = c.self.inside in
     let t = now (journal_of a) in
     let replies = c.in_ok-replies.replies in
-    let served : Serves a.machine c.args.call false (Ok replies) c.answer.new.self = c.in_ok-replies.ensures in
+    let served : Executes a.file_system c.args.call false (Ok replies) c.answer.new.self = c.in_ok-replies.ensures in
     let entry : Entry = record { caller = c.args.caller; call = c.args.call; reply = replies.journaled } in
-    IsKept-more a (record { machine = c.answer.new.self; snapshot = a.snapshot; journal = c.push_reserved.new.self }) c.self.invariant refl served.limits entry
+    IsKept-more a (record { file_system = c.answer.new.self; snapshot = a.snapshot; journal = c.push_reserved.new.self }) c.self.invariant refl served.limits entry
     (c.push_reserved.ensures.items ∙ ap (λ es. es ++ entry ∷ []) c.make_room.ensures.items) c.in_ok-make_room.ensures.free c.in_ok-make_room.ensures.small
     (ap (λ (r : Replies). r.journaled) (served.replies t c.self.invariant.stands)) (served.tree t c.self.invariant.stands) c.law.ensures
 
@@ -33,7 +33,7 @@ returns-clause-entry c =
     let a = c.self.inside in
     let t = now (journal_of a) in
     let replies = c.in_ok-replies.replies in
-    let served : Serves a.machine c.args.call false (Ok replies) c.answer.new.self = c.in_ok-replies.ensures in
+    let served : Executes a.file_system c.args.call false (Ok replies) c.answer.new.self = c.in_ok-replies.ensures in
     let entry : Entry = record { caller = c.args.caller; call = c.args.call; reply = replies.journaled } in
     let items : c.push_reserved.new.self.items ≡ a.journal.items ++ entry ∷ [] = c.push_reserved.ensures.items ∙ ap (λ es. es ++ entry ∷ []) c.make_room.ensures.items in
     let same : replies.journaled ≡ replies.given = ap (λ (r : Replies). r.journaled) (served.replies t c.self.invariant.stands) ∙ sym (ap (λ (r : Replies). r.given) (served.replies t c.self.invariant.stands)) in
@@ -46,12 +46,12 @@ returns-clause-lawful c = (invariant_of-self-2 c).lawful
 pub returns-clause-reply : goal.returns-clause-reply
 returns-clause-reply c =
     let a = c.self.inside in
-    let served : Serves a.machine c.args.call false (Ok c.in_ok-replies.replies) c.answer.new.self = c.in_ok-replies.ensures in
+    let served : Executes a.file_system c.args.call false (Ok c.in_ok-replies.replies) c.answer.new.self = c.in_ok-replies.ensures in
     ap (λ (r : Replies). r.given) (served.replies (now (journal_of a)) c.self.invariant.stands) ∙ ap (λ s. reply_of (now s) c.args.call) c.self.view_is
 
 pub returns-clause-spelled : goal.returns-clause-spelled
 returns-clause-spelled c =
     let a = c.self.inside in
     let t = now (journal_of a) in
-    let served : Serves a.machine c.args.call false (Ok c.in_ok-replies.replies) c.answer.new.self = c.in_ok-replies.ensures in
-    subst IsSpelled (sym (ap (λ (r : Replies). r.given) (served.replies t c.self.invariant.stands))) (reply-spelled t (events-of-machine t a.machine c.self.invariant.stands c.law.ensures) c.args.call)
+    let served : Executes a.file_system c.args.call false (Ok c.in_ok-replies.replies) c.answer.new.self = c.in_ok-replies.ensures in
+    subst IsSpelled (sym (ap (λ (r : Replies). r.given) (served.replies t c.self.invariant.stands))) (reply-spelled t (events-of-file_system t a.file_system c.self.invariant.stands c.law.ensures) c.args.call)

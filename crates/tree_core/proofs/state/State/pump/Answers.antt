@@ -2,10 +2,10 @@ use Rattle.std.proofs.Common.{refl, ◌≡◌, [], ◌∷◌, ◌++◌, true, Ok
 use Rattle.tree_core.specs.declared.call.Call.TheVariants as call
 use Rattle.tree_core.specs.declared.reply.Entry.{Entry}
 use Rattle.tree_core.specs.declared.reply.Receipt.{Receipt}
-use Rattle.tree_core.specs.declared.machine.Replies.{Replies}
+use Rattle.tree_core.specs.declared.file_system.Replies.{Replies}
 use Rattle.tree_core.specs.Journal.{now, with_entry}
 use Rattle.tree_core.specs.Kept.{journal_of, tree_of}
-use Rattle.tree_core.specs.Machines.{Serves}
+use Rattle.tree_core.specs.FileSystems.{Executes}
 use Rattle.tree_core.specs.Tree.{reply_of}
 use Rattle.tree_core.proofs.Keeping.{IsKept-same, IsKept-more}
 use Rattle.tree_core.specs.Histories.{pumped}
@@ -15,36 +15,36 @@ use Rattle.tree_core.proofs.state.State.pump.Goals as goal
 pub invariant_of-self-in_err-replies : goal.invariant_of-self-in_err-replies
 invariant_of-self-in_err-replies c =
     let a = c.self.inside in
-    let served : Serves a.machine (call.Pump c.args.instance c.args.bytes) true (Err c.in_err-replies.field-0.0) c.pump_out.new.self = c.in_err-replies.ensures.served in
-    IsKept-same a (record { machine = c.pump_out.new.self; snapshot = a.snapshot; journal = c.make_room.new.journal }) c.self.invariant refl served.limits c.make_room.ensures.items
+    let served : Executes a.file_system (call.Pump c.args.instance c.args.bytes) true (Err c.in_err-replies.field-0.0) c.pump_out.new.self = c.in_err-replies.ensures.served in
+    IsKept-same a (record { file_system = c.pump_out.new.self; snapshot = a.snapshot; journal = c.make_room.new.journal }) c.self.invariant refl served.limits c.make_room.ensures.items
     (served.err (now (journal_of a)) c.self.invariant.stands)
 
-pub taken_apart-receipt-requires : goal.taken_apart-receipt-requires
-taken_apart-receipt-requires c =
+pub split_replies-receipt-requires : goal.split_replies-receipt-requires
+split_replies-receipt-requires c =
     let a = c.self.inside in
     let t = now (journal_of a) in
-    let served : Serves a.machine (call.Pump c.args.instance c.args.bytes) true (Ok c.in_ok-replies.field-0.replies) c.pump_out.new.self = c.in_ok-replies.ensures.served in
+    let served : Executes a.file_system (call.Pump c.args.instance c.args.bytes) true (Ok c.in_ok-replies.field-0.replies) c.pump_out.new.self = c.in_ok-replies.ensures.served in
     (reply_of t (call.Pump c.args.instance c.args.bytes), served.replies t c.self.invariant.stands)
 
 pub invariant_of-self-2 : goal.invariant_of-self-2
 invariant_of-self-2 c =
     let a = c.self.inside in
     let t = now (journal_of a) in
-    let served : Serves a.machine (call.Pump c.args.instance c.args.bytes) true (Ok c.in_ok-replies.field-0.replies) c.pump_out.new.self = c.in_ok-replies.ensures.served in
-    let entry : Entry = record { caller = c.args.caller; call = (call.Pump c.args.instance c.args.bytes); reply = c.taken_apart-receipt.result.1 } in
-    IsKept-more a (record { machine = c.pump_out.new.self; snapshot = a.snapshot; journal = c.push_reserved.new.self }) c.self.invariant refl served.limits entry
+    let served : Executes a.file_system (call.Pump c.args.instance c.args.bytes) true (Ok c.in_ok-replies.field-0.replies) c.pump_out.new.self = c.in_ok-replies.ensures.served in
+    let entry : Entry = record { caller = c.args.caller; call = (call.Pump c.args.instance c.args.bytes); reply = c.split_replies-receipt.result.1 } in
+    IsKept-more a (record { file_system = c.pump_out.new.self; snapshot = a.snapshot; journal = c.push_reserved.new.self }) c.self.invariant refl served.limits entry
     (c.push_reserved.ensures.items ∙ ap (λ es. es ++ entry ∷ []) c.make_room.ensures.items) c.in_ok-make_room.ensures.free c.in_ok-make_room.ensures.small
-    (c.taken_apart-receipt.ensures.journaled ∙ ap (λ (r : Replies). r.journaled) (served.replies t c.self.invariant.stands)) (served.tree t c.self.invariant.stands) c.law.ensures
+    (c.split_replies-receipt.ensures.journaled ∙ ap (λ (r : Replies). r.journaled) (served.replies t c.self.invariant.stands)) (served.tree t c.self.invariant.stands) c.law.ensures
 
 pub returns-clause-entry : goal.returns-clause-entry
 returns-clause-entry c =
     let a = c.self.inside in
     let t = now (journal_of a) in
-    let served : Serves a.machine (call.Pump c.args.instance c.args.bytes) true (Ok c.in_ok-replies.field-0.replies) c.pump_out.new.self = c.in_ok-replies.ensures.served in
-    let said = c.taken_apart-receipt.ensures in
-    let entry : Entry = record { caller = c.args.caller; call = (call.Pump c.args.instance c.args.bytes); reply = c.taken_apart-receipt.result.1 } in
+    let served : Executes a.file_system (call.Pump c.args.instance c.args.bytes) true (Ok c.in_ok-replies.field-0.replies) c.pump_out.new.self = c.in_ok-replies.ensures.served in
+    let said = c.split_replies-receipt.ensures in
+    let entry : Entry = record { caller = c.args.caller; call = (call.Pump c.args.instance c.args.bytes); reply = c.split_replies-receipt.result.1 } in
     let items : c.push_reserved.new.self.items ≡ a.journal.items ++ entry ∷ [] = c.push_reserved.ensures.items ∙ ap (λ es. es ++ entry ∷ []) c.make_room.ensures.items in
-    let same : c.taken_apart-receipt.result.1 ≡ c.taken_apart-receipt.result.0.reply =
+    let same : c.split_replies-receipt.result.1 ≡ c.split_replies-receipt.result.0.reply =
     said.journaled ∙ ap (λ (r : Replies). r.journaled) (served.replies t c.self.invariant.stands)
     ∙ sym (ap (λ (r : Receipt). r.reply) said.receipt ∙ ap (λ (r : Replies). r.given) (served.replies t c.self.invariant.stands)) in
     (λ i. record { start = tree_of (served.limits i) a.snapshot; place = a.snapshot.place; entries = items i })
@@ -53,8 +53,8 @@ returns-clause-entry c =
 pub returns-clause-reply : goal.returns-clause-reply
 returns-clause-reply c =
     let a = c.self.inside in
-    let served : Serves a.machine (call.Pump c.args.instance c.args.bytes) true (Ok c.in_ok-replies.field-0.replies) c.pump_out.new.self = c.in_ok-replies.ensures.served in
-    ap (λ (r : Receipt). r.reply) c.taken_apart-receipt.ensures.receipt
+    let served : Executes a.file_system (call.Pump c.args.instance c.args.bytes) true (Ok c.in_ok-replies.field-0.replies) c.pump_out.new.self = c.in_ok-replies.ensures.served in
+    ap (λ (r : Receipt). r.reply) c.split_replies-receipt.ensures.receipt
     ∙ ap (λ (r : Replies). r.given) (served.replies (now (journal_of a)) c.self.invariant.stands) ∙ ap (λ s. reply_of (now s) (call.Pump c.args.instance c.args.bytes)) c.self.view_is
 
 pub returns-clause-lawful : goal.returns-clause-lawful
@@ -69,7 +69,7 @@ pub returns-clause-spelled : goal.returns-clause-spelled
 returns-clause-spelled c =
     let a = c.self.inside in
     let t = now (journal_of a) in
-    let served : Serves a.machine (call.Pump c.args.instance c.args.bytes) true (Ok c.in_ok-replies.field-0.replies) c.pump_out.new.self = c.in_ok-replies.ensures.served in
-    records-spelled t c.args.instance c.args.bytes c.in_ok-replies.field-0.records c.taken_apart-receipt.result.0.reply
+    let served : Executes a.file_system (call.Pump c.args.instance c.args.bytes) true (Ok c.in_ok-replies.field-0.replies) c.pump_out.new.self = c.in_ok-replies.ensures.served in
+    records-spelled t c.args.instance c.args.bytes c.in_ok-replies.field-0.records c.split_replies-receipt.result.0.reply
     (c.in_ok-replies.ensures.records t c.self.invariant.stands) c.in_ok-replies.ensures.events
-    (ap (λ (r : Receipt). r.reply) c.taken_apart-receipt.ensures.receipt ∙ ap (λ (r : Replies). r.given) (served.replies t c.self.invariant.stands))
+    (ap (λ (r : Receipt). r.reply) c.split_replies-receipt.ensures.receipt ∙ ap (λ (r : Replies). r.given) (served.replies t c.self.invariant.stands))

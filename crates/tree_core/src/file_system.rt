@@ -1,0 +1,428 @@
+//! The files and the instances: what they answer to each call.
+ghost use Rattle.std.specs.Prelude.{◌≡◌, ◌≤◌, true, IfOk, IfErr, IfSome, OnOk, OnErr, IsSome, length, option_map, take};
+ghost use Rattle.tree_core.specs.Snapshots.{IsSnapshotOf};
+ghost use Rattle.std.specs.Option.{option_copied};
+ghost use Rattle.record_codec.specs.Records.{AreEvents, spelling};
+ghost use Rattle.tree_paths.specs.Rows.{first_row};
+ghost use Rattle.tree_paths.specs.declared.refusal.Refusal.TheVariants.{Enomem};
+ghost use Rattle.tree_core.specs.Calls.{takes_memory};
+ghost use Rattle.inode_table.specs.Refusals.{is_directory_kind};
+ghost use Rattle.instance_table.specs.Instances.{instance_of, changed};
+ghost use Rattle.tree_core.specs.Histories.{oldest, pumped};
+ghost use Rattle.tree_core.specs.FileSystems.{HasTree, IsFileSystemOf, Executes, copies_of, replies_in};
+ghost use Rattle.tree_core.specs.Tree.{Tree, opening, counts_of, init_rows, rm_watch_rows, read_rows, close_rows, read_answer, after_reading};
+
+use crate::call::Call;
+use crate::reply::Reply;
+use crate::snapshot::Snapshot;
+use event_queue::Queue;
+use event_rules::notices;
+use inode_table::{Kind, Table};
+use instance_table::{Instance, Instances};
+use record_codec::{Bytes, Events, append};
+use std::alloc::{AllocError, Global};
+use tree_ops::{Counts, FileCall, carry_out, check};
+use tree_paths::{Limits, Path, Refusal};
+use watch_table::Mask;
+
+/// The number of the first file that is made: the root has the number 1.
+const FIRST_NUMBER: u32 = 2;
+
+/// The files, the open instances, and the numbers that come next.
+pub struct FileSystem {
+    pub(crate) alloc: Global,
+    pub(crate) limits: Limits,
+    pub(crate) table: Table,
+    pub(crate) next_number: u32,
+    pub(crate) next_cookie: u64,
+    pub(crate) next_id: u32,
+    pub(crate) instances: Instances,
+}
+
+impl Drop for FileSystem {
+    fn drop(self) {
+        let FileSystem {
+            alloc: _,
+            limits: _,
+            table: _,
+            next_number: _,
+            next_cookie: _,
+            next_id: _,
+            instances: _,
+        } = self;
+    }
+}
+
+/// What a call answers: for the journal, for who made the call, and for what is kept of it, where it is kept.
+#[derive(Drop)]
+pub struct Replies {
+    pub journaled: Reply,
+    pub given: Reply,
+    pub kept: Option<Reply>,
+}
+
+/// What a pump answers, with the records that it read, if it read any.
+#[derive(Drop)]
+pub struct Pumped {
+    pub replies: Replies,
+    pub records: Option<Events>,
+}
+
+impl Replies {
+    // A reply, and copies of it.
+    fn of(reply: Reply, keeps: bool) -> Result<Replies, Refusal>
+        ensures ok { IfOk result (λ r. r ≡ copies_of keeps reply) }
+        ensures err { IfErr result (λ refusal. refusal ≡ Enomem) }
+        ensures memory { OnErr result (takes_memory reply ≡ true) }
+    {
+        let given = reply.copy()?;
+        let kept = if keeps { Some(reply.copy()?) } else { None };
+        Ok(Replies {
+            journaled: reply,
+            given,
+            kept,
+        })
+    }
+
+    // A refusal. It takes no memory.
+    fn refused(refusal: Refusal, keeps: bool) -> Replies
+        ensures { result ≡ copies_of keeps (Reply.Refused refusal) }
+    {
+        Replies {
+            journaled: Reply::Refused(refusal),
+            given: Reply::Refused(refusal),
+            kept: if keeps {
+                Some(Reply::Refused(refusal))
+            } else {
+                None
+            },
+        }
+    }
+}
+
+impl FileSystem {
+    /// The root alone, and no instance.
+    pub fn new(alloc: Global, limits: Limits) -> Result<FileSystem, Refusal>
+        ensures ok { IfOk result (IsFileSystemOf (opening limits)) }
+        ensures err { IfErr result (λ refusal. refusal ≡ Enomem) }
+    {
+        Ok(FileSystem {
+            alloc,
+            limits,
+            table: Table::new(alloc)?,
+            next_number: FIRST_NUMBER,
+            next_cookie: 1,
+            next_id: 1,
+            instances: Instances::new(alloc),
+        })
+    }
+
+    /// A snapshot of the tree, behind an entry at this place.
+    pub fn snapshot(&self, place: u64) -> Result<Snapshot, Refusal>
+        ensures ok { (t : Tree) → IsFileSystemOf t self.now → IfOk result (IsSnapshotOf t place) }
+        ensures err { IfErr result (λ refusal. refusal ≡ Enomem) }
+    {
+        Ok(Snapshot {
+            paths: self.table.flat()?,
+            files: self.table.files()?,
+            instances: self.instances.rows()?,
+            next_number: self.next_number,
+            next_cookie: u32::try_from(self.next_cookie).unwrap_or(0),
+            next_id: self.next_id,
+            place,
+        })
+    }
+
+    /// Carries out a call, which may be refused. What takes memory comes first: an error leaves all as it was.
+    pub fn answer(&mut self, call: &Call, keeps: bool) -> Result<Replies, Refusal>
+        requires { HasTree self.old }
+        ensures { Executes self.old call.now keeps result self.new }
+    {
+        match call {
+            Call::File(call) => self.file(call, keeps),
+            Call::Init { limit, piped } => self.init(*limit, *piped, keeps),
+            Call::AddWatch {
+                instance,
+                path,
+                mask,
+            } => self.add_watch(*instance, path, *mask, keeps),
+            Call::RmWatch { instance, wd } => self.rm_watch(*instance, *wd, keeps),
+            Call::Read { instance, bytes } => self.read(*instance, *bytes, keeps),
+            Call::Pump { instance, bytes } => self.pump(*instance, *bytes, keeps),
+            Call::Close { instance } => self.close(*instance, keeps),
+        }
+    }
+
+    // What the next call on files gets.
+    fn counts(&self) -> Counts
+        ensures { (t : Tree) → IsFileSystemOf t self.now → result ≡ counts_of t }
+    {
+        Counts {
+            next_number: self.next_number,
+            next_cookie: u32::try_from(self.next_cookie).unwrap_or(0),
+        }
+    }
+
+    // Carries out a call on files.
+    fn file(&mut self, call: &FileCall, keeps: bool) -> Result<Replies, Refusal>
+        requires { HasTree self.old }
+        ensures { Executes self.old (Call.File call.now) keeps result self.new }
+    {
+        let counts = self.counts();
+        let ready = match check(&self.table, call, &counts, &self.limits) {
+            Ok(ready) => ready,
+            Err(refusal) => return Ok(Replies::refused(refusal, keeps)),
+        };
+        let notices = notices(self.alloc, &self.table, &ready, counts.next_cookie)?;
+        let staging = self.instances.stage(notices.as_slice())?;
+        let numbers = ready.numbers();
+        let cookies = ready.cookies();
+        let answer = carry_out(self.alloc, &mut self.table, ready)?;
+        let replies = Replies::of(Reply::File(answer), keeps)?;
+        self.instances.tell(notices.as_slice(), staging);
+        self.next_number += numbers;
+        self.next_cookie += u64::from(cookies);
+        Ok(replies)
+    }
+
+    // Why no instance is made.
+    #[tactic(auto, unfolding(crate::specs::Tree::init_rows))]
+    fn init_fault(&self, limit: u32) -> Option<Refusal>
+        ensures { result ≡ first_row (init_rows self.now.limits self.now.instances self.now.next_id limit) }
+    {
+        if limit == 0 || limit > self.limits.queue {
+            return Some(Refusal::Einval);
+        }
+        if self.instances.len() >= self.limits.instances as usize {
+            return Some(Refusal::Emfile);
+        }
+        if self.next_id > self.limits.ids {
+            return Some(Refusal::Emfile);
+        }
+        None
+    }
+
+    // Makes an instance.
+    fn init(&mut self, limit: u32, piped: bool, keeps: bool) -> Result<Replies, Refusal>
+        requires { HasTree self.old }
+        ensures { Executes self.old (Call.Init limit piped) keeps result self.new }
+    {
+        if let Some(refusal) = self.init_fault(limit) {
+            return Ok(Replies::refused(refusal, keeps));
+        }
+        let id = self.next_id;
+        let replies = Replies::of(Reply::Instance(id), keeps)?;
+        self.instances.open(id, limit, piped, &self.limits)?;
+        self.next_id += 1;
+        Ok(replies)
+    }
+
+    // Watches a file.
+    fn add_watch(
+        &mut self,
+        id: u32,
+        path: &Path,
+        mask: u32,
+        keeps: bool,
+    ) -> Result<Replies, Refusal>
+        requires { HasTree self.old }
+        ensures { Executes self.old (Call.AddWatch id path.now mask) keeps result self.new }
+    {
+        self.table.law();
+        if self.instances.get(id).is_none() {
+            return Ok(Replies::refused(Refusal::Ebadf, keeps));
+        }
+        let mask = Mask::of(mask);
+        if let Some(refusal) = mask.fault() {
+            return Ok(Replies::refused(refusal, keeps));
+        }
+        let seen = match self.table.look(path.names()) {
+            Ok(seen) => seen,
+            Err(refusal) => return Ok(Replies::refused(refusal, keeps)),
+        };
+        match self
+            .instances
+            .watch(id, seen.number, mask, is_directory(seen.kind))
+        {
+            Ok(wd) => Replies::of(Reply::Wd(wd), keeps),
+            Err(Refusal::Enomem) => Err(Refusal::Enomem),
+            Err(refusal) => Ok(Replies::refused(refusal, keeps)),
+        }
+    }
+
+    // Ends a watch.
+    fn rm_watch(&mut self, id: u32, wd: i32, keeps: bool) -> Result<Replies, Refusal>
+        requires { HasTree self.old }
+        ensures { Executes self.old (Call.RmWatch id wd) keeps result self.new }
+    {
+        if let Some(refusal) = rm_watch_fault(self.instances.get(id), wd) {
+            return Ok(Replies::refused(refusal, keeps));
+        }
+        let replies = Replies::of(Reply::Done, keeps)?;
+        self.instances.unwatch(id, wd);
+        Ok(replies)
+    }
+
+    // Reads records.
+    fn read(&mut self, id: u32, bytes: u32, keeps: bool) -> Result<Replies, Refusal>
+        requires { HasTree self.old }
+        ensures { Executes self.old (Call.Read id bytes) keeps result self.new }
+    {
+        if let Some(refusal) = read_fault(self.instances.get(id), bytes, false) {
+            return Ok(Replies::refused(refusal, keeps));
+        }
+        self.take_records(id, bytes, keeps)
+    }
+
+    // Reads records for a pipe.
+    fn pump(&mut self, id: u32, bytes: u32, keeps: bool) -> Result<Replies, Refusal>
+        requires { HasTree self.old }
+        ensures { Executes self.old (Call.Pump id bytes) keeps result self.new }
+    {
+        if let Some(refusal) = read_fault(self.instances.get(id), bytes, true) {
+            return Ok(Replies::refused(refusal, keeps));
+        }
+        self.take_records(id, bytes, keeps)
+    }
+
+    // Takes the records that fit out of an instance's queue.
+    fn take_records(&mut self, id: u32, bytes: u32, keeps: bool) -> Result<Replies, Refusal>
+        requires { IsSome (instance_of self.old.instances id) }
+        ensures replies { IfOk result (λ r. r ≡ copies_of keeps (read_answer bytes (instance_of self.old.instances id))) }
+        ensures ok { OnOk result (self.new ≡ record self.old { instances = changed self.old.instances id (after_reading bytes) }) }
+        ensures err { OnErr result (self.new ≡ self.old) }
+        ensures memory { IfErr result (λ refusal. refusal ≡ Enomem) }
+    {
+        let Some(instance) = self.instances.get(id) else {
+            unreachable!()
+        };
+        let count = instance.queue.fit(bytes as usize);
+        let records = spelled(self.alloc, &instance.queue, count)?;
+        let replies = Replies::of(Reply::Records(records), keeps)?;
+        self.instances.drop_oldest(id, count);
+        Ok(replies)
+    }
+
+    /// Reads records for a pipe, and moves them out of the queue.
+    pub fn pump_out(&mut self, id: u32, bytes: u32) -> Result<Pumped, Refusal>
+        requires { HasTree self.old }
+        ensures served { Executes self.old (Call.Pump id bytes) true (replies_in result) self.new }
+        ensures records { (t : Tree) → IsFileSystemOf t self.old → IfOk result (λ p. p.records ≡ pumped t id bytes) }
+        ensures events { IfOk result (λ p. IfSome p.records AreEvents) }
+    {
+        if let Some(refusal) = read_fault(self.instances.get(id), bytes, true) {
+            return Ok(Pumped {
+                replies: Replies::refused(refusal, true),
+                records: None,
+            });
+        }
+        self.move_records(id, bytes)
+    }
+
+    // Moves the records that fit out of an instance's queue.
+    fn move_records(&mut self, id: u32, bytes: u32) -> Result<Pumped, Refusal>
+        requires { IsSome (instance_of self.old.instances id) }
+        ensures replies { IfOk result (λ p. p.replies ≡ copies_of true (read_answer bytes (instance_of self.old.instances id))) }
+        ensures records { IfOk result (λ p. p.records ≡ option_map (oldest bytes) (instance_of self.old.instances id)) }
+        ensures events { IfOk result (λ p. IfSome p.records AreEvents) }
+        ensures ok { OnOk result (self.new ≡ record self.old { instances = changed self.old.instances id (after_reading bytes) }) }
+        ensures err { OnErr result (self.new ≡ self.old) }
+        ensures memory { IfErr result (λ refusal. refusal ≡ Enomem) }
+    {
+        let Some(instance) = self.instances.get(id) else {
+            unreachable!()
+        };
+        let count = instance.queue.fit(bytes as usize);
+        let spelled = spelled(self.alloc, &instance.queue, count)?;
+        let replies = Replies::of(Reply::Records(spelled), true)?;
+        let mut records = Vec::with_capacity(self.alloc, count)?;
+        self.instances.move_oldest(id, count, &mut records);
+        Ok(Pumped {
+            replies,
+            records: Some(Events::from_vec(records)),
+        })
+    }
+
+    // Closes an instance.
+    fn close(&mut self, id: u32, keeps: bool) -> Result<Replies, Refusal>
+        requires { HasTree self.old }
+        ensures { Executes self.old (Call.Close id) keeps result self.new }
+    {
+        if let Some(refusal) = close_fault(self.instances.get(id)) {
+            return Ok(Replies::refused(refusal, keeps));
+        }
+        let replies = Replies::of(Reply::Done, keeps)?;
+        self.instances.close(id);
+        Ok(replies)
+    }
+}
+
+fn is_directory(kind: Kind) -> bool
+    ensures { result ≡ is_directory_kind kind }
+{
+    matches!(kind, Kind::Directory)
+}
+
+// Why no watch is ended.
+#[tactic(auto, unfolding(crate::specs::Tree::rm_watch_rows))]
+fn rm_watch_fault(instance: Option<&Instance>, wd: i32) -> Option<Refusal>
+    ensures { result ≡ first_row (rm_watch_rows wd (option_copied instance.entry)) }
+{
+    let Some(instance) = instance else {
+        return Some(Refusal::Ebadf);
+    };
+    if instance.watches.number_of(wd).is_none() {
+        return Some(Refusal::Einval);
+    }
+    None
+}
+
+// Why nothing is read, or pumped.
+#[tactic(auto, unfolding(crate::specs::Tree::read_rows))]
+fn read_fault(instance: Option<&Instance>, bytes: u32, pumps: bool) -> Option<Refusal>
+    ensures { result ≡ first_row (read_rows pumps bytes (option_copied instance.entry)) }
+{
+    let Some(instance) = instance else {
+        return Some(Refusal::Ebadf);
+    };
+    if pumps && !instance.is_piped {
+        return Some(Refusal::NotPiped);
+    }
+    if !pumps && instance.is_piped {
+        return Some(Refusal::Piped);
+    }
+    if instance.queue.is_empty() {
+        return Some(Refusal::Eagain);
+    }
+    if instance.queue.fit(bytes as usize) == 0 {
+        return Some(Refusal::Einval);
+    }
+    None
+}
+
+// Why no instance is closed.
+#[tactic(auto, unfolding(crate::specs::Tree::close_rows))]
+fn close_fault(instance: Option<&Instance>) -> Option<Refusal>
+    ensures { result ≡ first_row (close_rows (option_copied instance.entry)) }
+{
+    match instance {
+        Some(_) => None,
+        None => Some(Refusal::Ebadf),
+    }
+}
+
+// The bytes of the oldest records.
+fn spelled(alloc: Global, queue: &Queue, count: usize) -> Result<Bytes, AllocError>
+    requires { count ≤ length queue.now.waiting }
+    ensures bytes { IfOk result (λ bytes. bytes ≡ spelling (take count queue.now.waiting)) }
+    ensures events { OnOk result (AreEvents (take count queue.now.waiting)) }
+{
+    let mut bytes = Vec::new(alloc);
+    for index in 0..count {
+        let Some(event) = queue.peek(index) else {
+            unreachable!()
+        };
+        append(event, &mut bytes)?;
+    }
+    Ok(Bytes::from_vec(bytes))
+}
