@@ -1,7 +1,7 @@
 use Rattle.std.proofs.Common.{subst, sym}
-use Rattle.shared_tree.proofs.Pipes.{found}
+use Rattle.shared_tree.proofs.Pushing.{found}
 use Rattle.shared_tree.specs.Held.{IsPlaceOf}
-use Rattle.shared_tree.proofs.held.find.Goals as goal
+use Rattle.shared_tree.proofs.pipes.find.Goals as goal
 
 pub returns : goal.returns
 returns c =

@@ -1,12 +1,12 @@
 -- What is in the pipes after a push.
-use Rattle.std.proofs.Common.{◌≡◌, ◌≢◌, ◌∙◌, sym, ap, subst, refl, ℕ, zero, suc, ◌+◌, ◌<◌, ◌≤◌, List, [], ◌∷◌, ◌++◌, length, get_or, arith, rules, append-nil, nat_eq, true, false, inl, inr}
+use Rattle.std.proofs.Common.{◌≡◌, ◌≢◌, ◌∙◌, sym, ap, refl, ℕ, zero, suc, ◌+◌, ◌<◌, ◌≤◌, List, [], ◌∷◌, ◌++◌, length, get_or, arith, rules, append-nil, nat_eq, true, false, inl, inr}
 use Rattle.std.proofs.Math.ListN.{set}
 use Rattle.std.proofs.lemmas.Bool.Decides.{nat_tests}
 use Rattle.std.proofs.lemmas.List.Sorted.{searched}
 use Rattle.std.specs.List.Sorted.{IsBinarySearchResult}
 use Rattle.std.specs.Ordering.{nat_cmp}
 use Rattle.std.specs.Result.{result_ok}
-use Rattle.std.specs.Prelude.{Some, None, Option, Result, Ok, Err, MatchResult, slice_get, unwrap_or}
+use Rattle.std.specs.Prelude.{Some, None, Option, Result, Ok, Err, slice_get, unwrap_or}
 use Rattle.shared_tree.specs.declared.pipe.Batch.{Batch}
 use Rattle.shared_tree.specs.Pipes.{Piped}
 use Rattle.shared_tree.specs.Handed.{hands}
@@ -28,6 +28,22 @@ pub free_set : (ps : List Piped) (k : ℕ) (q : Piped) → k < length ps → 0 <
 free_set [] k q within free = absurd (omega arith)
 free_set (x ∷ ps) zero q within free = (q, refl, free)
 free_set (x ∷ ps) (suc k) q within free = free_set ps k q (omega arith) free
+
+-- as many pipes as lists of what they were sent
+length-sents : (ps : List Piped) → length (sents ps) ≡ length ps
+length-sents [] = refl
+length-sents (p ∷ ps) = ap suc (length-sents ps)
+
+length-pushed : (xss : List (List Batch)) (k : ℕ) (b : Batch) → length (pushed_at xss k b) ≡ length xss
+length-pushed [] k b = refl
+length-pushed (xs ∷ xss) zero b = refl
+length-pushed (xs ∷ xss) (suc k) b = ap suc (length-pushed xss k b)
+
+pub looked-length : (ns : List ℕ) (ps qs : List Piped) → length ns ≡ length ps → sents qs ≡ sents ps → length ns ≡ length qs
+looked-length ns ps qs len same = len ∙ sym (length-sents ps) ∙ ap (λ (xss : List (List Batch)). length xss) (sym same) ∙ length-sents qs
+
+pub pushed-length : (ns : List ℕ) (ps qs : List Piped) (k : ℕ) (b : Batch) → length ns ≡ length ps → sents qs ≡ pushed_at (sents ps) k b → length ns ≡ length qs
+pushed-length ns ps qs k b len is = len ∙ sym (length-sents ps) ∙ sym (ap (λ (xss : List (List Batch)). length xss) is ∙ length-pushed (sents ps) k b) ∙ length-sents qs
 
 -- ---- the pipe of a batch
 
