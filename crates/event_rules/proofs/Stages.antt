@@ -5,9 +5,9 @@ use Rattle.std.proofs.lemmas.List.{append-nil, map-append, take_more}
 use Rattle.record_codec.specs.declared.event.Event.{Event}
 use Rattle.watch_table.specs.Watching.{Watch, Watching, removed, watch_of}
 use Rattle.event_rules.specs.declared.notice.Notice.{Notice}
-use Rattle.event_rules.specs.declared.staging.Heard.{Heard}
+use Rattle.event_rules.specs.declared.staging.StagedEvent.{StagedEvent}
 use Rattle.event_rules.specs.Raised.{raised, raised_by, ended, ends_watch, event_told, ignored, left, told_number, events_of, wds_ended, watches_after}
-use Rattle.event_rules.specs.Staging.{heard_by}
+use Rattle.event_rules.specs.Staging.{staged_event}
 
 events_of-push : (w : Watching) (ns : List Notice) (n : Notice) → events_of w (ns ++ n ∷ []) ≡ events_of w ns ++ raised (watches_after w ns) n
 events_of-push w [] n = append-nil (raised w n)
@@ -35,10 +35,10 @@ module _ (w : Watching) (left_by_removals : (ns : List Notice) → fold removed 
       is ∙ (λ j. was j ++ ended (there j) n) ∙ sym (ap (wds_ended w) more ∙ wds_ended-push w (take i ns) n)
 
 -- the events of a notice that ends the watch
-pub heard_ended : (id : ℕ) (w : Watching) (n : Notice) (watch : Watch) (was told new : List Heard) → watch_of w (told_number n) ≡ Some watch → ends_watch n watch ≡ true
-    → told ≡ was ++ map (heard_by id) (event_told n watch) → new ≡ told ++ heard_by id (ignored watch.0) ∷ [] → new ≡ was ++ map (heard_by id) (raised w n)
+pub heard_ended : (id : ℕ) (w : Watching) (n : Notice) (watch : Watch) (was told new : List StagedEvent) → watch_of w (told_number n) ≡ Some watch → ends_watch n watch ≡ true
+    → told ≡ was ++ map (staged_event id) (event_told n watch) → new ≡ told ++ staged_event id (ignored watch.0) ∷ [] → new ≡ was ++ map (staged_event id) (raised w n)
 unfolding raised
 heard_ended id w n watch was told new there ends so_far is =
-    is ∙ ap (λ hs. hs ++ heard_by id (ignored watch.0) ∷ []) so_far ∙ append_assoc was (map (heard_by id) (event_told n watch)) (heard_by id (ignored watch.0) ∷ [])
-    ∙ ap (λ hs. was ++ hs) (sym (map-append (heard_by id) (event_told n watch) (ignored watch.0 ∷ []))
-    ∙ ap (λ b. map (heard_by id) (event_told n watch ++ (if b then ignored watch.0 ∷ [] else []))) (sym ends) ∙ ap (λ o. map (heard_by id) (raised_by n o)) (sym there))
+    is ∙ ap (λ hs. hs ++ staged_event id (ignored watch.0) ∷ []) so_far ∙ append_assoc was (map (staged_event id) (event_told n watch)) (staged_event id (ignored watch.0) ∷ [])
+    ∙ ap (λ hs. was ++ hs) (sym (map-append (staged_event id) (event_told n watch) (ignored watch.0 ∷ []))
+    ∙ ap (λ b. map (staged_event id) (event_told n watch ++ (if b then ignored watch.0 ∷ [] else []))) (sym ends) ∙ ap (λ o. map (staged_event id) (raised_by n o)) (sym there))

@@ -4,7 +4,7 @@ ghost use Rattle.std.specs.Prelude.{◌≡◌, ◌++◌, [], fold, map, IfOk, If
 ghost use Rattle.std.specs.Option.{option_to_list};
 ghost use Rattle.watch_table.specs.Masks.{has_any};
 ghost use Rattle.watch_table.specs.Watching.{removed, watch_of};
-ghost use Rattle.event_rules.specs.Staging.{ended_of, heard_by};
+ghost use Rattle.event_rules.specs.Staging.{staged_end, staged_event};
 ghost use Rattle.event_rules.specs.Raised.{asks_for, ended, ends_watch, event_told, events_of, ignored, raised, watches_after, wds_ended};
 
 use crate::laws::{removals_leave_the_rest, removed_watches_are_left_out};
@@ -17,7 +17,7 @@ use watch_table::Watches;
 
 /// An event that an instance hears.
 #[derive(Debug, Drop, PartialEq, Eq)]
-pub struct Heard {
+pub struct StagedEvent {
     /// The number of the instance.
     pub id: u32,
     /// The event.
@@ -26,7 +26,7 @@ pub struct Heard {
 
 /// A watch of an instance that ends.
 #[derive(Clone, Copy, Debug, PartialEq, Eq)]
-pub struct Ended {
+pub struct StagedEnd {
     /// The number of the instance.
     pub id: u32,
     /// The descriptor of the watch.
@@ -37,9 +37,9 @@ pub struct Ended {
 #[derive(Drop)]
 pub struct Staged {
     /// The events, for each instance in order.
-    pub events: VecDeque<Heard>,
+    pub events: VecDeque<StagedEvent>,
     /// The watches that end, for each instance in order. [`Watches::remove`] of each in turn leaves the others.
-    pub drops: Vec<Ended>,
+    pub drops: Vec<StagedEnd>,
     /// The descriptors of the watches that end of the instance that was staged last.
     pub wds: Vec<i32>,
 }
@@ -89,8 +89,8 @@ pub fn stage(
     notices: &[Notice],
     staged: &mut Staged,
 ) -> Result<(), Refusal>
-    ensures events { OnOk result (staged.new.events.items ≡ staged.old.events.items ++ map (heard_by id) (events_of watches.now notices.now)) }
-    ensures drops { OnOk result (staged.new.drops.items ≡ staged.old.drops.items ++ map (ended_of id) (wds_ended watches.now notices.now)) }
+    ensures events { OnOk result (staged.new.events.items ≡ staged.old.events.items ++ map (staged_event id) (events_of watches.now notices.now)) }
+    ensures drops { OnOk result (staged.new.drops.items ≡ staged.old.drops.items ++ map (staged_end id) (wds_ended watches.now notices.now)) }
     ensures left { OnOk result (fold removed watches.now (wds_ended watches.now notices.now) ≡ watches_after watches.now notices.now) }
     ensures memory { IfErr result (λ refusal. refusal ≡ Refusal.Enomem) }
 {
@@ -107,11 +107,11 @@ fn raise(
     id: u32,
     watches: &Watches,
     notices: &[Notice],
-    events: &mut VecDeque<Heard>,
+    events: &mut VecDeque<StagedEvent>,
     wds: &mut Vec<i32>,
 ) -> Result<(), AllocError>
     requires { wds.old.items ≡ [] }
-    ensures events { OnOk result (events.new.items ≡ events.old.items ++ map (heard_by id) (events_of watches.now notices.now)) }
+    ensures events { OnOk result (events.new.items ≡ events.old.items ++ map (staged_event id) (events_of watches.now notices.now)) }
     ensures ended { OnOk result (wds.new.items ≡ wds_ended watches.now notices.now) }
 {
     removals_leave_the_rest();
@@ -123,11 +123,11 @@ fn raise(
 }
 
 // Adds the watches of an instance that end.
-fn end(id: u32, wds: &[i32], drops: &mut Vec<Ended>) -> Result<(), AllocError>
-    ensures { OnOk result (drops.new.items ≡ drops.old.items ++ map (ended_of id) wds.now) }
+fn end(id: u32, wds: &[i32], drops: &mut Vec<StagedEnd>) -> Result<(), AllocError>
+    ensures { OnOk result (drops.new.items ≡ drops.old.items ++ map (staged_end id) wds.now) }
 {
     for wd in wds {
-        drops.push(Ended { id, wd: *wd })?;
+        drops.push(StagedEnd { id, wd: *wd })?;
     }
     Ok(())
 }
@@ -138,10 +138,10 @@ fn raise_one(
     id: u32,
     watches: &Watches,
     notice: &Notice,
-    events: &mut VecDeque<Heard>,
+    events: &mut VecDeque<StagedEvent>,
     wds: &mut Vec<i32>,
 ) -> Result<(), AllocError>
-    ensures events { OnOk result (events.new.items ≡ events.old.items ++ map (heard_by id) (raised (fold removed watches.now wds.old.items) notice.now)) }
+    ensures events { OnOk result (events.new.items ≡ events.old.items ++ map (staged_event id) (raised (fold removed watches.now wds.old.items) notice.now)) }
     ensures ended { OnOk result (wds.new.items ≡ wds.old.items ++ ended (fold removed watches.now wds.old.items) notice.now) }
 {
     let Some(watch) = watch_left(watches, wds, notice.number()) else {
@@ -150,7 +150,7 @@ fn raise_one(
     raise_told(id, notice, watch, events)?;
     if ends_watch(notice, watch) {
         let event = ignored(watch.0);
-        events.push_back(Heard { id, event })?;
+        events.push_back(StagedEvent { id, event })?;
         wds.push(watch.0)?;
     }
     Ok(())
@@ -161,12 +161,12 @@ fn raise_told(
     id: u32,
     notice: &Notice,
     watch: (i32, u32),
-    events: &mut VecDeque<Heard>,
+    events: &mut VecDeque<StagedEvent>,
 ) -> Result<(), AllocError>
-    ensures { OnOk result (events.new.items ≡ events.old.items ++ map (heard_by id) (event_told notice.now watch)) }
+    ensures { OnOk result (events.new.items ≡ events.old.items ++ map (staged_event id) (event_told notice.now watch)) }
 {
     if let Some(event) = event_told(notice, watch)? {
-        events.push_back(Heard { id, event })?;
+        events.push_back(StagedEvent { id, event })?;
     }
     Ok(())
 }

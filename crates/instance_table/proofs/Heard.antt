@@ -8,8 +8,8 @@ use Rattle.std.specs.Ordering.{nat_cmp, eq_by_cmp}
 use Rattle.std.specs.Cmp.{nat_cmp_total}
 use Rattle.event_queue.specs.Backlogs.{after_offer}
 use Rattle.event_rules.specs.declared.notice.Notice.{Notice}
-use Rattle.event_rules.specs.declared.staging.Ended.{Ended}
-use Rattle.event_rules.specs.declared.staging.Heard.{Heard}
+use Rattle.event_rules.specs.declared.staging.StagedEnd.{StagedEnd}
+use Rattle.event_rules.specs.declared.staging.StagedEvent.{StagedEvent}
 use Rattle.watch_table.specs.Watching.{removed}
 use Rattle.instance_table.specs.declared.instance.Instance.{Instance}
 use Rattle.instance_table.specs.declared.staging.Staging.{Staging}
@@ -69,33 +69,33 @@ module _ {X : Type 0} (id_of : X → ℕ) (act : X → Instance → Instance) wh
       twice None = refl
       twice (Some i) = refl
 
-fold-hears : (hs : List Heard) (i : Instance) → fold (λ i h. hears h i) i hs ≡ record i { queue = fold after_offer i.queue (map (λ (h : Heard). h.event) hs) }
+fold-hears : (hs : List StagedEvent) (i : Instance) → fold (λ i h. hears h i) i hs ≡ record i { queue = fold after_offer i.queue (map (λ (h : StagedEvent). h.event) hs) }
 fold-hears [] i = refl
 fold-hears (h ∷ hs) i = fold-hears hs (hears h i)
 
-fold-ends : (ds : List Ended) (i : Instance) → fold (λ i d. ends d i) i ds ≡ record i { watches = fold removed i.watches (map (λ (d : Ended). d.wd) ds) }
+fold-ends : (ds : List StagedEnd) (i : Instance) → fold (λ i d. ends d i) i ds ≡ record i { watches = fold removed i.watches (map (λ (d : StagedEnd). d.wd) ds) }
 fold-ends [] i = refl
 fold-ends (d ∷ ds) i = fold-ends ds (ends d i)
 
 pub heard-told : (s : Staging) (m : Instances) (ns : List Notice) → IsStaged m ns s → ended_all (heard_all m s.staged.events.items) s.staged.drops.items ≡ all_changed m (told ns)
 heard-told s m ns staged =
     same_map nat_cmp_total nat_cmp-IsAntisymmetric (ended_all (heard_all m hs) ds) (all_changed m (told ns)) (λ q.
-    get-steps (λ (d : Ended). d.id) ends ds (heard_all m hs) q
-    ∙ ap (option_map (λ i. fold (λ i d. ends d i) i (filter (λ (d : Ended). eqb q d.id) ds))) (get-steps (λ (h : Heard). h.id) hears hs m q)
+    get-steps (λ (d : StagedEnd). d.id) ends ds (heard_all m hs) q
+    ∙ ap (option_map (λ i. fold (λ i d. ends d i) i (filter (λ (d : StagedEnd). eqb q d.id) ds))) (get-steps (λ (h : StagedEvent). h.id) hears hs m q)
     ∙ both q (instance_of m q) refl ∙ sym (get-all_changed m (told ns) q))
   where
-    hs : List Heard
+    hs : List StagedEvent
     hs = s.staged.events.items
 
-    ds : List Ended
+    ds : List StagedEnd
     ds = s.staged.drops.items
 
     both : (q : ℕ) (o : Option Instance) → instance_of m q ≡ o
-        → option_map (λ i. fold (λ i d. ends d i) i (filter (λ (d : Ended). eqb q d.id) ds)) (option_map (λ i. fold (λ i h. hears h i) i (filter (λ (h : Heard). eqb q h.id) hs)) o) ≡ option_map (told ns) o
+        → option_map (λ i. fold (λ i d. ends d i) i (filter (λ (d : StagedEnd). eqb q d.id) ds)) (option_map (λ i. fold (λ i h. hears h i) i (filter (λ (h : StagedEvent). eqb q h.id) hs)) o) ≡ option_map (told ns) o
     both q None e = refl
     both q (Some i) e =
-        let mine : List Heard = filter (λ (h : Heard). eqb q h.id) hs in
-        let gone : List Ended = filter (λ (d : Ended). eqb q d.id) ds in
+        let mine : List StagedEvent = filter (λ (h : StagedEvent). eqb q h.id) hs in
+        let gone : List StagedEnd = filter (λ (d : StagedEnd). eqb q d.id) ds in
         ap Some (fold-ends gone (fold (λ i h. hears h i) i mine)
         ∙ ap (λ (j : Instance). record j { watches = fold removed j.watches (wds_to q ds) }) (fold-hears mine i)
         ∙ (λ k. record i { watches = staged.drops q i e k; queue = fold after_offer i.queue (staged.events q i e k) }))

@@ -14,7 +14,7 @@ ghost use Rattle.instance_table.specs.Staging.{IsStaged, ended_all, events_to, h
 use crate::ids::Ids;
 use crate::instances::Instances;
 use event_queue::Queue;
-use event_rules::{Ended, Heard, Notice, Staged, stage, unwatched_files_raise_nothing};
+use event_rules::{Notice, Staged, StagedEnd, StagedEvent, stage, unwatched_files_raise_nothing};
 use record_codec::Event;
 use std::alloc::{AllocError, Global};
 use std::collections::VecDeque;
@@ -95,7 +95,7 @@ impl Instances {
     }
 
     // Raises events, one after the other.
-    fn hear_each(&mut self, events: &mut VecDeque<Heard>)
+    fn hear_each(&mut self, events: &mut VecDeque<StagedEvent>)
         ensures { self.new ≡ heard_all self.old events.old.items }
     {
         while let Some(heard) = events.pop_front() {
@@ -104,7 +104,7 @@ impl Instances {
     }
 
     // Ends watches, one after the other.
-    fn end_each(&mut self, drops: &[Ended])
+    fn end_each(&mut self, drops: &[StagedEnd])
         ensures { self.new ≡ ended_all self.old drops.now }
     {
         for ended in drops {

@@ -4,9 +4,9 @@ use Rattle.std.proofs.lemmas.List.{append-nil, map-append}
 use Rattle.record_codec.specs.declared.event.Event.{Event}
 use Rattle.watch_table.specs.Watching.{removed}
 use Rattle.event_rules.specs.declared.notice.Notice.{Notice}
-use Rattle.event_rules.specs.declared.staging.Heard.{Heard}
+use Rattle.event_rules.specs.declared.staging.StagedEvent.{StagedEvent}
 use Rattle.event_rules.specs.Raised.{events_of, raised}
-use Rattle.event_rules.specs.Staging.{heard_by}
+use Rattle.event_rules.specs.Staging.{staged_event}
 use Rattle.event_rules.proofs.Stages.{events_more, wds_more}
 use Rattle.event_rules.proofs.staging.raise.Goals as goal
 
@@ -22,7 +22,7 @@ loop-notice-preserved c =
     let within : c.loop-notice.notice-index < length c.args.notices.now = c.loop-notice-test.true in
     let w = c.args.watches.now in
     let was = c.args.events.now.items in
-    let heard : Event → Heard = heard_by c.args.id in
+    let heard : Event → StagedEvent = staged_event c.args.id in
     let before = events_of w (take c.loop-notice.notice-index c.args.notices.now) in
     let more = raised (fold removed w c.loop-notice.wds.items) c.notice-item.result in
     record {

@@ -9,10 +9,10 @@ use Rattle.std.proofs.lemmas.List.Folds.{list_any_more}
 use Rattle.record_codec.specs.declared.event.Event.{Event}
 use Rattle.watch_table.specs.Watching.{removed}
 use Rattle.event_rules.specs.declared.notice.Notice.{Notice}
-use Rattle.event_rules.specs.declared.staging.Ended.{Ended}
-use Rattle.event_rules.specs.declared.staging.Heard.{Heard}
+use Rattle.event_rules.specs.declared.staging.StagedEnd.{StagedEnd}
+use Rattle.event_rules.specs.declared.staging.StagedEvent.{StagedEvent}
 use Rattle.event_rules.specs.Raised.{events_of, told_number, wds_ended, watches_after}
-use Rattle.event_rules.specs.Staging.{ended_of, heard_by}
+use Rattle.event_rules.specs.Staging.{staged_end, staged_event}
 use Rattle.instance_table.specs.declared.instance.Instance.{Instance}
 use Rattle.instance_table.specs.Instances.{instance_of, watches_file}
 use Rattle.instance_table.specs.Staging.{events_to, wds_to}
@@ -61,12 +61,12 @@ loop-id-preserved c =
     record {
       events = λ q i e.
           ap (events_to q) c.in_ok-stage.ensures.events
-          ∙ step (λ (h : Heard). h.id) (λ (h : Heard). h.event) heard_by (λ id y. refl) (λ id y. refl) q id c.loop-id.staged.events.items (events_of here.watches ns) (events_of i.watches ns) (before q) (c.loop-id.invariant.events q i e)
+          ∙ step (λ (h : StagedEvent). h.id) (λ (h : StagedEvent). h.event) staged_event (λ id y. refl) (λ id y. refl) q id c.loop-id.staged.events.items (events_of here.watches ns) (events_of i.watches ns) (before q) (c.loop-id.invariant.events q i e)
           (λ t. (new q t, ap (λ (x : Instance). events_of x.watches ns) (same q i e t)))
           ∙ ap (λ b. cond b (events_of i.watches ns) []) (more q);
       drops = λ q i e.
           ap (wds_to q) c.in_ok-stage.ensures.drops
-          ∙ step (λ (d : Ended). d.id) (λ (d : Ended). d.wd) ended_of (λ id y. refl) (λ id y. refl) q id c.loop-id.staged.drops.items (wds_ended here.watches ns) (wds_ended i.watches ns) (before q) (c.loop-id.invariant.drops q i e)
+          ∙ step (λ (d : StagedEnd). d.id) (λ (d : StagedEnd). d.wd) staged_end (λ id y. refl) (λ id y. refl) q id c.loop-id.staged.drops.items (wds_ended here.watches ns) (wds_ended i.watches ns) (before q) (c.loop-id.invariant.drops q i e)
           (λ t. (new q t, ap (λ (x : Instance). wds_ended x.watches ns) (same q i e t)))
           ∙ ap (λ b. cond b (wds_ended i.watches ns) []) (more q);
       left = λ q i e h.
