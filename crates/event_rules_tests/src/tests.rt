@@ -4,6 +4,7 @@ use event_rules::*;
 use inode_table::Table;
 use record_codec::{Bytes, Event, Name};
 use std::alloc::Global;
+use std::collections::VecDeque;
 use std::fmt::Debug;
 use std::marker::Model;
 use std::process::Abort;
@@ -396,12 +397,12 @@ fn shows(event: &Event, record: &Record) -> bool {
         && is_name(&event.name, record.3)
 }
 
-fn show(events: &[Event], records: &[Record]) -> bool {
+fn show(events: &VecDeque<Heard>, records: &[Record]) -> bool {
     events.len() == records.len()
         && events
             .iter()
             .zip(records)
-            .all(|(event, record)| shows(event, record))
+            .all(|(heard, record)| shows(&heard.event, record))
 }
 
 /// Watches a file.
@@ -431,11 +432,7 @@ fn raises(
     let are_for_it = staged.events.iter().all(|heard| heard.id == ID)
         && staged.drops.iter().all(|ended| ended.id == ID);
     holds(rt, "are_for_it", are_for_it);
-    let mut events = Vec::new(alloc);
-    while let Some(heard) = staged.events.pop_front() {
-        events.push(heard.event)?;
-    }
-    holds(rt, "show(&events, records)", show(&events, records));
+    holds(rt, "show(events, records)", show(&staged.events, records));
     let mut wds = Vec::new(alloc);
     for ended in &staged.drops {
         wds.push(ended.wd)?;

@@ -115,8 +115,7 @@ fn three_notices(alloc: Global) -> Result<Vec<Notice>, Refusal> {
     Ok(notices)
 }
 
-// How many growths staging has, each refused with all as it was. Then they are told, as the twin is, which stages them in
-// room that has grown before. None where one was not.
+// How many growths staging has, each refused with all as it was. Then they are told, as the twin is. None where one was not.
 fn stage_refused(
     alloc: Global,
     instances: &mut Instances,
@@ -124,7 +123,6 @@ fn stage_refused(
 ) -> Result<Option<u32>, Refusal> {
     let notices = three_notices(alloc)?;
     let mut grown = Staging::new(alloc);
-    twin.stage(&notices, &mut grown)?;
     for k in 1..MOST {
         let mut staging = Staging::new(alloc);
         let _ = refuse(alloc, k);
@@ -134,8 +132,8 @@ fn stage_refused(
             (Ok(()), false) => {
                 let _ = refuse_from(alloc, 1);
                 instances.tell(&notices, &mut staging);
-                let is_staged = twin.stage(&notices, &mut grown).is_ok();
-                let is_refused = was_refused(alloc) || !is_staged;
+                let is_refused = was_refused(alloc);
+                twin.stage(&notices, &mut grown)?;
                 twin.tell(&notices, &mut grown);
                 return Ok((!is_refused && are_alike(instances, twin)).then_some(k - 1));
             }
@@ -161,6 +159,22 @@ fn have_heard(instances: &Instances, count: usize) -> bool {
     (1..=CROWD).all(|id| waiting(instances, id) == count) && waiting(instances, CROWD + 1) == 0
 }
 
+// Tells the instances while growths are refused. Whether none was.
+fn tells_in_room(
+    alloc: Global,
+    instances: &mut Instances,
+    notices: &[Notice],
+    staging: &mut Staging,
+) -> Result<bool, Refusal> {
+    let _ = refuse_from(alloc, 1);
+    let staged = instances.stage(notices, staging);
+    let is_refused = was_refused(alloc);
+    staged?;
+    let _ = refuse_from(alloc, 1);
+    instances.tell(notices, staging);
+    Ok(!is_refused && !was_refused(alloc))
+}
+
 #[test]
 fn what_many_hear_takes_no_memory_again(rt: HostRuntime) -> Result<(), Fail> {
     let alloc = rt.alloc();
@@ -172,12 +186,9 @@ fn what_many_hear_takes_no_memory_again(rt: HostRuntime) -> Result<(), Fail> {
     instances.stage(&notices, &mut staging)?;
     instances.tell(&notices, &mut staging);
     let once = have_heard(&instances, 2);
-    let _ = refuse_from(alloc, 1);
-    let is_staged = instances.stage(&notices, &mut staging).is_ok();
-    instances.tell(&notices, &mut staging);
-    let is_refused = was_refused(alloc);
-    let is_well = once && is_staged && !is_refused && have_heard(&instances, 4);
-    holds(&rt, "once && is_staged && !is_refused", is_well);
+    let takes_none = tells_in_room(alloc, &mut instances, &notices, &mut staging)?;
+    let is_well = once && takes_none && have_heard(&instances, 4);
+    holds(&rt, "once && takes_none", is_well);
     Ok(())
 }
 
