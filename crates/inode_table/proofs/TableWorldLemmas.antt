@@ -235,15 +235,15 @@ pub Stands-one : {t : Tree} {v w : World} → Stands t v → Stands t w → v �
 Stands-one {t} {v} {w} one other =
     let paths = map.same_map path_total path_exact v.paths w.paths (λ p. one.paths p ∙ sym (other.paths p)) in
     let files = map.same_map nat_cmp_total nat_cmp-IsAntisymmetric v.files w.files (λ n.
-        elim (map.get v.files n) as (λ o. map.get v.files n ≡ o → o ≡ map.get w.files n) [
-          | Some f ↦ λ is.
-              let u = one.no_more n f is in
-              sym is ∙ ap (map.get v.files) (sym u.3) ∙ one.files u.0 u.1 u.2 ∙ sym (other.files u.0 u.1 u.2) ∙ ap (map.get w.files) u.3
-          | None ↦ λ none. elim (map.get w.files n) as (λ o. map.get w.files n ≡ o → None ≡ o) [
-            | None ↦ λ _. refl
-            | Some f ↦ λ is. let u = other.no_more n f is in absurd (some_none none (ap (map.get v.files) (sym u.3) ∙ one.files u.0 u.1 u.2))
-          ] refl
-        ] refl) in
+    elim (map.get v.files n) as (λ o. map.get v.files n ≡ o → o ≡ map.get w.files n) [
+      | Some f ↦ λ is.
+          let u = one.no_more n f is in
+          sym is ∙ ap (map.get v.files) (sym u.3) ∙ one.files u.0 u.1 u.2 ∙ sym (other.files u.0 u.1 u.2) ∙ ap (map.get w.files) u.3
+      | None ↦ λ none. elim (map.get w.files n) as (λ o. map.get w.files n ≡ o → None ≡ o) [
+        | None ↦ λ _. refl
+        | Some f ↦ λ is. let u = other.no_more n f is in absurd (some_none none (ap (map.get v.files) (sym u.3) ∙ one.files u.0 u.1 u.2))
+      ] refl
+    ] refl) in
     λ i. record { paths = paths i; files = files i }
 
 -- the world of a table is the one for which it stands

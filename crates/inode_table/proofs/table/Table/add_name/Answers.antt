@@ -22,9 +22,9 @@ returns-clause-world c =
     world_of-is
     (
     let t = c.args.self.now in
-        let found = c.key_at-key.ensures in
-        let v = is_value (what_at t c.key_at-key.result) (live-there t c.rows_law.ensures.table c.args.old.now c.key_at-key.result found) in
-        subst (λ o. Stands c.add_name_at.new.self (linked w c.args.new.now o)) (sym (number-at stands c.args.old.now c.key_at-key.result v.0 found v.1))
-        (subst (λ p. Stands c.add_name_at.new.self (with_path w p v.0.number)) ((λ i. c.parent_and_name.result.0.now ++ c.in_ok-copy.ensures i ∷ []) ∙ sym c.parent_and_name.ensures.parts)
-        (c.in_ok-add_name_at.ensures.world w c.parent_and_name.result.0.now v.0 stands c.key_at-directory.ensures v.1))
+    let found = c.key_at-key.ensures in
+    let v = is_value (what_at t c.key_at-key.result) (live-there t c.rows_law.ensures.table c.args.old.now c.key_at-key.result found) in
+    subst (λ o. Stands c.add_name_at.new.self (linked w c.args.new.now o)) (sym (number-at stands c.args.old.now c.key_at-key.result v.0 found v.1))
+    (subst (λ p. Stands c.add_name_at.new.self (with_path w p v.0.number)) ((λ i. c.parent_and_name.result.0.now ++ c.in_ok-copy.ensures i ∷ []) ∙ sym c.parent_and_name.ensures.parts)
+    (c.in_ok-add_name_at.ensures.world w c.parent_and_name.result.0.now v.0 stands c.key_at-directory.ensures v.1))
     )
