@@ -6,5 +6,8 @@ use Rattle.tree_ops.proofs.carrying.chmod.Goals as goal
 pub set_mode-requires : goal.set_mode-requires
 set_mode-requires c = record { there = subst (λ p. IsSome (look (world_of c.args.table.now) p)) (sym c.names.ensures) c.requires.there }
 
-pub returns-clause-world : goal.returns-clause-world
-returns-clause-world c = c.set_mode.ensures.world ∙ ap (λ p. changed_at (world_of c.args.table.now) p (λ f. record f { mode = c.args.mode })) c.names.ensures
+pub returns : goal.returns
+returns c = record {
+  world =
+      c.set_mode.ensures.world ∙ ap (λ p. changed_at (world_of c.args.table.now) p (λ f. record f { mode = c.args.mode })) c.names.ensures;
+}

@@ -1,6 +1,7 @@
 use Rattle.std.proofs.Common.{◌≡◌, ◌≢◌, ◌==◌, if◌then◌else◌, Bool, ℕ, ◌+◌, ◌<◌, ◌^◌, Option, Some, None, IfSome, true, false, nat_lt, length, ◌&&◌, ◌≤◌, List, refl, sym, ap, subst, ◌∙◌, arith}
 use borrow.Author.Tests.{ltb-true, ltb-false, eq-eqb, ne_eqb}
 use Rattle.inode_table.specs.declared.seen.Seen.{Seen}
+use Rattle.std.specs.FinMap as finmap
 use Rattle.tree_paths.specs.Rows.{first_row}
 use Rattle.inode_table.specs.Bytes.{written}
 use Rattle.inode_table.specs.TableWorld.{world_of}
@@ -248,7 +249,7 @@ returns-in_ok-rename-in-Rename2-2-clause-world c =
     (by-test (world_of c.rename-in-Rename2-2.new.table) (world_of c.args.table.now) c.in-Rename2-2.old c.in-Rename2-2.new c.in-Rename2-2.flags false off (c.in_ok-rename-in-Rename2-2.ensures.world))
 
 pub make-requires-clause-unused : goal.make-requires-clause-unused
-make-requires-clause-unused c = next-free (world_of c.args.table.now) c.args.ready.counts.next_number c.requires.ready.numbers
+make-requires-clause-unused c = subst (λ n. finmap.get (world_of c.args.table.now).files n ≡ None) (sym (ap (λ (r : Checked). r.counts.next_number) c.ready.view_is)) (next-free (world_of c.args.table.now) c.args.ready.counts.next_number c.requires.ready.numbers)
 
 pub make-requires-in-Mkdir-clause-unused : goal.make-requires-in-Mkdir-clause-unused
-make-requires-in-Mkdir-clause-unused c = next-free (world_of c.args.table.now) c.args.ready.counts.next_number c.requires.ready.numbers
+make-requires-in-Mkdir-clause-unused c = subst (λ n. finmap.get (world_of c.args.table.now).files n ≡ None) (sym (ap (λ (r : Checked). r.counts.next_number) c.ready.view_is)) (next-free (world_of c.args.table.now) c.args.ready.counts.next_number c.requires.ready.numbers)

@@ -11,5 +11,8 @@ drop_name-requires-clause-named c = subst (λ p. p ≢ []) (sym c.names.ensures)
 pub drop_name-requires-clause-there : goal.drop_name-requires-clause-there
 drop_name-requires-clause-there c = subst (λ p. IsSomeAnd (look (world_of c.args.table.now) p) (λ seen. seen.has_names ≡ false)) (sym c.names.ensures) c.requires.there
 
-pub returns-clause-world : goal.returns-clause-world
-returns-clause-world c = c.drop_name.ensures.world ∙ ap (after_unlink (world_of c.args.table.now)) c.names.ensures
+pub returns : goal.returns
+returns c = record {
+  world =
+      c.drop_name.ensures.world ∙ ap (after_unlink (world_of c.args.table.now)) c.names.ensures;
+}
