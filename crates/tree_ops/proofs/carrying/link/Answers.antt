@@ -1,4 +1,4 @@
-use Rattle.std.proofs.Common.{◌≡◌, ◌≢◌, [], OnOk, IsSome, IfSome, true, false, None, ◌+◌, ◌<◌, ◌^◌, ap, sym, subst, ◌∙◌}
+use Rattle.std.proofs.Common.{◌≡◌, ◌≢◌, [], IsSome, IfSome, true, false, None, ◌+◌, ◌<◌, ◌^◌, ap, sym, subst, ◌∙◌}
 use Rattle.std.specs.FinMap as finmap
 use Rattle.inode_table.specs.Tree.{Tree}
 use Rattle.inode_table.specs.Refusals.{is_directory_seen, parent_of}

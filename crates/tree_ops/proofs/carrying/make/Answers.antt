@@ -1,9 +1,9 @@
-use Rattle.std.proofs.Common.{◌≡◌, ◌≢◌, [], OnOk, None, true, sym, ap, subst, ◌∙◌}
+use Rattle.std.proofs.Common.{◌≢◌, [], sym, ap, subst, ◌∙◌}
 use Rattle.std.specs.FinMap as finmap
 use Rattle.inode_table.specs.Tree.{Tree}
 use Rattle.inode_table.specs.Refusals.{is_directory_seen, parent_of}
-use Rattle.inode_table.specs.TableWorld.{world_in, world_of}
-use Rattle.inode_table.specs.World.{World, look, with_file}
+use Rattle.inode_table.specs.TableWorld.{world_in}
+use Rattle.inode_table.specs.World.{look, with_file}
 use Rattle.std.proofs.lemmas.Result.{on_ok_weaker, on_err_weaker}
 use Rattle.tree_ops.proofs.carrying.make.Goals as goal
 

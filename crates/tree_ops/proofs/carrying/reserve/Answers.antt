@@ -1,4 +1,4 @@
-use Rattle.std.proofs.Common.{◌≡◌, IsSome, false, sym, subst, ◌∙◌}
+use Rattle.std.proofs.Common.{◌≡◌, IsSome, false, sym, subst}
 use Rattle.inode_table.specs.Refusals.{is_directory_seen}
 use Rattle.inode_table.specs.TableWorld.{world_of}
 use Rattle.inode_table.specs.World.{look}

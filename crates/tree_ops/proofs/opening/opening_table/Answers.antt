@@ -1,6 +1,6 @@
 use Rattle.std.proofs.Common.{sym, subst}
 use Rattle.std.proofs.lemmas.Result.{IfOk-weaker}
-use Rattle.inode_table.specs.TableWorld.{HasNumbersBelow, world_of}
+use Rattle.inode_table.specs.TableWorld.{HasNumbersBelow}
 use Rattle.inode_table.specs.World.{IsWhole}
 use Rattle.tree_ops.proofs.Numbers.{numbers-opening}
 use Rattle.tree_ops.proofs.WorldsStay.{IsWhole-opening}
