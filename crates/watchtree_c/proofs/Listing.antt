@@ -6,6 +6,8 @@ use Rattle.std.proofs.Math.Seq.{take-append-add}
 use Rattle.std.proofs.lemmas.Bool.{cases_lt}
 use Rattle.std.proofs.lemmas.List.{append-nil, drop-drop, drop_all, length-drop, length-take, take_all, take_at, drop_at, take_more, take-append-drop, take-append-le}
 use Rattle.std.proofs.lemmas.Grind.{flat_map-append}
+use Rattle.std.proofs.lemmas.Slice.{put_mid-paste}
+use borrow.Rule.Slice.PartMut.{put_mid}
 use Rattle.watchtree_c.specs.Answers.{count_number, overlaid}
 use Rattle.watchtree_c.specs.Listings.{ended}
 
@@ -42,29 +44,43 @@ full xs ys old le =
     let none : drop (length xs) old ≡ drop (length (xs ++ ys)) old = drop_all (length xs) old le ∙ sym (drop_all (length (xs ++ ys)) old (omega (arith, total, le))) in
     ap (λ (t : List ℕ). take (length old) xs ++ t) none ∙ ap (λ (t : List ℕ). t ++ drop (length (xs ++ ys)) old) (sym (take-append-le (length old) xs ys le))
 
-pub more : (xs ys old now new : List ℕ) (len : ℕ) → len ≡ min (length xs) (2 ^ 64 - 1) → length now < 2 ^ 64 → now ≡ overlaid xs old
-    → new ≡ take (min len (length now)) now ++ overlaid ys (drop (min len (length now)) now) → new ≡ overlaid (xs ++ ys) old
-more xs ys old now new len is fits before after =
+-- a write from a place to the end
+to_end : (now mid : List ℕ) (s : ℕ) → length mid ≡ length now - s → put_mid s (length now - s) now mid ≡ take s now ++ mid
+to_end now mid s len =
+    let k = length now - s in
+    put_mid-paste s k now mid mid k refl refl (sym len) ∙ ap (λ (t : List ℕ). take s now ++ (t ++ drop (s + k) now)) (take_all k mid (omega (arith, len)))
+    ∙ ap (λ (t : List ℕ). take s now ++ (mid ++ t)) (drop_all (s + k) now (omega arith)) ∙ ap (λ (t : List ℕ). take s now ++ t) (append-nil mid)
+
+at_place : (xs ys old now : List ℕ) (len s : ℕ) → len ≡ min (length xs) (2 ^ 64 - 1) → s ≡ min len (length now) → length now < 2 ^ 64 → now ≡ overlaid xs old
+    → take s now ++ overlaid ys (drop s now) ≡ overlaid (xs ++ ys) old
+at_place xs ys old now len s is place fits before =
     let same : length now ≡ length old = ap length before ∙ length-overlaid xs old in
     elim (cases_lt (length xs) (length old)) [
       | inl lt ↦
-          let k : min len (length now) ≡ length xs = omega (arith, lt, same, is, fits) in
-          after ∙ ap (λ (j : ℕ). take j now ++ overlaid ys (drop j now)) k
+          let k : s ≡ length xs = omega (arith, lt, same, is, place, fits) in
+          ap (λ (j : ℕ). take j now ++ overlaid ys (drop j now)) k
           ∙ ap (λ (t : List ℕ). take (length xs) t ++ overlaid ys (drop (length xs) t)) before ∙ roomy xs ys old (omega (arith, lt))
       | inr ge ↦
-          let k : min len (length now) ≡ length now = omega (arith, ge, same, is, fits) in
-          after ∙ ap (λ (j : ℕ). take j now ++ overlaid ys (drop j now)) k
+          let k : s ≡ length now = omega (arith, ge, same, is, place, fits) in
+          ap (λ (j : ℕ). take j now ++ overlaid ys (drop j now)) k
           ∙ ap (λ (t : List ℕ). t ++ overlaid ys (drop (length now) now)) (take_all (length now) now (omega arith))
           ∙ ap (λ (t : List ℕ). now ++ overlaid ys t) (drop_all (length now) now (omega arith))
           ∙ ap (λ (t : List ℕ). now ++ t) (overlaid-nothing ys) ∙ append-nil now ∙ before ∙ full xs ys old ge
     ]
 
+-- bytes that are put behind others
+pub more : (xs ys old now mid : List ℕ) (len s : ℕ) → len ≡ min (length xs) (2 ^ 64 - 1) → s ≡ min len (length now) → length now < 2 ^ 64 → now ≡ overlaid xs old
+    → mid ≡ overlaid ys (drop s now) → put_mid s (length now - s) now mid ≡ overlaid (xs ++ ys) old
+more xs ys old now mid len s is place fits before put =
+    to_end now mid s (ap length put ∙ length-overlaid ys (drop s now) ∙ length-drop s now) ∙ ap (λ (t : List ℕ). take s now ++ t) put
+    ∙ at_place xs ys old now len s is place fits before
+
 -- the names before one, and it
-pub names_next : (names : List (List ℕ)) (i : ℕ) → i < length names → flat_map ended (take (i + 1) names) ≡ (flat_map ended (take i names) ++ get_or names i []) ++ 0 ∷ []
-names_next names i lt =
-    ap (flat_map ended) (take_more names i [] lt) ∙ flat_map-append ended (take i names) (get_or names i [] ∷ [])
-    ∙ ap (λ (t : List ℕ). flat_map ended (take i names) ++ t) (append-nil (ended (get_or names i [])))
-    ∙ sym (append_assoc (flat_map ended (take i names)) (get_or names i []) (0 ∷ []))
+pub names_next : (names : List (List ℕ)) (i : ℕ) (x : List ℕ) → i < length names → x ≡ get_or names i x
+    → flat_map ended (take (i + 1) names) ≡ (flat_map ended (take i names) ++ x) ++ 0 ∷ []
+names_next names i x lt is =
+    ap (flat_map ended) (take_more names i x lt ∙ ap (λ (y : List ℕ). take i names ++ y ∷ []) (sym is)) ∙ flat_map-append ended (take i names) (x ∷ [])
+    ∙ ap (λ (t : List ℕ). flat_map ended (take i names) ++ t) (append-nil (ended x)) ∙ sym (append_assoc (flat_map ended (take i names)) x (0 ∷ []))
 
 -- a count that stops at the greatest number tells as much
 pub count_same : (n : ℕ) → count_number (min n (2 ^ 64 - 1)) ≡ count_number n
