@@ -1,6 +1,6 @@
 //! The calls of a script by a plain Rust program, for benchmarks: what one would write by hand over std's collections, with
-//! a journal, and without a contract or a proof. It reads a script on standard input and prints what watchtree prints, but
-//! for scripts with faults, for whose lines it stops.
+//! a journal, and without a contract or a proof. It reads a script on standard input and prints what watchtree prints for the
+//! scripts of bench/. Of other scripts it may refuse by another error, or stop at a line with a fault.
 
 use std::collections::{BTreeMap, HashMap, VecDeque};
 use std::io::{self, Read, Write};
