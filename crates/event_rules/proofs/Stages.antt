@@ -1,11 +1,13 @@
 -- One notice more.
-use Rattle.std.proofs.Common.{◌≡◌, ℕ, ◌+◌, ◌<◌, List, [], ◌∷◌, ◌++◌, length, take, get_or, sym, ap, ◌∙◌, append_assoc}
-use Rattle.std.specs.Prelude.{ℤ, fold}
-use Rattle.std.proofs.lemmas.List.{append-nil, take_more}
+use Rattle.std.proofs.Common.{◌≡◌, ℕ, true, ◌+◌, ◌<◌, List, [], ◌∷◌, ◌++◌, Some, length, take, map, get_or, sym, ap, ◌∙◌, append_assoc}
+use Rattle.std.specs.Prelude.{ℤ, fold, if◌then◌else◌}
+use Rattle.std.proofs.lemmas.List.{append-nil, map-append, take_more}
 use Rattle.record_codec.specs.declared.event.Event.{Event}
-use Rattle.watch_table.specs.Watching.{Watching, removed}
+use Rattle.watch_table.specs.Watching.{Watch, Watching, removed, watch_of}
 use Rattle.event_rules.specs.declared.notice.Notice.{Notice}
-use Rattle.event_rules.specs.Raised.{raised, ended, left, events_of, wds_ended, watches_after}
+use Rattle.event_rules.specs.declared.staging.StagedEvent.{StagedEvent}
+use Rattle.event_rules.specs.Raised.{raised, raised_by, ended, ends_watch, event_told, ignored, left, told_number, events_of, wds_ended, watches_after}
+use Rattle.event_rules.specs.Staging.{staged_event}
 
 events_of-push : (w : Watching) (ns : List Notice) (n : Notice) → events_of w (ns ++ n ∷ []) ≡ events_of w ns ++ raised (watches_after w ns) n
 events_of-push w [] n = append-nil (raised w n)
@@ -31,3 +33,12 @@ module _ (w : Watching) (left_by_removals : (ns : List Notice) → fold removed 
   pub wds_more : (new : List ℤ) → new ≡ wds ++ ended (fold removed w wds) n → new ≡ wds_ended w (take (i + 1) ns)
   wds_more new is =
       is ∙ (λ j. was j ++ ended (there j) n) ∙ sym (ap (wds_ended w) more ∙ wds_ended-push w (take i ns) n)
+
+-- the events of a notice that ends the watch
+pub heard_ended : (id : ℕ) (w : Watching) (n : Notice) (watch : Watch) (was told new : List StagedEvent) → watch_of w (told_number n) ≡ Some watch → ends_watch n watch ≡ true
+    → told ≡ was ++ map (staged_event id) (event_told n watch) → new ≡ told ++ staged_event id (ignored watch.0) ∷ [] → new ≡ was ++ map (staged_event id) (raised w n)
+unfolding raised
+heard_ended id w n watch was told new there ends so_far is =
+    is ∙ ap (λ hs. hs ++ staged_event id (ignored watch.0) ∷ []) so_far ∙ append_assoc was (map (staged_event id) (event_told n watch)) (staged_event id (ignored watch.0) ∷ [])
+    ∙ ap (λ hs. was ++ hs) (sym (map-append (staged_event id) (event_told n watch) (ignored watch.0 ∷ []))
+    ∙ ap (λ b. map (staged_event id) (event_told n watch ++ (if b then ignored watch.0 ∷ [] else []))) (sym ends) ∙ ap (λ o. map (staged_event id) (raised_by n o)) (sym there))

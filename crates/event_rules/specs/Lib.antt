@@ -1,3 +1,4 @@
 pub mod Table
 pub mod Raised
 pub mod Laws
+pub mod Staging

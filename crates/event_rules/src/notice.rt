@@ -3,6 +3,7 @@
 ghost use Rattle.std.specs.Prelude.{◌≡◌, ◌∷◌, ◌++◌, [], OnOk};
 
 use record_codec::Name;
+use smallvec::SmallVec;
 use std::alloc::{AllocError, Global};
 use std::marker::Model;
 
@@ -44,9 +45,22 @@ impl Notice {
     }
 }
 
-/// Notices, of which contracts see the list.
+impl Default for Notice {
+    ghost use Rattle.event_rules.specs.declared.notice.Notice.TheVariants.{Gone};
+
+    ghost is_default = { λ notice. notice ≡ Gone 0 };
+
+    fn default() -> Notice {
+        Notice::Gone { number: 0 }
+    }
+}
+
+/// How many notices a call has at most: a write, a rename that replaces a file, and an exchange.
+const MOST: usize = 6;
+
+/// Notices, of which contracts see the list. Those of a call take no memory beside it.
 pub struct Notices {
-    notices: Vec<Notice>,
+    notices: SmallVec<Notice, MOST>,
 }
 
 impl Drop for Notices {
@@ -70,7 +84,7 @@ impl Notices {
         ensures { result ≡ [] }
     {
         Notices {
-            notices: Vec::new(alloc),
+            notices: SmallVec::new(alloc),
         }
     }
 
@@ -86,6 +100,6 @@ impl Notices {
     pub fn as_slice(&self) -> &[Notice]
         ensures { result.now ≡ self.now }
     {
-        &self.notices
+        self.notices.as_slice()
     }
 }

@@ -1,25 +1,70 @@
-//! The events that notices raise for the watches of one instance.
+//! The events that notices raise for the watches of an instance.
 
-ghost use Rattle.std.specs.Prelude.{◌≡◌, ◌++◌, fold, IfOk, IfErr, OnOk};
+ghost use Rattle.std.specs.Prelude.{◌≡◌, ◌++◌, [], fold, map, IfOk, IfErr, OnOk};
 ghost use Rattle.std.specs.Option.{option_to_list};
 ghost use Rattle.watch_table.specs.Masks.{has_any};
 ghost use Rattle.watch_table.specs.Watching.{removed, watch_of};
+ghost use Rattle.event_rules.specs.Staging.{staged_end, staged_event};
 ghost use Rattle.event_rules.specs.Raised.{asks_for, ended, ends_watch, event_told, events_of, ignored, raised, watches_after, wds_ended};
 
 use crate::laws::{removals_leave_the_rest, removed_watches_are_left_out};
 use crate::notice::{NO_COOKIE, Notice};
-use record_codec::{Event, Events, bits};
+use record_codec::{Event, bits};
 use std::alloc::{AllocError, Global};
+use std::collections::VecDeque;
 use tree_paths::Refusal;
 use watch_table::Watches;
 
-/// What notices raise for an instance.
+/// An event that an instance hears.
+#[derive(Debug, Drop, PartialEq, Eq)]
+pub struct StagedEvent {
+    /// The number of the instance.
+    pub id: u32,
+    /// The event.
+    pub event: Event,
+}
+
+/// A watch of an instance that ends.
+#[derive(Clone, Copy, Debug, PartialEq, Eq)]
+pub struct StagedEnd {
+    /// The number of the instance.
+    pub id: u32,
+    /// The descriptor of the watch.
+    pub wd: i32,
+}
+
+/// What notices raise for instances. Its room stays when it is emptied, so that it is used again.
 #[derive(Drop)]
 pub struct Staged {
-    /// The events, in order.
-    pub events: Events,
-    /// The descriptors of the watches that end, in order. [`Watches::remove`] of each in turn leaves the others.
-    pub drops: Vec<i32>,
+    /// The events, for each instance in order.
+    pub events: VecDeque<StagedEvent>,
+    /// The watches that end, for each instance in order. [`Watches::remove`] of each in turn leaves the others.
+    pub drops: Vec<StagedEnd>,
+    /// The descriptors of the watches that end of the instance that was staged last.
+    pub wds: Vec<i32>,
+}
+
+impl Staged {
+    /// Nothing. It takes no memory.
+    pub fn new(alloc: Global) -> Staged
+        ensures events { result.events.items ≡ [] }
+        ensures drops { result.drops.items ≡ [] }
+    {
+        Staged {
+            events: VecDeque::new(alloc),
+            drops: Vec::new(alloc),
+            wds: Vec::new(alloc),
+        }
+    }
+
+    /// Empties it.
+    pub fn clear(&mut self)
+        ensures events { self.new.events.items ≡ [] }
+        ensures drops { self.new.drops.items ≡ [] }
+    {
+        self.events.clear();
+        self.drops.clear();
+    }
 }
 
 /// The event that says that the watch of a descriptor has ended. It takes no memory.
@@ -34,49 +79,94 @@ pub fn ignored(wd: i32) -> Event
     }
 }
 
-/// The events that notices raise for an instance, and the watches that they end. Nothing is changed.
+/// Stages for an instance the events that notices raise, and the watches that they end, behind what was staged.
 ///
 /// # Errors
 /// `ENOMEM` alone.
-pub fn stage(alloc: Global, watches: &Watches, notices: &[Notice]) -> Result<Staged, Refusal>
-    ensures events { IfOk result (λ staged. staged.events ≡ events_of watches.now notices.now) }
-    ensures drops { IfOk result (λ staged. staged.drops.items ≡ wds_ended watches.now notices.now) }
-    ensures left { IfOk result (λ staged. fold removed watches.now staged.drops.items ≡ watches_after watches.now notices.now) }
+pub fn stage(
+    id: u32,
+    watches: &Watches,
+    notices: &[Notice],
+    staged: &mut Staged,
+) -> Result<(), Refusal>
+    ensures events { OnOk result (staged.new.events.items ≡ staged.old.events.items ++ map (staged_event id) (events_of watches.now notices.now)) }
+    ensures drops { OnOk result (staged.new.drops.items ≡ staged.old.drops.items ++ map (staged_end id) (wds_ended watches.now notices.now)) }
+    ensures left { OnOk result (fold removed watches.now (wds_ended watches.now notices.now) ≡ watches_after watches.now notices.now) }
     ensures memory { IfErr result (λ refusal. refusal ≡ Refusal.Enomem) }
 {
     removals_leave_the_rest();
     let _next_wd = watches.next_wd();
-    let mut events = Vec::new(alloc);
-    let mut wds = Vec::new(alloc);
+    staged.wds.clear();
+    raise(id, watches, notices, &mut staged.events, &mut staged.wds)?;
+    end(id, &staged.wds, &mut staged.drops)?;
+    Ok(())
+}
+
+// Adds the events that notices raise for an instance, and the descriptors of the watches that they end, where none is there.
+fn raise(
+    id: u32,
+    watches: &Watches,
+    notices: &[Notice],
+    events: &mut VecDeque<StagedEvent>,
+    wds: &mut Vec<i32>,
+) -> Result<(), AllocError>
+    requires { wds.old.items ≡ [] }
+    ensures events { OnOk result (events.new.items ≡ events.old.items ++ map (staged_event id) (events_of watches.now notices.now)) }
+    ensures ended { OnOk result (wds.new.items ≡ wds_ended watches.now notices.now) }
+{
+    removals_leave_the_rest();
+    let _next_wd = watches.next_wd();
     for notice in notices {
-        stage_notice(watches, notice, &mut events, &mut wds)?;
+        raise_one(id, watches, notice, events, wds)?;
     }
-    Ok(Staged {
-        events: Events::from_vec(events),
-        drops: wds,
-    })
+    Ok(())
+}
+
+// Adds the watches of an instance that end.
+fn end(id: u32, wds: &[i32], drops: &mut Vec<StagedEnd>) -> Result<(), AllocError>
+    ensures { OnOk result (drops.new.items ≡ drops.old.items ++ map (staged_end id) wds.now) }
+{
+    for wd in wds {
+        drops.push(StagedEnd { id, wd: *wd })?;
+    }
+    Ok(())
 }
 
 // Adds what a notice raises for the watches that are left without the descriptors, and the descriptor of the watch that it ends.
 #[tactic(auto, unfolding(crate::specs::Raised::raised, crate::specs::Raised::ended))]
-fn stage_notice(
+fn raise_one(
+    id: u32,
     watches: &Watches,
     notice: &Notice,
-    events: &mut Vec<Event>,
+    events: &mut VecDeque<StagedEvent>,
     wds: &mut Vec<i32>,
 ) -> Result<(), AllocError>
-    ensures events { OnOk result (events.new.items ≡ events.old.items ++ raised (fold removed watches.now wds.old.items) notice.now) }
+    ensures events { OnOk result (events.new.items ≡ events.old.items ++ map (staged_event id) (raised (fold removed watches.now wds.old.items) notice.now)) }
     ensures ended { OnOk result (wds.new.items ≡ wds.old.items ++ ended (fold removed watches.now wds.old.items) notice.now) }
 {
     let Some(watch) = watch_left(watches, wds, notice.number()) else {
         return Ok(());
     };
-    if let Some(event) = event_told(notice, watch)? {
-        events.push(event)?;
-    }
+    raise_told(id, notice, watch, events)?;
     if ends_watch(notice, watch) {
-        events.push(ignored(watch.0))?;
+        let event = ignored(watch.0);
+        events.push_back(StagedEvent { id, event })?;
         wds.push(watch.0)?;
+    }
+    Ok(())
+}
+
+// Adds the event of a notice, where the watch asks for it.
+fn raise_told(
+    id: u32,
+    notice: &Notice,
+    watch: (i32, u32),
+    events: &mut VecDeque<StagedEvent>,
+) -> Result<(), AllocError>
+    ensures { OnOk result (events.new.items ≡ events.old.items ++ map (staged_event id) (event_told notice.now watch)) }
+{
+    if let Some(event) = event_told(notice, watch)? {
+        events.push_back(StagedEvent { id, event })?;
     }
     Ok(())
 }

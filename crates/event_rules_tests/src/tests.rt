@@ -4,6 +4,7 @@ use event_rules::*;
 use inode_table::Table;
 use record_codec::{Bytes, Event, Name};
 use std::alloc::Global;
+use std::collections::VecDeque;
 use std::fmt::Debug;
 use std::marker::Model;
 use std::process::Abort;
@@ -396,12 +397,12 @@ fn shows(event: &Event, record: &Record) -> bool {
         && is_name(&event.name, record.3)
 }
 
-fn show(events: &[Event], records: &[Record]) -> bool {
+fn show(events: &VecDeque<StagedEvent>, records: &[Record]) -> bool {
     events.len() == records.len()
         && events
             .iter()
             .zip(records)
-            .all(|(event, record)| shows(event, record))
+            .all(|(heard, record)| shows(&heard.event, record))
 }
 
 /// Watches a file.
@@ -413,6 +414,9 @@ fn watch(watches: &mut Watches, number: u32, bits: u32) -> Result<i32, Refusal> 
     watches.add(number, mask, false)
 }
 
+/// The number of the instance.
+const ID: u32 = 7;
+
 /// The call raises just these events and ends just these watches, which are removed.
 fn raises(
     rt: &impl Abort,
@@ -423,19 +427,19 @@ fn raises(
     drops: &[i32],
 ) -> Result<(), Refusal> {
     let notices = told?;
-    let staged = stage(alloc, watches, notices.as_slice())?;
-    holds(
-        rt,
-        "show(staged.events.as_slice(), records)",
-        show(staged.events.as_slice(), records),
-    );
-    holds(
-        rt,
-        "staged.drops.as_slice() == drops",
-        staged.drops.as_slice() == drops,
-    );
-    for wd in &staged.drops {
-        watches.remove(*wd)?;
+    let mut staged = Staged::new(alloc);
+    stage(ID, watches, notices.as_slice(), &mut staged)?;
+    let are_for_it = staged.events.iter().all(|heard| heard.id == ID)
+        && staged.drops.iter().all(|ended| ended.id == ID);
+    holds(rt, "are_for_it", are_for_it);
+    holds(rt, "show(events, records)", show(&staged.events, records));
+    let mut wds = Vec::new(alloc);
+    for ended in &staged.drops {
+        wds.push(ended.wd)?;
+    }
+    holds(rt, "wds == drops", wds.as_slice() == drops);
+    for wd in wds {
+        watches.remove(wd)?;
     }
     Ok(())
 }

@@ -15,7 +15,7 @@ use Rattle.watch_table.proofs.Maps.{get-from_map, from_map-insert, from_map-remo
 use Rattle.instance_table.specs.declared.index.Index.{Index}
 use Rattle.instance_table.specs.declared.instance.Instance.{Instance}
 use Rattle.instance_table.specs.declared.instances.Instances.TheInside.{Inside}
-use Rattle.instance_table.specs.Index.{is_noted}
+use Rattle.instance_table.specs.Index.{HasNoEmptyRow, is_noted}
 use Rattle.instance_table.specs.Instances.{Instances, WaitingAreEvents, instance_of, changed, waiting_of, watches_file}
 use Rattle.instance_table.specs.Views.{instances_of, IsIndexed}
 
@@ -127,12 +127,14 @@ module _ (a : Inside) (whole : IsIndexed a) where
             | true ↦ λ t. ap (λ w. is_some (watch_of w n)) (sym same) ∙ ap (watches_file n) (sym (there id i was)) ∙ ap (λ x. watches_file n (instance_of (instances_of a) x)) (sym (is-same q id t))
             | false ↦ λ t. refl
           ] refl);
+      rows = whole.rows;
       records = subst WaitingAreEvents (sym instances_of-put) (waiting-put (instances_of a) id j whole.records events);
     }
 
     -- an instance whose watches change as the index does
-    pub IsIndexed-changed : (index : Index) → ((n q : ℕ) → is_noted index n q ≡ cond (eqb q id) (is_some (watch_of j.watches n)) (is_noted a.index n q)) → j.queue ≡ i.queue → IsIndexed (record a { opened = m; index = index })
-    IsIndexed-changed index same queue = record {
+    pub IsIndexed-changed : (index : Index) → ((n q : ℕ) → is_noted index n q ≡ cond (eqb q id) (is_some (watch_of j.watches n)) (is_noted a.index n q)) → HasNoEmptyRow index → j.queue ≡ i.queue → IsIndexed (record a { opened = m; index = index })
+    IsIndexed-changed index same rows queue = record {
+      rows = rows;
       noted = λ n q.
           same n q ∙ ap (cond (eqb q id) (is_some (watch_of j.watches n))) (whole.noted n q)
           ∙ sym (ap (λ x. watches_file n (instance_of x q)) instances_of-put ∙ watched-put (instances_of a) id j n q);
@@ -149,6 +151,7 @@ module _ (a : Inside) (whole : IsIndexed a) where
   pub IsIndexed-new : (m : BTreeMap ℕ Instance) (id : ℕ) (i : Instance) → tree.Updates nat_cmp a.opened m id (Some i) → instance_of (instances_of a) id ≡ None
       → ((n : ℕ) → watch_of i.watches n ≡ None) → AreEvents i.queue.waiting → IsIndexed (record a { opened = m })
   IsIndexed-new m id i put free none events = record {
+    rows = whole.rows;
     noted = λ n q.
         whole.noted n q
         ∙ sym (ap (λ x. watches_file n (instance_of x q)) (from_map-insert a.opened m id i put) ∙ watched-put (instances_of a) id i n q
@@ -161,8 +164,9 @@ module _ (a : Inside) (whole : IsIndexed a) where
 
   -- an instance less, which the index forgets
   pub IsIndexed-closed : (m : BTreeMap ℕ Instance) (index : Index) (id : ℕ) (i : Instance) → tree.Updates nat_cmp a.opened m id None → tree.get nat_cmp a.opened id ≡ Some i
-      → ((n q : ℕ) → is_noted index n q ≡ (not (is_some (watch_of i.watches n) && eqb q id) && is_noted a.index n q)) → IsIndexed (record a { opened = m; index = index })
-  IsIndexed-closed m index id i cut was forgotten = record {
+      → ((n q : ℕ) → is_noted index n q ≡ (not (is_some (watch_of i.watches n) && eqb q id) && is_noted a.index n q)) → HasNoEmptyRow index → IsIndexed (record a { opened = m; index = index })
+  IsIndexed-closed m index id i cut was forgotten rows = record {
+    rows = rows;
     noted = λ n q.
         forgotten n q
         ∙ ap (λ b. not (is_some (watch_of i.watches n) && eqb q id) && b) (whole.noted n q)

@@ -1,5 +1,5 @@
 -- What an index notes after its entry of a file has changed.
-use Rattle.std.proofs.Common.{◌≡◌, ℕ, Bool, true, false, not, cond, ◌||◌, ◌&&◌, eqb, Option, Some, None, is_some, refl, sym, ap, ◌∙◌}
+use Rattle.std.proofs.Common.{◌≡◌, ◌≢◌, ℕ, Bool, true, false, not, cond, ◌||◌, ◌&&◌, eqb, Option, Some, None, is_some, refl, sym, ap, ◌∙◌}
 use Rattle.std.specs.Option.{unwrap_or}
 use Rattle.std.specs.BTreeMap as tree
 use Rattle.std.specs.FinMap as map
@@ -8,7 +8,7 @@ use Rattle.std.specs.Ordering.{nat_cmp, eq_by_cmp}
 use Rattle.std.specs.Cmp.{nat_cmp_total, unsigned_tied, eq_by_cmp_equiv}
 use Rattle.instance_table.specs.declared.index.Index.{Index}
 use Rattle.instance_table.specs.Ids.{IdSet}
-use Rattle.instance_table.specs.Index.{ids_under, is_noted}
+use Rattle.instance_table.specs.Index.{HasNoEmptyRow, ids_under, is_noted}
 
 empty_not : (id : ℕ) → is_some (map.get (map.empty {X = Unit {0}} {R = nat_cmp}) id) ≡ false
 empty_not id = ap is_some (get-empty nat_cmp id)
@@ -34,6 +34,14 @@ is_some-cut false o = refl
 module _ (a b : Index) (number : ℕ) (w : Option IdSet) (h : (n : ℕ) → tree.get nat_cmp b.watchers n ≡ cond (eq_by_cmp nat_cmp number n) w (tree.get nat_cmp a.watchers n)) where
   under : (n : ℕ) → tree.get nat_cmp b.watchers n ≡ cond (eqb n number) w (tree.get nat_cmp a.watchers n)
   under n = h n ∙ ap (λ t. cond t w (tree.get nat_cmp a.watchers n)) ((eq_by_cmp_equiv nat_cmp_total).symm number n ∙ unsigned_tied n number)
+
+  -- no row is empty, where the entry is not
+  pub rows-kept : ((ids : IdSet) → w ≡ Some ids → ids ≢ map.empty) → HasNoEmptyRow a → HasNoEmptyRow b
+  rows-kept new rows n ids e =
+      elim (eqb n number) as (λ t. cond t w (tree.get nat_cmp a.watchers n) ≡ Some ids → ids ≢ map.empty) [
+        | true ↦ new ids
+        | false ↦ rows n ids
+      ] (sym (under n) ∙ e)
 
   -- the entry has one number more
   pub noted-put : (id : ℕ) → unwrap_or w map.empty ≡ map.insert (ids_under a number) id tt → (n q : ℕ) → is_noted b n q ≡ ((eqb n number && eqb q id) || is_noted a n q)
@@ -73,3 +81,21 @@ noted-off a b number id h same n q =
     off : (x : Bool) → false ≡ (not x && false)
     off true = refl
     off false = refl
+
+-- a set with a number in it is not empty
+pub put-not-empty : (ids : IdSet) (id : ℕ) → map.insert ids id tt ≢ map.empty
+put-not-empty ids id e =
+    Rattle.std.proofs.lemmas.Bool.false≢true (sym (empty_not id) ∙ ap (λ (m : IdSet). is_some (map.get m id)) (sym e) ∙ ap is_some (get-insert nat_cmp_total ids id tt id)
+    ∙ is_some-put (eq_by_cmp nat_cmp id id) (map.get ids id) ∙ ap (λ b. b || is_some (map.get ids id)) (unsigned_tied id id ∙ Rattle.std.proofs.lemmas.Bool.eq-eqb id id refl))
+
+-- a row that is this set
+pub row-is : (ids : IdSet) → ids ≢ map.empty → (row : IdSet) → Some ids ≡ Some row → row ≢ map.empty
+row-is ids full row e none = full (ap (λ o. unwrap_or o ids) e ∙ none)
+
+pub no-row : (row : IdSet) → ◌≡◌ {A = Option IdSet} None (Some row) → row ≢ map.empty
+no-row row e = absurd (Rattle.std.proofs.lemmas.Bool.false≢true (ap is_some e))
+
+-- a row to which a number was to be added
+pub row-added : {E : Type 0} (r : Rattle.std.specs.Prelude.Result (Unit {0}) E) (was now : IdSet) (id : ℕ) → Rattle.std.specs.Prelude.OnOk r (now ≡ map.insert was id tt) → Rattle.std.specs.Prelude.OnErr r (now ≡ was) → was ≢ map.empty → now ≢ map.empty
+row-added (Rattle.std.specs.Prelude.Ok x) was now id ok err full none = put-not-empty was id (sym ok ∙ none)
+row-added (Rattle.std.specs.Prelude.Err x) was now id ok err full none = full (sym err ∙ none)

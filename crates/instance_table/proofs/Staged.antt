@@ -1,23 +1,22 @@
 -- What is staged: who hears, and who does not.
-use Rattle.std.proofs.Common.{◌≡◌, ℕ, zero, suc, Bool, true, false, ◌||◌, ◌<◌, ◌≤◌, ◌+◌, List, [], ◌∷◌, ◌++◌, length, eqb, is_some, Option, Some, None, take, refl, sym, ap, ◌∙◌, subst, get_or, arith}
-use Rattle.std.specs.Prelude.{fold, All}
+use Rattle.std.proofs.Common.{◌≡◌, ℕ, zero, suc, Bool, true, false, cond, ◌||◌, ◌<◌, ◌≤◌, List, [], ◌∷◌, ◌++◌, length, eqb, is_some, Option, Some, None, take, map, refl, sym, ap, ◌∙◌, get_or, arith}
+use Rattle.std.specs.Prelude.{ℤ, fold, All}
 use Rattle.std.specs.FinMap as finmap
-use Rattle.std.specs.FinMap.{contains_key-keys, entries, entries_sorted}
-use Rattle.std.specs.List.{AllByRecursion, list_any}
+use Rattle.std.specs.FinMap.{contains_key-keys}
+use Rattle.std.specs.List.{AllByRecursion, filter, list_any}
 use Rattle.std.specs.List.Sorted.{IsStrictlySortedBy}
-use Rattle.std.specs.Ordering.{nat_cmp, eq_by_cmp}
+use Rattle.std.specs.Ordering.{nat_cmp, is_eq}
 use Rattle.std.specs.Cmp.{unsigned_tied}
+use Rattle.std.specs.declared.cmp.Ordering.TheVariants.{Less}
+use Rattle.std.proofs.lemmas.List.{append-nil}
 use Rattle.std.proofs.lemmas.List.Folds.{list_any_at}
-use Rattle.event_queue.specs.Backlogs.{after_offer}
 use Rattle.event_rules.specs.declared.notice.Notice.{Notice}
-use Rattle.event_rules.specs.Raised.{told_number, events_of, watches_after}
-use Rattle.watch_table.specs.Watching.{Watching, watch_of}
+use Rattle.event_rules.specs.Raised.{told_number, watches_after}
+use Rattle.watch_table.specs.Watching.{Watching, removed, watch_of}
 use Rattle.instance_table.specs.declared.instance.Instance.{Instance}
-use Rattle.instance_table.specs.declared.staging.Hearing.{Hearing}
 use Rattle.instance_table.specs.Ids.{IdSet}
-use Rattle.instance_table.specs.Instances.{Instances, instance_of, told, watches_file}
-use Rattle.instance_table.specs.Staging.{IsHeard, IsStaged, ids_heard}
-use Rattle.instance_table.proofs.Watchers.{rising, same-tests}
+use Rattle.instance_table.specs.Instances.{Instances, instance_of, watches_file}
+use Rattle.instance_table.proofs.Watchers.{same-tests}
 
 -- each number of the list of a set is in the set
 pub number-in : (ids : IdSet) (items : List ℕ) (k : ℕ) → items ≡ finmap.keys ids → k < length items → is_some (finmap.get ids (get_or items k 0)) ≡ true
@@ -30,25 +29,6 @@ number-in ids items k e h =
 pub nobody-hears : (ns : List Notice) → list_any (λ (n : Notice). watches_file (told_number n) None) ns ≡ false
 nobody-hears [] = refl
 nobody-hears (n ∷ ns) = nobody-hears ns
-
-pub all-push : {X : Type 0} (P : X → Type 0) (xs : List X) (x : X) → AllByRecursion P xs → P x → AllByRecursion P (xs ++ x ∷ [])
-all-push P [] x all p = (p, tt)
-all-push P (y ∷ xs) x all p = (all.0, all-push P xs x all.1 p)
-
-pub ids-push : (hs : List Hearing) (h : Hearing) → ids_heard (hs ++ h ∷ []) ≡ ids_heard hs ++ h.id ∷ []
-ids-push [] h = refl
-ids-push (x ∷ hs) h = ap (λ ids. x.id ∷ ids) (ids-push hs h)
-
-take-next : (xs : List ℕ) (k : ℕ) → k < length xs → take k xs ++ get_or xs k 0 ∷ [] ≡ take (suc k) xs
-take-next [] k h = absurd (omega arith)
-take-next (x ∷ xs) zero h = refl
-take-next (x ∷ xs) (suc k) h = ap (λ ys. x ∷ ys) (take-next xs k (omega arith))
-
-pub take-more : (xs : List ℕ) (k : ℕ) → k < length xs → take k xs ++ get_or xs k 0 ∷ [] ≡ take (k + 1) xs
-take-more xs k h = take-next xs k h ∙ ap (λ n. take n xs) (next k)
-  where
-    next : (n : ℕ) → suc n ≡ n + 1
-    next n = omega arith
 
 pub take-all : (xs : List ℕ) (k : ℕ) → length xs ≤ k → take k xs ≡ xs
 take-all [] zero h = refl
@@ -73,23 +53,89 @@ unwatched w [] h k d p = absurd (omega arith)
 unwatched w (n ∷ ns) h zero d p = none-of (watch_of w (told_number n)) (left (is_some (watch_of w (told_number n))) (list_any (λ (n : Notice). is_some (watch_of w (told_number n))) ns) h)
 unwatched w (n ∷ ns) h (suc k) d p = unwatched w ns (right (is_some (watch_of w (told_number n))) (list_any (λ (n : Notice). is_some (watch_of w (told_number n))) ns) h) k d (omega arith)
 
-module _
-    (events : (w : Watching) (ns : List Notice) → All (λ n. watch_of w (told_number n) ≡ None) ns → events_of w ns ≡ [])
-    (watches : (w : Watching) (ns : List Notice) → All (λ n. watch_of w (told_number n) ≡ None) ns → watches_after w ns ≡ w)
-    (m : Instances) (ns : List Notice) (ids : IdSet) (hear : (q : ℕ) → is_some (finmap.get ids q) ≡ list_any (λ (n : Notice). watches_file (told_number n) (instance_of m q)) ns) where
-  -- an instance that watches none of the files stays as it is
-  quiet : (i : Instance) → list_any (λ (n : Notice). watches_file (told_number n) (Some i)) ns ≡ false → told ns i ≡ i
-  quiet i h =
-      let none = unwatched i.watches ns h in
-      ap (λ es. record i { watches = watches_after i.watches ns; queue = fold after_offer i.queue es }) (events i.watches ns none) ∙ ap (λ w. record i { watches = w }) (watches i.watches ns none)
+-- ---- what is for one of several
 
-  pub staged : (items : List ℕ) (hs : List Hearing) (k : ℕ) → items ≡ finmap.keys ids → length items ≤ k → ids_heard hs ≡ take k items → AllByRecursion (IsHeard m ns) hs → IsStaged m ns hs
-  staged items hs k e done named heard =
-      let all : ids_heard hs ≡ finmap.keys ids = named ∙ take-all items k done ∙ e in
-      record {
-        heard = heard;
-        rising = subst (IsStrictlySortedBy nat_cmp) (sym all) (rising (entries ids) (entries_sorted ids));
-        others = λ q i off is.
-            let unheard : is_some (finmap.get ids q) ≡ false = contains_key-keys ids q ∙ sym (same-tests q (finmap.keys ids)) ∙ ap (list_any (λ x. eqb q x)) (sym all) ∙ off in
-            quiet i (ap (λ o. list_any (λ (n : Notice). watches_file (told_number n) o) ns) (sym is) ∙ sym (hear q) ∙ unheard);
-      }
+flip : (a b : ℕ) → eqb b a ≡ false → eqb a b ≡ false
+flip a b e = Rattle.std.proofs.lemmas.Bool.ne_eqb a b (λ is. Rattle.std.proofs.lemmas.Bool.false≢true (sym e ∙ Rattle.std.proofs.lemmas.Bool.eq-eqb b a (sym is)))
+
+above-at : (x : ℕ) (ys : List ℕ) (k : ℕ) → AllByRecursion (λ y. nat_cmp x y ≡ Less) ys → k < length ys → nat_cmp x (get_or ys k 0) ≡ Less
+above-at x [] k all h = absurd (omega arith)
+above-at x (y ∷ ys) zero all h = all.0
+above-at x (y ∷ ys) (suc k) all h = above-at x ys k all.1 (omega arith)
+
+-- a rising number is none of those before it
+pub once : (ids : List ℕ) (k : ℕ) → IsStrictlySortedBy nat_cmp ids → k < length ids → list_any (λ y. eqb (get_or ids k 0) y) (take k ids) ≡ false
+unfolding IsStrictlySortedBy
+once [] k sorted h = absurd (omega arith)
+once (x ∷ ids) zero sorted h = refl
+once (x ∷ ids) (suc k) sorted h =
+    let id = get_or ids k 0 in
+    let apart : eqb id x ≡ false = flip id x (sym (unsigned_tied x id) ∙ ap is_eq (above-at x ids k sorted.0 (omega arith))) in
+    ap (λ b. b || list_any (λ y. eqb id y) (take k ids)) apart ∙ once ids k sorted.1 (omega arith)
+
+module _ {X Y : Type 0} (id_of : X → ℕ) (what : X → Y) (label : ℕ → Y → X) (named : (id : ℕ) (y : Y) → id_of (label id y) ≡ id) (same : (id : ℕ) (y : Y) → what (label id y) ≡ y) where
+  abbrev pub to : ℕ → List X → List Y
+  to q xs = map what (filter (λ x. eqb q (id_of x)) xs)
+
+  to-append : (q : ℕ) (xs ys : List X) → to q (xs ++ ys) ≡ to q xs ++ to q ys
+  to-append q [] ys = refl
+  to-append q (x ∷ xs) ys =
+      elim (eqb q (id_of x)) as (λ t. map what (cond t (x ∷ filter (λ x. eqb q (id_of x)) (xs ++ ys)) (filter (λ x. eqb q (id_of x)) (xs ++ ys))) ≡ map what (cond t (x ∷ filter (λ x. eqb q (id_of x)) xs) (filter (λ x. eqb q (id_of x)) xs)) ++ to q ys) [
+        | true ↦ ap (λ zs. what x ∷ zs) (to-append q xs ys)
+        | false ↦ to-append q xs ys
+      ]
+
+  labelled : (q id : ℕ) (ys : List Y) → to q (map (label id) ys) ≡ cond (eqb q id) ys []
+  labelled q id [] = elim (eqb q id) as (λ t. ◌≡◌ {A = List Y} [] (cond t [] [])) [
+    | true ↦ refl
+    | false ↦ refl
+  ]
+  labelled q id (y ∷ ys) =
+      let rest : List X = filter (λ x. eqb q (id_of x)) (map (label id) ys) in
+      ap (λ n. map what (cond (eqb q n) (label id y ∷ rest) rest)) (named id y)
+      ∙ elim (eqb q id) as (λ t. map what rest ≡ cond t ys [] → map what (cond t (label id y ∷ rest) rest) ≡ cond t (y ∷ ys) []) [
+        | true ↦ λ h k. same id y k ∷ h k
+        | false ↦ λ h. h
+      ] (labelled q id ys)
+
+  -- all of it for one more
+  pub step : (q id : ℕ) (xs : List X) (ys all : List Y) (b : Bool) → to q xs ≡ cond b all [] → (eqb q id ≡ true → (b ≡ false) × (ys ≡ all)) → to q (xs ++ map (label id) ys) ≡ cond (b || eqb q id) all []
+  step q id xs ys all b was new =
+      to-append q xs (map (label id) ys) ∙ (λ k. was k ++ labelled q id ys k)
+      ∙ elim (eqb q id) as (λ t. eqb q id ≡ t → (cond b all [] ++ cond t ys []) ≡ cond (b || t) all []) [
+        | true ↦ λ t. let is = new t in (λ k. cond (is.0 k) all [] ++ is.1 k) ∙ sym (ap (λ x. cond (x || true) all []) is.0)
+        | false ↦ λ t. elim b as (λ x. (cond x all [] ++ []) ≡ cond (x || false) all []) [
+          | true ↦ append-nil all
+          | false ↦ refl
+        ]
+      ] refl
+
+-- ---- all of them
+
+module _ (m : Instances) (ns : List Notice) (ids : IdSet) (hear : (q : ℕ) → is_some (finmap.get ids q) ≡ list_any (λ (n : Notice). watches_file (told_number n) (instance_of m q)) ns)
+    (items : List ℕ) (k : ℕ) (is : items ≡ finmap.keys ids) (done : length items ≤ k) where
+  hearing : (q : ℕ) (i : Instance) → instance_of m q ≡ Some i → list_any (λ id. eqb q id) (take k items) ≡ list_any (λ (n : Notice). is_some (watch_of i.watches (told_number n))) ns
+  hearing q i e =
+      ap (list_any (λ id. eqb q id)) (take-all items k done ∙ is) ∙ same-tests q (finmap.keys ids) ∙ sym (contains_key-keys ids q) ∙ hear q
+      ∙ ap (λ o. list_any (λ (n : Notice). watches_file (told_number n) o) ns) e
+
+  -- what is there for those that hear is there for all, where there is nothing for the others
+  pub all-staged : {A : Type 0} (q : ℕ) (i : Instance) (mine all : List A) → instance_of m q ≡ Some i → mine ≡ cond (list_any (λ id. eqb q id) (take k items)) all []
+      → (All (λ n. watch_of i.watches (told_number n) ≡ None) ns → all ≡ []) → mine ≡ all
+  all-staged q i mine all e so none =
+      so ∙ ap (λ b. cond b all []) (hearing q i e)
+      ∙ elim (list_any (λ (n : Notice). is_some (watch_of i.watches (told_number n))) ns) as (λ b. list_any (λ (n : Notice). is_some (watch_of i.watches (told_number n))) ns ≡ b → cond b all [] ≡ all) [
+        | true ↦ λ h. refl
+        | false ↦ λ h. sym (none (unwatched i.watches ns h))
+      ] refl
+
+  -- the watches that are left
+  pub all-left : (q : ℕ) (i : Instance) (wds ended : List ℤ) → instance_of m q ≡ Some i → wds ≡ cond (list_any (λ id. eqb q id) (take k items)) ended []
+      → (list_any (λ id. eqb q id) (take k items) ≡ true → fold removed i.watches ended ≡ watches_after i.watches ns)
+      → (All (λ n. watch_of i.watches (told_number n) ≡ None) ns → watches_after i.watches ns ≡ i.watches) → fold removed i.watches wds ≡ watches_after i.watches ns
+  all-left q i wds ended e so left none =
+      ap (fold removed i.watches) so
+      ∙ elim (list_any (λ id. eqb q id) (take k items)) as (λ b. list_any (λ id. eqb q id) (take k items) ≡ b → fold removed i.watches (cond b ended []) ≡ watches_after i.watches ns) [
+        | true ↦ left
+        | false ↦ λ h. sym (none (unwatched i.watches ns (sym (hearing q i e) ∙ h)))
+      ] refl

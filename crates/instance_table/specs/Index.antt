@@ -1,5 +1,5 @@
 -- What an index of watchers notes.
-use Rattle.std.specs.Prelude.{ℕ, Bool, is_some}
+use Rattle.std.specs.Prelude.{◌≡◌, ◌≢◌, ℕ, Bool, Some, is_some}
 use Rattle.std.specs.Option.{unwrap_or}
 use Rattle.std.specs.BTreeMap as tree
 use Rattle.std.specs.FinMap as map
@@ -14,3 +14,7 @@ ids_under index number = unwrap_or (tree.get nat_cmp index.watchers number) map.
 -- whether an instance is noted for a file
 abbrev pub is_noted : Index → ℕ → ℕ → Bool
 is_noted index number id = is_some (map.get (ids_under index number) id)
+
+-- each file that has a row is watched: none of the rows is empty
+abbrev pub HasNoEmptyRow : Index → Type 0
+HasNoEmptyRow index = (number : ℕ) (ids : IdSet) → tree.get nat_cmp index.watchers number ≡ Some ids → ids ≢ map.empty

@@ -1,36 +1,40 @@
 -- What notices raise for the instances that hear any of them.
-use Rattle.std.specs.Prelude.{◌≡◌, ℕ, ◌==◌, false, List, Some, map, fold}
-use Rattle.std.specs.List.{AllByRecursion, list_any}
-use Rattle.std.specs.List.Sorted.{IsStrictlySortedBy}
-use Rattle.std.specs.Ordering.{nat_cmp}
+use Rattle.std.specs.Prelude.{◌≡◌, ℕ, ℤ, ◌==◌, List, Some, map, fold}
+use Rattle.std.specs.List.{filter}
+use Rattle.record_codec.specs.declared.event.Event.{Event}
 use Rattle.watch_table.specs.Watching.{removed}
 use Rattle.event_queue.specs.Backlogs.{after_offer}
 use Rattle.event_rules.specs.declared.notice.Notice.{Notice}
+use Rattle.event_rules.specs.declared.staging.StagedEvent.{StagedEvent}
+use Rattle.event_rules.specs.declared.staging.StagedEnd.{StagedEnd}
 use Rattle.event_rules.specs.Raised.{events_of, watches_after}
 use Rattle.instance_table.specs.declared.instance.Instance.{Instance}
-use Rattle.instance_table.specs.declared.staging.Hearing.{Hearing}
-use Rattle.instance_table.specs.Instances.{Instances, changed, instance_of, told}
+use Rattle.instance_table.specs.declared.staging.Staging.{Staging}
+use Rattle.instance_table.specs.Instances.{Instances, changed, instance_of}
 
--- an instance that hears what was staged for it: the events, and that watches end
-abbrev pub hears : Hearing → Instance → Instance
-hears h i = record i { watches = fold removed i.watches h.staged.drops.items; queue = fold after_offer i.queue h.staged.events }
+-- the events that an instance hears
+abbrev pub events_to : ℕ → List StagedEvent → List Event
+events_to id hs = map (λ h. h.event) (filter (λ h. id == h.id) hs)
 
--- the instances once each heard what was staged for it
-abbrev pub heard_all : Instances → List Hearing → Instances
+-- the descriptors of the watches of an instance that end
+abbrev pub wds_to : ℕ → List StagedEnd → List ℤ
+wds_to id ds = map (λ d. d.wd) (filter (λ d. id == d.id) ds)
+
+-- what is staged for each instance is what the notices raise for its watches, and the watches that end leave the others
+pub record IsStaged (m : Instances) (ns : List Notice) (s : Staging) : Type 0 where
+  pub events : (id : ℕ) (i : Instance) → instance_of m id ≡ Some i → events_to id s.staged.events.items ≡ events_of i.watches ns
+  pub drops : (id : ℕ) (i : Instance) → instance_of m id ≡ Some i → fold removed i.watches (wds_to id s.staged.drops.items) ≡ watches_after i.watches ns
+
+-- an instance that hears an event, and one of which a watch ends
+abbrev pub hears : StagedEvent → Instance → Instance
+hears h i = record i { queue = after_offer i.queue h.event }
+
+abbrev pub ends : StagedEnd → Instance → Instance
+ends d i = record i { watches = removed i.watches d.wd }
+
+-- the instances once each event was heard, and once each of the watches ended
+abbrev pub heard_all : Instances → List StagedEvent → Instances
 heard_all m hs = fold (λ m h. changed m h.id (hears h)) m hs
 
--- the instances that hear something
-abbrev pub ids_heard : List Hearing → List ℕ
-ids_heard hs = map (λ h. h.id) hs
-
--- what an instance hears is what the notices raise for its watches
-abbrev pub IsHeard : Instances → List Notice → Hearing → Type 0
-IsHeard m ns h =
-    (i : Instance) → instance_of m h.id ≡ Some i
-    → (h.staged.events ≡ events_of i.watches ns) × (fold removed i.watches h.staged.drops.items ≡ watches_after i.watches ns)
-
--- each instance hears what the notices raise for it, once, and they leave all others as they are
-pub record IsStaged (m : Instances) (ns : List Notice) (hs : List Hearing) : Type 0 where
-  pub heard : AllByRecursion (IsHeard m ns) hs
-  pub rising : IsStrictlySortedBy nat_cmp (ids_heard hs)
-  pub others : (q : ℕ) (i : Instance) → list_any (λ id. q == id) (ids_heard hs) ≡ false → instance_of m q ≡ Some i → told ns i ≡ i
+abbrev pub ended_all : Instances → List StagedEnd → Instances
+ended_all m ds = fold (λ m d. changed m d.id (ends d)) m ds

@@ -42,6 +42,13 @@ impl Ids {
         }
     }
 
+    /// Takes out all numbers.
+    pub fn clear(&mut self)
+        ensures { self.new ≡ map.empty }
+    {
+        self.ids.clear();
+    }
+
     /// Puts in a number. `Err` is want of memory.
     pub fn add(&mut self, id: u32) -> Result<(), AllocError>
         ensures ok { OnOk result (self.new ≡ map.insert self.old id tt) }

@@ -1,7 +1,7 @@
 //! Who watches each file.
 ghost use Rattle.std.specs.Prelude.{◌≡◌, ℕ, ◌==◌, ◌&&◌, ◌||◌, false, not, OnOk, OnErr};
 ghost use Rattle.std.specs.FinMap as map;
-ghost use Rattle.instance_table.specs.Index.{ids_under, is_noted};
+ghost use Rattle.instance_table.specs.Index.{HasNoEmptyRow, ids_under, is_noted};
 
 use crate::ids::Ids;
 use std::alloc::{AllocError, Global};
@@ -25,7 +25,8 @@ impl Drop for Index {
 impl Index {
     /// No file is watched. It takes no memory.
     pub fn new(alloc: Global) -> Index
-        ensures { (number id : ℕ) → is_noted result number id ≡ false }
+        ensures noted { (number id : ℕ) → is_noted result number id ≡ false }
+        ensures rows { HasNoEmptyRow result }
     {
         Index {
             alloc,
@@ -37,6 +38,7 @@ impl Index {
     pub fn add(&mut self, number: u32, id: u32) -> Result<(), AllocError>
         ensures ok { OnOk result ((n q : ℕ) → is_noted self.new n q ≡ ((n == number && q == id) || is_noted self.old n q)) }
         ensures err { OnErr result ((n q : ℕ) → is_noted self.new n q ≡ is_noted self.old n q) }
+        ensures rows { HasNoEmptyRow self.old → HasNoEmptyRow self.new }
     {
         if let Some(ids) = self.watchers.get_mut(&number) {
             return ids.add(id);
@@ -47,9 +49,10 @@ impl Index {
         Ok(())
     }
 
-    /// Notes that an instance does not watch a file any more. It takes no memory.
+    /// Notes that an instance does not watch a file any more. A file that nobody watches has no row. It takes no memory.
     pub fn remove(&mut self, number: u32, id: u32)
-        ensures { (n q : ℕ) → is_noted self.new n q ≡ (not (n == number && q == id) && is_noted self.old n q) }
+        ensures noted { (n q : ℕ) → is_noted self.new n q ≡ (not (n == number && q == id) && is_noted self.old n q) }
+        ensures rows { HasNoEmptyRow self.old → HasNoEmptyRow self.new }
     {
         let Some(ids) = self.watchers.get_mut(&number) else {
             return;

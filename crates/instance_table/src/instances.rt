@@ -7,17 +7,17 @@ ghost use Rattle.tree_paths.specs.declared.refusal.Refusal.TheVariants.{Enomem};
 ghost use Rattle.event_queue.specs.Backlogs.{IsLimit, after_offer};
 ghost use Rattle.watch_table.specs.Masks.{mask_fault};
 ghost use Rattle.watch_table.specs.Watching.{add_refusal, added, removed, watch_of, wd_added};
-ghost use Rattle.instance_table.specs.Index.{is_noted};
+ghost use Rattle.instance_table.specs.Index.{HasNoEmptyRow, is_noted};
 ghost use Rattle.instance_table.specs.Rows.{instance_row};
 ghost use Rattle.instance_table.specs.Instances.{WaitingAreEvents, after_read, changed, instance_of, new_instance, unwatching, waiting_of, watchers_of, watching};
 
 use crate::index::Index;
 use crate::instance::Instance;
 use crate::rows::{InstanceRow, row};
-use crate::staging::{offer_each, offer_one};
+use crate::staging::offer_one;
 use event_queue::Queue;
 use event_rules::ignored;
-use record_codec::{Event, Events};
+use record_codec::Event;
 use std::alloc::Global;
 use std::collections::BTreeMap;
 use std::marker::Model;
@@ -215,25 +215,6 @@ impl Instances {
         offer_one(&mut instance.queue, event);
     }
 
-    // Raises events, one after the other.
-    pub(crate) fn offer_all(&mut self, id: u32, events: Events)
-        ensures { self.new ≡ changed self.old id (λ i. record i { queue = fold after_offer i.queue events }) }
-    {
-        let Some(instance) = self.opened.get_mut(&id) else {
-            return;
-        };
-        offer_each(&mut instance.queue, events);
-    }
-
-    // Ends the watches of descriptors, one after the other.
-    pub(crate) fn end_watches(&mut self, id: u32, wds: Vec<i32>)
-        ensures { self.new ≡ changed self.old id (λ i. record i { watches = fold removed i.watches wds.items }) }
-    {
-        for wd in wds {
-            self.end_watch(id, wd);
-        }
-    }
-
     // Ends the watch of a descriptor, if there is one.
     pub(crate) fn end_watch(&mut self, id: u32, wd: i32)
         ensures { self.new ≡ changed self.old id (λ i. record i { watches = removed i.watches wd }) }
@@ -266,6 +247,7 @@ fn add_noted(
     ensures accepted { OnOk result (add_refusal watches.old number mask.0 is_directory ≡ None) }
     ensures refusals { IfErr result (λ r. (add_refusal watches.old number mask.0 is_directory ≡ Some r) ⊎ (r ≡ Enomem)) }
     ensures err { OnErr result (watches.new ≡ watches.old) }
+    ensures rows { HasNoEmptyRow index.old → HasNoEmptyRow index.new }
     ensures err_noted { OnErr result ((n q : ℕ) → is_noted index.new n q ≡ is_noted index.old n q) }
 {
     let is_new = watches.of(number).is_none();
@@ -283,7 +265,8 @@ fn add_noted(
 
 // Takes the watches of an instance out of the index.
 fn forget(index: &mut Index, watches: &Watches, id: u32)
-    ensures { (n q : ℕ) → is_noted index.new n q ≡ (not (is_some (watch_of watches.now n) && q == id) && is_noted index.old n q) }
+    ensures rows { HasNoEmptyRow index.old → HasNoEmptyRow index.new }
+    ensures noted { (n q : ℕ) → is_noted index.new n q ≡ (not (is_some (watch_of watches.now n) && q == id) && is_noted index.old n q) }
 {
     for number in watches.numbers() {
         index.remove(*number, id);

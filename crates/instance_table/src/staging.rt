@@ -1,117 +1,115 @@
 //! What notices raise for all instances.
-ghost use Rattle.std.specs.Prelude.{◌≡◌, ℕ, ◌==◌, ◌||◌, is_some, fold, IfOk, IfErr, OnOk};
+ghost use Rattle.std.specs.Prelude.{◌≡◌, ℕ, ◌==◌, ◌||◌, Some, is_some, fold, IfErr, OnOk};
 ghost use Rattle.std.specs.FinMap as map;
 ghost use Rattle.std.specs.List.{list_any};
 ghost use Rattle.tree_paths.specs.declared.refusal.Refusal.TheVariants.{Enomem};
 ghost use Rattle.record_codec.specs.Records.{AreEvents, IsEvent};
+ghost use Rattle.watch_table.specs.Watching.{removed};
 ghost use Rattle.event_queue.specs.Backlogs.{after_offer};
-ghost use Rattle.event_rules.specs.Raised.{told_number};
-ghost use Rattle.instance_table.specs.Instances.{all_changed, changed, instance_of, told, watches_file};
-ghost use Rattle.instance_table.specs.Staging.{IsStaged, heard_all, hears};
+ghost use Rattle.event_rules.specs.Raised.{events_of, told_number, watches_after};
+ghost use Rattle.instance_table.specs.declared.instance.Instance.{Instance};
+ghost use Rattle.instance_table.specs.Instances.{all_changed, instance_of, told, watches_file};
+ghost use Rattle.instance_table.specs.Staging.{IsStaged, ended_all, events_to, heard_all, wds_to};
 
 use crate::ids::Ids;
 use crate::instances::Instances;
 use event_queue::Queue;
-use event_rules::{Notice, Staged, stage, unwatched_files_raise_nothing};
-use record_codec::{Event, Events};
-use std::alloc::AllocError;
-use std::marker::Model;
+use event_rules::{Notice, Staged, StagedEnd, StagedEvent, stage, unwatched_files_raise_nothing};
+use record_codec::Event;
+use std::alloc::{AllocError, Global};
+use std::collections::VecDeque;
 use tree_paths::Refusal;
 
-/// What notices raise for one instance.
+/// What notices raise for the instances that hear any of them. Its room stays from one call to the next.
 #[derive(Drop)]
-pub struct Hearing {
-    pub(crate) id: u32,
+pub struct Staging {
+    pub(crate) hearers: Ids,
     pub(crate) staged: Staged,
 }
 
-/// What notices raise for the instances that hear any of them.
-pub struct Staging {
-    hearings: Vec<Hearing>,
-}
-
-impl Drop for Staging {
-    fn drop(self) {
-        let Staging { hearings: _ } = self;
-    }
-}
-
-impl Model for Staging {
-    ghost use Rattle.std.specs.Prelude.{List};
-    ghost use Rattle.instance_table.specs.declared.staging.Hearing.{Hearing};
-
-    ghost Value = { List Hearing };
-
-    ghost view = { λ staging. staging.hearings.items };
-}
-
 impl Staging {
-    // What is raised, for one instance after the other.
-    fn into_hearings(self) -> Vec<Hearing>
-        ensures { result.items ≡ self }
-    {
-        let Staging { hearings } = self;
-        hearings
+    /// Nothing. It takes no memory.
+    pub fn new(alloc: Global) -> Staging {
+        Staging {
+            hearers: Ids::new(alloc),
+            staged: Staged::new(alloc),
+        }
     }
 }
 
 impl Instances {
-    /// What notices raise for the instances. It looks at those alone that watch one of the files, and changes nothing.
+    /// Stages what notices raise for the instances, in place of what was staged. It looks at those alone that watch one of the
+    /// files, and changes nothing.
     ///
     /// # Errors
     /// `ENOMEM` alone.
-    pub fn stage(&self, notices: &[Notice]) -> Result<Staging, Refusal>
-        ensures ok { IfOk result (λ staging. IsStaged self.now notices.now staging) }
+    pub fn stage(&self, notices: &[Notice], staging: &mut Staging) -> Result<(), Refusal>
+        ensures staged { OnOk result (IsStaged self.now notices.now staging.new) }
         ensures memory { IfErr result (λ refusal. refusal ≡ Enomem) }
     {
-        unwatched_files_raise_nothing();
-        let ids = self.hearers(notices)?;
-        let mut hearings = Vec::new(self.alloc);
-        for id in ids.as_slice() {
-            let Some(instance) = self.get(*id) else {
-                unreachable!()
-            };
-            let staged = stage(self.alloc, &instance.watches, notices)?;
-            hearings.push(Hearing { id: *id, staged })?;
-        }
-        Ok(Staging { hearings })
+        self.hearers(notices, &mut staging.hearers)?;
+        self.stage_each(notices, &staging.hearers, &mut staging.staged)
     }
 
     /// Tells the instances what was staged for them: each hears its events, and its watches end. It takes no memory.
-    pub fn tell(&mut self, notices: &[Notice], staging: Staging)
-        requires { IsStaged self.old notices.now staging }
+    pub fn tell(&mut self, notices: &[Notice], staging: &mut Staging)
+        requires { IsStaged self.old notices.now staging.old }
         ensures { self.new ≡ all_changed self.old (told notices.now) }
     {
-        self.hear_each(staging.into_hearings());
-    }
-
-    // Raises what was staged, for one instance after the other.
-    fn hear_each(&mut self, hearings: Vec<Hearing>)
-        ensures { self.new ≡ heard_all self.old hearings.items }
-    {
-        for hearing in hearings {
-            self.hear(hearing);
-        }
+        self.hear_each(&mut staging.staged.events);
+        self.end_each(&staging.staged.drops);
     }
 
     // The instances that watch a file of which one of the notices is.
-    fn hearers(&self, notices: &[Notice]) -> Result<Ids, AllocError>
-        ensures { IfOk result (λ ids. (q : ℕ) → is_some (map.get ids q) ≡ list_any (λ n. watches_file (told_number n) (instance_of self.now q)) notices.now) }
+    fn hearers(&self, notices: &[Notice], ids: &mut Ids) -> Result<(), AllocError>
+        ensures { OnOk result ((q : ℕ) → is_some (map.get ids.new q) ≡ list_any (λ n. watches_file (told_number n) (instance_of self.now q)) notices.now) }
     {
-        let mut ids = Ids::new(self.alloc);
+        ids.clear();
         for notice in notices {
-            add_all(&mut ids, self.watchers(notice.number()))?;
+            add_all(ids, self.watchers(notice.number()))?;
         }
-        Ok(ids)
+        Ok(())
     }
 
-    // Raises events for an instance, and ends watches of it.
-    fn hear(&mut self, hearing: Hearing)
-        ensures { self.new ≡ changed self.old hearing.id (hears hearing) }
+    // Stages what notices raise for those that hear any of them.
+    fn stage_each(
+        &self,
+        notices: &[Notice],
+        hearers: &Ids,
+        staged: &mut Staged,
+    ) -> Result<(), Refusal>
+        requires { (q : ℕ) → is_some (map.get hearers.now q) ≡ list_any (λ n. watches_file (told_number n) (instance_of self.now q)) notices.now }
+        ensures events { OnOk result ((q : ℕ) (i : Instance) → instance_of self.now q ≡ Some i → events_to q staged.new.events.items ≡ events_of i.watches notices.now) }
+        ensures drops { OnOk result ((q : ℕ) (i : Instance) → instance_of self.now q ≡ Some i → fold removed i.watches (wds_to q staged.new.drops.items) ≡ watches_after i.watches notices.now) }
+        ensures memory { IfErr result (λ refusal. refusal ≡ Enomem) }
     {
-        let Hearing { id, staged } = hearing;
-        self.offer_all(id, staged.events);
-        self.end_watches(id, staged.drops);
+        unwatched_files_raise_nothing();
+        staged.clear();
+        for id in hearers.as_slice() {
+            let Some(instance) = self.get(*id) else {
+                unreachable!()
+            };
+            stage(*id, &instance.watches, notices, staged)?;
+        }
+        Ok(())
+    }
+
+    // Raises events, one after the other.
+    fn hear_each(&mut self, events: &mut VecDeque<StagedEvent>)
+        ensures { self.new ≡ heard_all self.old events.old.items }
+    {
+        while let Some(heard) = events.pop_front() {
+            self.offer(heard.id, heard.event);
+        }
+    }
+
+    // Ends watches, one after the other.
+    fn end_each(&mut self, drops: &[StagedEnd])
+        ensures { self.new ≡ ended_all self.old drops.now }
+    {
+        for ended in drops {
+            self.end_watch(ended.id, ended.wd);
+        }
     }
 }
 
@@ -142,14 +140,4 @@ pub(crate) fn offer_one(queue: &mut Queue, event: Event)
 {
     fits(&event);
     queue.offer(event);
-}
-
-// Raises events, one after the other.
-pub(crate) fn offer_each(queue: &mut Queue, events: Events)
-    ensures queue { queue.new ≡ fold after_offer queue.old events }
-    ensures events { AreEvents queue.old.waiting → AreEvents queue.new.waiting }
-{
-    for event in events.into_vec() {
-        offer_one(queue, event);
-    }
 }

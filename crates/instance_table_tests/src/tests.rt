@@ -58,8 +58,9 @@ fn told(bits: u32) -> Notice {
 fn tell(alloc: Global, instances: &mut Instances, notice: Notice) -> Result<(), Refusal> {
     let mut notices = Vec::new(alloc);
     notices.push(notice)?;
-    let staging: Staging = instances.stage(&notices)?;
-    instances.tell(&notices, staging);
+    let mut staging = Staging::new(alloc);
+    instances.stage(&notices, &mut staging)?;
+    instances.tell(&notices, &mut staging);
     Ok(())
 }
 

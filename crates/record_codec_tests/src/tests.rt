@@ -8,6 +8,7 @@ use std::alloc::Global;
 use std::fmt::Debug;
 use std::io;
 use std::io::{ErrorKind, Read, Write};
+use std::mem::size_of;
 use std::process::Abort;
 use std::test::Fail;
 
@@ -123,6 +124,31 @@ fn names(rt: HostRuntime) -> Result<(), Fail> {
         low < high && low == low.copy()? && low != high,
     );
     Ok(())
+}
+
+#[test]
+fn names_of_each_kind_of_length(rt: HostRuntime) -> Result<(), Fail> {
+    equal(&rt, (NAME_IN_PLACE, NAME_MAX), (23, 255));
+    for len in [1, 22, 23, 24, 255] {
+        let mut bytes = vec![in rt.alloc(); b'm'; len]?;
+        bytes[len - 1] = b'z';
+        let name = Name::new(rt.alloc(), &bytes)?.ok_or("a name")?;
+        equal(&rt, (len, name.bytes()), (len, bytes.as_slice()));
+        let copied = name.copy()?;
+        equal(&rt, (len, copied.bytes()), (len, bytes.as_slice()));
+        bytes[len - 1] = b'a';
+        let lower = Name::new(rt.alloc(), &bytes)?.ok_or("a name")?;
+        let are_compared = copied == name && lower != name && lower < name;
+        holds(&rt, "are_compared", are_compared);
+    }
+    Ok(())
+}
+
+#[test]
+fn sizes(rt: HostRuntime) {
+    equal(&rt, size_of::<Name>(), 24);
+    equal(&rt, size_of::<Option<Name>>(), 32);
+    equal(&rt, size_of::<Event>(), 48);
 }
 
 #[test]

@@ -25,7 +25,7 @@ use Rattle.shared_tree.specs.Pipes.{Piped}
 use Rattle.shared_tree.specs.Seats.{Seated}
 use Rattle.shared_tree.specs.Handed.{AreOfEvents, batch, handed_by, handed_from, handed_since, hands, piped_by, piped_of, where_done}
 use Rattle.shared_tree.specs.Calls.{JoinsJournal, HasPipe, IsForPipe}
-use Rattle.shared_tree.specs.Held.{closed_of, deliver, end_of, sents, IsFilled, IsHeldWhole, IsIn, IsLooked, IsReady, Rises}
+use Rattle.shared_tree.specs.Held.{closed_of, deliver, end_of, IsFilled, IsHeldWhole, IsIn, IsLooked, IsReady, Rises}
 use Rattle.shared_tree.proofs.Steps.{Told, end_of-handed, hands-none, next-init, plain-makes-none, opened-by, piped_by-cases, IsMade, WasOpen}
 
 -- ---- lists of numbers
@@ -34,7 +34,7 @@ Rises-weaken : (ns : List ℕ) (least next later : ℕ) → next ≤ later → R
 Rises-weaken [] least next later more rises = omega (arith, more, rises)
 Rises-weaken (n ∷ ns) least next later more rises = (rises.0, Rises-weaken ns (n + 1) next later more rises.1)
 
-Rises-snoc : (ns : List ℕ) (least next : ℕ) → Rises least ns next → Rises least (ns ++ next ∷ []) (next + 1)
+pub Rises-snoc : (ns : List ℕ) (least next : ℕ) → Rises least ns next → Rises least (ns ++ next ∷ []) (next + 1)
 Rises-snoc [] least next rises = (rises, omega arith)
 Rises-snoc (n ∷ ns) least next rises = (rises.0, Rises-snoc ns (n + 1) next rises.1)
 
@@ -276,16 +276,9 @@ length-map : (f : ℕ → List Batch) (ns : List ℕ) → length (map f ns) ≡ 
 length-map f [] = refl
 length-map f (n ∷ ns) = ap suc (length-map f ns)
 
-length-sents : (ps : List Piped) → length (sents ps) ≡ length ps
-length-sents [] = refl
-length-sents (p ∷ ps) = ap suc (length-sents ps)
-
 pub held-length : (s : Journaled) (ns : List ℕ) (xss : List (List Batch)) (total : ℕ) → IsHeldWhole s ns xss total → length ns ≡ length xss
 held-length s ns xss total held =
     ap (λ (ms : List ℕ). length ms) held.piped ∙ sym (length-map (handed_since s) (piped_of s.entries)) ∙ ap (λ (yss : List (List Batch)). length yss) (sym held.pushed)
-
-pub held-pipes : (s : Journaled) (ns : List ℕ) (ps : List Piped) (total : ℕ) → IsHeldWhole s ns (sents ps) total → length ns ≡ length ps
-held-pipes s ns ps total held = held-length s ns (sents ps) total held ∙ length-sents ps
 
 pub deliver-none : (ns : List ℕ) (xss : List (List Batch)) → length ns ≡ length xss → deliver None ns xss ≡ xss
 deliver-none [] [] len = refl
@@ -391,9 +384,6 @@ held-new limits = record {
 }
 
 -- ---- what the functions over its parts say
-
-pub looked-length : (s : Journaled) (ns : List ℕ) (ps qs : List Piped) (total : ℕ) → IsHeldWhole s ns (sents ps) total → sents qs ≡ sents ps → length ns ≡ length qs
-looked-length s ns ps qs total held same = held-length s ns (sents ps) total held ∙ ap (λ (xss : List (List Batch)). length xss) (sym same) ∙ length-sents qs
 
 next-place : (s longer : Journaled) (e : Entry) (place : ℕ) → longer ≡ with_entry s e → place ≡ last_place longer → place ≡ last_place s + 1
 next-place s longer e place is at =

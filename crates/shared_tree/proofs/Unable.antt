@@ -1,5 +1,5 @@
 -- Why a call is not carried out, as rows.
-use Rattle.std.proofs.Common.{◌≡◌, ◌⊎◌, inl, inr, ℕ, ◌+◌, ◌^◌, ◌≤◌, ◌<◌, ◌||◌, nat_le, Bool, true, false, [], ◌∷◌, Some, length, refl, sym, ap, ◌∙◌, subst, arith}
+use Rattle.std.proofs.Common.{◌≡◌, inl, inr, ◌+◌, ◌^◌, ◌||◌, nat_le, Bool, true, false, [], ◌∷◌, Some, length, refl, sym, ap, ◌∙◌}
 use Rattle.std.proofs.lemmas.Bool.{le-leb, leb-true}
 use Rattle.tree_paths.specs.Rows.{first_row, row}
 use Rattle.tree_paths.specs.declared.refusal.Refusal.{Refusal}

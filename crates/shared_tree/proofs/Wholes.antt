@@ -1,5 +1,5 @@
 -- What the locked value keeps of a journal that was cut, by the whole journal.
-use Rattle.std.proofs.Common.{◌≡◌, ℕ, ◌+◌, ◌<◌, ◌≤◌, Bool, true, false, cond, eqb, List, [], ◌∷◌, ◌++◌, length, map, Option, Some, None, option_map, Result, Ok, Err, inl, refl, sym, ap, subst, ◌∙◌, arith, append-nil, append_assoc, length-append}
+use Rattle.std.proofs.Common.{◌≡◌, ℕ, ◌+◌, ◌<◌, ◌≤◌, Bool, true, false, cond, eqb, List, [], ◌∷◌, ◌++◌, length, map, Option, Some, None, option_map, Result, Ok, Err, refl, sym, ap, subst, ◌∙◌, arith, append-nil, append_assoc, length-append}
 use Rattle.std.specs.List.{AllByRecursion}
 use Rattle.std.specs.Prelude.{IfSome, IsTrue, OnErr, OnOk}
 use Rattle.tree_paths.specs.declared.refusal.Refusal.{Refusal}
@@ -12,6 +12,7 @@ use Rattle.tree_core.specs.declared.call.Call.{Call}
 use Rattle.tree_core.specs.declared.call.Call.TheVariants as call
 use Rattle.tree_core.specs.declared.reply.Entry.{Entry}
 use Rattle.tree_core.specs.declared.reply.Receipt.{Receipt}
+use Rattle.tree_core.specs.declared.reply.Reply.TheVariants as reply
 use Rattle.tree_core.specs.Calls.{is_plain}
 use Rattle.tree_core.specs.CutLaws.{PastsMakeWhole}
 use Rattle.tree_core.specs.Histories.{pumped}
@@ -21,9 +22,8 @@ use Rattle.tree_core.proofs.Lawful.{limits-now, tree_after-append}
 use Rattle.shared_tree.specs.declared.pipe.Batch.{Batch}
 use Rattle.shared_tree.specs.Calls.{JoinsJournal, HandsOver, TreeWithPipes, IsForPipe, IsSent, IsWhyNot, tree_with_pipes}
 use Rattle.shared_tree.specs.Handed.{AreOfEvents, batch, handed, handed_by, handed_from, handed_since, hands, piped_by, CutsPartBatches}
-use Rattle.shared_tree.specs.Held.{IsFilled, IsHeld, IsHeldWhole, closed_of, deliver, end_of, sents, whole}
+use Rattle.shared_tree.specs.Held.{IsFilled, IsHeld, IsHeldWhole, Rises, closed_of, deliver, end_of, whole}
 use Rattle.shared_tree.specs.Law.{HasPipesOfPiped}
-use Rattle.shared_tree.specs.Pipes.{Piped}
 use Rattle.shared_tree.specs.Seats.{Seated}
 use Rattle.shared_tree.proofs.Unable.{why-full}
 use Rattle.shared_tree.proofs.Answered.{answered}
@@ -92,12 +92,6 @@ module _ (tells : Told) (s longer : Journaled) (seat left : Seated) (r : Receipt
   }
 
 module _ (s : Journaled) (ns : List ℕ) (total : ℕ) where
-  pub looked-length : (ps qs : List Piped) → IsHeld s ns (sents ps) total → sents qs ≡ sents ps → length ns ≡ length qs
-  looked-length ps qs held same = keeping.looked-length (whole s held.past) ns ps qs total held.held same
-
-  pub held-pipes : (ps : List Piped) → IsHeld s ns (sents ps) total → length ns ≡ length ps
-  held-pipes ps held = keeping.held-pipes (whole s held.past) ns ps total held.held
-
   pub pump-full : (xss : List (List Batch)) (id bytes : ℕ) → IsHeld s ns xss total → IsFilled ns (now s) (Some id) → IsForPipe (now s) (call.Pump id bytes)
   pump-full xss id bytes held filled =
       let same = now-whole s held.past held.is_past in
@@ -114,6 +108,12 @@ module _ (s : Journaled) (ns : List ℕ) (total : ℕ) where
 
 pub held-lengths : (s : Journaled) (ns : List ℕ) (xss : List (List Batch)) (total : ℕ) → IsHeld s ns xss total → length ns ≡ length xss
 held-lengths s ns xss total held = held-length (whole s held.past) ns xss total held.held
+
+-- the number of an instance that is made is above those of all pipes
+pub held-next : Told → (s longer : Journaled) (seat left : Seated) (r : Receipt) (ns : List ℕ) (xss : List (List Batch)) (total limit id : ℕ) → IsHeld s ns xss total → JoinsJournal s seat (call.Init limit true) longer left r → r.reply ≡ reply.Instance id → Rises 1 ns id
+held-next tells s longer seat left r ns xss total limit id held enters is =
+    let next : id ≡ (now s).next_id = (tells (now s) (call.Init limit true)).opened id (sym enters.reply ∙ is) in
+    subst (Rises 1 ns) (ap (λ (t : Tree). t.next_id) (now-whole s held.past held.is_past) ∙ sym next) held.held.rises
 
 pub held-counted : (s : Journaled) (ns : List ℕ) (xss : List (List Batch)) (total : ℕ) → IsHeld s ns xss total → total ≡ last_place s
 held-counted s ns xss total held = held.held.counted ∙ last-whole s held.past held.is_past
@@ -150,11 +150,11 @@ held-cut-either law s new ns xss total (Err e) lawful held done same = subst (λ
 
 -- ---- why a call is not carried out
 
-pub pump-why : (s : Journaled) (ns ms : List ℕ) (xss : List (List Batch)) (total id bytes : ℕ) (e : Refusal) → IsHeld s ns xss total → ms ≡ ns → (e ≡ PipeFull) × IsFilled ms (now s) (Some id) → IsWhyNot s (call.Pump id bytes) e
-pump-why s ns ms xss total id bytes e held same full = why-full s (call.Pump id bytes) e full.0 (pump-full s ns total xss id bytes held (subst (λ ks. IsFilled ks (now s) (Some id)) same full.1))
+pub pump-why : (s : Journaled) (ns : List ℕ) (xss : List (List Batch)) (total id bytes : ℕ) (e : Refusal) → IsHeld s ns xss total → (e ≡ PipeFull) × IsFilled ns (now s) (Some id) → IsWhyNot s (call.Pump id bytes) e
+pump-why s ns xss total id bytes e held full = why-full s (call.Pump id bytes) e full.0 (pump-full s ns total xss id bytes held full.1)
 
-pub close-why : (s : Journaled) (ns ms : List ℕ) (xss : List (List Batch)) (total : ℕ) (c : Call) (closed : Option ℕ) (e : Refusal) → IsHeld s ns xss total → ms ≡ ns → closed ≡ closed_of c → (e ≡ PipeFull) × IsFilled ms (now s) closed → IsWhyNot s c e
-close-why s ns ms xss total c closed e held same shut full = why-full s c e full.0 (close-full s ns total xss c held (subst (λ ks. IsFilled ks (now s) (closed_of c)) same (subst (IsFilled ms (now s)) shut full.1)))
+pub close-why : (s : Journaled) (ns : List ℕ) (xss : List (List Batch)) (total : ℕ) (c : Call) (closed : Option ℕ) (e : Refusal) → IsHeld s ns xss total → closed ≡ closed_of c → (e ≡ PipeFull) × IsFilled ns (now s) closed → IsWhyNot s c e
+close-why s ns xss total c closed e held shut full = why-full s c e full.0 (close-full s ns total xss c held (subst (IsFilled ns (now s)) shut full.1))
 
 -- ---- what was handed before the cut, and since
 

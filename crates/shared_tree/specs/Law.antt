@@ -12,7 +12,7 @@ use Rattle.tree_core.specs.Tree.{Tree, reply_of, after}
 use Rattle.tree_core.specs.Journal.{Journaled, now}
 use Rattle.tree_core.specs.Histories.{events, joined, raised_by, raised_in, read_in}
 use Rattle.tree_core.specs.QueueLaws.{AreAccountedFor, FindsTheUnread, IsInOrder, bytes_read}
-use Rattle.tree_core.specs.TurnLaws.{AddsNothing, AreInTurn, EndsOnce, cookies_in, cookies_used}
+use Rattle.tree_core.specs.TurnLaws.{AddsNothing, AreInTurn, cookies_in, cookies_used}
 use Rattle.shared_tree.specs.Calls.{TreeWithPipes}
 use Rattle.shared_tree.specs.Held.{IsIn}
 

@@ -1,5 +1,5 @@
--- What contracts see of the two ends of a pipe.
-use Rattle.std.specs.Prelude.{ℕ, List, [], Option, Some, None}
+-- What contracts see of the two ends of a pipe, and of the pipes of a tree.
+use Rattle.std.specs.Prelude.{ℕ, Bool, List, [], Option, Some, None}
 use Rattle.tree_core.specs.declared.reply.Reply.{Reply}
 use Rattle.tree_core.specs.declared.reply.Reply.TheVariants as reply
 use Rattle.shared_tree.specs.declared.pipe.Batch.{Batch}
@@ -11,6 +11,16 @@ pub record Piped : Type 0 where
 
 abbrev pub piped : List Batch → ℕ → Piped
 piped sent free = record { sent = sent; free = free }
+
+-- the pipes of a tree, in the order of the numbers of their instances: these numbers, the ends that hand over, and whether
+-- there is room for one pipe more
+pub record PipesState : Type 0 where
+  pub numbers : List ℕ
+  pub ends : List Piped
+  pub has_room : Bool
+
+abbrev pub pipes_state : List ℕ → List Piped → Bool → PipesState
+pipes_state numbers ends has_room = record { numbers = numbers; ends = ends; has_room = has_room }
 
 -- the end that takes: whose batches it takes, those that it has received, and how many places its pipe has
 pub record Fed : Type 0 where

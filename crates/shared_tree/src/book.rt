@@ -6,7 +6,7 @@ ghost use Rattle.tree_core.specs.Snapshots.{IsSnapshotOf};
 ghost use Rattle.shared_tree.specs.Calls.{IsSent};
 ghost use Rattle.shared_tree.specs.Handed.{AreOfEvents, handed_since};
 
-use crate::pipe::Pipe;
+use crate::pipes::Pipes;
 use std::marker::Model;
 use tree_core::{Entry, Snapshot, State};
 
@@ -15,8 +15,7 @@ use tree_core::{Entry, Snapshot, State};
 /// Contracts see the journal, the number of its entries, the numbers of its pipes, and what each pipe was sent.
 pub struct Book {
     pub(crate) core: State,
-    pub(crate) numbers: Vec<u32>,
-    pub(crate) pipes: Vec<Pipe>,
+    pub(crate) pipes: Pipes,
     pub(crate) entries: u64,
 }
 
@@ -24,7 +23,6 @@ impl Drop for Book {
     fn drop(self) {
         let Book {
             core: _,
-            numbers: _,
             pipes: _,
             entries: _,
         } = self;
@@ -41,9 +39,9 @@ impl Model for Book {
 
     ghost coded = { book_contents_code };
 
-    ghost view = { λ b. record { state = b.core; entries = b.entries; pipes = b.numbers.items; sent = sents b.pipes.items } };
+    ghost view = { λ b. record { state = b.core; entries = b.entries; pipes = b.pipes.numbers; sent = sents b.pipes.ends } };
 
-    ghost invariant = { λ b. IsBook b.core b.entries b.numbers.items (sents b.pipes.items) };
+    ghost invariant = { λ b. IsBook b.core b.entries b.pipes.numbers (sents b.pipes.ends) };
 }
 
 impl Book {
@@ -84,6 +82,6 @@ impl Book {
     pub fn pipes(&self) -> &[u32]
         ensures { result.now ≡ self.now.pipes }
     {
-        self.numbers.as_slice()
+        self.pipes.numbers()
     }
 }

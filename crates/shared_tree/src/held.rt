@@ -1,8 +1,8 @@
 //! What lies under the lock.
 
-ghost use Rattle.std.specs.Prelude.{◌≡◌, ◌+◌, ◌<◌, ◌≤◌, ℕ, [], ◌∷◌, ◌++◌, length, map, vec_len, vec_capacity, option_map, IfOk, IfErr, IfSome, OnOk, OnErr, IsTrue, true, false};
+ghost use Rattle.std.specs.Prelude.{◌≡◌, ◌+◌, ◌<◌, ◌≤◌, ℕ, [], length, vec_len, vec_capacity, option_map, IfOk, IfErr, IfSome, OnOk, OnErr, IsTrue, true, false};
 ghost use Rattle.record_codec.specs.Records.{AreEvents};
-ghost use Rattle.tree_paths.specs.declared.refusal.Refusal.TheVariants.{Enomem, JournalFull, PipeFull};
+ghost use Rattle.tree_paths.specs.declared.refusal.Refusal.TheVariants.{Enomem, JournalFull};
 ghost use Rattle.instance_table.specs.Instances.{instance_of, waiting_of};
 ghost use Rattle.tree_core.specs.declared.call.Call.TheVariants.{Init, Pump};
 ghost use Rattle.tree_core.specs.Calls.{is_plain};
@@ -13,13 +13,14 @@ ghost use Rattle.tree_core.specs.Sound.{IsSoundTree};
 ghost use Rattle.tree_core.specs.TurnLaws.{EndsOnce};
 ghost use Rattle.shared_tree.specs.Pipes.{feed_of};
 ghost use Rattle.shared_tree.specs.Seats.{passing};
-ghost use Rattle.shared_tree.specs.Handed.{AreOfEvents, batch, handed_since, piped_by};
-ghost use Rattle.shared_tree.specs.Calls.{tree_with_pipes, JoinsJournal, HandsOver, IsSent, HasPipe, IsUnable, IsWhyNot};
+ghost use Rattle.shared_tree.specs.Handed.{AreOfEvents, batch, handed_since};
+ghost use Rattle.shared_tree.specs.Calls.{tree_with_pipes, JoinsJournal, HandsOver, IsSent, IsUnable, IsWhyNot};
 ghost use Rattle.shared_tree.specs.Law.{AtEach, HasCookiesInTurn, HasPipesOfPiped, IsTold, RefusedAddsNothing};
-ghost use Rattle.shared_tree.specs.Held.{sents, pushed_at, deliver, closed_of, end_of, FreeAt, IsFilled, IsLacking, IsLooked, IsPlaceOf, IsReady, IsRising};
+ghost use Rattle.shared_tree.specs.Held.{sents, closed_of, end_of, IsLacking};
 
 use crate::book::Book;
 use crate::pipe::{Batch, Feed, Pipe, open_pipe};
+use crate::pipes::Pipes;
 use crate::seat::{Pass, Seat};
 use record_codec::Events;
 use std::alloc::Global;
@@ -42,8 +43,7 @@ pub type Tree<L> = Mutex<Held<L>>;
 pub struct Held<L: Ledger> {
     alloc: Global,
     core: State,
-    numbers: Vec<u32>,
-    pipes: Vec<Pipe>,
+    pipes: Pipes,
     book: ledger::Book<L>,
 }
 
@@ -52,7 +52,6 @@ impl<L: Ledger> Drop for Held<L> {
         let Held {
             alloc: _,
             core: _,
-            numbers: _,
             pipes: _,
             book: _,
         } = self;
@@ -68,9 +67,9 @@ impl<L: Ledger> Model for Held<L> {
 
     ghost coded = { tree_with_pipes_code };
 
-    ghost view = { λ h. tree_with_pipes h.core h.numbers.items (sents h.pipes.items) h.book.total };
+    ghost view = { λ h. tree_with_pipes h.core h.pipes.numbers (sents h.pipes.ends) h.book.total };
 
-    ghost invariant = { λ h. IsHeld h.core h.numbers.items (sents h.pipes.items) h.book.total };
+    ghost invariant = { λ h. IsHeld h.core h.pipes.numbers (sents h.pipes.ends) h.book.total };
 }
 
 // Whether the journal takes one more entry.
@@ -149,77 +148,6 @@ fn enter_pump<L: Ledger>(
     Ok((receipt, records))
 }
 
-// Where the pipe of an instance is, by its number.
-fn find(numbers: &[u32], instance: u32) -> Option<usize>
-    requires { IsRising numbers.now }
-    ensures { IsPlaceOf numbers.now instance result }
-{
-    numbers.binary_search(&instance).ok()
-}
-
-// Whether the pipe at a place has no free place.
-fn is_full_at(pipes: &mut Vec<Pipe>, at: usize) -> bool
-    requires { at < length pipes.old.items }
-    ensures sent { sents pipes.new.items ≡ sents pipes.old.items }
-    ensures free { result ≡ false → FreeAt pipes.new.items at }
-{
-    let pipe = &mut pipes[at];
-    pipe.is_full()
-}
-
-// Hands a batch to the pipe at a place.
-fn push_at(pipes: &mut Vec<Pipe>, at: usize, batch: Batch)
-    requires { FreeAt pipes.old.items at }
-    ensures { sents pipes.new.items ≡ pushed_at (sents pipes.old.items) at batch }
-{
-    let pipe = &mut pipes[at];
-    pipe.push(batch);
-}
-
-// Finds the pipe of an instance that is open, and sees that it has a free place.
-fn look(
-    core: &State,
-    numbers: &[u32],
-    pipes: &mut Vec<Pipe>,
-    target: Option<u32>,
-) -> Result<Option<usize>, Refusal>
-    requires rises { IsRising numbers.now }
-    requires len { length numbers.now ≡ length pipes.old.items }
-    ensures sent { sents pipes.new.items ≡ sents pipes.old.items }
-    ensures ok { IfOk result (λ at. IsLooked numbers.now pipes.new.items (now core.now) target at) }
-    ensures err { IfErr result (λ e. (e ≡ PipeFull) × IsFilled numbers.now (now core.now) target) }
-{
-    let Some(instance) = target else {
-        return Ok(None);
-    };
-    if core.waiting(instance).is_none() {
-        return Ok(None);
-    }
-    let Some(at) = find(numbers, instance) else {
-        return Ok(None);
-    };
-    if is_full_at(pipes, at) {
-        return Err(Refusal::PipeFull);
-    }
-    Ok(Some(at))
-}
-
-// Hands a batch over, where there is one and its instance has a pipe.
-fn hand_over(numbers: &[u32], pipes: &mut Vec<Pipe>, at: Option<usize>, batch: Option<Batch>)
-    requires ready { IsReady numbers.now pipes.old.items at batch }
-    requires rises { IsRising numbers.now }
-    requires len { length numbers.now ≡ length pipes.old.items }
-    ensures { sents pipes.new.items ≡ deliver batch numbers.now (sents pipes.old.items) }
-{
-    let Some(batch) = batch else {
-        return;
-    };
-    let Some(at) = at else {
-        return;
-    };
-    push_at(pipes, at, batch);
-}
-
 // The instance that a call closes.
 fn closed_by(call: &Call) -> Option<u32>
     ensures { result ≡ closed_of call.now }
@@ -263,45 +191,19 @@ fn pumped_batch(instance: u32, place: u64, records: Option<Events>) -> Option<Ba
 fn make_pipe(
     alloc: Global,
     core: &State,
-    numbers: &mut Vec<u32>,
-    pipes: &mut Vec<Pipe>,
+    pipes: &mut Pipes,
     slots: usize,
 ) -> Result<(Pipe, Feed), Refusal>
-    ensures numbers { numbers.new.items ≡ numbers.old.items }
-    ensures pipes { pipes.new.items ≡ pipes.old.items }
-    ensures room { OnOk result ((vec_len numbers.new < vec_capacity numbers.new) × (vec_len pipes.new < vec_capacity pipes.new)) }
+    ensures numbers { pipes.new.numbers ≡ pipes.old.numbers }
+    ensures ends { pipes.new.ends ≡ pipes.old.ends }
+    ensures room { OnOk result (IsTrue pipes.new.has_room) }
     ensures empty { IfOk result (λ r. (r.0.sent ≡ []) × (r.1.received ≡ []) × (r.1.slots ≡ slots)) }
     ensures errors { IfErr result (λ e. IsLacking core.now e) }
 {
     check_room(core)?;
-    numbers.reserve(1)?;
-    pipes.reserve(1)?;
+    pipes.reserve()?;
     let pair = open_pipe(alloc, slots)?;
     Ok(pair)
-}
-
-// Puts a new pipe beside the others, where the reply is an instance.
-fn keep_pipe(
-    numbers: &mut Vec<u32>,
-    pipes: &mut Vec<Pipe>,
-    reply: &Reply,
-    pipe: Pipe,
-    feed: Feed,
-) -> Option<Feed>
-    requires empty { (pipe.sent ≡ []) × (feed.received ≡ []) }
-    requires room { (vec_len numbers.old < vec_capacity numbers.old) × (vec_len pipes.old < vec_capacity pipes.old) }
-    ensures numbers { (limit : ℕ) → numbers.new.items ≡ numbers.old.items ++ piped_by (Init limit true) reply.now }
-    ensures pipes { (limit : ℕ) → sents pipes.new.items ≡ sents pipes.old.items ++ map (λ (id : ℕ). []) (piped_by (Init limit true) reply.now) }
-    ensures feed { result ≡ feed_of reply.now feed.slots }
-{
-    match reply {
-        Reply::Instance(id) => {
-            numbers.push_reserved(*id);
-            pipes.push_reserved(pipe);
-            Some(feed.numbered(*id))
-        }
-        _ => None,
-    }
 }
 
 impl<L: Ledger> Held<L> {
@@ -321,8 +223,7 @@ impl<L: Ledger> Held<L> {
         let held = Held {
             alloc,
             core,
-            numbers: Vec::new(alloc),
-            pipes: Vec::new(alloc),
+            pipes: Pipes::new(alloc),
             book,
         };
         let pass = Pass {
@@ -392,15 +293,14 @@ impl<L: Ledger> Held<L> {
         let Held {
             alloc,
             core,
-            numbers,
             pipes,
             book,
         } = self;
         let closed = closed_by(&call);
-        let at = look(core, numbers.as_slice(), pipes, closed)?;
+        let at = pipes.look(core, closed)?;
         let receipt = enter(core, book, seat, call)?;
         let batch = end_batch(*alloc, closed, &receipt);
-        hand_over(numbers.as_slice(), pipes, at, batch);
+        pipes.hand_over(at, batch);
         Ok(receipt)
     }
 
@@ -428,14 +328,13 @@ impl<L: Ledger> Held<L> {
         let Held {
             alloc: _,
             core,
-            numbers,
             pipes,
             book,
         } = self;
-        let at = look(core, numbers.as_slice(), pipes, Some(instance))?;
+        let at = pipes.look(core, Some(instance))?;
         let (receipt, records) = enter_pump(core, book, seat, instance, bytes)?;
         let batch = pumped_batch(instance, receipt.place, records);
-        hand_over(numbers.as_slice(), pipes, at, batch);
+        pipes.hand_over(at, batch);
         Ok(receipt)
     }
 
@@ -465,13 +364,12 @@ impl<L: Ledger> Held<L> {
         let Held {
             alloc,
             core,
-            numbers,
             pipes,
             book,
         } = self;
-        let (pipe, feed) = make_pipe(*alloc, core, numbers, pipes, slots)?;
+        let (pipe, feed) = make_pipe(*alloc, core, pipes, slots)?;
         let receipt = enter(core, book, seat, Call::Init { limit, piped: true })?;
-        let feed = keep_pipe(numbers, pipes, &receipt.reply, pipe, feed);
+        let feed = pipes.add(&receipt.reply, pipe, feed);
         Ok((receipt, feed))
     }
 
@@ -502,7 +400,6 @@ impl<L: Ledger> Held<L> {
         let Held {
             alloc: _,
             core,
-            numbers,
             pipes,
             mut book,
         } = self;
@@ -517,7 +414,6 @@ impl<L: Ledger> Held<L> {
         let entries = core.last_place();
         Book {
             core,
-            numbers,
             pipes,
             entries,
         }

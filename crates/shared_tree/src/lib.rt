@@ -8,6 +8,7 @@ mod book;
 mod held;
 mod laws;
 mod pipe;
+mod pipes;
 mod seat;
 
 pub use book::Book;

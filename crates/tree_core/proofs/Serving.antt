@@ -6,6 +6,7 @@ use Rattle.tree_paths.specs.declared.refusal.Refusal.TheVariants.{Enomem}
 use Rattle.inode_table.specs.Tree as table
 use Rattle.inode_table.specs.Stands.{Stands}
 use Rattle.tree_ops.specs.ReadyCall.{HasNumbersBelow}
+use Rattle.instance_table.specs.declared.staging.Staging.{Staging}
 use Rattle.tree_core.specs.declared.call.Call.{Call}
 use Rattle.tree_core.specs.declared.file_system.FileSystem.{FileSystem}
 use Rattle.tree_core.specs.declared.file_system.Replies.{Replies}
@@ -91,6 +92,19 @@ IsFileSystemOf-table t m u is world below = record {
   limits = is.limits;
   world = world;
   below = below;
+  next_number = is.next_number;
+  next_cookie = is.next_cookie;
+  next_id = is.next_id;
+  instances = is.instances;
+  counted = is.counted;
+}
+
+-- other room for what a call tells
+pub IsFileSystemOf-staging : (t : Tree) (m : FileSystem) (s : Staging) → IsFileSystemOf t m → IsFileSystemOf t (record m { staging = s })
+IsFileSystemOf-staging t m s is = record {
+  limits = is.limits;
+  world = is.world;
+  below = is.below;
   next_number = is.next_number;
   next_cookie = is.next_cookie;
   next_id = is.next_id;

@@ -18,7 +18,7 @@ use crate::snapshot::Snapshot;
 use event_queue::Queue;
 use event_rules::notices;
 use inode_table::{Kind, Table};
-use instance_table::{Instance, Instances};
+use instance_table::{Instance, Instances, Staging};
 use record_codec::{Bytes, Events, append};
 use std::alloc::{AllocError, Global};
 use tree_ops::{Counts, FileCall, carry_out, check};
@@ -28,7 +28,7 @@ use watch_table::Mask;
 /// The number of the first file that is made: the root has the number 1.
 const FIRST_NUMBER: u32 = 2;
 
-/// The files, the open instances, and the numbers that come next.
+/// The files, the open instances, the numbers that come next, and room for what a call tells.
 pub struct FileSystem {
     pub(crate) alloc: Global,
     pub(crate) limits: Limits,
@@ -37,6 +37,7 @@ pub struct FileSystem {
     pub(crate) next_cookie: u64,
     pub(crate) next_id: u32,
     pub(crate) instances: Instances,
+    pub(crate) staging: Staging,
 }
 
 impl Drop for FileSystem {
@@ -49,6 +50,7 @@ impl Drop for FileSystem {
             next_cookie: _,
             next_id: _,
             instances: _,
+            staging: _,
         } = self;
     }
 }
@@ -114,6 +116,7 @@ impl FileSystem {
             next_cookie: 1,
             next_id: 1,
             instances: Instances::new(alloc),
+            staging: Staging::new(alloc),
         })
     }
 
@@ -174,12 +177,13 @@ impl FileSystem {
             Err(refusal) => return Ok(Replies::refused(refusal, keeps)),
         };
         let notices = notices(self.alloc, &self.table, &ready, counts.next_cookie)?;
-        let staging = self.instances.stage(notices.as_slice())?;
+        let told = notices.as_slice();
+        self.instances.stage(told, &mut self.staging)?;
         let numbers = ready.numbers();
         let cookies = ready.cookies();
         let answer = carry_out(self.alloc, &mut self.table, ready)?;
         let replies = Replies::of(Reply::File(answer), keeps)?;
-        self.instances.tell(notices.as_slice(), staging);
+        self.instances.tell(told, &mut self.staging);
         self.next_number += numbers;
         self.next_cookie += u64::from(cookies);
         Ok(replies)

@@ -1,6 +1,6 @@
 //! Pathnames as texts.
 
-ghost use Rattle.std.specs.Prelude.{◌≡◌, IfOk, MatchOption};
+ghost use Rattle.std.specs.Prelude.{◌≡◌, IfOk, MatchOption, length};
 ghost use Rattle.std.specs.List.{list_any};
 ghost use Rattle.tree_paths.specs.Paths.{parsed, names_of, is_null, is_dots, is_long};
 
@@ -61,12 +61,21 @@ fn has_long(text: &[u8]) -> bool
         .any(|name| NAME_MAX < name.len())
 }
 
-/// The names of a path's text.
+/// How many names a path's text has.
+fn count_of_names(text: &[u8]) -> usize
+    ensures { result ≡ length (names_of text.now) }
+{
+    text.split(|b| *b == SEPARATOR)
+        .filter(|piece| !piece.is_empty())
+        .count()
+}
+
+/// The names of a path's text, in memory for just so many.
 pub(crate) fn names_in(alloc: Global, text: &[u8]) -> Result<Vec<Name>, AllocError>
     requires { parsed text.now ≡ Ok (names_of text.now) }
     ensures { IfOk result (λ names. names.items ≡ names_of text.now) }
 {
-    let mut names = Vec::new(alloc);
+    let mut names = Vec::with_capacity(alloc, count_of_names(text))?;
     for piece in text.split(|b| *b == SEPARATOR) {
         if let Some(name) = Name::new(alloc, piece)? {
             names.push(name)?;

@@ -1,7 +1,7 @@
 //! Each growth of `notices` and `stage` refused in turn. Where nobody refuses growths each is called once.
 
 use super::*;
-use refuser::{refuse, was_refused};
+use refuser::{refuse, refuse_from, was_refused};
 use tree_ops::RENAME_EXCHANGE;
 
 /// More growths than a call here has.
@@ -98,22 +98,32 @@ fn notices_refused(calls: &Calls, call: &FileCall) -> Result<Option<u32>, Refusa
 
 // Whether the same events are raised, and the same watches end.
 fn are_same(one: &Staged, other: &Staged) -> bool {
-    one.events == other.events && one.drops.as_slice() == other.drops.as_slice()
+    one.events.iter().eq(other.events.iter()) && one.drops.as_slice() == other.drops.as_slice()
 }
 
-// How many growths the events of a call have, each refused. None where one was not.
+// How many growths the events of a call have, each refused. None where one was not, or where staging them again in the room
+// that has grown has one.
 fn stage_refused(
     alloc: Global,
     watches: &Watches,
     notices: &[Notice],
 ) -> Result<Option<u32>, Refusal> {
-    let wanted = stage(alloc, watches, notices)?;
+    let mut wanted = Staged::new(alloc);
+    stage(ID, watches, notices, &mut wanted)?;
     for k in 1..MOST {
+        let mut staged = Staged::new(alloc);
         let _ = refuse(alloc, k);
-        let told = stage(alloc, watches, notices);
+        let told = stage(ID, watches, notices, &mut staged);
         match (told, was_refused(alloc)) {
             (Err(Refusal::Enomem), true) => {}
-            (Ok(told), false) if are_same(&told, &wanted) => return Ok(Some(k - 1)),
+            (Ok(()), false) if are_same(&staged, &wanted) => {
+                staged.clear();
+                let _ = refuse_from(alloc, 1);
+                let again = stage(ID, watches, notices, &mut staged);
+                let is_refused = was_refused(alloc);
+                let is_well = again.is_ok() && !is_refused && are_same(&staged, &wanted);
+                return Ok(is_well.then_some(k - 1));
+            }
             _ => return Ok(None),
         }
     }
@@ -142,8 +152,7 @@ fn each_growth_of_each_call(rt: HostRuntime) -> Result<(), Fail> {
         let told = notices_refused(&calls, &call)?;
         let raised = stage_refused(alloc, &watches, noticed(&calls, &call)?.as_slice())?;
         let grows = has_refuser && which < 11;
-        let is_well = matches!(told, Some(count) if (count > 0) == grows)
-            && matches!(raised, Some(count) if (count > 0) == grows);
+        let is_well = told.is_some() && matches!(raised, Some(count) if (count > 0) == grows);
         assert!(rt; is_well, "call {which}: {told:?}, {raised:?}");
     }
     Ok(())

@@ -7,6 +7,9 @@ use refuser::{refuse, refuse_from, was_refused};
 /// More growths than a call here has.
 const MOST: u32 = 400;
 
+/// How many instances hear the same.
+const CROWD: u32 = 128;
+
 /// Steps enough for two nodes of each ordered map.
 const STEPS: u32 = 60;
 
@@ -119,23 +122,74 @@ fn stage_refused(
     twin: &mut Instances,
 ) -> Result<Option<u32>, Refusal> {
     let notices = three_notices(alloc)?;
+    let mut grown = Staging::new(alloc);
     for k in 1..MOST {
+        let mut staging = Staging::new(alloc);
         let _ = refuse(alloc, k);
-        let told = instances.stage(&notices);
+        let told = instances.stage(&notices, &mut staging);
         match (told, was_refused(alloc)) {
             (Err(Refusal::Enomem), true) if are_alike(instances, twin) => {}
-            (Ok(staging), false) => {
+            (Ok(()), false) => {
                 let _ = refuse_from(alloc, 1);
-                instances.tell(&notices, staging);
+                instances.tell(&notices, &mut staging);
                 let is_refused = was_refused(alloc);
-                let staging = twin.stage(&notices)?;
-                twin.tell(&notices, staging);
+                twin.stage(&notices, &mut grown)?;
+                twin.tell(&notices, &mut grown);
                 return Ok((!is_refused && are_alike(instances, twin)).then_some(k - 1));
             }
             _ => return Ok(None),
         }
     }
     Ok(None)
+}
+
+// Many instances that watch a file, and one that watches nothing.
+fn crowd(alloc: Global) -> Result<Instances, Refusal> {
+    let mut instances = Instances::new(alloc);
+    for id in 1..=CROWD {
+        open(&mut instances, id)?;
+        watch(&mut instances, id, FILE, IN_ALL_EVENTS)?;
+    }
+    open(&mut instances, CROWD + 1)?;
+    Ok(instances)
+}
+
+// Whether so many records wait in each that watches, and none in the one that does not.
+fn have_heard(instances: &Instances, count: usize) -> bool {
+    (1..=CROWD).all(|id| waiting(instances, id) == count) && waiting(instances, CROWD + 1) == 0
+}
+
+// Tells the instances while growths are refused. Whether none was.
+fn tells_in_room(
+    alloc: Global,
+    instances: &mut Instances,
+    notices: &[Notice],
+    staging: &mut Staging,
+) -> Result<bool, Refusal> {
+    let _ = refuse_from(alloc, 1);
+    let staged = instances.stage(notices, staging);
+    let is_refused = was_refused(alloc);
+    staged?;
+    let _ = refuse_from(alloc, 1);
+    instances.tell(notices, staging);
+    Ok(!is_refused && !was_refused(alloc))
+}
+
+#[test]
+fn what_many_hear_takes_no_memory_again(rt: HostRuntime) -> Result<(), Fail> {
+    let alloc = rt.alloc();
+    let mut instances = crowd(alloc)?;
+    let mut staging = Staging::new(alloc);
+    let mut notices = Vec::new(alloc);
+    notices.push(told(IN_CREATE))?;
+    notices.push(told(IN_DELETE_SELF))?;
+    instances.stage(&notices, &mut staging)?;
+    instances.tell(&notices, &mut staging);
+    let once = have_heard(&instances, 2);
+    let takes_none = tells_in_room(alloc, &mut instances, &notices, &mut staging)?;
+    let is_well = once && takes_none && have_heard(&instances, 4);
+    holds(&rt, "once && takes_none", is_well);
+    Ok(())
 }
 
 // How many growths the rows have, each refused. None where one was not.

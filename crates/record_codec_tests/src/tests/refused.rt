@@ -8,6 +8,9 @@ use std::alloc::AllocError;
 /// More growths than a call here has.
 const MOST: u32 = 50;
 
+/// The shortest name that takes memory.
+const LONG: [u8; NAME_IN_PLACE + 1] = [b'n'; NAME_IN_PLACE + 1];
+
 /// How many calls there are.
 const CALLS: u32 = 9;
 
@@ -23,8 +26,8 @@ fn is_right(
         1 => append_record_line(event, text)?,
         2 => return Ok(encode(alloc, &[event.copy()?])?.as_slice() == &SPELLED[..32]),
         3 => return is_decoded(alloc),
-        4 => return Ok(event.copy()? == *event),
-        5 => return Ok(Name::new(alloc, b"f")?.is_some()),
+        4 => return is_copied(alloc),
+        5 => return Ok(Name::new(alloc, &LONG)?.is_some()),
         6 => return Ok(Events::from_vec(decoded(alloc)?).copy()?.as_slice().len() == 2),
         7 => return Ok(
             Bytes::from_vec(SPELLED.to_vec(alloc)?).copy()?.as_slice() == SPELLED.as_slice(),
@@ -40,6 +43,17 @@ fn is_right(
         _ => b"f".as_slice(),
     };
     Ok(text.get(6..) == Some(wanted))
+}
+
+// Whether an event is copied, the name of which takes memory.
+fn is_copied(alloc: Global) -> Result<bool, AllocError> {
+    let event = Event {
+        wd: 1,
+        mask: IN_CREATE,
+        cookie: 0,
+        name: Name::new(alloc, &LONG)?,
+    };
+    Ok(event.copy()? == event)
 }
 
 // The events of `SPELLED`.
@@ -109,5 +123,34 @@ fn some_calls_take_no_memory(rt: HostRuntime) -> Result<(), Fail> {
     let is_told = is_told(&events, &name);
     let is_refused = was_refused(alloc);
     holds(&rt, "is_told && !is_refused", is_told && !is_refused);
+    Ok(())
+}
+
+// Whether a name of these bytes is made and copied. `Err` is want of memory.
+fn is_made_and_copied(alloc: Global, bytes: &[u8]) -> Result<bool, AllocError> {
+    Ok(match Name::new(alloc, bytes)? {
+        Some(name) => name.copy()?.bytes() == bytes,
+        None => false,
+    })
+}
+
+#[test]
+fn short_names_take_no_memory(rt: HostRuntime) -> Result<(), Fail> {
+    let alloc = rt.alloc();
+    let has_refuser = refuse_from(alloc, 1);
+    let short = is_made_and_copied(alloc, &LONG[..NAME_IN_PLACE]);
+    let shortest = is_made_and_copied(alloc, &LONG[..1]);
+    let is_refused = was_refused(alloc);
+    let are_made = matches!(short, Ok(true)) && matches!(shortest, Ok(true));
+    holds(&rt, "are_made && !is_refused", are_made && !is_refused);
+    let _ = refuse_from(alloc, 1);
+    let long = is_made_and_copied(alloc, &LONG);
+    let is_refused = was_refused(alloc);
+    holds(
+        &rt,
+        "long.is_err() == has_refuser && is_refused == has_refuser",
+        long.is_err() == has_refuser && is_refused == has_refuser,
+    );
+    holds(&rt, "long", is_made_and_copied(alloc, &LONG)?);
     Ok(())
 }

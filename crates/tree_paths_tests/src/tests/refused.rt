@@ -7,12 +7,31 @@ use refuser::{refuse, refuse_from, was_refused};
 /// More growths than a call here has.
 const MOST: u32 = 50;
 
+/// A path of twelve short names.
+const DEEP: &[u8] = b"/a/b/c//d/e/f/g/h/i/j/k/a_name_of_just_23_bytes";
+
+// Two short names.
+fn names_of(alloc: Global) -> Result<Vec<Name>, Refusal> {
+    let mut names = Vec::with_capacity(alloc, 2)?;
+    for bytes in [b"a".as_slice(), b"b"] {
+        if let Some(name) = Name::new(alloc, bytes)? {
+            names.push(name)?;
+        }
+    }
+    Ok(names)
+}
+
 // Makes a call. Whether its answer is right.
 fn is_right(alloc: Global, which: u32, path: &Path) -> Result<bool, Refusal> {
     Ok(match which {
         0 => are(Path::parse(alloc, b"/a/b/c")?.names(), &[b"a", b"b", b"c"]),
         1 => Path::parse(alloc, b"/a/bb///ccc/d/e")? == Path::parse(alloc, b"/a/bb/ccc/d/e")?,
-        _ => path.copy()? == *path,
+        2 => path.copy()? == *path,
+        3 => Path::parse(alloc, DEEP)?.names().len() == 12,
+        _ => {
+            let names = Names::from_vec(names_of(alloc)?);
+            names.copy()? == names
+        }
     })
 }
 
@@ -36,10 +55,11 @@ fn each_growth_of_each_call(rt: HostRuntime) -> Result<(), Fail> {
     let has_refuser = refuse(alloc, MOST);
     let _ = was_refused(alloc);
     let path = Path::parse(alloc, b"/a/b")?;
-    for which in 0..3 {
+    // A path of short names takes one growth, however many they are.
+    for (which, growths) in [(0, 1), (1, 2), (2, 1), (3, 1), (4, 2)] {
+        let wanted = if has_refuser { growths } else { 0 };
         let count = refused_in_turn(alloc, which, &path);
-        let is_well = matches!(count, Some(count) if (count > 0) == has_refuser);
-        assert!(rt; is_well, "call {which}: {count:?}");
+        assert!(rt; count == Some(wanted), "call {which}: {count:?}");
     }
     Ok(())
 }

@@ -1,4 +1,3 @@
-use Rattle.std.proofs.Common.{sym}
 use Rattle.record_codec.proofs.DecodeLemmas.{one_spelling}
 use Rattle.record_codec.proofs.laws.spellings_are_one.Goals as goal
 

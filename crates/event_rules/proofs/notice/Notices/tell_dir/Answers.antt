@@ -6,4 +6,4 @@ pub returns : goal.returns
 returns c =
     let there = to_dir-there (look_in c.args.table.now) c.args.path.now c.in-Some.parent.now c.in-Some.name.now c.in-Ok.directory c.args.kind c.args.event c.args.cookie
     c.in-Some.ensures.parts c.in-Some.ensures.parent c.in-Ok.ensures.seen in
-    rw (there, ← c.about.ensures, ← c.in_ok-copy.ensures) c.push.ensures
+    rw (there, ← c.about.ensures, ← c.in_ok-copy.ensures.same) c.push.ensures

@@ -43,7 +43,7 @@ invariant_of-self-2 c =
     let was : tree.get nat_cmp a.opened c.args.id ≡ Some i = sym c.in-Some.ensures.value in
     let put = (c.get_mut.follows.holds j).3 (subst (λ o. IsSome o) (sym was) refl) in
     IsIndexed-changed a c.self.invariant (c.get_mut.follows.lender j) c.args.id i j put was c.remove.new.self
-    (noted-dropped a c.self.invariant c.args.id i was c.in-Some-number_of.number c.drop_file.new.self c.drop_file.ensures.watches c.remove.new.self c.remove.ensures) refl
+    (noted-dropped a c.self.invariant c.args.id i was c.in-Some-number_of.number c.drop_file.new.self c.drop_file.ensures.watches c.remove.new.self c.remove.ensures.noted) (c.remove.ensures.rows c.self.invariant.rows) refl
 
 pub returns : goal.returns
 returns c =

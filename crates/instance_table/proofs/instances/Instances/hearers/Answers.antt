@@ -12,7 +12,7 @@ use Rattle.instance_table.proofs.Watchers.{any-watchers}
 use Rattle.instance_table.proofs.instances.Instances.hearers.Goals as goal
 
 pub loop-notice-init : goal.loop-notice-init
-loop-notice-init c q = ap (λ (m : IdSet). is_some (map.get m q)) c.new-ids.ensures ∙ ap is_some (get-empty nat_cmp q)
+loop-notice-init c q = ap (λ (m : IdSet). is_some (map.get m q)) c.clear.ensures ∙ ap is_some (get-empty nat_cmp q)
 
 swapped : (a b : Bool) → (a || b) ≡ (b || a)
 swapped true true = refl

@@ -9,6 +9,7 @@ use Rattle.instance_table.proofs.instances.Instances.new.Goals as goal
 
 pub invariant_of-result : goal.invariant_of-result
 invariant_of-result c = let none = λ (id : ℕ). get-from_map c.new.result id ∙ ap (lookup (tree.is_at (nat_cmp id))) c.new.ensures.empty in record {
-  noted = λ number id. c.new-2.ensures number id ∙ sym (ap (watches_file number) (none id));
+  rows = c.new-2.ensures.rows;
+  noted = λ number id. c.new-2.ensures.noted number id ∙ sym (ap (watches_file number) (none id));
   records = λ id. subst (λ o. AreEvents (waiting_of o)) (sym (none id)) tt;
 }

@@ -1,8 +1,8 @@
 use Rattle.std.proofs.Common.{ap, ◌∙◌}
-use Rattle.instance_table.specs.Staging.{heard_all}
+use Rattle.instance_table.specs.Staging.{ended_all}
 use Rattle.instance_table.proofs.Heard.{heard-told}
 use Rattle.instance_table.proofs.instances.Instances.tell.Goals as goal
 
 pub returns : goal.returns
 returns c =
-    c.hear_each.ensures ∙ ap (heard_all c.args.self.now) c.into_hearings.ensures ∙ heard-told c.args.staging c.args.self.now c.args.notices.now c.requires
+    c.end_each.ensures ∙ ap (ended_all c.hear_each.new.self) c.deref.ensures.value ∙ ap (λ m. ended_all m c.args.staging.now.staged.drops.items) c.hear_each.ensures ∙ heard-told c.args.staging.now c.args.self.now c.args.notices.now c.requires

@@ -32,7 +32,7 @@ invariant_of-self c =
     let was : tree.get nat_cmp a.opened c.args.id ≡ Some i = sym c.in-Some.ensures.value in
     let put = (c.get_mut.follows.holds j).3 (subst (λ o. IsSome o) (sym was) refl) in
     IsIndexed-changed a c.self.invariant (c.get_mut.follows.lender j) c.args.id i j put was c.add_noted.new.index
-    (noted-after a c.self.invariant c.args.id i was c.args.number c.args.mask.0 c.add_noted.new.watches c.add_noted.new.index c.add_noted.result c.add_noted.ensures.watches c.add_noted.ensures.noted c.add_noted.ensures.err c.add_noted.ensures.err_noted) refl
+    (noted-after a c.self.invariant c.args.id i was c.args.number c.args.mask.0 c.add_noted.new.watches c.add_noted.new.index c.add_noted.result c.add_noted.ensures.watches c.add_noted.ensures.noted c.add_noted.ensures.err c.add_noted.ensures.err_noted) (c.add_noted.ensures.rows c.self.invariant.rows) refl
 
 pub returns-clause-wd : goal.returns-clause-wd
 returns-clause-wd c =

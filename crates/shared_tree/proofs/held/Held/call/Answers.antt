@@ -1,4 +1,4 @@
-use Rattle.std.proofs.Common.{List, ℕ, length, refl, sym, ap, subst, ◌∙◌}
+use Rattle.std.proofs.Common.{sym, subst, ◌∙◌}
 use Rattle.shared_tree.specs.Calls.{HandsOver, TreeWithPipes, tree_with_pipes}
 use Rattle.shared_tree.specs.Held.{deliver, sents}
 use Rattle.std.proofs.Common.{Result}
@@ -8,28 +8,23 @@ use Rattle.tree_core.specs.declared.reply.Receipt.{Receipt}
 use Rattle.tree_paths.specs.declared.refusal.Refusal.{Refusal}
 use Rattle.shared_tree.specs.Calls.{IsWhyNot}
 use Rattle.shared_tree.proofs.Unable.{why-not}
-use Rattle.shared_tree.proofs.Wholes.{close-why, hands-call, held-call, looked-length}
+use Rattle.shared_tree.proofs.Wholes.{close-why, hands-call, held-call}
 use Rattle.shared_tree.proofs.held.Held.call.Goals as goal
-
-pub hand_over-requires-clause-len : goal.hand_over-requires-clause-len
-hand_over-requires-clause-len g c =
-    ap (λ (xs : List ℕ). length xs) c.as_slice-2.ensures.value
-    ∙ looked-length c.self.inside.core c.self.inside.numbers.items c.self.inside.book.total c.self.inside.pipes.items c.look.new.pipes.items c.self.invariant c.in_ok-at.ensures.sent
 
 pub invariant_of-self-2 : goal.invariant_of-self-2
 invariant_of-self-2 g c =
-    rw (c.hand_over.ensures, c.as_slice-2.ensures.value, c.in_ok-at.ensures.sent)
-    (held-call c.replies_tell.ensures c.self.inside.core c.enter.new.core c.args.seat.now c.enter.new.seat c.in_ok-receipt.receipt c.self.inside.numbers.items (sents c.self.inside.pipes.items) c.self.inside.book.total c.enter.new.book.total c.self.invariant
+    rw (c.hand_over.ensures.sent, c.hand_over.ensures.numbers, c.in_ok-at.ensures.sent, c.in_ok-at.ensures.numbers)
+    (held-call c.replies_tell.ensures c.self.inside.core c.enter.new.core c.args.seat.now c.enter.new.seat c.in_ok-receipt.receipt c.self.inside.pipes.numbers (sents c.self.inside.pipes.ends) c.self.inside.book.total c.enter.new.book.total c.self.invariant
     c.args.call c.closed_by-closed.result c.end_batch-batch.result c.in_ok-receipt.ensures.ok c.requires.plain c.in_ok-receipt.ensures.total c.closed_by-closed.ensures c.end_batch-batch.ensures)
 
 pub returns-clause-hands : goal.returns-clause-hands
 returns-clause-hands g c =
     let a = c.self.inside in
-    let old : TreeWithPipes = tree_with_pipes a.core a.numbers.items (sents a.pipes.items) a.book.total in
-    let new : TreeWithPipes = tree_with_pipes c.enter.new.core a.numbers.items (sents c.hand_over.new.pipes.items) c.enter.new.book.total in
+    let old : TreeWithPipes = tree_with_pipes a.core a.pipes.numbers (sents a.pipes.ends) a.book.total in
+    let new : TreeWithPipes = tree_with_pipes c.enter.new.core c.hand_over.new.self.numbers (sents c.hand_over.new.self.ends) c.enter.new.book.total in
     subst (λ (h : TreeWithPipes). HandsOver h c.args.call c.in_ok-receipt.receipt new) c.self.view_is
     (hands-call old new c.args.seat.now c.enter.new.seat c.args.call c.in_ok-receipt.receipt c.closed_by-closed.result c.end_batch-batch.result c.in_ok-receipt.ensures.ok c.requires.plain c.closed_by-closed.ensures c.end_batch-batch.ensures
-    refl (c.hand_over.ensures ∙ (λ i. deliver c.end_batch-batch.result (c.as_slice-2.ensures.value i) (c.in_ok-at.ensures.sent i))) c.in_ok-receipt.ensures.total)
+    (c.hand_over.ensures.numbers ∙ c.in_ok-at.ensures.numbers) (c.hand_over.ensures.sent ∙ (λ i. deliver c.end_batch-batch.result (c.in_ok-at.ensures.numbers i) (c.in_ok-at.ensures.sent i))) c.in_ok-receipt.ensures.total)
 
 pub returns-in_err-at-clause-errors : goal.returns-in_err-at-clause-errors
 returns-in_err-at-clause-errors g c =
@@ -38,7 +33,7 @@ returns-in_err-at-clause-errors g c =
     subst (λ (h : TreeWithPipes). IfErr c.from_residual.result (λ e. IsWhyNot h.state c.args.call e)) c.self.view_is
     (subst (λ (x : Result Receipt Refusal). IfErr x (λ e. IsWhyNot a.core c.args.call e)) (sym p.1)
     (subst (λ (e : Refusal). IsWhyNot a.core c.args.call e) (sym p.2)
-    (close-why a.core a.numbers.items c.as_slice.result.now (sents a.pipes.items) a.book.total c.args.call c.closed_by-closed.result c.in_err-at.field-0.0 c.self.invariant c.as_slice.ensures.value c.closed_by-closed.ensures c.in_err-at.ensures.err)))
+    (close-why a.core a.pipes.numbers (sents a.pipes.ends) a.book.total c.args.call c.closed_by-closed.result c.in_err-at.field-0.0 c.self.invariant c.closed_by-closed.ensures c.in_err-at.ensures.err)))
 
 pub returns-in_err-receipt-clause-errors : goal.returns-in_err-receipt-clause-errors
 returns-in_err-receipt-clause-errors g c =

@@ -8,6 +8,6 @@ invariant_of-result g c =
     record {
       lawful = c.journal.ensures.lawful;
       counted = search;
-      sends = held-sends a.core a.numbers.items a.book.total (sents a.pipes.items) c.self.invariant;
-      events = λ id. held-events a.core a.numbers.items (sents a.pipes.items) a.book.total id c.self.invariant;
+      sends = held-sends a.core a.pipes.numbers a.book.total (sents a.pipes.ends) c.self.invariant;
+      events = λ id. held-events a.core a.pipes.numbers (sents a.pipes.ends) a.book.total id c.self.invariant;
     }

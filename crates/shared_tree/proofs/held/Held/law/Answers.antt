@@ -1,5 +1,4 @@
-use Rattle.std.proofs.Common.{ℕ, List, subst}
-use Rattle.std.specs.Prelude.{◌↔◌, IsTrue}
+use Rattle.std.proofs.Common.{ℕ, subst}
 use Rattle.instance_table.specs.Instances.{instance_of, waiting_of}
 use Rattle.tree_core.specs.Histories.{raised_in}
 use Rattle.tree_core.specs.Journal.{now}
@@ -9,7 +8,7 @@ use Rattle.tree_core.specs.TurnLaws.{EndsOnce}
 use Rattle.shared_tree.specs.Calls.{TreeWithPipes, IsSent}
 use Rattle.shared_tree.specs.Handed.{AreOfEvents, handed_since}
 use Rattle.shared_tree.specs.Held.{sents}
-use Rattle.shared_tree.specs.Law.{AtEach, HasCookiesInTurn, HasPipesOfPiped, IsTold, RefusedAddsNothing, TiesMoves}
+use Rattle.shared_tree.specs.Law.{HasPipesOfPiped, IsTold, RefusedAddsNothing, TiesMoves}
 use Rattle.shared_tree.proofs.EachEntry.{at_each}
 use Rattle.shared_tree.proofs.Wholes.{held-events, held-pipes-of-piped, held-sends}
 use Rattle.shared_tree.proofs.held.Held.law.Goals as goal
@@ -52,14 +51,14 @@ returns-clause-refused g c = at_each RefusedAddsNothing (λ t d refusal. (c.repl
 pub returns-clause-with_pipe : goal.returns-clause-with_pipe
 returns-clause-with_pipe g c =
     let a = c.self.inside in
-    subst HasPipesOfPiped c.self.view_is (held-pipes-of-piped a.core a.numbers.items (sents a.pipes.items) a.book.total c.self.invariant)
+    subst HasPipesOfPiped c.self.view_is (held-pipes-of-piped a.core a.pipes.numbers (sents a.pipes.ends) a.book.total c.self.invariant)
 
 pub returns-clause-sent : goal.returns-clause-sent
 returns-clause-sent g c =
     let a = c.self.inside in
-    subst (λ (h : TreeWithPipes). IsSent h.state h.pipes h.sent) c.self.view_is (held-sends a.core a.numbers.items a.book.total (sents a.pipes.items) c.self.invariant)
+    subst (λ (h : TreeWithPipes). IsSent h.state h.pipes h.sent) c.self.view_is (held-sends a.core a.pipes.numbers a.book.total (sents a.pipes.ends) c.self.invariant)
 
 pub returns-clause-events : goal.returns-clause-events
 returns-clause-events g c =
     let a = c.self.inside in
-    subst (λ (h : TreeWithPipes). (id : ℕ) → AreOfEvents (handed_since h.state id)) c.self.view_is (λ id. held-events a.core a.numbers.items (sents a.pipes.items) a.book.total id c.self.invariant)
+    subst (λ (h : TreeWithPipes). (id : ℕ) → AreOfEvents (handed_since h.state id)) c.self.view_is (λ id. held-events a.core a.pipes.numbers (sents a.pipes.ends) a.book.total id c.self.invariant)

@@ -1,7 +1,5 @@
-use Rattle.std.proofs.Common.{ap}
 use Rattle.shared_tree.proofs.Wholes.{held-new}
-use Rattle.shared_tree.specs.Held.{sents}
 use Rattle.shared_tree.proofs.held.Held.new.Goals as goal
 
 pub invariant_of-held : goal.invariant_of-held
-invariant_of-held g c = rw (c.in_ok-core.ensures.ok, c.new-2.ensures.items, c.new-3.ensures.items, c.open-book.ensures.total) (held-new c.args.limits)
+invariant_of-held g c = rw (c.in_ok-core.ensures.ok, c.new-2.ensures.0, c.new-2.ensures.1, c.open-book.ensures.total) (held-new c.args.limits)

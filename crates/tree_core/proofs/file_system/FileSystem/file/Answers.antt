@@ -10,7 +10,7 @@ use Rattle.tree_core.specs.declared.file_system.FileSystem.{FileSystem}
 use Rattle.tree_core.specs.declared.reply.Reply.TheVariants as reply
 use Rattle.tree_core.specs.Tree.{Tree, counts_of, cookie_now}
 use Rattle.tree_core.specs.FileSystems.{IsFileSystemOf}
-use Rattle.tree_core.proofs.Serving.{Executes-err, accepted-serves, IsFileSystemOf-table}
+use Rattle.tree_core.proofs.Serving.{Executes-err, accepted-serves, IsFileSystemOf-staging, IsFileSystemOf-table}
 use Rattle.tree_core.proofs.Filed.{IsCarriedOut, IsCarriedOut-checked, IsFileSystemOf-listed, IsFileSystemOf-filed}
 use Rattle.tree_core.proofs.Counted.{cookies-fit, cookies-there}
 use Rattle.tree_core.proofs.file_system.FileSystem.file.Goals as goal
@@ -25,19 +25,21 @@ check-requires c =
 pub returns-in_err-answer : goal.returns-in_err-answer
 returns-in_err-answer c =
     let m = c.args.self.now in
+    let s : FileSystem = record m { staging = c.stage.new.staging } in
     let u = c.carry_out.new.table in
-    Executes-err m (record m { table = u }) (call.File c.args.call.now) c.args.keeps c.from_residual-in_err-answer.result c.in_err-answer.field-0.0 c.from_residual-in_err-answer.ensures.1 c.in_err-answer.ensures.memory refl (λ t is.
-    IsFileSystemOf-table t m u is (c.in_err-answer.ensures.err_world t.world is.world)
+    Executes-err m (record s { table = u }) (call.File c.args.call.now) c.args.keeps c.from_residual-in_err-answer.result c.in_err-answer.field-0.0 c.from_residual-in_err-answer.ensures.1 c.in_err-answer.ensures.memory refl (λ t is.
+    IsFileSystemOf-table t s u (IsFileSystemOf-staging t m c.stage.new.staging is) (c.in_err-answer.ensures.err_world t.world is.world)
     (subst (λ (x : Counts). HasNumbersBelow u x.next_number) (c.in-Ok.ensures.counts ∙ c.counts-counts.ensures t is) c.in_err-answer.ensures.err_numbers))
 
 pub returns-in_err-replies : goal.returns-in_err-replies
 returns-in_err-replies c =
     let m = c.args.self.now in
+    let s : FileSystem = record m { staging = c.stage.new.staging } in
     let u = c.carry_out.new.table in
     let f = c.args.call.now in
-    Executes-err m (record m { table = u }) (call.File f) c.args.keeps c.from_residual-in_err-replies.result c.in_err-replies.field-0.0 c.from_residual-in_err-replies.ensures.1 c.in_err-replies.ensures.err refl (λ t is.
+    Executes-err m (record s { table = u }) (call.File f) c.args.keeps c.from_residual-in_err-replies.result c.in_err-replies.field-0.0 c.from_residual-in_err-replies.ensures.1 c.in_err-replies.ensures.err refl (λ t is.
     let done : IsCarriedOut t f u c.in_ok-answer.answer = IsCarriedOut-checked t f c.in-Ok.ready u c.in_ok-answer.answer c.in-Ok.ensures.call (c.in-Ok.ensures.counts ∙ c.counts-counts.ensures t is) (c.in_ok-answer.ensures.world t.world is.world) c.in_ok-answer.ensures.numbers (c.in_ok-answer.ensures.answer t.world is.world) in
-    IsFileSystemOf-listed t m f u c.in_ok-answer.answer is done c.in_err-replies.ensures.memory)
+    IsFileSystemOf-listed t s f u c.in_ok-answer.answer (IsFileSystemOf-staging t m c.stage.new.staging is) done c.in_err-replies.ensures.memory)
 
 pub returns : goal.returns
 returns c =
@@ -46,14 +48,14 @@ returns c =
     let f = c.args.call.now in
     let said = c.in_ok-answer.answer in
     let ready = c.in-Ok.ready in
-    let n : FileSystem = record { alloc = m.alloc; limits = m.limits; table = u; next_number = m.next_number + c.numbers-numbers.result; next_cookie = m.next_cookie + c.from.result; next_id = m.next_id; instances = c.tell.new.self } in
+    let n : FileSystem = record { alloc = m.alloc; limits = m.limits; table = u; next_number = m.next_number + c.numbers-numbers.result; next_cookie = m.next_cookie + c.from.result; next_id = m.next_id; instances = c.tell.new.self; staging = c.tell.new.staging } in
     let counts : (t : Tree) (is : IsFileSystemOf t m) → ready.counts ≡ counts_of t = λ t is. c.in-Ok.ensures.counts ∙ c.counts-counts.ensures t is in
     let done : (t : Tree) (is : IsFileSystemOf t m) → IsCarriedOut t f u said = λ t is.
     IsCarriedOut-checked t f ready u said c.in-Ok.ensures.call (counts t is) (c.in_ok-answer.ensures.world t.world is.world) c.in_ok-answer.ensures.numbers (c.in_ok-answer.ensures.answer t.world is.world) in
     let passes : (t : Tree) (is : IsFileSystemOf t m) → refused t.world t.limits (counts_of t) f ≡ None = λ t is.
     (λ i. refused t.world (sym is.limits i) (sym (c.counts-counts.ensures t is) i) f) ∙ c.in-Ok.ensures.accepted t.world is.world in
     let heard : (t : Tree) (is : IsFileSystemOf t m) → c.tell.new.self ≡ all_changed m.instances (told (notices_of t.world f (cookie_now t.next_cookie))) = λ t is.
-    let slice : c.as_slice-2.result.now ≡ notices_of t.world ready.call c.counts-counts.result.next_cookie = c.as_slice-2.ensures ∙ c.in_ok-notices.ensures.told t.world is.world in
+    let slice : c.as_slice-told.result.now ≡ notices_of t.world ready.call c.counts-counts.result.next_cookie = c.as_slice-told.ensures ∙ c.in_ok-notices.ensures.told t.world is.world in
     c.tell.ensures ∙ ap (λ ns. all_changed m.instances (told ns)) (slice ∙ (λ i. notices_of t.world (c.in-Ok.ensures.call i) (c.counts-counts.ensures t is i).next_cookie)) in
     accepted-serves m (call.File f) c.args.keeps c.in_ok-replies.replies n (reply.File said) c.in_ok-replies.ensures.ok passes
     (λ t is. ap (λ a. reply.File a) (done t is).answer)

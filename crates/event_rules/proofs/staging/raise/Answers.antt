@@ -1,0 +1,36 @@
+use Rattle.std.proofs.Common.{◌<◌, ◌++◌, List, length, take, map, refl, sym, ap, ◌∙◌, append_assoc}
+use Rattle.std.specs.Prelude.{fold}
+use Rattle.std.proofs.lemmas.List.{append-nil, map-append}
+use Rattle.record_codec.specs.declared.event.Event.{Event}
+use Rattle.watch_table.specs.Watching.{removed}
+use Rattle.event_rules.specs.declared.notice.Notice.{Notice}
+use Rattle.event_rules.specs.declared.staging.StagedEvent.{StagedEvent}
+use Rattle.event_rules.specs.Raised.{events_of, raised}
+use Rattle.event_rules.specs.Staging.{staged_event}
+use Rattle.event_rules.proofs.Stages.{events_more, wds_more}
+use Rattle.event_rules.proofs.staging.raise.Goals as goal
+
+pub loop-notice-init : goal.loop-notice-init
+loop-notice-init c = record {
+  events = sym (append-nil c.args.events.now.items);
+  ended = c.requires;
+}
+
+pub loop-notice-preserved : goal.loop-notice-preserved
+loop-notice-preserved c =
+    let left_by_removals = λ (ns : List Notice). c.removals_leave_the_rest.ensures c.args.watches.now ns c.next_wd-next_wd.ensures.sound in
+    let within : c.loop-notice.notice-index < length c.args.notices.now = c.loop-notice-test.true in
+    let w = c.args.watches.now in
+    let was = c.args.events.now.items in
+    let heard : Event → StagedEvent = staged_event c.args.id in
+    let before = events_of w (take c.loop-notice.notice-index c.args.notices.now) in
+    let more = raised (fold removed w c.loop-notice.wds.items) c.notice-item.result in
+    record {
+      events =
+          c.in_ok-raise_one.ensures.events ∙ ap (λ es. es ++ map heard more) c.loop-notice.invariant.events ∙ append_assoc was (map heard before) (map heard more)
+          ∙ ap (λ es. was ++ es) (sym (map-append heard before more)
+          ∙ ap (map heard) (events_more w left_by_removals c.args.notices.now c.loop-notice.notice-index c.notice-item.result c.notice-item.result c.loop-notice.wds.items within (sym c.notice-item.is)
+          c.loop-notice.invariant.ended before (before ++ more) refl refl));
+      ended = wds_more w left_by_removals c.args.notices.now c.loop-notice.notice-index c.notice-item.result c.notice-item.result c.loop-notice.wds.items within (sym c.notice-item.is)
+          c.loop-notice.invariant.ended c.raise_one.new.wds.items c.in_ok-raise_one.ensures.ended;
+    }

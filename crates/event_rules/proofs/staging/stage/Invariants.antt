@@ -1,9 +1,0 @@
-use Rattle.std.proofs.Common.{◌≡◌, take}
-use Rattle.event_rules.specs.Raised.{events_of, wds_ended}
-use Rattle.event_rules.proofs.staging.stage.Given as goal
-
-abbrev pub invariant-loop-notice : goal.invariant-loop-notice
-invariant-loop-notice l = record {
-  events : l.events.items ≡ events_of l.watches (take l.notice-index l.notices);
-  ended : l.wds.items ≡ wds_ended l.watches (take l.notice-index l.notices);
-}

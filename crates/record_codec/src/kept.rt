@@ -1,0 +1,98 @@
+//! Where a name keeps its bytes.
+
+ghost use Rattle.std.specs.Prelude.{◌≡◌, ◌≤◌, ◌<◌, IfOk, IsOk, length};
+ghost use Rattle.record_codec.specs.declared.name.TheConstants.{NAME_IN_PLACE};
+ghost use Rattle.record_codec.specs.Kept.{IsKept, kept_bytes};
+
+use crate::name::NAME_IN_PLACE;
+use std::alloc::{AllocError, Global};
+
+/// The bytes of a name: in the value itself where it has room for them, and else in memory.
+///
+/// The byte that tells which it is stands before the others, so that with 23 bytes of a name the value takes 24, and
+/// an `Option` of it 32.
+pub(crate) enum Kept {
+    /// As many bytes as there is room for.
+    Full([u8; NAME_IN_PLACE]),
+    /// Fewer: the first `len`.
+    Short {
+        len: u8,
+        bytes: [u8; NAME_IN_PLACE - 1],
+    },
+    /// More.
+    Long(Box<Vec<u8>>),
+}
+
+impl Drop for Kept {
+    fn drop(self) {
+        match self {
+            Kept::Full(_) => {}
+            Kept::Short { len: _, bytes: _ } => {}
+            Kept::Long(_) => {}
+        }
+    }
+}
+
+impl Kept {
+    /// These bytes, kept. At most [`NAME_IN_PLACE`] take no memory.
+    pub(crate) fn of(alloc: Global, bytes: &[u8]) -> Result<Kept, AllocError>
+        ensures short { length bytes.now ≤ NAME_IN_PLACE → IsOk result }
+        ensures kept { IfOk result (λ kept. kept_bytes kept ≡ bytes.now) }
+        ensures sound { IfOk result IsKept }
+    {
+        let len = bytes.len();
+        if NAME_IN_PLACE < len {
+            return in_memory(alloc, bytes);
+        }
+        if len == NAME_IN_PLACE {
+            let mut full = [0; NAME_IN_PLACE];
+            full.copy_from_slice(bytes);
+            return Ok(Kept::Full(full));
+        }
+        let mut short = [0; NAME_IN_PLACE - 1];
+        short[..len].copy_from_slice(bytes);
+        Ok(Kept::Short {
+            len: len as u8,
+            bytes: short,
+        })
+    }
+
+    /// The bytes.
+    pub(crate) fn bytes(&self) -> &[u8]
+        requires { IsKept self.now }
+        ensures { result.now ≡ kept_bytes self.now }
+    {
+        match self {
+            Kept::Full(bytes) => bytes,
+            Kept::Short { len, bytes } => &bytes[..*len as usize],
+            Kept::Long(bytes) => bytes.as_slice(),
+        }
+    }
+
+    /// The same bytes once more. At most [`NAME_IN_PLACE`] take no memory.
+    pub(crate) fn copy(&self) -> Result<Kept, AllocError>
+        requires { IsKept self.now }
+        ensures short { length (kept_bytes self.now) ≤ NAME_IN_PLACE → IsOk result }
+        ensures kept { IfOk result (λ kept. kept_bytes kept ≡ kept_bytes self.now) }
+        ensures sound { IfOk result IsKept }
+    {
+        match self {
+            Kept::Full(bytes) => Ok(Kept::Full(*bytes)),
+            Kept::Short { len, bytes } => Ok(Kept::Short {
+                len: *len,
+                bytes: *bytes,
+            }),
+            Kept::Long(bytes) => in_memory(*bytes.allocator(), bytes.as_slice()),
+        }
+    }
+}
+
+/// These bytes in memory.
+fn in_memory(alloc: Global, bytes: &[u8]) -> Result<Kept, AllocError>
+    requires { NAME_IN_PLACE < length bytes.now }
+    ensures kept { IfOk result (λ kept. kept_bytes kept ≡ bytes.now) }
+    ensures sound { IfOk result IsKept }
+{
+    let bytes = Vec::from_slice(alloc, bytes)?;
+    Ok(Kept::Long(Box::new(alloc, bytes)?))
+}
