@@ -1,12 +1,15 @@
 -- Instances that hear what was staged for them, one after the other.
-use Rattle.std.proofs.Common.{◌≡◌, ℕ, true, false, cond, eqb, Option, Some, None, List, [], ◌∷◌, map, refl, sym, ap, ◌∙◌}
+use Rattle.std.proofs.Common.{◌≡◌, ℕ, true, false, cond, eqb, Option, Some, None, List, [], ◌∷◌, ◌++◌, map, append_assoc, refl, sym, ap, ◌∙◌}
 use Rattle.std.specs.Prelude.{fold, option_map}
 use Rattle.std.specs.FinMap as finmap
 use Rattle.std.specs.FinMap.{find, get-from_entries, get-entries, same_map, nat_cmp-IsAntisymmetric}
 use Rattle.std.specs.List.{filter}
 use Rattle.std.specs.Ordering.{nat_cmp, eq_by_cmp}
 use Rattle.std.specs.Cmp.{nat_cmp_total}
+use Rattle.std.proofs.lemmas.List.{map-append}
+use Rattle.record_codec.specs.declared.event.Event.{Event}
 use Rattle.event_queue.specs.Backlogs.{after_offer}
+use Rattle.event_rules.specs.Staging.{staged_event}
 use Rattle.event_rules.specs.declared.notice.Notice.{Notice}
 use Rattle.event_rules.specs.declared.staging.StagedEnd.{StagedEnd}
 use Rattle.event_rules.specs.declared.staging.StagedEvent.{StagedEvent}
@@ -15,7 +18,7 @@ use Rattle.instance_table.specs.declared.instance.Instance.{Instance}
 use Rattle.instance_table.specs.declared.staging.Staging.{Staging}
 use Rattle.instance_table.specs.Instances.{Instances, instance_of, changed, all_changed, told}
 use Rattle.instance_table.specs.Staging.{IsStaged, ended_all, ends, heard_all, hears, wds_to}
-use Rattle.instance_table.proofs.Indexed.{changed-there, changed-none, get-put, is-same}
+use Rattle.instance_table.proofs.Indexed.{changed-there, changed-none, changed-not, changed-twice, get-put, is-same}
 
 -- ---- what an instance is after a change
 
@@ -99,3 +102,35 @@ heard-told s m ns staged =
         ap Some (fold-ends gone (fold (λ i h. hears h i) i mine)
         ∙ ap (λ (j : Instance). record j { watches = fold removed j.watches (wds_to q ds) }) (fold-hears mine i)
         ∙ (λ k. record i { watches = staged.drops q i e k; queue = fold after_offer i.queue (staged.events q i e k) }))
+
+-- ---- a run of events that one instance hears
+
+fold-more : (b : Rattle.event_queue.specs.Backlogs.Backlog) (es : List Event) (e : Event) → after_offer (fold after_offer b es) e ≡ fold after_offer b (es ++ e ∷ [])
+fold-more b [] e = refl
+fold-more b (x ∷ es) e = fold-more (after_offer b x) es e
+
+heard-append : (xs ys : List StagedEvent) (m : Instances) → heard_all m (xs ++ ys) ≡ heard_all (heard_all m xs) ys
+heard-append [] ys m = refl
+heard-append (x ∷ xs) ys m = heard-append xs ys (changed m x.id (hears x))
+
+pub hears-all : List Event → Instance → Instance
+hears-all es i = record i { queue = fold after_offer i.queue es }
+
+heard-run : (id : ℕ) (es : List Event) (m : Instances) → heard_all m (map (staged_event id) es) ≡ changed m id (hears-all es)
+unfolding hears-all
+heard-run id [] m = sym (changed-not m id)
+heard-run id (e ∷ es) m = heard-run id es (changed m id (hears (staged_event id e))) ∙ changed-twice m id (hears (staged_event id e)) (hears-all es) (hears-all (e ∷ es)) (λ i. refl)
+
+-- the instances after a run, and then the others
+pub run-heard : (m n : Instances) (id : ℕ) (es : List Event) (all rest : List StagedEvent) → all ≡ map (staged_event id) es ++ rest → n ≡ changed m id (λ i. record i { queue = fold after_offer i.queue es }) → heard_all n rest ≡ heard_all m all
+unfolding hears-all
+run-heard m n id es all rest is so = ap (λ x. heard_all x rest) (so ∙ sym (heard-run id es m)) ∙ sym (heard-append (map (staged_event id) es) rest m) ∙ ap (heard_all m) (sym is)
+
+-- one event more of a run
+pub run-more : (id : ℕ) (es : List Event) (h : StagedEvent) (all rest more : List StagedEvent) → eqb h.id id ≡ true → all ≡ map (staged_event id) es ++ rest → rest ≡ h ∷ more → all ≡ map (staged_event id) (es ++ h.event ∷ []) ++ more
+run-more id es h all rest more same is next =
+    is ∙ ap (λ hs. map (staged_event id) es ++ hs) (next ∙ ap (λ (n : ℕ). record h { id = n } ∷ more) (is-same h.id id same)) ∙ sym (append_assoc (map (staged_event id) es) (staged_event id h.event ∷ []) more)
+    ∙ ap (λ hs. hs ++ more) (sym (map-append (staged_event id) es (h.event ∷ [])))
+
+pub queue-more : (b now new : Rattle.event_queue.specs.Backlogs.Backlog) (es : List Event) (e : Event) → now ≡ fold after_offer b es → new ≡ after_offer now e → new ≡ fold after_offer b (es ++ e ∷ [])
+queue-more b now new es e so is = is ∙ ap (λ q. after_offer q e) so ∙ fold-more b es e

@@ -1,6 +1,7 @@
 //! The open instances.
-ghost use Rattle.std.specs.Prelude.{◌≡◌, ◌≤◌, ◌+◌, ◌++◌, ◌⊎◌, ◌&&◌, ◌||◌, ◌==◌, ℕ, not, is_some, drop, fold, take, vec_len, vec_capacity, Some, None, Ok, Err, IfOk, IfErr, OnOk, OnErr, IsSome, IfSome, length, map};
-ghost use Rattle.std.specs.Option.{option_copied};
+ghost use Rattle.std.specs.Prelude.{◌≡◌, ◌≤◌, ◌+◌, ◌++◌, ◌∷◌, ◌⊎◌, ◌&&◌, ◌||◌, ◌==◌, ℕ, not, is_some, drop, fold, take, vec_len, vec_capacity, Some, None, Ok, Err, IfOk, IfErr, OnOk, OnErr, IsSome, IfSome, length, map};
+ghost use Rattle.std.specs.Option.{option_copied, option_to_list};
+ghost use Rattle.std.specs.VecDeque.{deque_len};
 ghost use Rattle.std.specs.FinMap as finmap;
 ghost use Rattle.tree_paths.specs.declared.refusal.Refusal.{Refusal};
 ghost use Rattle.tree_paths.specs.declared.refusal.Refusal.TheVariants.{Enomem};
@@ -9,17 +10,18 @@ ghost use Rattle.watch_table.specs.Masks.{mask_fault};
 ghost use Rattle.watch_table.specs.Watching.{add_refusal, added, removed, watch_of, wd_added};
 ghost use Rattle.instance_table.specs.Index.{HasNoEmptyRow, is_noted};
 ghost use Rattle.instance_table.specs.Rows.{instance_row};
+ghost use Rattle.instance_table.specs.Staging.{heard_all};
 ghost use Rattle.instance_table.specs.Instances.{WaitingAreEvents, after_read, changed, instance_of, new_instance, unwatching, waiting_of, watchers_of, watching};
 
 use crate::index::Index;
 use crate::instance::Instance;
 use crate::rows::{InstanceRow, row};
-use crate::staging::offer_one;
+use crate::staging::{offer_one, offer_run};
 use event_queue::Queue;
-use event_rules::ignored;
+use event_rules::{StagedEvent, ignored};
 use record_codec::Event;
 use std::alloc::Global;
-use std::collections::BTreeMap;
+use std::collections::{BTreeMap, VecDeque};
 use std::marker::Model;
 use tree_paths::{Limits, Refusal};
 use watch_table::{Mask, Watches};
@@ -203,6 +205,17 @@ impl Instances {
             return;
         };
         move_oldest(&mut instance.queue, count, records);
+    }
+
+    // Raises an event, and those behind it that the same instance hears. The next one is of another.
+    pub(crate) fn hear(&mut self, first: StagedEvent, events: &mut VecDeque<StagedEvent>) -> Option<StagedEvent>
+        ensures heard { heard_all self.new (option_to_list result ++ events.new.items) ≡ heard_all self.old (first ∷ events.old.items) }
+        ensures fewer { deque_len events.new + length (option_to_list result) ≤ deque_len events.old }
+    {
+        let Some(instance) = self.opened.get_mut(&first.id) else {
+            return events.pop_front();
+        };
+        offer_run(&mut instance.queue, first, events)
     }
 
     // Raises an event.

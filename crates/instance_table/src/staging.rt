@@ -1,12 +1,16 @@
 //! What notices raise for all instances.
-ghost use Rattle.std.specs.Prelude.{◌≡◌, ℕ, ◌==◌, ◌||◌, Some, is_some, fold, IfErr, OnOk};
-ghost use Rattle.std.specs.FinMap as map;
+ghost use Rattle.std.specs.Prelude.{◌≡◌, ℕ, ◌==◌, ◌||◌, ◌+◌, ◌≤◌, List, ◌∷◌, ◌++◌, Some, is_some, fold, length, map, IfErr, OnOk};
+ghost use Rattle.std.specs.FinMap as finmap;
+ghost use Rattle.std.specs.Option.{option_to_list};
+ghost use Rattle.std.specs.VecDeque.{deque_len};
 ghost use Rattle.std.specs.List.{list_any};
 ghost use Rattle.tree_paths.specs.declared.refusal.Refusal.TheVariants.{Enomem};
 ghost use Rattle.record_codec.specs.Records.{AreEvents, IsEvent};
 ghost use Rattle.watch_table.specs.Watching.{removed};
 ghost use Rattle.event_queue.specs.Backlogs.{after_offer};
 ghost use Rattle.event_rules.specs.Raised.{events_of, told_number, watches_after};
+ghost use Rattle.event_rules.specs.Staging.{staged_event};
+ghost use Rattle.record_codec.specs.declared.event.Event.{Event};
 ghost use Rattle.instance_table.specs.declared.instance.Instance.{Instance};
 ghost use Rattle.instance_table.specs.Instances.{all_changed, instance_of, told, watches_file};
 ghost use Rattle.instance_table.specs.Staging.{IsStaged, ended_all, events_to, heard_all, wds_to};
@@ -38,8 +42,8 @@ impl Staging {
 }
 
 impl Instances {
-    /// Stages what notices raise for the instances, in place of what was staged. It looks at those alone that watch one of the
-    /// files, and changes nothing.
+    /// Stages what notices raise for the instances, in place of what was staged. It looks at those alone that watch one of
+    /// the files, and changes nothing.
     ///
     /// # Errors
     /// `ENOMEM` alone.
@@ -62,7 +66,7 @@ impl Instances {
 
     // The instances that watch a file of which one of the notices is.
     fn hearers(&self, notices: &[Notice], ids: &mut Ids) -> Result<(), AllocError>
-        ensures { OnOk result ((q : ℕ) → is_some (map.get ids.new q) ≡ list_any (λ n. watches_file (told_number n) (instance_of self.now q)) notices.now) }
+        ensures { OnOk result ((q : ℕ) → is_some (finmap.get ids.new q) ≡ list_any (λ n. watches_file (told_number n) (instance_of self.now q)) notices.now) }
     {
         ids.clear();
         for notice in notices {
@@ -78,7 +82,7 @@ impl Instances {
         hearers: &Ids,
         staged: &mut Staged,
     ) -> Result<(), Refusal>
-        requires { (q : ℕ) → is_some (map.get hearers.now q) ≡ list_any (λ n. watches_file (told_number n) (instance_of self.now q)) notices.now }
+        requires { (q : ℕ) → is_some (finmap.get hearers.now q) ≡ list_any (λ n. watches_file (told_number n) (instance_of self.now q)) notices.now }
         ensures events { OnOk result ((q : ℕ) (i : Instance) → instance_of self.now q ≡ Some i → events_to q staged.new.events.items ≡ events_of i.watches notices.now) }
         ensures drops { OnOk result ((q : ℕ) (i : Instance) → instance_of self.now q ≡ Some i → fold removed i.watches (wds_to q staged.new.drops.items) ≡ watches_after i.watches notices.now) }
         ensures memory { IfErr result (λ refusal. refusal ≡ Enomem) }
@@ -98,8 +102,9 @@ impl Instances {
     fn hear_each(&mut self, events: &mut VecDeque<StagedEvent>)
         ensures { self.new ≡ heard_all self.old events.old.items }
     {
-        while let Some(heard) = events.pop_front() {
-            self.offer(heard.id, heard.event);
+        let mut next = events.pop_front();
+        while let Some(heard) = next {
+            next = self.hear(heard, events);
         }
     }
 
@@ -115,7 +120,7 @@ impl Instances {
 
 // Puts numbers in.
 fn add_all(ids: &mut Ids, more: &[u32]) -> Result<(), AllocError>
-    ensures { OnOk result ((q : ℕ) → is_some (map.get ids.new q) ≡ (list_any (λ id. q == id) more.now || is_some (map.get ids.old q))) }
+    ensures { OnOk result ((q : ℕ) → is_some (finmap.get ids.new q) ≡ (list_any (λ id. q == id) more.now || is_some (finmap.get ids.old q))) }
 {
     for id in more {
         ids.add(*id)?;
@@ -140,4 +145,25 @@ pub(crate) fn offer_one(queue: &mut Queue, event: Event)
 {
     fits(&event);
     queue.offer(event);
+}
+
+// Raises an event, and those behind it of the same number. The next one has another.
+pub(crate) fn offer_run(
+    queue: &mut Queue,
+    first: StagedEvent,
+    events: &mut VecDeque<StagedEvent>,
+) -> Option<StagedEvent>
+    ensures queue { (es : List Event) × (first ∷ events.old.items ≡ map (staged_event first.id) es ++ (option_to_list result ++ events.new.items)) × (queue.new ≡ fold after_offer queue.old es) }
+    ensures events { AreEvents queue.old.waiting → AreEvents queue.new.waiting }
+    ensures fewer { deque_len events.new + length (option_to_list result) ≤ deque_len events.old }
+{
+    let id = first.id;
+    offer_one(queue, first.event);
+    while let Some(heard) = events.pop_front() {
+        if heard.id != id {
+            return Some(heard);
+        }
+        offer_one(queue, heard.event);
+    }
+    None
 }
