@@ -16,13 +16,13 @@ const PROBES: u32 = 16;
 // A call of each kind, none of which is refused in a prepared tree.
 fn call_of(alloc: Global, which: u32) -> Result<Call, Refusal> {
     match which {
-        0 => create(alloc, "/d/new"),
-        1 => mkdir(alloc, "/d/new"),
+        0 => create(alloc, "/d/a-name-that-is-not-in-place"),
+        1 => mkdir(alloc, "/d/a-name-that-is-not-in-place"),
         2 => write(alloc, "/g", 5, b"xyz"),
         3 => read_file(alloc, "/g", 0, 99),
         4 => truncate(alloc, "/g", 99),
         5 => chmod(alloc, "/d", 0o700),
-        6 => link(alloc, "/g", "/e/g"),
+        6 => link(alloc, "/g", "/e/a-name-that-is-not-in-place"),
         7 => unlink(alloc, "/h"),
         8 => rmdir(alloc, "/e"),
         9 => rename(alloc, "/g", "/h"),
@@ -47,9 +47,9 @@ fn probe_of(alloc: Global, which: u32) -> Result<Call, Refusal> {
         3 => stat(alloc, "/"),
         4 => stat(alloc, "/d"),
         5 => stat(alloc, "/d/f"),
-        6 => stat(alloc, "/d/new"),
+        6 => stat(alloc, "/d/a-name-that-is-not-in-place"),
         7 => stat(alloc, "/e"),
-        8 => stat(alloc, "/e/g"),
+        8 => stat(alloc, "/e/a-name-that-is-not-in-place"),
         9 => stat(alloc, "/g"),
         10 => stat(alloc, "/h"),
         11 => read_file(alloc, "/g", 0, 999),

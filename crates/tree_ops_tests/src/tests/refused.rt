@@ -17,7 +17,8 @@ fn prepared(alloc: Global) -> Result<Calls, Refusal> {
     mkdir(&mut calls, "/d")?;
     mkdir(&mut calls, "/e")?;
     for text in [
-        "/d/a", "/d/b", "/d/c", "/d/f", "/d/h", "/d/i", "/d/j", "/d/k", "/d/l", "/d/m",
+        "/d/a", "/d/b", "/d/c", "/d/f", "/d/h", "/d/i", "/d/j", "/d/k", "/d/l",
+        "/d/another-name-that-is-not-in-place",
     ] {
         calls.create(text, 0o644)?;
     }
@@ -36,7 +37,7 @@ fn mkdir(calls: &mut Calls, text: &str) -> Result<Answer, Refusal> {
 // A call of each kind, none of which is refused there. The last seven take no memory.
 fn call_of(calls: &Calls, which: u32) -> Result<FileCall, Refusal> {
     let path = calls.path("/g")?;
-    let new = calls.path("/d/new")?;
+    let new = calls.path("/d/a-name-that-is-not-in-place")?;
     Ok(match which {
         0 => FileCall::Create {
             path: new,
