@@ -1,5 +1,5 @@
 //! The open instances.
-ghost use Rattle.std.specs.Prelude.{◌≡◌, ◌≤◌, ◌+◌, ◌++◌, ◌∷◌, ◌⊎◌, ◌&&◌, ◌||◌, ◌==◌, ℕ, not, is_some, drop, fold, take, vec_len, vec_capacity, Some, None, Ok, Err, IfOk, IfErr, OnOk, OnErr, IsSome, IfSome, length, map};
+ghost use Rattle.std.specs.Prelude.{◌≡◌, ◌≤◌, ◌+◌, ◌++◌, [], ◌∷◌, ◌⊎◌, ◌&&◌, ◌||◌, ◌==◌, ℕ, not, is_some, drop, fold, take, vec_len, vec_capacity, Some, None, Ok, Err, IfOk, IfErr, OnOk, OnErr, IsSome, IfSome, length, map};
 ghost use Rattle.std.specs.Option.{option_copied, option_to_list};
 ghost use Rattle.std.specs.VecDeque.{deque_len};
 ghost use Rattle.std.specs.FinMap as finmap;
@@ -210,6 +210,7 @@ impl Instances {
     // Raises an event, and those behind it that the same instance hears. The next one is of another.
     pub(crate) fn hear(&mut self, first: StagedEvent, events: &mut VecDeque<StagedEvent>) -> Option<StagedEvent>
         ensures heard { heard_all self.new (option_to_list result ++ events.new.items) ≡ heard_all self.old (first ∷ events.old.items) }
+        ensures last { result ≡ None → events.new.items ≡ [] }
         ensures fewer { deque_len events.new + length (option_to_list result) ≤ deque_len events.old }
     {
         let Some(instance) = self.opened.get_mut(&first.id) else {

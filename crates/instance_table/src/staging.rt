@@ -1,5 +1,5 @@
 //! What notices raise for all instances.
-ghost use Rattle.std.specs.Prelude.{◌≡◌, ℕ, ◌==◌, ◌||◌, ◌+◌, ◌≤◌, List, ◌∷◌, ◌++◌, Some, is_some, fold, length, map, IfErr, OnOk};
+ghost use Rattle.std.specs.Prelude.{◌≡◌, ℕ, ◌==◌, ◌||◌, ◌+◌, ◌≤◌, List, [], ◌∷◌, ◌++◌, None, Some, is_some, fold, length, map, IfErr, OnOk};
 ghost use Rattle.std.specs.FinMap as finmap;
 ghost use Rattle.std.specs.Option.{option_to_list};
 ghost use Rattle.std.specs.VecDeque.{deque_len};
@@ -155,6 +155,7 @@ pub(crate) fn offer_run(
 ) -> Option<StagedEvent>
     ensures queue { (es : List Event) × (first ∷ events.old.items ≡ map (staged_event first.id) es ++ (option_to_list result ++ events.new.items)) × (queue.new ≡ fold after_offer queue.old es) }
     ensures events { AreEvents queue.old.waiting → AreEvents queue.new.waiting }
+    ensures last { result ≡ None → events.new.items ≡ [] }
     ensures fewer { deque_len events.new + length (option_to_list result) ≤ deque_len events.old }
 {
     let id = first.id;
