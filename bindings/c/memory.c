@@ -22,13 +22,6 @@ static void note(int64_t number) {
     used += (size_t)snprintf(kept + used, sizeof kept - used, "%lld ", (long long)number);
 }
 
-/* (a list whose names found no memory has joined the journal, so the place may differ) */
-static void cut(struct wt_tree *t) {
-    int64_t place = wt_cut(t);
-    if (place == -ENOMEM) refused++, place = wt_cut(t);
-    note(place > 0);
-}
-
 static void on_files(struct wt_tree *t, int k) {
     char path[16], out[512];
     struct wt_stat s;
@@ -39,7 +32,7 @@ static void on_files(struct wt_tree *t, int k) {
     TRY(wt_rename2(t, PATH("/e/y"), PATH("/d"), 2)), TRY(wt_rename2(t, PATH("/e/y"), PATH("/d"), 2));
     TRY(wt_truncate(t, PATH("/e/y"), 1)), TRY(wt_chmod(t, PATH("/e/y"), 0600)), TRY(wt_stat(t, PATH("/e/y"), &s));
     TRY(wt_list(t, PATH("/e"), out, sizeof out)), TRY(wt_inotify_rm_watch(t, 2, 7));
-    if (k == 3) cut(t);
+    if (k == 3) TRY(wt_cut(t));
 }
 
 static void run(long fail) {

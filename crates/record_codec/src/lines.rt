@@ -2,9 +2,11 @@
 
 ghost use Rattle.std.specs.Prelude.{◌≡◌, ◌≤◌, ◌+◌, ◌*◌, ◌++◌, length, vec_len, vec_capacity, OnOk, OnErr};
 ghost use Rattle.record_codec.specs.Lines.{is_plain, printed_byte, printed_name, printed_numbers, record_line};
+ghost use Rattle.record_codec.specs.Views.{event_seen};
 
 use crate::event::Event;
 use crate::name::Name;
+use crate::view::RecordView;
 use crate::writing::add;
 use itoa::Buffer;
 use percent_encoding::percent_encode_byte;
@@ -41,15 +43,25 @@ pub fn append_record_line(event: &Event, out: &mut Vec<u8>) -> Result<(), AllocE
     ensures ok { OnOk result (out.new.items ≡ out.old.items ++ record_line event.now) }
     ensures err { OnErr result (out.new.items ≡ out.old.items) }
 {
-    match &event.name {
+    append_view_line(&view_of(event), out)
+}
+
+/// Adds a record as a line at the end, as `append_record_line` does.
+///
+/// # Errors
+/// `AllocError`, where there is no room and no memory for more. The bytes of `out` are then as they were.
+pub fn append_view_line(view: &RecordView<'_>, out: &mut Vec<u8>) -> Result<(), AllocError>
+    ensures ok { OnOk result (out.new.items ≡ out.old.items ++ record_line (event_seen view.now)) }
+    ensures err { OnErr result (out.new.items ≡ out.old.items) }
+{
+    match view.name {
         None => {
             out.reserve(NUMBERS_LEN)?;
-            add_numbers(event, out);
+            add_numbers(view, out);
         }
         Some(name) => {
-            let name = name.bytes();
             out.reserve(NUMBERS_LEN + 1 + PRINTED_BYTE_LEN * name.len())?;
-            add_numbers(event, out);
+            add_numbers(view, out);
             add(out, b" ");
             add_name(name, out);
         }
@@ -57,21 +69,21 @@ pub fn append_record_line(event: &Event, out: &mut Vec<u8>) -> Result<(), AllocE
     Ok(())
 }
 
-/// Adds the numbers of the event's record line.
-fn add_numbers(event: &Event, out: &mut Vec<u8>)
+/// Adds the numbers of a record line.
+fn add_numbers(view: &RecordView<'_>, out: &mut Vec<u8>)
     requires { vec_len out.old + NUMBERS_LEN ≤ vec_capacity out.old }
-    ensures items { out.new.items ≡ out.old.items ++ printed_numbers event.now }
+    ensures items { out.new.items ≡ out.old.items ++ printed_numbers (event_seen view.now) }
     ensures len { vec_len out.new ≤ vec_len out.old + NUMBERS_LEN }
     ensures room { vec_capacity out.old ≤ vec_capacity out.new }
 {
     let mut digits = Buffer::new();
-    add(out, digits.format(event.wd).as_bytes());
+    add(out, digits.format(view.wd).as_bytes());
     add(out, b" ");
     let mut mask = [0; 8];
-    hex::encode_to_slice(event.mask.to_be_bytes().as_slice(), &mut mask).unwrap();
+    hex::encode_to_slice(view.mask.to_be_bytes().as_slice(), &mut mask).unwrap();
     add(out, &mask);
     add(out, b" ");
-    add(out, digits.format(event.cookie).as_bytes());
+    add(out, digits.format(view.cookie).as_bytes());
 }
 
 /// Adds the printed name of these bytes.
@@ -101,4 +113,20 @@ fn is_plain(byte: u8) -> bool
     ensures { result ≡ is_plain byte }
 {
     byte.is_ascii_graphic() && byte != b'%'
+}
+
+/// The event as a view of its record.
+fn view_of<'a>(event: &'a Event) -> RecordView<'a>
+    ensures { event_seen result ≡ event.entry.now }
+{
+    let name = match &event.name {
+        None => None,
+        Some(name) => Some(name.bytes()),
+    };
+    RecordView {
+        wd: event.wd,
+        mask: event.mask,
+        cookie: event.cookie,
+        name,
+    }
 }

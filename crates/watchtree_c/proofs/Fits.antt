@@ -55,16 +55,16 @@ AllFit n (Ok c) = (t : Tree) → Fits (reply_of t c) n
 AllFit n (Err refusal) = (t : Tree) → Fits (reply.Refused refusal) n
 
 replied_fits : (n : ℕ) (old : Journaled) (c : Result Call Refusal) (r : Reply) (new : Journaled) → AllFit n c → IsReplied old c r new → Fits r n
-replied_fits n old (Ok c) r new f (inl a) = subst (λ (x : Reply). Fits x n) (sym a.answer) (f (now old))
-replied_fits n old (Ok c) r new f (inr (inl a)) = subst (λ (x : Reply). Fits x n) (sym a.answer) tt
-replied_fits n old (Ok c) r new f (inr (inr a)) = subst (λ (x : Reply). Fits x n) (sym a.answer) tt
+replied_fits n old (Ok c) r new f (inl (inl a)) = subst (λ (x : Reply). Fits x n) (sym a.answer) (f (now old))
+replied_fits n old (Ok c) r new f (inl (inr a)) = subst (λ (x : Reply). Fits x n) (sym a.answer) tt
+replied_fits n old (Ok c) r new f (inr a) = subst (λ (x : Reply). Fits x n) (sym a.answer) tt
 replied_fits n old (Err refusal) r new f is = subst (λ (x : Reply). Fits x n) (sym is.0) tt
 
-pub made_fits : (n : ℕ) (old : Option Opened) (c : Result Call Refusal) (r : Reply) (new : Option Opened) → AllFit n c → IsMade old c r new → Fits r n
+pub made_fits : (n : ℕ) (old : Option Opened) (c : Result Call Refusal) (r : Reply) (new : Option Opened) → AllFit n c → IsMade old c new r → Fits r n
 made_fits n (Some old) c r new f is = replied_fits n old.state c r is.0 f is.1
 made_fits n None c r new f is = subst (λ (x : Reply). Fits x n) (sym is.0) tt
 
-pub reply_fits : (n : ℕ) (old : Option Opened) (c : Result Call Refusal) (r : Reply) (new : Option Opened) → AllFit n c → IsReply old c r new → Fits r n
+pub reply_fits : (n : ℕ) (old : Option Opened) (c : Result Call Refusal) (r : Reply) (new : Option Opened) → AllFit n c → IsReply old c new r → Fits r n
 reply_fits n old c r new f (inl is) = made_fits n old c r new f is
 reply_fits n old c r new f (inr is) = made_fits n old (Err Enomem) r new (λ t. tt) is
 
@@ -78,9 +78,20 @@ asked_within : (out : List ℕ) → asked_bytes out ≤ length out
 asked_within out = omega arith
 
 -- what is answered to a call whose replies fit into as many bytes as C gives
-pub answers_bytes : (old : Option Opened) (c : Result Call Refusal) (number : ℤ) (new : Option Opened) (out filled : List ℕ) (r : Reply)
-    → AllFit (asked_bytes out) c → IsReply old c r new → number ≡ number_of r → IsFilled r out filled → AnswersBytes old c number new out filled
-answers_bytes old c number new out filled r f made is_number is_filled = record {
+pub answers_bytes : (old : Option Opened) (c : Result Call Refusal) (new : Option Opened) (number : ℤ) (out filled : List ℕ) (r : Reply)
+    → AllFit (asked_bytes out) c → IsMade old c new r → number ≡ number_of r → IsFilled r out filled → AnswersBytes (IsMade old c new) number out filled
+answers_bytes old c new number out filled r f made is_number is_filled = record {
+  r = r;
+  made = made;
+  is_number = is_number;
+  is_filled = is_filled;
+  fits = more_room r (asked_bytes out) (length out) (asked_within out) (made_fits (asked_bytes out) old c r new f made);
+}
+
+-- the same, where there may be no memory to read what C asks for
+pub replies_bytes : (old : Option Opened) (c : Result Call Refusal) (new : Option Opened) (number : ℤ) (out filled : List ℕ) (r : Reply)
+    → AllFit (asked_bytes out) c → IsReply old c new r → number ≡ number_of r → IsFilled r out filled → AnswersBytes (IsReply old c new) number out filled
+replies_bytes old c new number out filled r f made is_number is_filled = record {
   r = r;
   made = made;
   is_number = is_number;

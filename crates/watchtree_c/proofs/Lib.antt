@@ -1,3 +1,4 @@
 mod AsBox
 mod Fits
+mod Listing
 mod Opening

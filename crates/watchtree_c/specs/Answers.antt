@@ -1,7 +1,7 @@
 -- What a call of C answers, and what becomes of its tree.
 use Rattle.std.specs.Prelude.{◌≡◌, ◌⊎◌, ⊤, ◌≤◌, ℕ, ◌^◌, ◌-◌, ℤ, pos, neg_ℤ, List, ◌++◌, [], length, take, drop, min, Option, Some, None, Result, Ok, Err}
 use Rattle.tree_paths.specs.declared.refusal.Refusal.{Refusal}
-use Rattle.tree_paths.specs.declared.refusal.Refusal.TheVariants.{Ebadf, Ebusy, Enomem, JournalFull}
+use Rattle.tree_paths.specs.declared.refusal.Refusal.TheVariants.{Ebadf, Ebusy, Enomem}
 use Rattle.tree_paths.specs.Bounds.{full}
 use Rattle.tree_paths.specs.Refusals.{refusal_number}
 use Rattle.tree_ops.specs.declared.answer.Answer.{Answer}
@@ -9,8 +9,8 @@ use Rattle.tree_ops.specs.declared.answer.Answer.TheVariants as answer
 use Rattle.tree_core.specs.declared.call.Call.{Call}
 use Rattle.tree_core.specs.declared.reply.Reply.{Reply}
 use Rattle.tree_core.specs.declared.reply.Reply.TheVariants as reply
-use Rattle.tree_core.specs.Tree.{reply_of}
-use Rattle.tree_core.specs.Journal.{Journaled, IsSpent, now, last_place, opened, with_entry, cut_off, waiting_in}
+use Rattle.tree_core.specs.Journal.{Journaled, now, last_place, opened, cut_off, waiting_in}
+use Rattle.watchtree_script.specs.Script.{Replies}
 use Rattle.watchtree_c.specs.declared.opened.Opened.{Opened}
 
 -- ---- numbers
@@ -42,49 +42,28 @@ number_of (reply.Refused refusal) = refused_number refusal
 
 -- ---- calls
 
--- who makes the calls
-abbrev pub caller : ℕ
-caller = 1
-
--- the call is answered by the tree that the journal stands for, and joins the journal
-pub record IsAnswered (old : Journaled) (call : Call) (r : Reply) (new : Journaled) : Type 0 where
-  pub room : ¬ IsSpent old
-  pub answer : r ≡ reply_of (now old) call
-  pub entry : new ≡ with_entry old (record { caller = caller; call = call; reply = r })
-
--- a full journal stays as it is
-pub record IsFull (old : Journaled) (r : Reply) (new : Journaled) : Type 0 where
-  pub full : IsSpent old
-  pub answer : r ≡ reply.Refused JournalFull
-  pub same : new ≡ old
-
--- want of memory leaves the journal as it is
-pub record IsOutOfMemory (old : Journaled) (r : Reply) (new : Journaled) : Type 0 where
-  pub answer : r ≡ reply.Refused Enomem
-  pub same : new ≡ old
-
 -- a call, or why there is none to make, may have this reply and lead from the old journal to the new one
 abbrev pub IsReplied : Journaled → Result Call Refusal → Reply → Journaled → Type 0
-IsReplied old (Ok call) r new = IsAnswered old call r new ⊎ IsFull old r new ⊎ IsOutOfMemory old r new
+IsReplied old (Ok call) r new = Replies old call r new
 IsReplied old (Err refusal) r new = (r ≡ reply.Refused refusal) × (new ≡ old)
 
--- the same of a tree that may not be open, where all is answered by EBADF
-abbrev pub IsMade : Option Opened → Result Call Refusal → Reply → Option Opened → Type 0
-IsMade (Some old) call r new = (after : Journaled) × IsReplied old.state call r after × (new ≡ Some (record old { state = after }))
-IsMade None call r new = (r ≡ reply.Refused Ebadf) × (new ≡ None)
+-- a call that is made of a tree may have this reply, and lead from the old tree to the new one. A tree that is not open answers EBADF
+abbrev pub IsMade : Option Opened → Result Call Refusal → Option Opened → Reply → Type 0
+IsMade (Some old) call new r = (after : Journaled) × IsReplied old.state call r after × (new ≡ Some (record old { state = after }))
+IsMade None call new r = (r ≡ reply.Refused Ebadf) × (new ≡ None)
 
 -- the same, where there may be no memory to read what C asks for
-abbrev pub IsReply : Option Opened → Result Call Refusal → Reply → Option Opened → Type 0
-IsReply old call r new = IsMade old call r new ⊎ IsMade old (Err Enomem) r new
+abbrev pub IsReply : Option Opened → Result Call Refusal → Option Opened → Reply → Type 0
+IsReply old call new r = IsMade old call new r ⊎ IsMade old (Err Enomem) new r
 
 -- the call that is made, where there may be no memory to read what C asks for
 abbrev pub IsAsked : Result Call Refusal → Result Call Refusal → Type 0
 IsAsked made call = (made ≡ call) ⊎ (made ≡ Err Enomem)
 
--- what C asks for is answered by the number of its reply
-pub record Answers (old : Option Opened) (call : Result Call Refusal) (number : ℤ) (new : Option Opened) : Type 0 where
+-- what C asks for is answered by the number of such a reply
+pub record Answers (M : Reply → Type 0) (number : ℤ) : Type 0 where
   pub r : Reply
-  pub made : IsReply old call r new
+  pub made : M r
   pub is_number : number ≡ number_of r
 
 -- ---- bytes
@@ -121,10 +100,10 @@ Fits (reply.Wd wd) room = ⊤
 Fits reply.Done room = ⊤
 Fits (reply.Refused refusal) room = ⊤
 
--- what C asks for is answered by the number of its reply, and by its bytes, all of which fit
-pub record AnswersBytes (old : Option Opened) (call : Result Call Refusal) (number : ℤ) (new : Option Opened) (out filled : List ℕ) : Type 0 where
+-- what C asks for is answered by the number of such a reply, and by its bytes, all of which fit
+pub record AnswersBytes (M : Reply → Type 0) (number : ℤ) (out filled : List ℕ) : Type 0 where
   pub r : Reply
-  pub made : IsReply old call r new
+  pub made : M r
   pub is_number : number ≡ number_of r
   pub is_filled : IsFilled r out filled
   pub fits : Fits r (length out)

@@ -1,15 +1,12 @@
 -- What C is told of what stands at a path.
-use Rattle.std.specs.Prelude.{◌≡◌, ℕ, ℤ, Option, Some, None, Result}
-use Rattle.tree_paths.specs.declared.refusal.Refusal.{Refusal}
+use Rattle.std.specs.Prelude.{◌≡◌, ℕ, ℤ, Option, Some, None}
 use Rattle.inode_table.specs.declared.seen.Kind.{Kind}
 use Rattle.inode_table.specs.declared.seen.Kind.TheVariants.{Regular, Directory}
 use Rattle.tree_ops.specs.declared.answer.Answer.TheVariants as answer
-use Rattle.tree_core.specs.declared.call.Call.{Call}
 use Rattle.tree_core.specs.declared.reply.Reply.{Reply}
 use Rattle.tree_core.specs.declared.reply.Reply.TheVariants as reply
-use Rattle.watchtree_c.specs.declared.opened.Opened.{Opened}
 use Rattle.watchtree_c.specs.declared.files.Stat.{Stat}
-use Rattle.watchtree_c.specs.Answers.{IsReply, number_of}
+use Rattle.watchtree_c.specs.Answers.{number_of}
 
 abbrev pub directory_number : Kind → ℕ
 directory_number Regular = 0
@@ -35,9 +32,9 @@ abbrev pub told_or : Option Stat → Stat → Stat
 told_or (Some stat) old = stat
 told_or None old = old
 
--- what C asks for is answered by the number of its reply, and told
-pub record Tells (old : Option Opened) (call : Result Call Refusal) (number : ℤ) (new : Option Opened) (out told : Stat) : Type 0 where
+-- what C asks for is answered by the number of such a reply, and told
+pub record Tells (M : Reply → Type 0) (number : ℤ) (out told : Stat) : Type 0 where
   pub r : Reply
-  pub made : IsReply old call r new
+  pub made : M r
   pub is_number : number ≡ number_of r
   pub is_told : told ≡ told_or (stat_of r) out

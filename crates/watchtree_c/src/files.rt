@@ -1,17 +1,17 @@
 //! Calls on files.
 
-ghost use Rattle.std.specs.Prelude.{◌≡◌, ◌++◌, IfOk, OnOk};
+ghost use Rattle.std.specs.Prelude.{◌≡◌, ◌+◌, ◌-◌, ◌^◌, ◌++◌, List, ℕ, length, min};
 ghost use Rattle.std.specs.List.{flat_map};
-ghost use Rattle.watchtree_c.specs.Answers.{Answers, AnswersBytes, IsAsked};
+ghost use Rattle.watchtree_c.specs.Answers.{Answers, AnswersBytes, IsAsked, IsReply, count_number, overlaid};
 ghost use Rattle.watchtree_c.specs.Stats.{Tells, stat_of};
 ghost use Rattle.watchtree_c.specs.Calls.{asked_bytes, mkdir_call, create_call, rename_call, rename2_call, truncate_call, chmod_call, unlink_call, rmdir_call, link_call, write_call, read_call, stat_call, list_call};
 ghost use Rattle.watchtree_c.specs.Listings.{Lists, ended};
 
-use crate::answers::{count_number, fill, number_of, put, refused_number};
+use crate::answers::{count_number, fill, number_of, put};
 use crate::tree::Tree;
 use inode_table::Kind;
 use record_codec::{Bytes, Name};
-use std::alloc::{AllocError, Global};
+use std::alloc::Global;
 use tree_core::{Call, Reply};
 use tree_ops::{Answer, FileCall};
 use tree_paths::{Path, Refusal};
@@ -19,7 +19,7 @@ use tree_paths::{Path, Refusal};
 /// As mkdir(2), but it answers the number of the directory.
 #[unsafe(no_mangle)]
 pub extern "C" fn wt_mkdir(alloc: Global, tree: &mut Tree, path: &[u8], mode: u32) -> i64
-    ensures { Answers tree.old.held.state (mkdir_call path.now mode) result tree.new.held.state }
+    ensures { Answers (IsReply tree.old.held.state (mkdir_call path.now mode) tree.new.held.state) result }
 {
     let call = Path::parse(alloc, path).map(|path| Call::File(FileCall::Mkdir { path, mode }));
     number_of(&tree.make(alloc, call))
@@ -28,7 +28,7 @@ pub extern "C" fn wt_mkdir(alloc: Global, tree: &mut Tree, path: &[u8], mode: u3
 /// As open(2) with `O_CREAT | O_EXCL` and close(2), but it answers the number of the file.
 #[unsafe(no_mangle)]
 pub extern "C" fn wt_create(alloc: Global, tree: &mut Tree, path: &[u8], mode: u32) -> i64
-    ensures { Answers tree.old.held.state (create_call path.now mode) result tree.new.held.state }
+    ensures { Answers (IsReply tree.old.held.state (create_call path.now mode) tree.new.held.state) result }
 {
     let call = Path::parse(alloc, path).map(|path| Call::File(FileCall::Create { path, mode }));
     number_of(&tree.make(alloc, call))
@@ -37,7 +37,7 @@ pub extern "C" fn wt_create(alloc: Global, tree: &mut Tree, path: &[u8], mode: u
 /// As rename(2).
 #[unsafe(no_mangle)]
 pub extern "C" fn wt_rename(alloc: Global, tree: &mut Tree, old: &[u8], to: &[u8]) -> i64
-    ensures { Answers tree.old.held.state (rename_call old.now to.now) result tree.new.held.state }
+    ensures { Answers (IsReply tree.old.held.state (rename_call old.now to.now) tree.new.held.state) result }
 {
     number_of(&tree.make(alloc, rename(alloc, old, to)))
 }
@@ -59,7 +59,7 @@ pub extern "C" fn wt_rename2(
     to: &[u8],
     flags: u32,
 ) -> i64
-    ensures { Answers tree.old.held.state (rename2_call old.now to.now flags) result tree.new.held.state }
+    ensures { Answers (IsReply tree.old.held.state (rename2_call old.now to.now flags) tree.new.held.state) result }
 {
     number_of(&tree.make(alloc, rename2(alloc, old, to, flags)))
 }
@@ -75,7 +75,7 @@ fn rename2(alloc: Global, old: &[u8], new: &[u8], flags: u32) -> Result<Call, Re
 /// As truncate(2).
 #[unsafe(no_mangle)]
 pub extern "C" fn wt_truncate(alloc: Global, tree: &mut Tree, path: &[u8], len: u64) -> i64
-    ensures { Answers tree.old.held.state (truncate_call path.now len) result tree.new.held.state }
+    ensures { Answers (IsReply tree.old.held.state (truncate_call path.now len) tree.new.held.state) result }
 {
     let call = Path::parse(alloc, path).map(|path| Call::File(FileCall::Truncate { path, len }));
     number_of(&tree.make(alloc, call))
@@ -84,7 +84,7 @@ pub extern "C" fn wt_truncate(alloc: Global, tree: &mut Tree, path: &[u8], len: 
 /// As chmod(2).
 #[unsafe(no_mangle)]
 pub extern "C" fn wt_chmod(alloc: Global, tree: &mut Tree, path: &[u8], mode: u32) -> i64
-    ensures { Answers tree.old.held.state (chmod_call path.now mode) result tree.new.held.state }
+    ensures { Answers (IsReply tree.old.held.state (chmod_call path.now mode) tree.new.held.state) result }
 {
     let call = Path::parse(alloc, path).map(|path| Call::File(FileCall::Chmod { path, mode }));
     number_of(&tree.make(alloc, call))
@@ -93,7 +93,7 @@ pub extern "C" fn wt_chmod(alloc: Global, tree: &mut Tree, path: &[u8], mode: u3
 /// As unlink(2).
 #[unsafe(no_mangle)]
 pub extern "C" fn wt_unlink(alloc: Global, tree: &mut Tree, path: &[u8]) -> i64
-    ensures { Answers tree.old.held.state (unlink_call path.now) result tree.new.held.state }
+    ensures { Answers (IsReply tree.old.held.state (unlink_call path.now) tree.new.held.state) result }
 {
     let call = Path::parse(alloc, path).map(|path| Call::File(FileCall::Unlink { path }));
     number_of(&tree.make(alloc, call))
@@ -102,7 +102,7 @@ pub extern "C" fn wt_unlink(alloc: Global, tree: &mut Tree, path: &[u8]) -> i64
 /// As rmdir(2).
 #[unsafe(no_mangle)]
 pub extern "C" fn wt_rmdir(alloc: Global, tree: &mut Tree, path: &[u8]) -> i64
-    ensures { Answers tree.old.held.state (rmdir_call path.now) result tree.new.held.state }
+    ensures { Answers (IsReply tree.old.held.state (rmdir_call path.now) tree.new.held.state) result }
 {
     let call = Path::parse(alloc, path).map(|path| Call::File(FileCall::Rmdir { path }));
     number_of(&tree.make(alloc, call))
@@ -111,7 +111,7 @@ pub extern "C" fn wt_rmdir(alloc: Global, tree: &mut Tree, path: &[u8]) -> i64
 /// As link(2).
 #[unsafe(no_mangle)]
 pub extern "C" fn wt_link(alloc: Global, tree: &mut Tree, old: &[u8], to: &[u8]) -> i64
-    ensures { Answers tree.old.held.state (link_call old.now to.now) result tree.new.held.state }
+    ensures { Answers (IsReply tree.old.held.state (link_call old.now to.now) tree.new.held.state) result }
 {
     number_of(&tree.make(alloc, link(alloc, old, to)))
 }
@@ -133,7 +133,7 @@ pub extern "C" fn wt_write(
     offset: u64,
     bytes: &[u8],
 ) -> i64
-    ensures { Answers tree.old.held.state (write_call path.now offset bytes.now) result tree.new.held.state }
+    ensures { Answers (IsReply tree.old.held.state (write_call path.now offset bytes.now) tree.new.held.state) result }
 {
     number_of(&tree.make(alloc, write(alloc, path, offset, bytes)))
 }
@@ -161,7 +161,7 @@ pub extern "C" fn wt_pread(
     offset: u64,
     out: &mut [u8],
 ) -> i64
-    ensures { AnswersBytes tree.old.held.state (read_call path.now offset (asked_bytes out.old)) result tree.new.held.state out.old out.new }
+    ensures { AnswersBytes (IsReply tree.old.held.state (read_call path.now offset (asked_bytes out.old)) tree.new.held.state) result out.old out.new }
 {
     let count = u32::try_from(out.len()).unwrap_or(u32::MAX);
     let call = Path::parse(alloc, path).map(|path| {
@@ -190,7 +190,7 @@ pub struct Stat {
 /// As stat(2). What stood in `out` stays there where the call is refused.
 #[unsafe(no_mangle)]
 pub extern "C" fn wt_stat(alloc: Global, tree: &mut Tree, path: &[u8], out: &mut Stat) -> i64
-    ensures { Tells tree.old.held.state (stat_call path.now) result tree.new.held.state out.old out.new }
+    ensures { Tells (IsReply tree.old.held.state (stat_call path.now) tree.new.held.state) result out.old out.new }
 {
     let call = Path::parse(alloc, path).map(|path| Call::File(FileCall::Stat { path }));
     let reply = tree.make(alloc, call);
@@ -228,37 +228,37 @@ fn stat_of(reply: &Reply) -> Option<Stat>
 /// for. It answers how many bytes all of them are.
 #[unsafe(no_mangle)]
 pub extern "C" fn wt_list(alloc: Global, tree: &mut Tree, path: &[u8], out: &mut [u8]) -> i64
-    ensures { Lists tree.old.held.state (list_call path.now) result tree.new.held.state out.old out.new }
+    ensures { Lists (IsReply tree.old.held.state (list_call path.now) tree.new.held.state) result out.old out.new }
 {
     let call = Path::parse(alloc, path).map(|path| Call::File(FileCall::List { path }));
     let reply = tree.make(alloc, call);
     let Reply::File(Answer::Names(names)) = &reply else {
         return number_of(&reply);
     };
-    match listing(alloc, names.as_slice()) {
-        Ok(text) => {
-            put(out, text.as_slice());
-            count_number(text.len() as u64)
-        }
-        Err(_) => refused_number(Refusal::Enomem),
-    }
+    put_names(out, names.as_slice())
 }
 
-/// Names, each with a zero byte behind it.
-fn listing(alloc: Global, names: &[Name]) -> Result<Vec<u8>, AllocError>
-    ensures { IfOk result (λ text. text.items ≡ flat_map ended names.now) }
+/// Puts names at the front of `out`, each with a zero byte behind it, as many bytes as it has room for. It answers how many
+/// bytes all of them are.
+fn put_names(out: &mut [u8], names: &[Name]) -> i64
+    ensures number { result ≡ count_number (length (flat_map ended names.now)) }
+    ensures bytes { out.new ≡ overlaid (flat_map ended names.now) out.old }
 {
-    let mut text = Vec::new(alloc);
+    let mut len = 0;
     for name in names {
-        push_ended(&mut text, name.bytes())?;
+        len = put_more(out, len, name.bytes());
+        len = put_more(out, len, b"\0");
     }
-    Ok(text)
+    count_number(len as u64)
 }
 
-fn push_ended(text: &mut Vec<u8>, name: &[u8]) -> Result<(), AllocError>
-    ensures { OnOk result (text.new.items ≡ text.old.items ++ ended name.now) }
+/// Puts bytes behind the `len` bytes that were put at the front of `out`, as many as it has room for. It answers how many
+/// bytes all of them are, no more than a `usize` may be.
+fn put_more(out: &mut [u8], len: usize, bytes: &[u8]) -> usize
+    ensures len { result ≡ min (len + length bytes.now) (2 ^ 64 - 1) }
+    ensures bytes { (front old : List ℕ) → len ≡ min (length front) (2 ^ 64 - 1) → out.old ≡ overlaid front old → out.new ≡ overlaid (front ++ bytes.now) old }
 {
-    text.extend_from_slice(name)?;
-    text.push(0)?;
-    Ok(())
+    let start = len.min(out.len());
+    put(&mut out[start..], bytes);
+    len.saturating_add(bytes.len())
 }

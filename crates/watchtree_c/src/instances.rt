@@ -2,7 +2,7 @@
 
 ghost use Rattle.std.specs.Prelude.{◌≡◌, Ok, false};
 ghost use Rattle.tree_core.specs.declared.call.Call.TheVariants as call;
-ghost use Rattle.watchtree_c.specs.Answers.{Answers, AnswersBytes, waiting_number};
+ghost use Rattle.watchtree_c.specs.Answers.{Answers, AnswersBytes, IsMade, IsReply, waiting_number};
 ghost use Rattle.watchtree_c.specs.Calls.{add_watch_call, asked_bytes};
 
 use crate::answers::{count_number, fill, number_of, refused_number};
@@ -14,7 +14,7 @@ use tree_paths::{Path, Refusal};
 /// As inotify_init(2), with the limit of its queue.
 #[unsafe(no_mangle)]
 pub extern "C" fn wt_inotify_init(alloc: Global, tree: &mut Tree, limit: u32) -> i64
-    ensures { Answers tree.old.held.state (Ok (call.Init limit false)) result tree.new.held.state }
+    ensures { Answers (IsMade tree.old.held.state (Ok (call.Init limit false)) tree.new.held.state) result }
 {
     let call = Call::Init {
         limit,
@@ -32,7 +32,7 @@ pub extern "C" fn wt_inotify_add_watch(
     path: &[u8],
     mask: u32,
 ) -> i64
-    ensures { Answers tree.old.held.state (add_watch_call instance path.now mask) result tree.new.held.state }
+    ensures { Answers (IsReply tree.old.held.state (add_watch_call instance path.now mask) tree.new.held.state) result }
 {
     let call = Path::parse(alloc, path).map(|path| Call::AddWatch {
         instance,
@@ -46,7 +46,7 @@ pub extern "C" fn wt_inotify_add_watch(
 /// does not, which then still waits.
 #[unsafe(no_mangle)]
 pub extern "C" fn wt_read(alloc: Global, tree: &mut Tree, instance: u32, out: &mut [u8]) -> i64
-    ensures { AnswersBytes tree.old.held.state (Ok (call.Read instance (asked_bytes out.old))) result tree.new.held.state out.old out.new }
+    ensures { AnswersBytes (IsMade tree.old.held.state (Ok (call.Read instance (asked_bytes out.old))) tree.new.held.state) result out.old out.new }
 {
     let bytes = u32::try_from(out.len()).unwrap_or(u32::MAX);
     let reply = tree.make(alloc, Ok(Call::Read { instance, bytes }));
@@ -57,7 +57,7 @@ pub extern "C" fn wt_read(alloc: Global, tree: &mut Tree, instance: u32, out: &m
 /// As inotify_rm_watch(2).
 #[unsafe(no_mangle)]
 pub extern "C" fn wt_inotify_rm_watch(alloc: Global, tree: &mut Tree, instance: u32, wd: i32) -> i64
-    ensures { Answers tree.old.held.state (Ok (call.RmWatch instance wd)) result tree.new.held.state }
+    ensures { Answers (IsMade tree.old.held.state (Ok (call.RmWatch instance wd)) tree.new.held.state) result }
 {
     number_of(&tree.make(alloc, Ok(Call::RmWatch { instance, wd })))
 }
@@ -65,7 +65,7 @@ pub extern "C" fn wt_inotify_rm_watch(alloc: Global, tree: &mut Tree, instance: 
 /// As close(2) of an inotify file descriptor.
 #[unsafe(no_mangle)]
 pub extern "C" fn wt_inotify_close(alloc: Global, tree: &mut Tree, instance: u32) -> i64
-    ensures { Answers tree.old.held.state (Ok (call.Close instance)) result tree.new.held.state }
+    ensures { Answers (IsMade tree.old.held.state (Ok (call.Close instance)) tree.new.held.state) result }
 {
     number_of(&tree.make(alloc, Ok(Call::Close { instance })))
 }

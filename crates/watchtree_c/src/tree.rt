@@ -109,7 +109,7 @@ impl Tree {
 
     /// Makes a call, or answers why there is none to make. `EBADF`, where the tree is not open.
     pub(crate) fn make(&mut self, alloc: Global, call: Result<Call, Refusal>) -> Reply
-        ensures { IsMade self.old.held.state call result self.new.held.state }
+        ensures { IsMade self.old.held.state call self.new.held.state result }
     {
         let Some(mut opened) = self.take(alloc) else {
             return Reply::Refused(Refusal::Ebadf);

@@ -1,15 +1,18 @@
 //! Replies as text.
 
-ghost use Rattle.std.specs.Prelude.{◌≡◌, ◌≢◌, ◌++◌, ◌⊎◌, ℕ, List, [], IfOk, OnOk, codes, decimal, length};
+ghost use Rattle.std.specs.Prelude.{◌≡◌, ◌∷◌, ◌++◌, List, [], OnOk, codes, decimal, length};
 ghost use Rattle.std.specs.List.{flat_map};
 ghost use Rattle.watchtree_script.specs.Replies.{ok_line, done_line, hexadecimal, name_line, event_line, kind_letter, mode_text, octal_digit, refusal_text, answer_text, AreEventsIn, IsReadText, IsReplyText};
+ghost use Rattle.record_codec.specs.declared.event.Event.{Event};
+ghost use Rattle.record_codec.specs.Views.{AreRecords, event_seen};
+ghost use Rattle.hex.specs.Hex.{encode_lower};
 ghost use Rattle.tree_core.specs.Calls.{IsSpelled};
 
 use crate::line::OutputFormat;
 use inode_table::Kind;
 use itoa::{Buffer, Integer};
-use record_codec::{Event, Name, append_name, append_record_line, decode};
-use std::alloc::{AllocError, Global};
+use record_codec::{Name, RecordView, append_name, append_view_line, next_record};
+use std::alloc::AllocError;
 use tree_core::Reply;
 use tree_ops::Answer;
 use tree_paths::Refusal;
@@ -78,9 +81,8 @@ fn push_bytes(text: &mut Vec<u8>, bytes: &[u8]) -> Result<(), AllocError>
     if bytes.is_empty() {
         return text.extend_from_slice(b"ok -\n");
     }
-    let digits = hex::encode(*text.allocator(), bytes)?;
     text.extend_from_slice(b"ok ")?;
-    text.extend_from_slice(digits.as_bytes())?;
+    push_digits(text, bytes)?;
     text.extend_from_slice(b"\n")
 }
 
@@ -174,51 +176,56 @@ pub(crate) fn push_ok<I: Integer>(text: &mut Vec<u8>, value: I) -> Result<(), Al
 // The reply of a read, in an empty text: the number of bytes that were read, and their records as they are shown.
 fn push_read(text: &mut Vec<u8>, format: OutputFormat, bytes: &[u8]) -> Result<(), AllocError>
     requires empty { text.old.items ≡ [] }
-    requires spelled { IsSpelled (Reply.Records bytes.now) }
+    requires spelled { AreRecords bytes.now }
     ensures { OnOk result (IsReadText format bytes.now text.new.items) }
 {
     push_ok(text, bytes.len())?;
     match format {
         OutputFormat::Plain => Ok(()),
-        OutputFormat::Records => {
-            let events = events_in(*text.allocator(), bytes)?;
-            push_events(text, &events)
-        }
+        OutputFormat::Records => push_records(text, bytes),
         OutputFormat::Hexadecimal => {
-            let digits = hex::encode(*text.allocator(), bytes)?;
             text.extend_from_slice(b"  ")?;
-            text.extend_from_slice(digits.as_bytes())?;
+            push_digits(text, bytes)?;
             text.extend_from_slice(b"\n")
         }
     }
 }
 
-// The events whose records the bytes are.
-fn events_in(alloc: Global, bytes: &[u8]) -> Result<Vec<Event>, AllocError>
-    requires { IsSpelled (Reply.Records bytes.now) }
-    ensures { IfOk result (λ events. AreEventsIn bytes.now events.items) }
+// Bytes as hexadecimal digits.
+fn push_digits(text: &mut Vec<u8>, bytes: &[u8]) -> Result<(), AllocError>
+    ensures { OnOk result (text.new.items ≡ text.old.items ++ encode_lower bytes.now) }
 {
-    match decode(alloc, bytes) {
-        Ok(events) => Ok(events),
-        // nothing but memory is wanting to bytes that spell events
-        Err(_) => Err(AllocError),
-    }
-}
-
-// A line for each event.
-fn push_events(text: &mut Vec<u8>, events: &[Event]) -> Result<(), AllocError>
-    ensures { OnOk result (text.new.items ≡ text.old.items ++ flat_map event_line events.now) }
-{
-    for event in events {
-        push_event(text, event)?;
+    for byte in bytes {
+        push_byte(text, *byte)?;
     }
     Ok(())
 }
 
-fn push_event(text: &mut Vec<u8>, event: &Event) -> Result<(), AllocError>
-    ensures { OnOk result (text.new.items ≡ text.old.items ++ event_line event.now) }
+fn push_byte(text: &mut Vec<u8>, byte: u8) -> Result<(), AllocError>
+    ensures { OnOk result (text.new.items ≡ text.old.items ++ encode_lower (byte ∷ [])) }
+{
+    let mut digits = [0; 2];
+    hex::encode_to_slice([byte].as_slice(), &mut digits).unwrap();
+    text.extend_from_slice(&digits)
+}
+
+// A line for each record.
+fn push_records(text: &mut Vec<u8>, bytes: &[u8]) -> Result<(), AllocError>
+    requires { AreRecords bytes.now }
+    ensures { OnOk result ((events : List Event) × AreEventsIn bytes.now events × (text.new.items ≡ text.old.items ++ flat_map event_line events)) }
+{
+    let mut rest = bytes;
+    while let Some((record, behind)) = next_record(rest) {
+        push_record(text, &record)?;
+        rest = behind;
+    }
+    Ok(())
+}
+
+fn push_record(text: &mut Vec<u8>, view: &RecordView<'_>) -> Result<(), AllocError>
+    ensures { OnOk result (text.new.items ≡ text.old.items ++ event_line (event_seen view.now)) }
 {
     text.extend_from_slice(b"  ")?;
-    append_record_line(event, text)?;
+    append_view_line(view, text)?;
     text.extend_from_slice(b"\n")
 }
