@@ -28,11 +28,11 @@ fn call_of(calls: &Calls, which: u32) -> Result<FileCall, Refusal> {
     let other = calls.path("/h")?;
     Ok(match which {
         0 => FileCall::Create {
-            path: calls.path("/d/a-name-that-is-not-in-place")?,
+            path: calls.path("/d/new")?,
             mode: 0o644,
         },
         1 => FileCall::Mkdir {
-            path: calls.path("/d/a-name-that-is-not-in-place")?,
+            path: calls.path("/d/new")?,
             mode: 0o755,
         },
         2 => FileCall::Write {
@@ -49,7 +49,7 @@ fn call_of(calls: &Calls, which: u32) -> Result<FileCall, Refusal> {
         5 => FileCall::Chmod { path, mode: 0o700 },
         6 => FileCall::Link {
             old: path,
-            new: calls.path("/e/a-name-that-is-not-in-place")?,
+            new: calls.path("/e/g")?,
         },
         7 => FileCall::Unlink { path: other },
         8 => FileCall::Rmdir {
