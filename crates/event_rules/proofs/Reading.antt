@@ -1,0 +1,33 @@
+-- Whether a read answers a byte.
+use Rattle.std.proofs.Common.{◌≡◌, ℕ, zero, suc, ◌<◌, Bool, true, false, ◌&&◌, List, [], ◌∷◌, take, drop, length, Option, Some, None, refl, sym, ap, ◌∙◌}
+use Rattle.std.specs.Option.{option_and_then, option_map, unwrap_or, IsSomeAnd}
+use Rattle.std.specs.FinMap as finmap
+use Rattle.inode_table.specs.World.{World, File, look, seen_as, file_at}
+use Rattle.tree_ops.specs.After.{bytes_at}
+use Rattle.event_rules.specs.Table.{has_byte}
+
+-- where nothing is seen there are no bytes
+pub bytes-none : (w : World) (p : List (List ℕ)) → look w p ≡ None → bytes_at w p ≡ []
+unfolding look
+bytes-none w p none =
+    elim (finmap.get w.paths p) as (λ o. option_and_then (λ n. option_map (seen_as w p n) (finmap.get w.files n)) o ≡ None → unwrap_or (option_map (λ (f : File). f.bytes) (option_and_then (finmap.get w.files) o)) [] ≡ []) [
+      | None ↦ λ _. refl
+      | Some n ↦ λ e. elim (finmap.get w.files n) as (λ o. option_map (seen_as w p n) o ≡ None → unwrap_or (option_map (λ (f : File). f.bytes) o) [] ≡ []) [
+        | None ↦ λ _. refl
+        | Some f ↦ λ g. absurd (cc)
+      ] e
+    ] none
+
+pub nothing-read : (offset count : ℕ) → has_byte (take count (drop offset [])) ≡ false
+nothing-read zero zero = refl
+nothing-read zero (suc n) = refl
+nothing-read (suc m) zero = refl
+nothing-read (suc m) (suc n) = refl
+
+-- the bytes of a file
+pub bytes-are : (w : World) (p : List (List ℕ)) (bytes : List ℕ) → IsSomeAnd (file_at w p) (λ (f : File). f.bytes ≡ bytes) → bytes_at w p ≡ bytes
+bytes-are w p bytes h = by (file_at w p) h
+  where
+    by : (o : Option File) → IsSomeAnd o (λ (f : File). f.bytes ≡ bytes) → unwrap_or (option_map (λ (f : File). f.bytes) o) [] ≡ bytes
+    by None h = absurd h
+    by (Some f) h = h
