@@ -15,7 +15,7 @@ use Rattle.tree_core.specs.Tree.{Tree, refusal_of, answer_of, number_seen, read_
 use Rattle.tree_core.specs.Journal.{tree_after}
 use Rattle.tree_core.specs.Calls.{IsSpelled}
 use Rattle.tree_core.specs.Histories.{oldest, read_by, read_in, records_for, where_open}
-use Rattle.tree_core.specs.FileSystems.{IsFileSystemOf}
+use Rattle.tree_core.specs.FileSystems.{tree_in}
 use Rattle.inode_table.specs.World.{look}
 use Rattle.event_queue.specs.Reads.{fitting}
 
@@ -93,8 +93,8 @@ module _ (t : Tree) (waits : WaitingAreEvents t.instances) where
       by None = answer-spelled c
 
 -- a file system and its tree have the same instances
-pub events-of-file_system : (t : Tree) (m : FileSystem) → IsFileSystemOf t m → WaitingAreEvents m.instances → WaitingAreEvents t.instances
-events-of-file_system t m is waits = subst WaitingAreEvents is.instances waits
+pub events-of-file_system : (t : Tree) (m : FileSystem) → tree_in m ≡ t → WaitingAreEvents m.instances → WaitingAreEvents t.instances
+events-of-file_system t m is waits = subst WaitingAreEvents (ap (λ (x : Tree). x.instances) is) waits
 
 -- ---- a journal
 
