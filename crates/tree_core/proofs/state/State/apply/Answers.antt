@@ -20,7 +20,6 @@ invariant_of-self-in_err-replies c =
 pub invariant_of-self-2 : goal.invariant_of-self-2
 invariant_of-self-2 c =
     let a = c.self.inside in
-    let t = tree_in a.file_system in
     let replies = c.in_ok-replies.replies in
     let served : Executes a.file_system c.args.call false (Ok replies) c.answer.new.self = c.in_ok-replies.ensures in
     let entry : Entry = record { caller = c.args.caller; call = c.args.call; reply = replies.journaled } in
@@ -31,7 +30,6 @@ invariant_of-self-2 c =
 pub returns-clause-entry : goal.returns-clause-entry
 returns-clause-entry c =
     let a = c.self.inside in
-    let t = tree_in a.file_system in
     let replies = c.in_ok-replies.replies in
     let served : Executes a.file_system c.args.call false (Ok replies) c.answer.new.self = c.in_ok-replies.ensures in
     let entry : Entry = record { caller = c.args.caller; call = c.args.call; reply = replies.journaled } in

@@ -28,7 +28,6 @@ split_replies-receipt-requires c =
 pub invariant_of-self-2 : goal.invariant_of-self-2
 invariant_of-self-2 c =
     let a = c.self.inside in
-    let t = tree_in a.file_system in
     let served : Executes a.file_system c.args.call true (Ok c.in_ok-replies.replies) c.answer.new.self = c.in_ok-replies.ensures in
     let entry : Entry = record { caller = c.args.caller; call = c.args.call; reply = c.split_replies-receipt.result.1 } in
     IsKept-more a (record { file_system = c.answer.new.self; snapshot = a.snapshot; journal = c.push_reserved.new.self }) c.self.invariant refl (limits-executed a.file_system c.answer.new.self c.args.call served.tree) entry
@@ -38,7 +37,6 @@ invariant_of-self-2 c =
 pub returns-clause-entry : goal.returns-clause-entry
 returns-clause-entry c =
     let a = c.self.inside in
-    let t = tree_in a.file_system in
     let served : Executes a.file_system c.args.call true (Ok c.in_ok-replies.replies) c.answer.new.self = c.in_ok-replies.ensures in
     let said = c.split_replies-receipt.ensures in
     let entry : Entry = record { caller = c.args.caller; call = c.args.call; reply = c.split_replies-receipt.result.1 } in

@@ -29,7 +29,6 @@ split_replies-receipt-requires c =
 pub invariant_of-self-2 : goal.invariant_of-self-2
 invariant_of-self-2 c =
     let a = c.self.inside in
-    let t = tree_in a.file_system in
     let served : Executes a.file_system (call.Pump c.args.instance c.args.bytes) true (Ok c.in_ok-replies.field-0.replies) c.pump_out.new.self = c.in_ok-replies.ensures.served in
     let entry : Entry = record { caller = c.args.caller; call = (call.Pump c.args.instance c.args.bytes); reply = c.split_replies-receipt.result.1 } in
     IsKept-more a (record { file_system = c.pump_out.new.self; snapshot = a.snapshot; journal = c.push_reserved.new.self }) c.self.invariant refl (limits-executed a.file_system c.pump_out.new.self (call.Pump c.args.instance c.args.bytes) served.tree) entry
@@ -39,7 +38,6 @@ invariant_of-self-2 c =
 pub returns-clause-entry : goal.returns-clause-entry
 returns-clause-entry c =
     let a = c.self.inside in
-    let t = tree_in a.file_system in
     let served : Executes a.file_system (call.Pump c.args.instance c.args.bytes) true (Ok c.in_ok-replies.field-0.replies) c.pump_out.new.self = c.in_ok-replies.ensures.served in
     let said = c.split_replies-receipt.ensures in
     let entry : Entry = record { caller = c.args.caller; call = (call.Pump c.args.instance c.args.bytes); reply = c.split_replies-receipt.result.1 } in
