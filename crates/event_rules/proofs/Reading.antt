@@ -23,11 +23,3 @@ nothing-read zero zero = refl
 nothing-read zero (suc n) = refl
 nothing-read (suc m) zero = refl
 nothing-read (suc m) (suc n) = refl
-
--- the bytes of a file
-pub bytes-are : (w : World) (p : List (List ℕ)) (bytes : List ℕ) → IsSomeAnd (file_at w p) (λ (f : File). f.bytes ≡ bytes) → bytes_at w p ≡ bytes
-bytes-are w p bytes h = by (file_at w p) h
-  where
-    by : (o : Option File) → IsSomeAnd o (λ (f : File). f.bytes ≡ bytes) → unwrap_or (option_map (λ (f : File). f.bytes) o) [] ≡ bytes
-    by None h = absurd h
-    by (Some f) h = h

@@ -149,7 +149,7 @@ module _ (rs : Rows) (table : IsTable rs) where
   -- a walk from the root has no more names than there are rows
   pub length-walk : (p : List Label) (j : ℕ) → walk (child rs) 0 p ≡ Some j → length p ≤ length rs
   length-walk p j leads =
-      let below = all-passed (λ i. i < length rs) [] 0 j p refl leads (λ q i to dir. let live = is_value (what rs i) (sym (live-what rs i) ∙ table.tree.directories i dir) in within rs table i live.0 live.1) in
+      let below = all-passed (λ i. i < length rs) [] 0 j p refl leads (λ q i to dir. let live = is_value (what rs i) (sym (live-what rs i) ∙ table.tree.directories i dir) in within rs i live.0 live.1) in
       let most = length-le_from_distinct_below (passed rs 0 p) (length rs) (distinct-passed [] 0 j p refl leads) (any_below (length rs) (passed rs 0 p) below) in
       subst (λ n. n ≤ length rs) (length-passed rs 0 j p leads) most
 
@@ -226,7 +226,7 @@ Stands-world_of t table = record {
             let number : number_at t p ≡ Some v.0.number = ap (number_of t) there ∙ ap (option_map (λ (u : What). u.number)) v.1 in
             paths-some t _ p v.0.number (In-paths t.rows (length t.rows) 0 k p there (length-walk t.rows table p k there)) number ∙ sym number
       ] refl;
-  files = λ k v is. files-some t.rows table (length t.rows) k v is (within t.rows table k v is);
+  files = λ k v is. files-some t.rows table (length t.rows) k v is (within t.rows k v is);
   no_more = files-no_more t.rows table (length t.rows);
 }
 
@@ -262,13 +262,6 @@ numbered t k there = by (what_at t k) there
     by : (o : Option What) → is_some o ≡ true → is_some (option_map (λ (v : What). v.number) o) ≡ true
     by None e = e
     by (Some v) e = refl
-
-pub row-numbered : (t : Tree) (k : ℕ) → is_some (number_of t (Some k)) ≡ true → is_some (row t.rows k) ≡ true
-row-numbered t k there = by (row t.rows k) there
-  where
-    by : (o : Option Row) → is_some (option_map (λ (v : What). v.number) (option_map shown o)) ≡ true → is_some o ≡ true
-    by None e = e
-    by (Some r) e = refl
 
 pub file-under : {t : Tree} → Stands t (world_of t) → (k : ℕ) (r : Row) → row t.rows k ≡ Some r → file_under t k ≡ Some (file_of (shown r))
 file-under {t} stands k r is =

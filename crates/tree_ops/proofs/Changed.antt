@@ -26,19 +26,6 @@ bytes-of w p bytes h = by (file_at w p) h
     by None h = absurd h
     by (Some f) h = h
 
--- changes that agree on the file that is there
-pub changed-agree : (w : World) (p : List (List ℕ)) (g h : File → File) → IfSome (file_at w p) (λ f. g f ≡ h f) → changed_at w p g ≡ changed_at w p h
-unfolding changed_at
-changed-agree w p g h same = by (finmap.get w.paths p) same
-  where
-    at_file : (n : ℕ) (o : Option File) → IfSome o (λ f. g f ≡ h f) → content_by w g (Some n) o ≡ content_by w h (Some n) o
-    at_file n None e = refl
-    at_file n (Some f) e = ap (with_content w n) e
-
-    by : (o : Option ℕ) → IfSome (option_and_then (finmap.get w.files) o) (λ f. g f ≡ h f) → content_by w g o (option_and_then (finmap.get w.files) o) ≡ content_by w h o (option_and_then (finmap.get w.files) o)
-    by None e = refl
-    by (Some n) e = at_file n (finmap.get w.files n) e
-
 -- the number under a path is the one that is seen there
 number-seen : (w : World) → IsWorld w → (p : List (List ℕ)) → finmap.get w.paths p ≡ option_map (λ (s : Seen). s.number) (look w p)
 unfolding look seen_as
