@@ -12,7 +12,7 @@ use Rattle.inode_table.specs.declared.seen.Kind.TheVariants.{Directory}
 use Rattle.inode_table.proofs.TreeLemmas.{some_none, same_some}
 use Rattle.inode_table.proofs.WalkLemmas.{walk-append}
 use Rattle.inode_table.proofs.StandsLemmas.{node_at, number-at, absent-at, there-of, key_of}
-use Rattle.inode_table.proofs.SeenLemmas.{file-of-row, is_value}
+use Rattle.inode_table.proofs.SeenLemmas.{file-of-row}
 
 kind-directory : (o : Option (List ℕ)) → is_none o ≡ true → kind_of o ≡ Directory
 kind-directory None e = refl

@@ -1,5 +1,5 @@
 -- Each table stands for one world.
-use Rattle.std.proofs.Common.{◌≡◌, ◌≢◌, ◌⊎◌, ℕ, zero, suc, ◌<◌, ◌≤◌, Bool, true, false, ◌||◌, cond, eqb, List, [], ◌∷◌, ◌++◌, map, length, Option, Some, None, is_some, refl, sym, ap, ◌∙◌, inl, inr, arith, subst, append-nil, append_assoc}
+use Rattle.std.proofs.Common.{◌≡◌, ◌≢◌, ◌⊎◌, ℕ, zero, suc, ◌<◌, ◌≤◌, true, false, ◌||◌, cond, eqb, List, [], ◌∷◌, ◌++◌, map, length, Option, Some, None, is_some, refl, sym, ap, ◌∙◌, inl, inr, arith, subst, append-nil, append_assoc}
 use Rattle.std.proofs.lemmas.Bool.{cases_eq}
 use Rattle.std.proofs.lemmas.Map.Steps.{length-le_from_distinct_below}
 use Rattle.std.specs.List.{AllByRecursion, IsDistinct, flat_map, list_any}
@@ -8,7 +8,7 @@ use Rattle.std.specs.Option.{option_map, option_map_or, option_and_then, IsSomeA
 use Rattle.std.specs.Ordering.{nat_cmp}
 use Rattle.std.specs.Cmp.{nat_cmp_total}
 use Rattle.std.specs.FinMap as map
-use Rattle.std.specs.FinMap.{FinMap, nat_cmp-IsAntisymmetric, get-empty}
+use Rattle.std.specs.FinMap.{nat_cmp-IsAntisymmetric, get-empty}
 use borrow.Author.Tests.{eqb-true}
 use Rattle.inode_table.specs.Walk.{walk}
 use Rattle.inode_table.specs.Rows.{Label, Body, File, Names, Row, Rows, What, row, child, what, shown, key_in, same_label, is_directory}

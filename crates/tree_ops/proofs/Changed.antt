@@ -3,7 +3,7 @@ use Rattle.std.proofs.Common.{◌≡◌, ◌≢◌, ◌==◌, ℕ, List, [], tru
 use borrow.Author.Tests.{eq-eqb}
 use Rattle.std.specs.Option.{option_and_then, option_map, IsSomeAnd, unwrap_or}
 use Rattle.std.specs.FinMap as finmap
-use Rattle.inode_table.specs.World.{World, IsWorld, look, seen_as, has_names, File, file_at, content_by, changed_at, with_content, with_move, with_swap, without_lost}
+use Rattle.inode_table.specs.World.{World, IsWorld, look, seen_as, has_names, File, file_at, with_move, with_swap, without_lost}
 use Rattle.inode_table.specs.declared.seen.Seen.{Seen}
 use Rattle.inode_table.proofs.SeenLemmas.{is_value}
 use Rattle.inode_table.proofs.MapLemmas.{keys-none}

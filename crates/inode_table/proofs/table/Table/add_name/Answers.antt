@@ -1,5 +1,4 @@
-use Rattle.std.proofs.Common.{◌++◌, ◌∷◌, [], ◌≤◌, ◌+◌, arith, None, ◌∙◌, sym, ap, subst}
-use Rattle.inode_table.specs.Rows.{What}
+use Rattle.std.proofs.Common.{◌++◌, ◌∷◌, [], ◌∙◌, sym, ap, subst}
 use Rattle.inode_table.specs.Tree.{what_at}
 use Rattle.inode_table.specs.World.{linked, with_path}
 use Rattle.inode_table.specs.Stands.{Stands, look_in}

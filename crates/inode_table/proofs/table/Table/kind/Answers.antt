@@ -1,4 +1,4 @@
-use Rattle.std.proofs.Common.{◌≡◌, refl, sym, subst}
+use Rattle.std.proofs.Common.{◌≡◌, sym, subst}
 use Rattle.std.specs.Option.{IsSomeAnd}
 use Rattle.inode_table.specs.Rows.{row_of}
 use Rattle.inode_table.specs.World as world

@@ -1,6 +1,6 @@
 use Rattle.std.proofs.Common.{◌≡◌, ◌++◌, ◌∷◌, [], List, IsSome, IfSome, true, false, sym, ap, subst, ◌∙◌}
 use Rattle.inode_table.specs.Walk.{Avoids}
-use Rattle.inode_table.specs.Rows.{Label, child}
+use Rattle.inode_table.specs.Rows.{Label}
 use Rattle.inode_table.specs.Tree.{Tree, at, what_at}
 use Rattle.inode_table.specs.World.{World, with_move}
 use Rattle.inode_table.specs.Refusals.{is_directory_seen}
