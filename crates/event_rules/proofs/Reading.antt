@@ -1,8 +1,8 @@
 -- Whether a read answers a byte.
-use Rattle.std.proofs.Common.{◌≡◌, ℕ, zero, suc, ◌<◌, Bool, true, false, ◌&&◌, List, [], ◌∷◌, take, drop, length, Option, Some, None, refl, sym, ap, ◌∙◌}
-use Rattle.std.specs.Option.{option_and_then, option_map, unwrap_or, IsSomeAnd}
+use Rattle.std.proofs.Common.{◌≡◌, ℕ, zero, suc, false, List, [], take, drop, Some, None, refl}
+use Rattle.std.specs.Option.{option_and_then, option_map, unwrap_or}
 use Rattle.std.specs.FinMap as finmap
-use Rattle.inode_table.specs.World.{World, File, look, seen_as, file_at}
+use Rattle.inode_table.specs.World.{World, File, look, seen_as}
 use Rattle.tree_ops.specs.After.{bytes_at}
 use Rattle.event_rules.specs.Table.{has_byte}
 
