@@ -233,7 +233,7 @@ below-opening n there =
     is-root (eqb n root_number) n f (finmap.get none n) refl (get-empty nat_cmp n)
     (subst IsSome (get-insert nat_cmp_total none root_number f n ∙ ap (λ b. cond b (Some f) (finmap.get none n)) (unsigned_tied n root_number)) there)
 
-pub none-opened : (m : Instances) → m ≡ finmap.empty → (id : ℕ) → IsSome (instance_of m id) → ⊥
-none-opened m none id h =
-    let e : ◌≡◌ {A = Bool} false true = sym (ap is_some (get-empty {X = Instance} nat_cmp id)) ∙ subst (λ (x : Instances). IsSome (instance_of x id)) none h in
+pub none-opened : (id : ℕ) → IsSome (instance_of finmap.empty id) → ⊥
+none-opened id h =
+    let e : ◌≡◌ {A = Bool} false true = sym (ap is_some (get-empty {X = Instance} nat_cmp id)) ∙ h in
     absurd (cc)

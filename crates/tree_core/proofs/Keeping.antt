@@ -61,6 +61,10 @@ module _ (a b : Inside) (is : IsKept a) (snapshot : b.snapshot ≡ a.snapshot) (
         small = subst (λ (s : Journaled). last_place s < 2 ^ 64) same (omega (arith, more, small));
       }
 
+-- a snapshot of the same tree
+pub shown-of : {t u : Tree} {place : ℕ} {s : Snapshot} → t ≡ u → IsSnapshotOf t place s → IsSnapshotOf u place s
+shown-of {t} {u} {place} {s} same shown = subst (λ (x : Tree). IsSnapshotOf x place s) same shown
+
 -- a cut: the snapshot of the tree, and no entry
 pub IsKept-cut : TreesAreSound → (a b : Inside) → IsKept a → b.file_system ≡ a.file_system → b.journal.items ≡ [] → (place : ℕ) → place ≡ last_place (journal_of a) → IsSnapshotOf (now (journal_of a)) place b.snapshot
     → WaitingAreEvents a.file_system.instances → (journal_of b ≡ cut_off (journal_of a)) × IsKept b

@@ -1,6 +1,7 @@
-use Rattle.std.proofs.Common.{refl, sym, ap, subst, arith}
+use Rattle.std.proofs.Common.{IsSome, sym, subst, arith}
 use Rattle.inode_table.specs.World.{World}
 use Rattle.inode_table.specs.TableWorld.{HasNumbersBelow}
+use Rattle.instance_table.specs.Instances.{Instances, instance_of}
 use Rattle.tree_core.specs.Tree.{opening}
 use Rattle.tree_core.proofs.Instances.{below-opening, none-opened}
 use Rattle.tree_core.proofs.file_system.FileSystem.new.Goals as goal
@@ -24,7 +25,7 @@ returns-clause-numbered c =
         numbers = let least = limits.numbers_in.0 in omega arith;
         cookies = let least = limits.cookies_in.0 in omega arith;
         ids = let least = limits.ids_in.0 in omega arith;
-        opened = λ id h. absurd (none-opened c.new-2.result c.new-2.ensures id h);
+        opened = λ id h. absurd (none-opened id (subst (λ (x : Instances). IsSome (instance_of x id)) c.new-2.ensures h));
       };
       given = subst (λ (w : World). HasNumbersBelow w 2) (sym c.in_ok-new.ensures.world) below-opening;
     }
