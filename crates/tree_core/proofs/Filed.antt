@@ -1,4 +1,4 @@
--- Machines whose table a call on files was carried out on.
+-- File systems on whose table a call on files was carried out.
 use Rattle.std.proofs.Common.{◌≡◌, ◌+◌, true, None, refl, sym, ap, subst, ◌∙◌}
 use Rattle.std.proofs.lemmas.Bool.{false≢true}
 use Rattle.inode_table.specs.Tree as table

@@ -1,4 +1,4 @@
--- What a tree answers and becomes by whether a call is refused, and machines that serve calls.
+-- What a tree answers and becomes by whether a call is refused, and file systems that serve calls.
 use Rattle.std.proofs.Common.{◌≡◌, Bool, true, false, Some, None, Result, Ok, Err, IsErrAnd, refl, sym, ap, subst, ◌∙◌}
 use Rattle.std.specs.Prelude.{IfOk, IfErr, OnOk, OnErr}
 use Rattle.tree_paths.specs.declared.refusal.Refusal.{Refusal}
