@@ -1,16 +1,14 @@
 -- What is read of a tree in which events wait are events, and so its replies spell events.
-use Rattle.std.proofs.Common.{◌≡◌, ℕ, zero, suc, Bool, true, false, if◌then◌else◌, ◌==◌, List, [], ◌∷◌, ◌++◌, Option, Some, None, refl, sym, ap, subst, take}
+use Rattle.std.proofs.Common.{◌≡◌, ℕ, zero, suc, Bool, true, false, if◌then◌else◌, ◌==◌, List, [], ◌∷◌, ◌++◌, Option, Some, None, refl, ap, subst, take}
 use Rattle.record_codec.specs.declared.event.Event.{Event}
 use Rattle.record_codec.specs.Records.{AreEvents}
 use Rattle.tree_paths.specs.declared.refusal.Refusal.{Refusal}
 use Rattle.instance_table.specs.declared.instance.Instance.{Instance}
-use Rattle.instance_table.specs.Instances.{Instances, WaitingAreEvents, instance_of, waiting_of}
+use Rattle.instance_table.specs.Instances.{WaitingAreEvents, instance_of, waiting_of}
 use Rattle.tree_core.specs.declared.call.Call.{Call}
 use Rattle.tree_core.specs.declared.call.Call.TheVariants as call
 use Rattle.tree_core.specs.declared.file_system.FileSystem.{FileSystem}
 use Rattle.tree_core.specs.declared.reply.Entry.{Entry}
-use Rattle.tree_core.specs.declared.reply.Reply.{Reply}
-use Rattle.tree_core.specs.declared.reply.Reply.TheVariants as reply
 use Rattle.tree_core.specs.Tree.{Tree, refusal_of, answer_of, number_seen, read_answer, reply_by, reply_of, after, watch_answer}
 use Rattle.tree_core.specs.Journal.{tree_after}
 use Rattle.tree_core.specs.Calls.{IsSpelled}

@@ -1,4 +1,4 @@
-use Rattle.std.proofs.Common.{rules, arith, w32, SFits, to_z, of_z, ap, subst, sym, ◌∙◌, refl, not, None, Some, Ok}
+use Rattle.std.proofs.Common.{rules, arith, w32, SFits, to_z, of_z, ap, subst, sym, ◌∙◌, not, None, Some, Ok}
 use Rattle.std.proofs.lemmas.Int.{to_z-of_z}
 use Rattle.std.specs.Prelude.{◌≡◌, ◌⊎◌}
 use Rattle.tree_paths.specs.declared.refusal.Refusal.TheVariants.{Ebadf, Enomem}

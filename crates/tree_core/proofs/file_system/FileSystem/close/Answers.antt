@@ -1,5 +1,4 @@
 use Rattle.std.proofs.Common.{refl, None}
-use Rattle.instance_table.specs.Instances.{Instances}
 use Rattle.tree_core.specs.declared.file_system.FileSystem.{FileSystem}
 use Rattle.tree_paths.specs.Rows.{first_row}
 use Rattle.tree_core.specs.declared.call.Call.TheVariants as call
