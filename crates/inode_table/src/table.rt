@@ -17,6 +17,7 @@ use tree_paths::Refusal;
 
 mod changing;
 mod files;
+mod finding;
 mod flat;
 mod keyed;
 mod reading;
@@ -135,17 +136,6 @@ impl Table {
             }
         }
         Ok(key)
-    }
-
-    // The key of what stands at a path.
-    fn key_at(&self, path: &[Name]) -> usize
-        requires { IsSome (look_in self.now path.now) }
-        ensures { at self.now path.now ≡ Some result }
-    {
-        match self.walk(path) {
-            Ok(key) => key,
-            Err(_) => unreachable!(),
-        }
     }
 
     // The node under a key.

@@ -1,4 +1,4 @@
-//! The changes of a table, by whole paths.
+//! The changes of a table, by places of it.
 
 ghost use Rattle.std.specs.Prelude.{◌≡◌, ◌≢◌, ℕ, List, [], Option, Some, None, IfOk, IfErr, OnOk, OnErr, true, false, IsSome, IfSome, ◌&&◌, ◌+◌, ◌<◌, ◌≤◌, ◌^◌, ◌++◌, ◌∷◌};
 ghost use Rattle.std.specs.Option.{IsSomeAnd};
@@ -11,6 +11,7 @@ ghost use Rattle.inode_table.specs.Tree.{at, what_at};
 use super::Table;
 use crate::content::Content;
 use crate::key::Key;
+use crate::place::Place;
 use crate::seen::Kind;
 use record_codec::Name;
 use tree_paths::Refusal;
@@ -19,67 +20,73 @@ impl Table {
     ghost use Rattle.inode_table.specs.World.{with_file, with_move, with_swap, without_path, without_lost, linked, changed_at, look};
     ghost use Rattle.inode_table.specs.Refusals.{is_directory_seen};
     ghost use Rattle.inode_table.specs.TableWorld.{world_of};
+    ghost use Rattle.inode_table.specs.Places.{IsPlaceOf};
 
     /// Gives a free path to a new file without bytes, or to a new empty directory. `reserve_node` has made room for it.
     pub fn add_node(
         &mut self,
-        path: &[Name],
+        place: &Place,
         number: u32,
         mode: u32,
         kind: Kind,
     ) -> Result<(), Refusal>
+        requires placed { IsPlaceOf self.old place.now }
         requires room { 1 ≤ self.old.room }
-        requires named { path.now ≢ [] }
-        requires directory { is_directory_seen (look (world_of self.old) (parent_of path.now)) ≡ true }
-        requires free { look (world_of self.old) path.now ≡ None }
+        requires named { place.now.path ≢ [] }
+        requires directory { is_directory_seen (look (world_of self.old) (parent_of place.now.path)) ≡ true }
+        requires free { look (world_of self.old) place.now.path ≡ None }
         requires unused { finmap.get (world_of self.old).files number ≡ None }
-        ensures world { OnOk result (world_of self.new ≡ with_file (world_of self.old) path.now number (record { kind = kind; mode = mode; bytes = [] })) }
+        ensures world { OnOk result (world_of self.new ≡ with_file (world_of self.old) place.now.path number (record { kind = kind; mode = mode; bytes = [] })) }
         ensures room { OnOk result (self.new.room + 1 ≡ self.old.room) }
         ensures err { OnErr result (self.new ≡ self.old) }
         ensures memory { IfErr result (λ refusal. refusal ≡ Refusal.Enomem) }
     {
         self.rows_law();
-        let (parent, name) = parent_and_name(path);
+        let (_, name) = parent_and_name(place.path);
         let copy = name.copy()?;
-        let directory = self.key_at(parent);
+        let directory = self.directory_at(place);
         let content = Content::empty(self.alloc, kind);
         self.add_node_at(directory, copy, number, mode, content)?;
         Ok(())
     }
 
     /// Gives a free path more to a file that is there (a hard link).
-    pub fn add_name(&mut self, old: &[Name], new: &[Name]) -> Result<(), Refusal>
-        requires source { IsSome (look (world_of self.old) old.now) }
-        requires regular { is_directory_seen (look (world_of self.old) old.now) ≡ false }
-        requires links { IfSome (look (world_of self.old) old.now) (λ seen. seen.links + 1 < 2 ^ 64) }
-        requires named { new.now ≢ [] }
-        requires directory { is_directory_seen (look (world_of self.old) (parent_of new.now)) ≡ true }
-        requires free { look (world_of self.old) new.now ≡ None }
-        ensures world { OnOk result (world_of self.new ≡ linked (world_of self.old) new.now (finmap.get (world_of self.old).paths old.now)) }
+    pub fn add_name(&mut self, old: &Place, new: &Place) -> Result<(), Refusal>
+        requires placed { IsPlaceOf self.old old.now }
+        requires new_placed { IsPlaceOf self.old new.now }
+        requires source { IsSome (look (world_of self.old) old.now.path) }
+        requires regular { is_directory_seen (look (world_of self.old) old.now.path) ≡ false }
+        requires links { IfSome (look (world_of self.old) old.now.path) (λ seen. seen.links + 1 < 2 ^ 64) }
+        requires named { new.now.path ≢ [] }
+        requires directory { is_directory_seen (look (world_of self.old) (parent_of new.now.path)) ≡ true }
+        requires free { look (world_of self.old) new.now.path ≡ None }
+        ensures world { OnOk result (world_of self.new ≡ linked (world_of self.old) new.now.path (finmap.get (world_of self.old).paths old.now.path)) }
         ensures room { OnOk result (self.new.room ≡ self.old.room) }
         ensures err { OnErr result (self.new ≡ self.old) }
         ensures memory { IfErr result (λ refusal. refusal ≡ Refusal.Enomem) }
     {
         self.rows_law();
-        let (parent, name) = parent_and_name(new);
+        let (_, name) = parent_and_name(new.path);
         let copy = name.copy()?;
         let key = self.key_at(old);
-        let directory = self.key_at(parent);
+        let directory = self.directory_at(new);
         self.add_name_at(directory, copy, key)?;
         Ok(())
     }
 
     /// Moves a file, or a directory with all that is below it, to another path, in the place of a file or an empty
     /// directory that is there, which goes where that was its last path.
-    pub fn replace_name(&mut self, old: &[Name], new: &[Name]) -> Result<(), Refusal>
-        requires source { IsSome (look (world_of self.old) old.now) }
-        requires named { old.now ≢ [] }
-        requires other_named { new.now ≢ [] }
-        requires other { old.now ≢ new.now }
-        requires below { (is_directory_seen (look (world_of self.old) old.now) && is_below old.now new.now) ≡ false }
-        requires directory { is_directory_seen (look (world_of self.old) (parent_of new.now)) ≡ true }
-        requires empty { IfSome (look (world_of self.old) new.now) (λ seen. seen.has_names ≡ false) }
-        ensures world { OnOk result (world_of self.new ≡ without_lost (with_move (world_of self.old) old.now new.now) (finmap.get (world_of self.old).paths new.now)) }
+    pub fn replace_name(&mut self, old: &Place, new: &Place) -> Result<(), Refusal>
+        requires placed { IsPlaceOf self.old old.now }
+        requires new_placed { IsPlaceOf self.old new.now }
+        requires source { IsSome (look (world_of self.old) old.now.path) }
+        requires named { old.now.path ≢ [] }
+        requires other_named { new.now.path ≢ [] }
+        requires other { old.now.path ≢ new.now.path }
+        requires below { (is_directory_seen (look (world_of self.old) old.now.path) && is_below old.now.path new.now.path) ≡ false }
+        requires directory { is_directory_seen (look (world_of self.old) (parent_of new.now.path)) ≡ true }
+        requires empty { IfSome (look (world_of self.old) new.now.path) (λ seen. seen.has_names ≡ false) }
+        ensures world { OnOk result (world_of self.new ≡ without_lost (with_move (world_of self.old) old.now.path new.now.path) (finmap.get (world_of self.old).paths new.now.path)) }
         ensures room { OnOk result (self.old.room ≤ self.new.room) }
         ensures err { OnErr result (self.new ≡ self.old) }
         ensures memory { IfErr result (λ refusal. refusal ≡ Refusal.Enomem) }
@@ -92,43 +99,47 @@ impl Table {
     }
 
     /// Takes out the path of a file or of an empty directory, which goes where that was its last path.
-    pub fn drop_name(&mut self, path: &[Name])
-        requires named { path.now ≢ [] }
-        requires there { IsSomeAnd (look (world_of self.old) path.now) (λ seen. seen.has_names ≡ false) }
-        ensures world { world_of self.new ≡ without_lost (without_path (world_of self.old) path.now) (finmap.get (world_of self.old).paths path.now) }
+    pub fn drop_name(&mut self, place: &Place)
+        requires placed { IsPlaceOf self.old place.now }
+        requires named { place.now.path ≢ [] }
+        requires there { IsSomeAnd (look (world_of self.old) place.now.path) (λ seen. seen.has_names ≡ false) }
+        ensures world { world_of self.new ≡ without_lost (without_path (world_of self.old) place.now.path) (finmap.get (world_of self.old).paths place.now.path) }
         ensures room { self.old.room ≤ self.new.room }
     {
         self.rows_law();
-        let key = self.take_name(path);
+        let key = self.take_name(place);
         self.drop_if_lost(key);
     }
 
     /// Exchanges two paths, with all that is below each.
-    pub fn swap_names(&mut self, one: &[Name], other: &[Name])
-        requires there { IsSome (look (world_of self.old) one.now) }
-        requires other_there { IsSome (look (world_of self.old) other.now) }
-        requires other { one.now ≢ other.now }
-        requires below { (is_directory_seen (look (world_of self.old) one.now) && is_below one.now other.now) ≡ false }
-        requires above { (is_directory_seen (look (world_of self.old) other.now) && is_below other.now one.now) ≡ false }
-        ensures world { world_of self.new ≡ with_swap (world_of self.old) one.now other.now }
+    pub fn swap_names(&mut self, one: &Place, other: &Place)
+        requires placed { IsPlaceOf self.old one.now }
+        requires other_placed { IsPlaceOf self.old other.now }
+        requires there { IsSome (look (world_of self.old) one.now.path) }
+        requires other_there { IsSome (look (world_of self.old) other.now.path) }
+        requires other { one.now.path ≢ other.now.path }
+        requires below { (is_directory_seen (look (world_of self.old) one.now.path) && is_below one.now.path other.now.path) ≡ false }
+        requires above { (is_directory_seen (look (world_of self.old) other.now.path) && is_below other.now.path one.now.path) ≡ false }
+        ensures world { world_of self.new ≡ with_swap (world_of self.old) one.now.path other.now.path }
         ensures room { self.new.room ≡ self.old.room }
     {
         self.rows_law();
-        let (parent, name) = parent_and_name(one);
-        let (other_parent, other_name) = parent_and_name(other);
-        let directory = self.key_at(parent);
-        let other_directory = self.key_at(other_parent);
+        let (_, name) = parent_and_name(one.path);
+        let (_, other_name) = parent_and_name(other.path);
+        let directory = self.directory_at(one);
+        let other_directory = self.directory_at(other);
         self.swap_names_at(directory, name, other_directory, other_name);
     }
 
     /// Gives another mode to what stands at a path.
-    pub fn set_mode(&mut self, path: &[Name], mode: u32)
-        requires there { IsSome (look (world_of self.old) path.now) }
-        ensures world { world_of self.new ≡ changed_at (world_of self.old) path.now (λ f. record f { mode = mode }) }
+    pub fn set_mode(&mut self, place: &Place, mode: u32)
+        requires placed { IsPlaceOf self.old place.now }
+        requires there { IsSome (look (world_of self.old) place.now.path) }
+        ensures world { world_of self.new ≡ changed_at (world_of self.old) place.now.path (λ f. record f { mode = mode }) }
         ensures room { self.new.room ≡ self.old.room }
     {
         self.rows_law();
-        let key = self.key_at(path);
+        let key = self.key_at(place);
         self.set_mode_at(key, mode);
     }
 }
@@ -137,48 +148,52 @@ impl Table {
     ghost use Rattle.inode_table.specs.World.{World, with_move, without_path, without_lost};
     ghost use Rattle.inode_table.specs.Refusals.{is_directory_seen};
     ghost use Rattle.inode_table.specs.Stands.{Stands, look_in, number_of};
+    ghost use Rattle.inode_table.specs.Places.{IsPlaceOf};
 
     // Moves a path to another one, which may be taken, and tells the key of what was there, which has one path less.
-    fn put_name(&mut self, old: &[Name], new: &[Name]) -> Result<Option<usize>, Refusal>
-        requires source { IsSome (look_in self.old old.now) }
-        requires named { old.now ≢ [] }
-        requires other_named { new.now ≢ [] }
-        requires other { old.now ≢ new.now }
-        requires below { (is_directory_seen (look_in self.old old.now) && is_below old.now new.now) ≡ false }
-        requires directory { is_directory_seen (look_in self.old (parent_of new.now)) ≡ true }
-        requires empty { IfSome (look_in self.old new.now) (λ seen. seen.has_names ≡ false) }
-        ensures world { OnOk result ((w : World) → Stands self.old w → Stands self.new (with_move w old.now new.now)) }
-        ensures replaced { IfOk result (λ key. key ≡ at self.old new.now) }
+    fn put_name(&mut self, old: &Place, new: &Place) -> Result<Option<usize>, Refusal>
+        requires placed { IsPlaceOf self.old old.now }
+        requires new_placed { IsPlaceOf self.old new.now }
+        requires source { IsSome (look_in self.old old.now.path) }
+        requires named { old.now.path ≢ [] }
+        requires other_named { new.now.path ≢ [] }
+        requires other { old.now.path ≢ new.now.path }
+        requires below { (is_directory_seen (look_in self.old old.now.path) && is_below old.now.path new.now.path) ≡ false }
+        requires directory { is_directory_seen (look_in self.old (parent_of new.now.path)) ≡ true }
+        requires empty { IfSome (look_in self.old new.now.path) (λ seen. seen.has_names ≡ false) }
+        ensures world { OnOk result ((w : World) → Stands self.old w → Stands self.new (with_move w old.now.path new.now.path)) }
+        ensures replaced { IfOk result (λ key. key ≡ at self.old new.now.path) }
         ensures there { IfOk result (λ key. IfSome key (λ replaced. IsSome (what_at self.new replaced))) }
-        ensures number { IfOk result (λ key. (w : World) → Stands self.old w → finmap.get w.paths new.now ≡ number_of self.new key) }
+        ensures number { IfOk result (λ key. (w : World) → Stands self.old w → finmap.get w.paths new.now.path ≡ number_of self.new key) }
         ensures room { OnOk result (self.new.room ≡ self.old.room) }
         ensures err { OnErr result (self.new ≡ self.old) }
         ensures memory { IfErr result (λ refusal. refusal ≡ Refusal.Enomem) }
     {
         self.rows_law();
-        let (parent, name) = parent_and_name(old);
-        let (other_parent, other_name) = parent_and_name(new);
+        let (_, name) = parent_and_name(old.path);
+        let (_, other_name) = parent_and_name(new.path);
         let copy = other_name.copy()?;
-        let replaced = self.walk(new).ok();
-        let directory = self.key_at(parent);
-        let other_directory = self.key_at(other_parent);
+        let replaced = self.key_if(new);
+        let directory = self.directory_at(old);
+        let other_directory = self.directory_at(new);
         self.replace_name_at(directory, name, other_directory, copy)?;
         Ok(replaced)
     }
 
     // Takes out a path, and tells its key.
-    fn take_name(&mut self, path: &[Name]) -> usize
-        requires named { path.now ≢ [] }
-        requires there { IsSomeAnd (look_in self.old path.now) (λ seen. seen.has_names ≡ false) }
-        ensures world { (w : World) → Stands self.old w → Stands self.new (without_path w path.now) }
-        ensures key { at self.old path.now ≡ Some result }
+    fn take_name(&mut self, place: &Place) -> usize
+        requires placed { IsPlaceOf self.old place.now }
+        requires named { place.now.path ≢ [] }
+        requires there { IsSomeAnd (look_in self.old place.now.path) (λ seen. seen.has_names ≡ false) }
+        ensures world { (w : World) → Stands self.old w → Stands self.new (without_path w place.now.path) }
+        ensures key { at self.old place.now.path ≡ Some result }
         ensures there { IsSome (what_at self.new result) }
-        ensures number { (w : World) → Stands self.old w → finmap.get w.paths path.now ≡ number_of self.new (Some result) }
+        ensures number { (w : World) → Stands self.old w → finmap.get w.paths place.now.path ≡ number_of self.new (Some result) }
         ensures room { self.new.room ≡ self.old.room }
     {
         self.rows_law();
-        let (parent, name) = parent_and_name(path);
-        let directory = self.key_at(parent);
+        let (_, name) = parent_and_name(place.path);
+        let directory = self.directory_at(place);
         self.drop_name_at(directory, name)
     }
 
@@ -196,7 +211,7 @@ impl Table {
 }
 
 // The path of the directory of a path's last name, and that name.
-fn parent_and_name(path: &[Name]) -> (&[Name], &Name)
+pub(super) fn parent_and_name(path: &[Name]) -> (&[Name], &Name)
     requires { path.now ≢ [] }
     ensures parts { path.now ≡ result.0.now ++ result.1.now ∷ [] }
     ensures parent { result.0.now ≡ parent_of path.now }
