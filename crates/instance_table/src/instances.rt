@@ -208,7 +208,11 @@ impl Instances {
     }
 
     // Raises an event, and those behind it that the same instance hears. The next one is of another.
-    pub(crate) fn hear(&mut self, first: StagedEvent, events: &mut VecDeque<StagedEvent>) -> Option<StagedEvent>
+    pub(crate) fn hear(
+        &mut self,
+        first: StagedEvent,
+        events: &mut VecDeque<StagedEvent>,
+    ) -> Option<StagedEvent>
         ensures heard { heard_all self.new (option_to_list result ++ events.new.items) ≡ heard_all self.old (first ∷ events.old.items) }
         ensures last { result ≡ None → events.new.items ≡ [] }
         ensures fewer { deque_len events.new + length (option_to_list result) ≤ deque_len events.old }

@@ -17,7 +17,15 @@ fn prepared(alloc: Global) -> Result<Calls, Refusal> {
     mkdir(&mut calls, "/d")?;
     mkdir(&mut calls, "/e")?;
     for text in [
-        "/d/a", "/d/b", "/d/c", "/d/f", "/d/h", "/d/i", "/d/j", "/d/k", "/d/l",
+        "/d/a",
+        "/d/b",
+        "/d/c",
+        "/d/f",
+        "/d/h",
+        "/d/i",
+        "/d/j",
+        "/d/k",
+        "/d/l",
         "/d/another-name-that-is-not-in-place",
     ] {
         calls.create(text, 0o644)?;

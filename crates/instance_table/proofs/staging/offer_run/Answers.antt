@@ -15,9 +15,11 @@ loop-heard-preserved c =
     let was = c.loop-heard.invariant.queue in
     let same : eqb c.in-Some.heard.id c.args.first.id ≡ true = search rules in
     record {
-      queue = (was.0 ++ c.in-Some.heard.event ∷ [],
-          run-more c.args.first.id was.0 c.in-Some.heard (c.args.first ∷ c.args.events.now.items) c.loop-heard.events.items c.pop_front.new.self.items same was.1 (search rules),
-          queue-more c.args.queue.now c.loop-heard.queue c.offer_one-in-Some.new.queue was.0 c.in-Some.heard.event was.2 c.offer_one-in-Some.ensures.queue);
+      queue = (
+        was.0 ++ c.in-Some.heard.event ∷ [],
+        run-more c.args.first.id was.0 c.in-Some.heard (c.args.first ∷ c.args.events.now.items) c.loop-heard.events.items c.pop_front.new.self.items same was.1 (search rules),
+        queue-more c.args.queue.now c.loop-heard.queue c.offer_one-in-Some.new.queue was.0 c.in-Some.heard.event was.2 c.offer_one-in-Some.ensures.queue,
+      );
       events = λ h. c.offer_one-in-Some.ensures.events (c.loop-heard.invariant.events h);
       fewer = search rules;
     }
