@@ -1,5 +1,5 @@
 -- What is true of each notice of every call.
-use Rattle.std.proofs.Common.{◌≡◌, ℕ, ◌+◌, Bool, true, false, ◌==◌, if◌then◌else◌, List, [], ◌∷◌, ◌++◌, Option, Some, None, refl, sym, subst, lit<}
+use Rattle.std.proofs.Common.{ℕ, ◌+◌, Bool, true, false, ◌==◌, if◌then◌else◌, List, [], ◌∷◌, ◌++◌, Option, Some, None, refl, lit<}
 use Rattle.std.specs.Prelude.{All, Contains}
 use Rattle.std.specs.List.{last_or}
 use Rattle.std.proofs.lemmas.List.Elements.{All-nil, All-cons, All-append}

@@ -1,4 +1,5 @@
 pub mod Lines
+pub mod Reading
 pub mod EveryCall
 pub mod Moves
 pub mod Raising

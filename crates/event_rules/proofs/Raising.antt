@@ -1,15 +1,15 @@
 -- What notices raise is tied as they are.
-use Rattle.std.proofs.Common.{◌≡◌, ℕ, Bool, true, false, if◌then◌else◌, List, [], ◌∷◌, ◌++◌, map, Option, Some, None, refl, sym, ap, ◌∙◌, subst}
+use Rattle.std.proofs.Common.{◌≡◌, Bool, true, false, if◌then◌else◌, List, [], ◌∷◌, ◌++◌, Option, Some, None, refl, sym, ap, ◌∙◌, subst}
 use Rattle.std.specs.Prelude.{All}
 use Rattle.std.proofs.lemmas.List.{map-append}
-use Rattle.std.proofs.lemmas.List.Elements.{All-nil, All-cons, All-append, All-head, All-tail}
+use Rattle.std.proofs.lemmas.List.Elements.{All-nil, All-cons, All-head, All-tail}
 use Rattle.record_codec.specs.declared.event.Event.{Event}
 use Rattle.watch_table.specs.Watching.{Watch, Watching, watch_of}
 use Rattle.event_rules.specs.declared.notice.Notice.{Notice}
 use Rattle.event_rules.specs.declared.notice.Notice.TheVariants.{Told, Gone}
 use Rattle.event_rules.specs.Raised.{asks_for, ends_watch, event_told, events_of, ignored, left, raised, raised_by, told_number, where_ended}
-use Rattle.event_rules.specs.Laws.{AreAmong, AreTied, IsTied, Mark, marks_of, marks_told, moves_in}
-use Rattle.event_rules.proofs.Moves.{among-append, among-itself, among-trans, marks_told-append, moves_in-append, tied-append}
+use Rattle.event_rules.specs.Laws.{AreTied, IsTied, Mark, marks_of, marks_told, moves_in}
+use Rattle.event_rules.proofs.Moves.{among-itself, among-trans, marks_told-append, moves_in-append, tied-append}
 
 abbrev mark : Event → Mark
 mark e = (e.mask, e.cookie)

@@ -1,8 +1,8 @@
 //! What calls on files tell.
 
 ghost use Rattle.std.specs.Prelude.{◌≡◌, ◌++◌, ◌+◌, ◌≤◌, ◌<◌, ◌^◌, ℕ, false, IfOk, IfErr, OnOk};
-ghost use Rattle.inode_table.specs.World.{World};
-ghost use Rattle.inode_table.specs.Stands.{Stands, look_in};
+ghost use Rattle.inode_table.specs.World.{look};
+ghost use Rattle.inode_table.specs.TableWorld.{world_of};
 ghost use Rattle.tree_ops.specs.After.{answer_of};
 ghost use Rattle.tree_ops.specs.Refused.{are_same_seen, cookies_of};
 ghost use Rattle.tree_ops.specs.declared.call.FileCall.TheVariants.{ReadFile};
@@ -17,7 +17,7 @@ use tree_paths::{Path, Refusal};
 
 // What stands at a path.
 fn seen(table: &Table, path: &Path) -> Option<Seen>
-    ensures { result ≡ look_in table.now path.now }
+    ensures { result ≡ look (world_of table.now) path.now }
 {
     table.look(path.names()).ok()
 }
@@ -52,7 +52,7 @@ impl Notices {
         event: u32,
         cookie: u32,
     ) -> Result<(), AllocError>
-        ensures { OnOk result (self.new ≡ self.old ++ to_dir (look_in table.now) path.now kind event cookie) }
+        ensures { OnOk result (self.new ≡ self.old ++ to_dir (look (world_of table.now)) path.now kind event cookie) }
     {
         let Some((parent, name)) = path.parent_and_name() else {
             return Ok(());
@@ -86,7 +86,7 @@ impl Notices {
     // Tells both.
     #[tactic(auto, unfolding(crate::specs::Table::to_both))]
     fn tell_both(&mut self, table: &Table, path: &Path, event: u32) -> Result<(), AllocError>
-        ensures { OnOk result (self.new ≡ self.old ++ to_both (look_in table.now) path.now event) }
+        ensures { OnOk result (self.new ≡ self.old ++ to_both (look (world_of table.now)) path.now event) }
     {
         let seen = seen(table, path);
         let kind = kind_seen(seen);
@@ -117,7 +117,7 @@ impl Notices {
 
 #[tactic(auto, unfolding(crate::specs::Table::create_told))]
 fn create(alloc: Global, table: &Table, path: &Path) -> Result<Notices, AllocError>
-    ensures { IfOk result (λ told. told ≡ create_told (look_in table.now) path.now) }
+    ensures { IfOk result (λ told. told ≡ create_told (look (world_of table.now)) path.now) }
 {
     let mut told = Notices::new(alloc);
     told.tell_dir(table, path, Kind::Regular, bits::IN_CREATE, NO_COOKIE)?;
@@ -128,7 +128,7 @@ fn create(alloc: Global, table: &Table, path: &Path) -> Result<Notices, AllocErr
 
 #[tactic(auto, unfolding(crate::specs::Table::mkdir_told))]
 fn mkdir(alloc: Global, table: &Table, path: &Path) -> Result<Notices, AllocError>
-    ensures { IfOk result (λ told. told ≡ mkdir_told (look_in table.now) path.now) }
+    ensures { IfOk result (λ told. told ≡ mkdir_told (look (world_of table.now)) path.now) }
 {
     let mut told = Notices::new(alloc);
     told.tell_dir(table, path, Kind::Directory, bits::IN_CREATE, NO_COOKIE)?;
@@ -137,7 +137,7 @@ fn mkdir(alloc: Global, table: &Table, path: &Path) -> Result<Notices, AllocErro
 
 #[tactic(auto, unfolding(crate::specs::Table::write_told))]
 fn write(alloc: Global, table: &Table, path: &Path, is_given: bool) -> Result<Notices, AllocError>
-    ensures { IfOk result (λ told. told ≡ write_told (look_in table.now) path.now is_given) }
+    ensures { IfOk result (λ told. told ≡ write_told (look (world_of table.now)) path.now is_given) }
 {
     let mut told = Notices::new(alloc);
     told.tell_both(table, path, bits::IN_OPEN)?;
@@ -150,7 +150,7 @@ fn write(alloc: Global, table: &Table, path: &Path, is_given: bool) -> Result<No
 
 // Whether a read answers a byte.
 fn is_answered(table: &Table, path: &Path, offset: u64, count: u32) -> bool
-    ensures { (w : World) → Stands table.now w → result ≡ answers_byte (answer_of w no_counts (ReadFile path.now offset count)) }
+    ensures { result ≡ answers_byte (answer_of (world_of table.now) no_counts (ReadFile path.now offset count)) }
 {
     match table.resolve(path.names()) {
         Ok(key) => count > 0 && offset < table.content(key).len() as u64,
@@ -160,7 +160,7 @@ fn is_answered(table: &Table, path: &Path, offset: u64, count: u32) -> bool
 
 #[tactic(auto, unfolding(crate::specs::Table::read_told))]
 fn read(alloc: Global, table: &Table, path: &Path, is_answered: bool) -> Result<Notices, AllocError>
-    ensures { IfOk result (λ told. told ≡ read_told (look_in table.now) path.now is_answered) }
+    ensures { IfOk result (λ told. told ≡ read_told (look (world_of table.now)) path.now is_answered) }
 {
     let mut told = Notices::new(alloc);
     told.tell_both(table, path, bits::IN_OPEN)?;
@@ -173,7 +173,7 @@ fn read(alloc: Global, table: &Table, path: &Path, is_answered: bool) -> Result<
 
 #[tactic(auto, unfolding(crate::specs::Table::truncate_told))]
 fn truncate(alloc: Global, table: &Table, path: &Path) -> Result<Notices, AllocError>
-    ensures { IfOk result (λ told. told ≡ truncate_told (look_in table.now) path.now) }
+    ensures { IfOk result (λ told. told ≡ truncate_told (look (world_of table.now)) path.now) }
 {
     let mut told = Notices::new(alloc);
     told.tell_both(table, path, bits::IN_MODIFY)?;
@@ -182,7 +182,7 @@ fn truncate(alloc: Global, table: &Table, path: &Path) -> Result<Notices, AllocE
 
 #[tactic(auto, unfolding(crate::specs::Table::chmod_told))]
 fn chmod(alloc: Global, table: &Table, path: &Path) -> Result<Notices, AllocError>
-    ensures { IfOk result (λ told. told ≡ chmod_told (look_in table.now) path.now) }
+    ensures { IfOk result (λ told. told ≡ chmod_told (look (world_of table.now)) path.now) }
 {
     let mut told = Notices::new(alloc);
     told.tell_both(table, path, bits::IN_ATTRIB)?;
@@ -191,7 +191,7 @@ fn chmod(alloc: Global, table: &Table, path: &Path) -> Result<Notices, AllocErro
 
 #[tactic(auto, unfolding(crate::specs::Table::link_told))]
 fn link(alloc: Global, table: &Table, old: &Path, new: &Path) -> Result<Notices, AllocError>
-    ensures { IfOk result (λ told. told ≡ link_told (look_in table.now) old.now new.now) }
+    ensures { IfOk result (λ told. told ≡ link_told (look (world_of table.now)) old.now new.now) }
 {
     let mut told = Notices::new(alloc);
     told.tell_self(seen(table, old), bits::IN_ATTRIB)?;
@@ -201,7 +201,7 @@ fn link(alloc: Global, table: &Table, old: &Path, new: &Path) -> Result<Notices,
 
 #[tactic(auto, unfolding(crate::specs::Table::unlink_told))]
 fn unlink(alloc: Global, table: &Table, path: &Path) -> Result<Notices, AllocError>
-    ensures { IfOk result (λ told. told ≡ unlink_told (look_in table.now) path.now) }
+    ensures { IfOk result (λ told. told ≡ unlink_told (look (world_of table.now)) path.now) }
 {
     let mut told = Notices::new(alloc);
     told.tell_path_lost(seen(table, path))?;
@@ -211,7 +211,7 @@ fn unlink(alloc: Global, table: &Table, path: &Path) -> Result<Notices, AllocErr
 
 #[tactic(auto, unfolding(crate::specs::Table::rmdir_told))]
 fn rmdir(alloc: Global, table: &Table, path: &Path) -> Result<Notices, AllocError>
-    ensures { IfOk result (λ told. told ≡ rmdir_told (look_in table.now) path.now) }
+    ensures { IfOk result (λ told. told ≡ rmdir_told (look (world_of table.now)) path.now) }
 {
     let mut told = Notices::new(alloc);
     told.tell_path_lost(seen(table, path))?;
@@ -237,7 +237,7 @@ fn rename(
     new: &Path,
     cookie: u32,
 ) -> Result<Notices, AllocError>
-    ensures { IfOk result (λ told. told ≡ rename_told (look_in table.now) old.now new.now cookie) }
+    ensures { IfOk result (λ told. told ≡ rename_told (look (world_of table.now)) old.now new.now cookie) }
 {
     let mut told = Notices::new(alloc);
     let moved = seen(table, old);
@@ -262,8 +262,8 @@ fn exchange(
     new: &Path,
     cookie: u32,
 ) -> Result<Notices, AllocError>
-    requires next { are_same_seen (look_in table.now old.now) (look_in table.now new.now) ≡ false → cookie + 1 < 2 ^ 32 }
-    ensures { IfOk result (λ told. told ≡ exchange_told (look_in table.now) old.now new.now cookie) }
+    requires next { are_same_seen (look (world_of table.now) old.now) (look (world_of table.now) new.now) ≡ false → cookie + 1 < 2 ^ 32 }
+    ensures { IfOk result (λ told. told ≡ exchange_told (look (world_of table.now)) old.now new.now cookie) }
 {
     let mut told = Notices::new(alloc);
     let one = seen(table, old);
@@ -285,10 +285,9 @@ fn exchange(
 
 // What a call tells.
 fn told(alloc: Global, table: &Table, call: &FileCall, cookie: u32) -> Result<Notices, AllocError>
-    requires cookies { (w : World) → Stands table.now w → cookie + cookies_of w call.now ≤ 2 ^ 32 }
-    ensures { (w : World) → Stands table.now w → IfOk result (λ told. told ≡ notices_of w call.now cookie) }
+    requires cookies { cookie + cookies_of (world_of table.now) call.now ≤ 2 ^ 32 }
+    ensures { IfOk result (λ told. told ≡ notices_of (world_of table.now) call.now cookie) }
 {
-    table.law();
     match call {
         FileCall::Create { path, .. } => create(alloc, table, path),
         FileCall::Mkdir { path, .. } => mkdir(alloc, table, path),
@@ -328,8 +327,8 @@ fn told(alloc: Global, table: &Table, call: &FileCall, cookie: u32) -> Result<No
 /// # Errors
 /// `ENOMEM` alone.
 pub fn notices(alloc: Global, table: &Table, ready: &Ready, cookie: u32) -> Result<Notices, Refusal>
-    requires cookies { (w : World) → Stands table.now w → cookie + cookies_of w ready.now.call ≤ 2 ^ 32 }
-    ensures told { (w : World) → Stands table.now w → IfOk result (λ notices. notices ≡ notices_of w ready.now.call cookie) }
+    requires cookies { cookie + cookies_of (world_of table.now) ready.now.call ≤ 2 ^ 32 }
+    ensures told { IfOk result (λ notices. notices ≡ notices_of (world_of table.now) ready.now.call cookie) }
     ensures memory { IfErr result (λ refusal. refusal ≡ Refusal.Enomem) }
 {
     Ok(told(alloc, table, ready.call(), cookie)?)

@@ -33,13 +33,13 @@ struct Calls {
 
 impl Model for Calls {
     ghost use Rattle.std.specs.Prelude.{ℕ};
-    ghost use Rattle.tree_ops.specs.ReadyCall.{HasNumbersBelow};
+    ghost use Rattle.inode_table.specs.TableWorld.{HasNumbersBelow, world_of};
 
     ghost Value = { ℕ };
 
     ghost view = { λ calls. calls.counts.next_cookie };
 
-    ghost invariant = { λ calls. HasNumbersBelow calls.table calls.counts.next_number };
+    ghost invariant = { λ calls. HasNumbersBelow (world_of calls.table) calls.counts.next_number };
 }
 
 /// What a notice says: the number, the bits (0 where it is gone), the cookie and the name.

@@ -93,7 +93,7 @@ pub listed-all : (s : Slab Node) (files : Files) (n : ℕ) → length s.slots �
 listed-all s files n enough table is = record {
   ordered = is.ordered;
   told = is.told;
-  all = λ k v there. is.all k v (let h = within (rows_of s) table k v there in omega (arith, h, enough, length-map s.slots (option_map row_of))) there;
+  all = λ k v there. is.all k v (let h = within (rows_of s) k v there in omega (arith, h, enough, length-map s.slots (option_map row_of))) there;
 }
 
 -- ---- the world's files

@@ -1,19 +1,18 @@
 -- What is true of the world of a table.
-use Rattle.std.proofs.Common.{◌≡◌, ℕ, zero, suc, ◌≤◌, arith, true, false, List, [], ◌∷◌, ◌++◌, Option, Some, None, IsSome, is_some, is_none, unwrap_or, refl, sym, ap, ◌∙◌, subst}
+use Rattle.std.proofs.Common.{◌≡◌, ℕ, true, false, List, [], ◌∷◌, ◌++◌, Option, Some, None, IsSome, is_some, is_none, unwrap_or, refl, sym, ap, ◌∙◌, subst}
 use Rattle.std.specs.Option.{option_and_then, option_map, option_map_or, IsSomeAnd}
 use Rattle.std.specs.FinMap as finmap
-use Rattle.inode_table.specs.Count.{IsCount}
 use Rattle.inode_table.specs.Walk.{walk}
 use Rattle.inode_table.specs.Rows.{Label, Row, row, child, shown, bytes_in, is_directory, is_directory_row}
-use Rattle.inode_table.specs.Tree.{Tree, IsNamedBut, at, what_at}
+use Rattle.inode_table.specs.Tree.{Tree, at, what_at}
 use Rattle.inode_table.specs.World as world
-use Rattle.inode_table.specs.World.{World, IsWorld, IsWhole, IsDirectoryAt, file_at}
-use Rattle.inode_table.specs.Stands.{kind_of, file_of, Stands, IsUnused}
+use Rattle.inode_table.specs.World.{World, IsWorld, IsDirectoryAt, file_at}
+use Rattle.inode_table.specs.Stands.{kind_of, file_of, Stands}
 use Rattle.inode_table.specs.declared.seen.Kind.TheVariants.{Directory}
 use Rattle.inode_table.proofs.TreeLemmas.{some_none, same_some}
 use Rattle.inode_table.proofs.WalkLemmas.{walk-append}
 use Rattle.inode_table.proofs.StandsLemmas.{node_at, number-at, absent-at, there-of, key_of}
-use Rattle.inode_table.proofs.SeenLemmas.{file-of-row, is_value}
+use Rattle.inode_table.proofs.SeenLemmas.{file-of-row}
 
 kind-directory : (o : Option (List ℕ)) → is_none o ≡ true → kind_of o ≡ Directory
 kind-directory None e = refl
@@ -94,19 +93,3 @@ module _ {t : Tree} {w : World} (stands : Stands t w) where
     one_path = one_path-of;
     no_bytes = no_bytes-of;
   }
-
-  -- a number that the world has not is no node's
-  pub unused-of : (n : ℕ) → finmap.get w.files n ≡ None → IsUnused t n
-  unused-of n none k v is number = some_none none (ap (finmap.get w.files) (sym number) ∙ stands.files k v is)
-
-  -- each file of the world has a path, where each node has one
-  pub whole-of : IsNamedBut t None → IsWhole w
-  whole-of named n is =
-      let f = is_value (finmap.get w.files n) is in
-      let found = stands.no_more n f.0 f.1 in
-      let p = count-some found.1.links (λ p. at t p ≡ Some found.0) (named found.0 found.1 found.2 (λ e. some_none refl e)) (stands.table.links found.0 found.1 found.2) in
-      (p.0, number-at stands p.0 found.0 found.1 p.1 found.2 ∙ ap Some found.3)
-    where
-      count-some : (n : ℕ) (P : List Label → Type 0) → 1 ≤ n → IsCount P n → (x : List Label) × P x
-      count-some zero P le count = absurd (omega arith)
-      count-some (suc n) P le count = (count.0, count.1)

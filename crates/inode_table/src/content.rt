@@ -130,9 +130,12 @@ impl Content {
         ensures bytes { bytes_in (body_of self.new) ≡ bytes_in (body_of self.old) }
         ensures names { (l : Label) → key_in (body_of self.new) l ≡ key_in (body_of self.old) l }
         ensures ok { OnOk result (len ≤ reserved_in (body_of self.new)) }
+        ensures enough { len ≤ reserved_in (body_of self.old) → OnOk result (body_of self.new ≡ body_of self.old) }
+        ensures short { OnErr result (reserved_in (body_of self.old) < len) }
         ensures err { OnErr result (body_of self.new ≡ body_of self.old) }
     {
         match self {
+            Content::Regular(bytes) if len <= bytes.capacity() => Ok(()),
             Content::Regular(bytes) => bytes.reserve(len.saturating_sub(bytes.len())),
             Content::Directory(_) => unreachable!(),
         }

@@ -140,6 +140,8 @@ pub(crate) fn reserve_bytes(
     ensures child { (k : ℕ) (l : Label) → child (rows_of nodes.new) k l ≡ child (rows_of nodes.old) k l }
     ensures what { (k : ℕ) → what (rows_of nodes.new) k ≡ what (rows_of nodes.old) k }
     ensures reserved { OnOk result (len ≤ reserved (rows_of nodes.new) key) }
+    ensures enough { len ≤ reserved (rows_of nodes.old) key → OnOk result (rows_of nodes.new ≡ rows_of nodes.old) }
+    ensures short { OnErr result (reserved (rows_of nodes.old) key < len) }
     ensures err { OnErr result (rows_of nodes.new ≡ rows_of nodes.old) }
     ensures room { HasRoomAs nodes.old nodes.new }
 {

@@ -57,15 +57,15 @@ impl Model for Table {
 }
 
 impl Table {
-    ghost use Rattle.inode_table.specs.World.{World, IsWorld, IsWhole, look, opening_world};
+    ghost use Rattle.inode_table.specs.World.{IsWorld, look, opening_world};
     ghost use Rattle.inode_table.specs.Refusals.{find};
-    ghost use Rattle.inode_table.specs.Stands.{HasWorld, Stands, IsUnused, look_in};
-    ghost use Rattle.inode_table.specs.Tree.{IsTable, IsNamedBut};
+    ghost use Rattle.inode_table.specs.Stands.{Stands, look_in, number_of};
+    ghost use Rattle.inode_table.specs.TableWorld.{world_of};
+    ghost use Rattle.inode_table.specs.Tree.{IsTable};
 
     /// The root alone: number 1, mode 0755.
     pub fn new(alloc: Global) -> Result<Self, Refusal>
-        ensures world { IfOk result (λ table. Stands table opening_world) }
-        ensures named { IfOk result (λ table. IsNamedBut table None) }
+        ensures world { IfOk result (λ table. world_of table ≡ opening_world) }
         ensures memory { IfErr result (λ refusal. refusal ≡ Refusal.Enomem) }
     {
         let mut nodes = Slab::new(alloc);
@@ -81,20 +81,14 @@ impl Table {
 
     /// The node to which the path leads, or why there is none: `ENOENT` below a directory, `ENOTDIR` below a file.
     pub fn resolve(&self, path: &[Name]) -> Result<Key, Refusal>
-        ensures found { IfOk result (λ key. at self.now path.now ≡ Some key) }
-        ensures there { IfOk result (λ key. IsSome (what_at self.now key)) }
-        ensures none { IfOk result (λ _. find (look_in self.now) path.now ≡ None) }
-        ensures missing { IfErr result (λ refusal. find (look_in self.now) path.now ≡ Some refusal) }
-        ensures absent { IfErr result (λ _. look_in self.now path.now ≡ None) }
+        ensures found { IfOk result (λ key. number_of self.now (Some key) ≡ finmap.get (world_of self.now).paths path.now) }
+        ensures there { IfOk result (λ key. IsSome (number_of self.now (Some key))) }
+        ensures none { IfOk result (λ _. find (look (world_of self.now)) path.now ≡ None) }
+        ensures missing { IfErr result (λ refusal. find (look (world_of self.now)) path.now ≡ Some refusal) }
+        ensures absent { IfErr result (λ _. look (world_of self.now) path.now ≡ None) }
     {
-        let mut key = ROOT;
-        for name in path {
-            match child(&self.nodes, key, name) {
-                Some(next) => key = next,
-                None => return Err(refusal_at(&self.nodes, key)),
-            }
-        }
-        Ok(Key::of(key))
+        self.rows_law();
+        Ok(Key::of(self.walk(path)?))
     }
 
     /// Makes room for one node.
@@ -109,36 +103,54 @@ impl Table {
         Ok(())
     }
 
-    /// What is true of every table, for a caller's proof.
+    /// What is true of the world of every table, for a caller's proof.
     pub fn law(&self)
-        ensures table { IsTable self.now.rows }
-        ensures world { HasWorld self.now }
-        ensures unused { (w : World) (n : ℕ) → Stands self.now w → finmap.get w.files n ≡ None → IsUnused self.now n }
-        ensures whole { (w : World) → Stands self.now w → IsNamedBut self.now None → IsWhole w }
-        ensures sound { (w : World) → Stands self.now w → IsWorld w }
-        ensures looks { (w : World) → Stands self.now w → (p : List Label) → look w p ≡ look_in self.now p }
+        ensures { IsWorld (world_of self.now) }
     {
         let _ = &self.nodes;
     }
-}
 
-impl Table {
-    ghost use Rattle.inode_table.specs.Stands.{look_in};
+    // What is true of the rows, and what they have to do with the world.
+    fn rows_law(&self)
+        ensures table { IsTable self.now.rows }
+        ensures stands { Stands self.now (world_of self.now) }
+        ensures looks { look (world_of self.now) ≡ look_in self.now }
+    {
+        let _ = &self.nodes;
+    }
+
+    // The key to which the path leads, or why there is none.
+    fn walk(&self, path: &[Name]) -> Result<usize, Refusal>
+        ensures found { IfOk result (λ key. at self.now path.now ≡ Some key) }
+        ensures there { IfOk result (λ key. IsSome (what_at self.now key)) }
+        ensures none { IfOk result (λ _. find (look_in self.now) path.now ≡ None) }
+        ensures missing { IfErr result (λ refusal. find (look_in self.now) path.now ≡ Some refusal) }
+        ensures absent { IfErr result (λ _. look_in self.now path.now ≡ None) }
+    {
+        let mut key = ROOT;
+        for name in path {
+            match child(&self.nodes, key, name) {
+                Some(next) => key = next,
+                None => return Err(refusal_at(&self.nodes, key)),
+            }
+        }
+        Ok(key)
+    }
 
     // The key of what stands at a path.
     fn key_at(&self, path: &[Name]) -> usize
         requires { IsSome (look_in self.now path.now) }
         ensures { at self.now path.now ≡ Some result }
     {
-        match self.resolve(path) {
-            Ok(key) => key.slot(),
+        match self.walk(path) {
+            Ok(key) => key,
             Err(_) => unreachable!(),
         }
     }
 
     // The node under a key.
     fn node(&self, key: Key) -> &Node
-        requires { IsSome (what_at self.now key) }
+        requires { IsSome (number_of self.now (Some key)) }
         ensures { row self.now.rows key ≡ Some (row_of result.now) }
     {
         match self.nodes.get(key.slot()) {

@@ -1,28 +1,28 @@
 -- Descriptors run on in each instance.
-use Rattle.std.proofs.Common.{◌≡◌, ◌⊎◌, inl, inr, ℕ, ◌+◌, ◌<◌, ◌≤◌, ◌==◌, Bool, true, false, cond, eqb, if◌then◌else◌, List, [], ◌∷◌, ◌++◌, Option, Some, None, is_some, refl, sym, ap, subst, ◌∙◌, arith}
-use Rattle.std.specs.Prelude.{ℤ, pos, ◌≤ℤ◌, ◌<ℤ◌, option_map}
+use Rattle.std.proofs.Common.{◌≡◌, inl, inr, ℕ, ◌<◌, ◌≤◌, ◌==◌, Bool, true, false, cond, eqb, if◌then◌else◌, List, [], ◌∷◌, ◌++◌, Option, Some, None, is_some, refl, sym, ap, subst, ◌∙◌, arith}
+use Rattle.std.specs.Prelude.{ℤ, pos, option_map}
 use Rattle.std.proofs.lemmas.Bool.{eqb-true}
 use Rattle.tree_paths.specs.declared.refusal.Refusal.{Refusal}
 use Rattle.inode_table.specs.World.{look}
 use Rattle.watch_table.specs.Masks.{known}
-use Rattle.watch_table.specs.Watching.{IsSound, Watch, Watching, added, added_to, dropped, number_of, removed, watch_of, wd_added, wd_of, wd_or, without}
+use Rattle.watch_table.specs.Watching.{IsSound, Watch, Watching, added, added_to, dropped, number_of, removed, watch_of, wd_added, wd_or, without}
 use Rattle.event_rules.specs.declared.notice.Notice.{Notice}
 use Rattle.event_rules.specs.Laws.{IsPartOf}
 use Rattle.event_rules.specs.Raised.{watches_after}
 use Rattle.event_rules.specs.Table.{notices_of}
 use Rattle.instance_table.specs.declared.instance.Instance.{Instance}
-use Rattle.instance_table.specs.Instances.{instance_of, new_instance, told, unwatching, watching}
+use Rattle.instance_table.specs.Instances.{instance_of, new_instance, unwatching, watching}
 use Rattle.tree_core.specs.declared.call.Call.{Call}
 use Rattle.tree_core.specs.declared.call.Call.TheVariants as call
 use Rattle.tree_core.specs.declared.reply.Entry.{Entry}
 use Rattle.tree_core.specs.declared.reply.Reply.{Reply}
 use Rattle.tree_core.specs.declared.reply.Reply.TheVariants as reply
-use Rattle.tree_core.specs.Journal.{IsLawfulFrom, tree_after}
+use Rattle.tree_core.specs.Journal.{IsLawfulFrom}
 use Rattle.tree_core.specs.Sound.{IsSoundTree}
-use Rattle.tree_core.specs.Tree.{Tree, accepted, after, after_reading, answer_of, cookie_now, number_seen, read_answer, refusal_of, reply_by, reply_of, tree_by, watch_answer}
+use Rattle.tree_core.specs.Tree.{Tree, accepted, after, after_reading, answer_of, cookie_now, number_seen, refusal_of, reply_by, reply_of, tree_by, watch_answer}
 use Rattle.tree_core.specs.TurnLaws.{DescriptorsRunOn, RunOn, TreesAreSound, next_wd_of, wd_in, wds_given, wds_of}
 use Rattle.tree_core.proofs.Opened.{eqb-other, eqb-swap, instance_of-accepted, left_of}
-use Rattle.tree_core.proofs.Untouched.{next-after, next-tree_after, none-after}
+use Rattle.tree_core.proofs.Untouched.{next-after, none-after}
 
 -- ---- replies that give none
 

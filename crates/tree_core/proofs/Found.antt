@@ -1,17 +1,14 @@
 -- The queue that a raised event found is what had joined and was not read yet.
-use Rattle.std.proofs.Common.{◌≡◌, ℕ, List, [], ◌∷◌, ◌++◌, Option, Some, None, refl, sym, ap, subst, ◌∙◌, append_assoc, append-nil}
+use Rattle.std.proofs.Common.{◌≡◌, List, [], ◌∷◌, ◌++◌, Option, Some, None, refl, sym, ap, subst, ◌∙◌, append_assoc, append-nil}
 use Rattle.record_codec.specs.declared.event.Event.{Event}
 use Rattle.tree_paths.specs.declared.refusal.Refusal.{Refusal}
 use Rattle.event_queue.specs.Backlogs.{Backlog, offered, joining, after_offer}
 use Rattle.instance_table.specs.declared.instance.Instance.{Instance}
 use Rattle.instance_table.specs.Instances.{instance_of, waiting_of}
-use Rattle.tree_core.specs.declared.call.Call.{Call}
-use Rattle.tree_core.specs.declared.reply.Entry.{Entry}
-use Rattle.tree_core.specs.Tree.{Tree, refusal_of}
+use Rattle.tree_core.specs.Tree.{refusal_of}
 use Rattle.tree_core.specs.Journal.{tree_after}
-use Rattle.tree_core.specs.Sound.{IsSoundTree}
 use Rattle.tree_core.specs.Histories.{Raised, events_for, fate, joined, raised_by, raised_in, raised_to, read_in, where_open}
-use Rattle.tree_core.specs.QueueLaws.{EventsFindTheUnread, FindsTheUnread, IsInOrder}
+use Rattle.tree_core.specs.QueueLaws.{EventsFindTheUnread, IsInOrder}
 use Rattle.tree_core.proofs.InOrder.{joined-append, reads_are_in_order}
 
 no-list : (before later : List Raised) (r : Raised) → [] ≡ before ++ r ∷ later → ⊥

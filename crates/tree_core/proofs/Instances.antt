@@ -18,19 +18,16 @@ use Rattle.tree_paths.specs.declared.refusal.Refusal.{Refusal}
 use Rattle.tree_paths.specs.declared.refusal.Refusal.TheVariants.{Enomem, Ebadf, Einval, Emfile}
 use Rattle.inode_table.specs.declared.seen.Kind.TheVariants.{Directory}
 use Rattle.inode_table.specs.declared.seen.Seen.{Seen}
-use Rattle.inode_table.specs.Tree.{Tree as Table}
-use Rattle.inode_table.specs.World.{File, look, opening_world, root_number, root_mode}
-use Rattle.inode_table.specs.Refusals.{Look, find, is_directory_kind}
-use Rattle.inode_table.specs.Stands.{Stands, file_of, look_in}
-use Rattle.tree_ops.specs.ReadyCall.{HasNumbersBelow}
+use Rattle.inode_table.specs.TableWorld.{HasNumbersBelow}
+use Rattle.inode_table.specs.World.{World, File, look, opening_world, root_number, root_mode}
+use Rattle.inode_table.specs.Refusals.{find, is_directory_kind}
 use Rattle.watch_table.specs.Masks.{known, mask_fault}
 use Rattle.watch_table.specs.Watching.{add_refusal, wd_added}
 use Rattle.instance_table.specs.declared.instance.Instance.{Instance}
 use Rattle.instance_table.specs.Instances.{Instances, instance_of, changed, changed_by, watching}
-use Rattle.tree_core.specs.declared.file_system.FileSystem.{FileSystem}
 use Rattle.tree_core.specs.declared.reply.Reply.TheVariants as reply
-use Rattle.tree_core.specs.FileSystems.{IsFileSystemOf}
-use Rattle.tree_core.specs.Tree.{Tree, init_rows, add_watch_rows, seen_fault, read_rows, watch_answer, number_seen, after_add_watch}
+use Rattle.tree_core.specs.Sound.{IsNumbered}
+use Rattle.tree_core.specs.Tree.{Tree, init_rows, add_watch_rows, seen_fault, read_rows, watch_answer, number_seen}
 
 -- ---- which instances are open after a change
 
@@ -100,118 +97,85 @@ alone : (o : Option Refusal) → first_row (o ∷ []) ≡ o
 alone None = refl
 alone (Some r) = refl
 
--- ---- the file system of a tree with other instances
+-- ---- a tree with other instances
 
-module _ (t : Tree) (m : FileSystem) (stands : IsFileSystemOf t m) where
-  with-instances : (x y : Instances) → x ≡ y → ((q : ℕ) → IsSome (instance_of y q) → IsSome (instance_of t.instances q)) → IsFileSystemOf (record t { instances = y }) (record m { instances = x })
-  with-instances x y same opened = record {
-    limits = stands.limits;
-    world = stands.world;
-    below = stands.below;
-    next_number = stands.next_number;
-    next_cookie = stands.next_cookie;
-    next_id = stands.next_id;
-    instances = same;
+module _ (t : Tree) (is : IsNumbered t) where
+  with-instances : (y : Instances) → ((q : ℕ) → IsSome (instance_of y q) → IsSome (instance_of t.instances q)) → IsNumbered (record t { instances = y })
+  with-instances y opened = record {
     counted = record {
-      numbers = stands.counted.numbers;
-      cookies = stands.counted.cookies;
-      ids = stands.counted.ids;
-      opened = λ q h. stands.counted.opened q (opened q h);
+      numbers = is.counted.numbers;
+      cookies = is.counted.cookies;
+      ids = is.counted.ids;
+      opened = λ q h. is.counted.opened q (opened q h);
     };
+    given = is.given;
   }
 
   -- one changed
-  pub IsFileSystemOf-changed : (x : Instances) (id : ℕ) (change : Instance → Instance) → x ≡ changed m.instances id change
-      → IsFileSystemOf (record t { instances = changed t.instances id change }) (record m { instances = x })
-  IsFileSystemOf-changed x id change e =
-      with-instances x (changed t.instances id change) (e ∙ ap (λ n. changed n id change) stands.instances) (λ q h. opened-changed t.instances id change q h)
+  pub IsNumbered-changed : (id : ℕ) (change : Instance → Instance) → IsNumbered (record t { instances = changed t.instances id change })
+  IsNumbered-changed id change = with-instances (changed t.instances id change) (λ q h. opened-changed t.instances id change q h)
 
   -- one was closed
-  pub IsFileSystemOf-closed : (x : Instances) (id : ℕ) → x ≡ finmap.remove m.instances id
-      → IsFileSystemOf (record t { instances = finmap.remove t.instances id }) (record m { instances = x })
-  IsFileSystemOf-closed x id e =
-      with-instances x (finmap.remove t.instances id) (e ∙ ap (λ n. finmap.remove n id) stands.instances) (λ q h. opened-cut t.instances id q h)
+  pub IsNumbered-closed : (id : ℕ) → IsNumbered (record t { instances = finmap.remove t.instances id })
+  IsNumbered-closed id = with-instances (finmap.remove t.instances id) (λ q h. opened-cut t.instances id q h)
 
   -- one was opened, under the number that comes next
-  pub IsFileSystemOf-opened : (x : Instances) (make : Limits → Instance) → x ≡ finmap.insert m.instances m.next_id (make m.limits) → m.next_id ≤ m.limits.ids
-      → IsFileSystemOf (record t { next_id = t.next_id + 1; instances = finmap.insert t.instances t.next_id (make t.limits) }) (record m { next_id = m.next_id + 1; instances = x })
-  IsFileSystemOf-opened x make e few = record {
-    limits = stands.limits;
-    world = stands.world;
-    below = stands.below;
-    next_number = stands.next_number;
-    next_cookie = stands.next_cookie;
-    next_id = ap (λ n. n + 1) stands.next_id;
-    instances =
-        e ∙ ap (λ l. finmap.insert m.instances m.next_id (make l)) stands.limits
-        ∙ ap (λ n. finmap.insert n m.next_id (make t.limits)) stands.instances ∙ ap (λ n. finmap.insert t.instances n (make t.limits)) stands.next_id;
+  pub IsNumbered-opened : (i : Instance) → t.next_id ≤ t.limits.ids → IsNumbered (record t { next_id = t.next_id + 1; instances = finmap.insert t.instances t.next_id i })
+  IsNumbered-opened i few = record {
     counted = record {
-      numbers = stands.counted.numbers;
-      cookies = stands.counted.cookies;
-      ids =
-          let last : t.next_id ≤ t.limits.ids = subst (λ n. n ≤ t.limits.ids) stands.next_id (subst (λ l. m.next_id ≤ l.ids) stands.limits few) in
-          omega arith;
+      numbers = is.counted.numbers;
+      cookies = is.counted.cookies;
+      ids = omega arith;
       opened = λ q h.
-          elim (opened-put t.instances t.next_id (make t.limits) q h) as (λ _. q < t.next_id + 1) [
+          elim (opened-put t.instances t.next_id i q h) as (λ _. q < t.next_id + 1) [
             | inl same ↦ omega arith
-            | inr there ↦ let below : q < t.next_id = stands.counted.opened q there in omega arith
+            | inr there ↦ let below : q < t.next_id = is.counted.opened q there in omega arith
           ];
     };
+    given = is.given;
   }
 
-  -- what is read of the instances of a file system is read of those of its tree
-  pub there : (id : ℕ) → instance_of m.instances id ≡ instance_of t.instances id
-  there id = ap (λ n. instance_of n id) stands.instances
+-- what is said of the instance of a number
+pub fault-there : (m : Instances) (fault : Option Instance → Option Refusal) (id : ℕ) (o : Option Instance) (r : Option Refusal) → o ≡ instance_of m id → r ≡ fault o → fault (instance_of m id) ≡ r
+fault-there m fault id o r e h = sym (h ∙ ap fault e)
 
-  -- what is said of the instance of a number holds in the tree too
-  pub fault-there : (fault : Option Instance → Option Refusal) (id : ℕ) (o : Option Instance) (r : Option Refusal) → o ≡ instance_of m.instances id → r ≡ fault o → fault (instance_of t.instances id) ≡ r
-  fault-there fault id o r e h = sym (h ∙ ap fault (e ∙ there id))
+-- ---- the rows of a call to watch, where the instance is there
 
-  pub init-fault-there : (limit : ℕ) (r : Option Refusal) → r ≡ first_row (init_rows m.limits m.instances m.next_id limit) → first_row (init_rows t.limits t.instances t.next_id limit) ≡ r
-  init-fault-there limit r h =
-      sym (h ∙ ap (λ l. first_row (init_rows l m.instances m.next_id limit)) stands.limits
-      ∙ ap (λ x. first_row (init_rows t.limits x m.next_id limit)) stands.instances
-      ∙ ap (λ n. first_row (init_rows t.limits t.instances n limit)) stands.next_id)
-
-  -- the rows of a call to watch, where the instance is there
-  module _ (id : ℕ) (i : Instance) (p : List (List ℕ)) (mask n : ℕ) (is : instance_of m.instances id ≡ Some i) (e : n ≡ known mask) (looks : (q : List (List ℕ)) → look t.world q ≡ look_in m.table q) where
-    add-rows-there : first_row (add_watch_rows (look t.world) p (known mask) (instance_of t.instances id)) ≡ first_row (mask_fault n ∷ find (look_in m.table) p ∷ seen_fault i n (look_in m.table p) ∷ [])
-    unfolding add_watch_rows
-    add-rows-there =
-        ap (λ o. first_row (add_watch_rows (look t.world) p (known mask) o)) (sym (there id) ∙ is)
-        ∙ ap (λ (at : Look). first_row (mask_fault (known mask) ∷ find at p ∷ seen_fault i (known mask) (at p) ∷ [])) (λ k q. looks q k)
-        ∙ ap (λ k. first_row (mask_fault k ∷ find (look_in m.table) p ∷ seen_fault i k (look_in m.table p) ∷ [])) (sym e)
-
-    pub add-mask-there : (r : Refusal) → Some r ≡ mask_fault n → first_row (add_watch_rows (look t.world) p (known mask) (instance_of t.instances id)) ≡ Some r
-    add-mask-there r h = add-rows-there ∙ ap (λ o. first_row (o ∷ find (look_in m.table) p ∷ seen_fault i n (look_in m.table p) ∷ [])) (sym h)
-
-    pub add-path-there : (r : Refusal) → None ≡ mask_fault n → find (look_in m.table) p ≡ Some r → first_row (add_watch_rows (look t.world) p (known mask) (instance_of t.instances id)) ≡ Some r
-    add-path-there r h missing =
-        add-rows-there ∙ ap (λ o. first_row (o ∷ find (look_in m.table) p ∷ seen_fault i n (look_in m.table p) ∷ [])) (sym h)
-        ∙ ap (λ o. first_row (o ∷ seen_fault i n (look_in m.table p) ∷ [])) missing
-
-    pub add-seen-there : (seen : Seen) (r : Option Refusal) → None ≡ mask_fault n → find (look_in m.table) p ≡ None → look_in m.table p ≡ Some seen
-        → add_refusal i.watches seen.number n (is_directory_kind seen.kind) ≡ r → first_row (add_watch_rows (look t.world) p (known mask) (instance_of t.instances id)) ≡ r
-    add-seen-there seen r h found at refusal =
-        add-rows-there ∙ ap (λ o. first_row (o ∷ find (look_in m.table) p ∷ seen_fault i n (look_in m.table p) ∷ [])) (sym h)
-        ∙ ap (λ o. first_row (o ∷ seen_fault i n (look_in m.table p) ∷ [])) found
-        ∙ alone (seen_fault i n (look_in m.table p)) ∙ ap (seen_fault i n) at ∙ refusal
-
-    -- the watch that was made
-    pub answer-there : (seen : Seen) → look_in m.table p ≡ Some seen → reply.Wd (wd_added i.watches seen.number) ≡ watch_answer (number_seen (look t.world p)) (instance_of t.instances id)
-    answer-there seen at =
-        sym (ap (λ o. watch_answer (number_seen (look t.world p)) o) (sym (there id) ∙ is)
-        ∙ ap (λ o. reply.Wd (wd_added i.watches (number_seen o))) (looks p ∙ at))
-
-    pub IsFileSystemOf-watching : (seen : Seen) (x : Instances) → look_in m.table p ≡ Some seen → x ≡ changed m.instances id (watching seen.number n) → IsFileSystemOf (after_add_watch t id p mask) (record m { instances = x })
-    unfolding after_add_watch
-    IsFileSystemOf-watching seen x at now =
-        IsFileSystemOf-changed x id (watching (number_seen (look t.world p)) (known mask))
-        (now ∙ ap (λ o. changed m.instances id (watching (number_seen o) n)) (sym (looks p ∙ at)) ∙ ap (λ k. changed m.instances id (watching (number_seen (look t.world p)) k)) e)
-
-  pub add-bad-there : (id : ℕ) (p : List (List ℕ)) (mask : ℕ) → instance_of m.instances id ≡ None → first_row (add_watch_rows (look t.world) p (known mask) (instance_of t.instances id)) ≡ Some Ebadf
+module _ (w : World) (m : Instances) (id : ℕ) (i : Instance) (p : List (List ℕ)) (mask n : ℕ) (is : instance_of m id ≡ Some i) (e : n ≡ known mask) where
+  add-rows-there : first_row (add_watch_rows (look w) p (known mask) (instance_of m id)) ≡ first_row (mask_fault n ∷ find (look w) p ∷ seen_fault i n (look w p) ∷ [])
   unfolding add_watch_rows
-  add-bad-there id p mask is = ap (λ o. first_row (add_watch_rows (look t.world) p (known mask) o)) (sym (there id) ∙ is)
+  add-rows-there =
+      ap (λ o. first_row (add_watch_rows (look w) p (known mask) o)) is
+      ∙ ap (λ k. first_row (mask_fault k ∷ find (look w) p ∷ seen_fault i k (look w p) ∷ [])) (sym e)
+
+  pub add-mask-there : (r : Refusal) → Some r ≡ mask_fault n → first_row (add_watch_rows (look w) p (known mask) (instance_of m id)) ≡ Some r
+  add-mask-there r h = add-rows-there ∙ ap (λ o. first_row (o ∷ find (look w) p ∷ seen_fault i n (look w p) ∷ [])) (sym h)
+
+  pub add-path-there : (r : Refusal) → None ≡ mask_fault n → find (look w) p ≡ Some r → first_row (add_watch_rows (look w) p (known mask) (instance_of m id)) ≡ Some r
+  add-path-there r h missing =
+      add-rows-there ∙ ap (λ o. first_row (o ∷ find (look w) p ∷ seen_fault i n (look w p) ∷ [])) (sym h)
+      ∙ ap (λ o. first_row (o ∷ seen_fault i n (look w p) ∷ [])) missing
+
+  pub add-seen-there : (seen : Seen) (r : Option Refusal) → None ≡ mask_fault n → find (look w) p ≡ None → look w p ≡ Some seen
+      → add_refusal i.watches seen.number n (is_directory_kind seen.kind) ≡ r → first_row (add_watch_rows (look w) p (known mask) (instance_of m id)) ≡ r
+  add-seen-there seen r h found at refusal =
+      add-rows-there ∙ ap (λ o. first_row (o ∷ find (look w) p ∷ seen_fault i n (look w p) ∷ [])) (sym h)
+      ∙ ap (λ o. first_row (o ∷ seen_fault i n (look w p) ∷ [])) found
+      ∙ alone (seen_fault i n (look w p)) ∙ ap (seen_fault i n) at ∙ refusal
+
+  -- the watch that was made
+  pub answer-there : (seen : Seen) → look w p ≡ Some seen → reply.Wd (wd_added i.watches seen.number) ≡ watch_answer (number_seen (look w p)) (instance_of m id)
+  answer-there seen at =
+      sym (ap (λ o. watch_answer (number_seen (look w p)) o) is
+      ∙ ap (λ o. reply.Wd (wd_added i.watches (number_seen o))) at)
+
+  pub watching-there : (seen : Seen) (x : Instances) → look w p ≡ Some seen → x ≡ changed m id (watching seen.number n) → x ≡ changed m id (watching (number_seen (look w p)) (known mask))
+  watching-there seen x at now =
+      now ∙ ap (λ o. changed m id (watching (number_seen o) n)) (sym at) ∙ ap (λ k. changed m id (watching (number_seen (look w p)) k)) e
+
+pub add-bad-there : (w : World) (m : Instances) (id : ℕ) (p : List (List ℕ)) (mask : ℕ) → instance_of m id ≡ None → first_row (add_watch_rows (look w) p (known mask) (instance_of m id)) ≡ Some Ebadf
+unfolding add_watch_rows
+add-bad-there w m id p mask is = ap (λ o. first_row (add_watch_rows (look w) p (known mask) o)) is
 
 -- ---- what acceptance gives
 
@@ -257,17 +221,17 @@ events_more es i e h are is =
 
 -- ---- the root alone
 
-is-root : (b : Bool) (n : ℕ) (f g : File) (o : Option File) → eqb n root_number ≡ b → o ≡ None → cond b (Some f) o ≡ Some g → n < root_number + 1
-is-root true n f g o same none h = let e : n ≡ root_number = eqb-true n root_number same in omega arith
-is-root false n f g o same none h = absurd (cc)
+is-root : (b : Bool) (n : ℕ) (f : File) (o : Option File) → eqb n root_number ≡ b → o ≡ None → IsSome (cond b (Some f) o) → n < root_number + 1
+is-root true n f o same none h = let e : n ≡ root_number = eqb-true n root_number same in omega arith
+is-root false n f o same none h = absurd (cc)
 
-pub below-opening : (t : Table) → Stands t opening_world → HasNumbersBelow t (root_number + 1)
+pub below-opening : HasNumbersBelow opening_world (root_number + 1)
 unfolding opening_world
-below-opening t s k v e =
+below-opening n there =
     let f : File = record { kind = Directory; mode = root_mode; bytes = [] } in
     let none : finmap.FinMap nat_cmp File = finmap.empty in
-    is-root (eqb v.number root_number) v.number f (file_of v) (finmap.get none v.number) refl (get-empty nat_cmp v.number)
-    (sym (get-insert nat_cmp_total none root_number f v.number ∙ ap (λ b. cond b (Some f) (finmap.get none v.number)) (unsigned_tied v.number root_number)) ∙ s.files k v e)
+    is-root (eqb n root_number) n f (finmap.get none n) refl (get-empty nat_cmp n)
+    (subst IsSome (get-insert nat_cmp_total none root_number f n ∙ ap (λ b. cond b (Some f) (finmap.get none n)) (unsigned_tied n root_number)) there)
 
 pub none-opened : (id : ℕ) → IsSome (instance_of finmap.empty id) → ⊥
 none-opened id h =

@@ -3,14 +3,14 @@ use Rattle.std.proofs.Common.{◌≡◌, ℕ, ◌+◌, List, [], ◌∷◌, ◌+
 use Rattle.tree_paths.specs.declared.limits.Limits.{Limits}
 use Rattle.tree_paths.specs.declared.refusal.Refusal.{Refusal}
 use Rattle.instance_table.specs.declared.instance.Instance.{Instance}
-use Rattle.instance_table.specs.Instances.{Instances, instance_of}
+use Rattle.instance_table.specs.Instances.{instance_of}
 use Rattle.tree_core.specs.declared.call.Call.{Call}
 use Rattle.tree_core.specs.declared.call.Call.TheVariants as call
 use Rattle.tree_core.specs.declared.reply.Entry.{Entry}
 use Rattle.tree_core.specs.declared.file_system.FileSystem.{FileSystem}
 use Rattle.tree_core.specs.CutLaws.{GoesOn, IsWhole}
 use Rattle.tree_core.specs.Journal.{Journaled, HasPast, IsLawfulFrom, IsLawful, IsPast, cut_off, last_place, now, opened, stands_for, tree_after, waiting_in, with_entry}
-use Rattle.tree_core.specs.FileSystems.{IsFileSystemOf}
+use Rattle.tree_core.specs.FileSystems.{tree_in}
 use Rattle.tree_core.specs.Sound.{IsSoundTree}
 use Rattle.tree_core.specs.Tree.{Tree, opening, refusal_of, reply_of, accepted, after, after_file, after_init, after_add_watch, after_rm_watch, after_accepted_read, after_close, tree_by}
 use Rattle.tree_core.specs.TurnLaws.{TreesAreSound}
@@ -99,13 +99,17 @@ unfolding now
 sound-now sound s is = sound.stay s.start s.entries is
 
 -- a cut leaves the tree as it is
-pub now-cut : (s : Journaled) (m : FileSystem) → IsFileSystemOf (now s) m → IsFileSystemOf (now (cut_off s)) m
+pub now-cut : (s : Journaled) → now s ≡ now (cut_off s)
 unfolding now
-now-cut s m is = is
+now-cut s = refl
 
-pub now-opened : (limits : Limits) (m : FileSystem) → IsFileSystemOf (opening limits) m → IsFileSystemOf (now (opened limits)) m
+pub now-opened : (limits : Limits) → opening limits ≡ now (opened limits)
 unfolding now
-now-opened limits m is = is
+now-opened limits = refl
+
+-- a call keeps the limits
+pub limits-executed : (m n : FileSystem) (c : Call) → tree_in n ≡ after (tree_in m) c → n.limits ≡ m.limits
+limits-executed m n c leads = ap (λ (t : Tree). t.limits) leads ∙ limits-by (tree_in m) c (refusal_of (tree_in m) c)
 
 -- the past of a state that is cut has the entries that were cut off
 pub HasPast-cut : TreesAreSound → (s : Journaled) → HasPast s.start s.place → IsLawfulFrom s.start s.entries → HasPast (now s) (last_place s)
@@ -125,7 +129,7 @@ pub HasPast-opening : (limits : Limits) → HasPast (opening limits) 0
 unfolding IsLawful stands_for opening
 HasPast-opening limits = ([], record { lawful = tt; places = refl; leads = refl })
 
--- what waits, by the open instance of a file system that stands for the tree
-pub waiting_in-file_system : (t : Tree) (m : FileSystem) (id : ℕ) (o : Option Instance) → IsFileSystemOf t m → o ≡ instance_of m.instances id → option_map (λ (i : Instance). length i.queue.waiting) o ≡ waiting_in t id
+-- what waits, by the open instance of a file system
+pub waiting_in-file_system : (t : Tree) (m : FileSystem) (id : ℕ) (o : Option Instance) → tree_in m ≡ t → o ≡ instance_of m.instances id → option_map (λ (i : Instance). length i.queue.waiting) o ≡ waiting_in t id
 unfolding waiting_in
-waiting_in-file_system t m id o is there = ap (option_map (λ (i : Instance). length i.queue.waiting)) (there ∙ ap (λ (x : Instances). instance_of x id) is.instances)
+waiting_in-file_system t m id o is there = ap (option_map (λ (i : Instance). length i.queue.waiting)) (there ∙ ap (λ (x : Tree). instance_of x.instances id) is)

@@ -1,21 +1,19 @@
 -- What is read of a tree in which events wait are events, and so its replies spell events.
-use Rattle.std.proofs.Common.{◌≡◌, ℕ, zero, suc, Bool, true, false, if◌then◌else◌, ◌==◌, List, [], ◌∷◌, ◌++◌, Option, Some, None, refl, sym, ap, subst, take}
+use Rattle.std.proofs.Common.{◌≡◌, ℕ, zero, suc, Bool, true, false, if◌then◌else◌, ◌==◌, List, [], ◌∷◌, ◌++◌, Option, Some, None, refl, ap, subst, take}
 use Rattle.record_codec.specs.declared.event.Event.{Event}
 use Rattle.record_codec.specs.Records.{AreEvents}
 use Rattle.tree_paths.specs.declared.refusal.Refusal.{Refusal}
 use Rattle.instance_table.specs.declared.instance.Instance.{Instance}
-use Rattle.instance_table.specs.Instances.{Instances, WaitingAreEvents, instance_of, waiting_of}
+use Rattle.instance_table.specs.Instances.{WaitingAreEvents, instance_of, waiting_of}
 use Rattle.tree_core.specs.declared.call.Call.{Call}
 use Rattle.tree_core.specs.declared.call.Call.TheVariants as call
 use Rattle.tree_core.specs.declared.file_system.FileSystem.{FileSystem}
 use Rattle.tree_core.specs.declared.reply.Entry.{Entry}
-use Rattle.tree_core.specs.declared.reply.Reply.{Reply}
-use Rattle.tree_core.specs.declared.reply.Reply.TheVariants as reply
 use Rattle.tree_core.specs.Tree.{Tree, refusal_of, answer_of, number_seen, read_answer, reply_by, reply_of, after, watch_answer}
 use Rattle.tree_core.specs.Journal.{tree_after}
 use Rattle.tree_core.specs.Calls.{IsSpelled}
 use Rattle.tree_core.specs.Histories.{oldest, read_by, read_in, records_for, where_open}
-use Rattle.tree_core.specs.FileSystems.{IsFileSystemOf}
+use Rattle.tree_core.specs.FileSystems.{tree_in}
 use Rattle.inode_table.specs.World.{look}
 use Rattle.event_queue.specs.Reads.{fitting}
 
@@ -93,8 +91,8 @@ module _ (t : Tree) (waits : WaitingAreEvents t.instances) where
       by None = answer-spelled c
 
 -- a file system and its tree have the same instances
-pub events-of-file_system : (t : Tree) (m : FileSystem) → IsFileSystemOf t m → WaitingAreEvents m.instances → WaitingAreEvents t.instances
-events-of-file_system t m is waits = subst WaitingAreEvents is.instances waits
+pub events-of-file_system : (t : Tree) (m : FileSystem) → tree_in m ≡ t → WaitingAreEvents m.instances → WaitingAreEvents t.instances
+events-of-file_system t m is waits = subst WaitingAreEvents (ap (λ (x : Tree). x.instances) is) waits
 
 -- ---- a journal
 

@@ -3,6 +3,7 @@ use Rattle.std.specs.Prelude.{◌≡◌, ◌<◌, ◌≤◌, ◌+◌, ◌⊎◌,
 use Rattle.std.specs.FinMap as finmap
 use Rattle.record_codec.specs.declared.event.Event.{Event}
 use Rattle.inode_table.specs.World.{IsWorld, IsWhole}
+use Rattle.inode_table.specs.TableWorld.{HasNumbersBelow}
 use Rattle.watch_table.specs.Watching.{watch_of, IsSound, HasEnded}
 use Rattle.event_queue.specs.Backlogs.{overflow_mark}
 use Rattle.event_queue.specs.Fates.{IsBounded}
@@ -18,6 +19,11 @@ pub record IsCounted (t : Tree) : Type 0 where
   pub cookies : t.next_cookie ≤ t.limits.cookies + 1
   pub ids : t.next_id ≤ t.limits.ids + 1
   pub opened : (id : ℕ) → IsSome (instance_of t.instances id) → id < t.next_id
+
+-- the numbers that come next are counted, and the files have numbers below the next one
+pub record IsNumbered (t : Tree) : Type 0 where
+  pub counted : IsCounted t
+  pub given : HasNumbersBelow t.world t.next_number
 
 -- nothing of a watch follows its IN_IGNORED
 abbrev pub NothingFollowsIgnored : List Event → Type 0
@@ -45,6 +51,6 @@ pub record IsSoundTree (t : Tree) : Type 0 where
   pub counted : IsCounted t
   pub world : IsWorld t.world
   pub whole : IsWhole t.world
-  pub given : (number : ℕ) → IsSome (finmap.get t.world.files number) → number < t.next_number
+  pub given : HasNumbersBelow t.world t.next_number
   pub cookies : 1 ≤ t.next_cookie
   pub instances : (id : ℕ) (i : Instance) → instance_of t.instances id ≡ Some i → IsSoundInstance t i

@@ -9,8 +9,9 @@ ghost use Rattle.tree_core.specs.Calls.{takes_memory};
 ghost use Rattle.inode_table.specs.Refusals.{is_directory_kind};
 ghost use Rattle.instance_table.specs.Instances.{instance_of, changed};
 ghost use Rattle.tree_core.specs.Histories.{oldest, pumped};
-ghost use Rattle.tree_core.specs.FileSystems.{HasTree, IsFileSystemOf, Executes, copies_of, replies_in};
-ghost use Rattle.tree_core.specs.Tree.{Tree, opening, counts_of, init_rows, rm_watch_rows, read_rows, close_rows, read_answer, after_reading};
+ghost use Rattle.tree_core.specs.FileSystems.{tree_in, Executes, copies_of, replies_in};
+ghost use Rattle.tree_core.specs.Sound.{IsNumbered};
+ghost use Rattle.tree_core.specs.Tree.{opening, counts_of, init_rows, rm_watch_rows, read_rows, close_rows, read_answer, after_reading};
 
 use crate::call::Call;
 use crate::reply::Reply;
@@ -105,7 +106,8 @@ impl Replies {
 impl FileSystem {
     /// The root alone, and no instance.
     pub fn new(alloc: Global, limits: Limits) -> Result<FileSystem, Refusal>
-        ensures ok { IfOk result (IsFileSystemOf (opening limits)) }
+        ensures ok { IfOk result (λ m. tree_in m ≡ opening limits) }
+        ensures numbered { IfOk result (λ m. IsNumbered (tree_in m)) }
         ensures err { IfErr result (λ refusal. refusal ≡ Enomem) }
     {
         Ok(FileSystem {
@@ -122,7 +124,7 @@ impl FileSystem {
 
     /// A snapshot of the tree, behind an entry at this place.
     pub fn snapshot(&self, place: u64) -> Result<Snapshot, Refusal>
-        ensures ok { (t : Tree) → IsFileSystemOf t self.now → IfOk result (IsSnapshotOf t place) }
+        ensures ok { IfOk result (IsSnapshotOf (tree_in self.now) place) }
         ensures err { IfErr result (λ refusal. refusal ≡ Enomem) }
     {
         Ok(Snapshot {
@@ -138,7 +140,7 @@ impl FileSystem {
 
     /// Carries out a call, which may be refused. What takes memory comes first: an error leaves all as it was.
     pub fn answer(&mut self, call: &Call, keeps: bool) -> Result<Replies, Refusal>
-        requires { HasTree self.old }
+        requires { IsNumbered (tree_in self.old) }
         ensures { Executes self.old call.now keeps result self.new }
     {
         match call {
@@ -158,7 +160,7 @@ impl FileSystem {
 
     // What the next call on files gets.
     fn counts(&self) -> Counts
-        ensures { (t : Tree) → IsFileSystemOf t self.now → result ≡ counts_of t }
+        ensures { result ≡ counts_of (tree_in self.now) }
     {
         Counts {
             next_number: self.next_number,
@@ -168,7 +170,7 @@ impl FileSystem {
 
     // Carries out a call on files.
     fn file(&mut self, call: &FileCall, keeps: bool) -> Result<Replies, Refusal>
-        requires { HasTree self.old }
+        requires { IsNumbered (tree_in self.old) }
         ensures { Executes self.old (Call.File call.now) keeps result self.new }
     {
         let counts = self.counts();
@@ -208,7 +210,7 @@ impl FileSystem {
 
     // Makes an instance.
     fn init(&mut self, limit: u32, piped: bool, keeps: bool) -> Result<Replies, Refusal>
-        requires { HasTree self.old }
+        requires { IsNumbered (tree_in self.old) }
         ensures { Executes self.old (Call.Init limit piped) keeps result self.new }
     {
         if let Some(refusal) = self.init_fault(limit) {
@@ -229,10 +231,9 @@ impl FileSystem {
         mask: u32,
         keeps: bool,
     ) -> Result<Replies, Refusal>
-        requires { HasTree self.old }
+        requires { IsNumbered (tree_in self.old) }
         ensures { Executes self.old (Call.AddWatch id path.now mask) keeps result self.new }
     {
-        self.table.law();
         if self.instances.get(id).is_none() {
             return Ok(Replies::refused(Refusal::Ebadf, keeps));
         }
@@ -256,7 +257,7 @@ impl FileSystem {
 
     // Ends a watch.
     fn rm_watch(&mut self, id: u32, wd: i32, keeps: bool) -> Result<Replies, Refusal>
-        requires { HasTree self.old }
+        requires { IsNumbered (tree_in self.old) }
         ensures { Executes self.old (Call.RmWatch id wd) keeps result self.new }
     {
         if let Some(refusal) = rm_watch_fault(self.instances.get(id), wd) {
@@ -269,7 +270,7 @@ impl FileSystem {
 
     // Reads records.
     fn read(&mut self, id: u32, bytes: u32, keeps: bool) -> Result<Replies, Refusal>
-        requires { HasTree self.old }
+        requires { IsNumbered (tree_in self.old) }
         ensures { Executes self.old (Call.Read id bytes) keeps result self.new }
     {
         if let Some(refusal) = read_fault(self.instances.get(id), bytes, false) {
@@ -280,7 +281,7 @@ impl FileSystem {
 
     // Reads records for a pipe.
     fn pump(&mut self, id: u32, bytes: u32, keeps: bool) -> Result<Replies, Refusal>
-        requires { HasTree self.old }
+        requires { IsNumbered (tree_in self.old) }
         ensures { Executes self.old (Call.Pump id bytes) keeps result self.new }
     {
         if let Some(refusal) = read_fault(self.instances.get(id), bytes, true) {
@@ -309,9 +310,9 @@ impl FileSystem {
 
     /// Reads records for a pipe, and moves them out of the queue.
     pub fn pump_out(&mut self, id: u32, bytes: u32) -> Result<Pumped, Refusal>
-        requires { HasTree self.old }
+        requires { IsNumbered (tree_in self.old) }
         ensures served { Executes self.old (Call.Pump id bytes) true (replies_in result) self.new }
-        ensures records { (t : Tree) → IsFileSystemOf t self.old → IfOk result (λ p. p.records ≡ pumped t id bytes) }
+        ensures records { IfOk result (λ p. p.records ≡ pumped (tree_in self.old) id bytes) }
         ensures events { IfOk result (λ p. IfSome p.records AreEvents) }
     {
         if let Some(refusal) = read_fault(self.instances.get(id), bytes, true) {
@@ -349,7 +350,7 @@ impl FileSystem {
 
     // Closes an instance.
     fn close(&mut self, id: u32, keeps: bool) -> Result<Replies, Refusal>
-        requires { HasTree self.old }
+        requires { IsNumbered (tree_in self.old) }
         ensures { Executes self.old (Call.Close id) keeps result self.new }
     {
         if let Some(refusal) = close_fault(self.instances.get(id)) {

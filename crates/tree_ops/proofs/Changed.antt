@@ -1,15 +1,18 @@
 -- Changes of one file, and paths of one file.
-use Rattle.std.proofs.Common.{◌≡◌, ◌≢◌, ◌==◌, ℕ, List, [], true, false, Option, Some, None, IsSome, IfSome, refl, sym, ap, ◌∙◌, if◌then◌else◌}
+use Rattle.std.proofs.Common.{◌≡◌, ◌≢◌, ◌==◌, ℕ, List, [], true, false, Option, Some, None, IsSome, IfSome, is_some, refl, sym, ap, ◌∙◌, subst, if◌then◌else◌}
 use borrow.Author.Tests.{eq-eqb}
 use Rattle.std.specs.Option.{option_and_then, option_map, IsSomeAnd, unwrap_or}
 use Rattle.std.specs.FinMap as finmap
-use Rattle.inode_table.specs.Rows.{Row, What, row, shown}
-use Rattle.inode_table.specs.Tree.{Tree, at}
-use Rattle.inode_table.specs.World.{World, File, file_at, content_by, changed_at, with_content, with_move, with_swap, without_lost}
-use Rattle.inode_table.specs.Stands.{Stands, look_in, seen_row, seen_at, number_of}
+use Rattle.inode_table.specs.World.{World, IsWorld, look, seen_as, has_names, File, file_at, with_move, with_swap, without_lost}
 use Rattle.inode_table.specs.declared.seen.Seen.{Seen}
-use Rattle.tree_ops.specs.Refused.{are_same_seen}
-use Rattle.inode_table.specs.Refusals.{Look}
+use Rattle.inode_table.proofs.SeenLemmas.{is_value}
+use Rattle.inode_table.proofs.MapLemmas.{keys-none}
+use Rattle.inode_table.proofs.PathLemmas.{is_below-false}
+use Rattle.inode_table.proofs.WorldLemmas.{path_total, path_exact}
+use Rattle.inode_table.specs.Paths.{is_below}
+use Rattle.tree_ops.proofs.Worlds.{standing, regular-seen, seen-directory}
+use Rattle.tree_ops.specs.Refused.{are_same_seen, has_names_seen}
+use Rattle.inode_table.specs.Refusals.{Look, is_directory_seen}
 use Rattle.tree_ops.specs.After.{are_same, after_rename, after_exchange, bytes_at}
 
 pub all-some : {A : Type 0} (P Q : A → Type 0) (o : Option A) → ((x : A) → P x → Q x) → IsSomeAnd o P → IfSome o Q
@@ -23,54 +26,38 @@ bytes-of w p bytes h = by (file_at w p) h
     by None h = absurd h
     by (Some f) h = h
 
--- changes that agree on the file that is there
-pub changed-agree : (w : World) (p : List (List ℕ)) (g h : File → File) → IfSome (file_at w p) (λ f. g f ≡ h f) → changed_at w p g ≡ changed_at w p h
-unfolding changed_at
-changed-agree w p g h same = by (finmap.get w.paths p) same
-  where
-    at_file : (n : ℕ) (o : Option File) → IfSome o (λ f. g f ≡ h f) → content_by w g (Some n) o ≡ content_by w h (Some n) o
-    at_file n None e = refl
-    at_file n (Some f) e = ap (with_content w n) e
-
-    by : (o : Option ℕ) → IfSome (option_and_then (finmap.get w.files) o) (λ f. g f ≡ h f) → content_by w g o (option_and_then (finmap.get w.files) o) ≡ content_by w h o (option_and_then (finmap.get w.files) o)
-    by None e = refl
-    by (Some n) e = at_file n (finmap.get w.files n) e
-
 -- the number under a path is the one that is seen there
-number-seen : {t : Tree} {w : World} (stands : Stands t w) (p : List (List ℕ)) → finmap.get w.paths p ≡ option_map (λ (s : Seen). s.number) (look_in t p)
-number-seen {t} stands p = stands.paths p ∙ by (at t p)
-  where
-    of_row : (o : Option Row) → option_map (λ (v : What). v.number) (option_map shown o) ≡ option_map (λ (s : Seen). s.number) (option_map seen_row o)
-    of_row None = refl
-    of_row (Some r) = refl
+number-seen : (w : World) → IsWorld w → (p : List (List ℕ)) → finmap.get w.paths p ≡ option_map (λ (s : Seen). s.number) (look w p)
+unfolding look seen_as
+number-seen w is p =
+    elim (finmap.get w.paths p) as (λ o. finmap.get w.paths p ≡ o → o ≡ option_map (λ (s : Seen). s.number) (option_and_then (λ n. option_map (seen_as w p n) (finmap.get w.files n)) o)) [
+      | None ↦ λ _. refl
+      | Some n ↦ λ there. let f = is_value (finmap.get w.files n) (is.files p n there) in sym (ap (λ o. option_map (λ (s : Seen). s.number) (option_map (seen_as w p n) o)) f.1)
+    ] refl
 
-    by : (o : Option ℕ) → number_of t o ≡ option_map (λ (s : Seen). s.number) (option_and_then (seen_at t) o)
-    by None = refl
-    by (Some k) = of_row (row t.rows k)
-
-pub same-file : {t : Tree} {w : World} (stands : Stands t w) (old new : List (List ℕ)) → are_same (finmap.get w.paths old) (finmap.get w.paths new) ≡ are_same_seen (look_in t old) (look_in t new)
-same-file {t} stands old new = (λ i. are_same (number-seen stands old i) (number-seen stands new i)) ∙ by (look_in t old) (look_in t new)
+pub same-file : (w : World) → IsWorld w → (old new : List (List ℕ)) → are_same (finmap.get w.paths old) (finmap.get w.paths new) ≡ are_same_seen (look w old) (look w new)
+same-file w is old new = (λ i. are_same (number-seen w is old i) (number-seen w is new i)) ∙ by (look w old) (look w new)
   where
     by : (o p : Option Seen) → are_same (option_map (λ (s : Seen). s.number) o) (option_map (λ (s : Seen). s.number) p) ≡ are_same_seen o p
     by None p = refl
     by (Some s) None = refl
     by (Some s) (Some r) = refl
 
-pub renamed-nothing : {t : Tree} {w : World} (stands : Stands t w) (old new : List (List ℕ)) → are_same_seen (look_in t old) (look_in t new) ≡ true → after_rename w old new ≡ w
+pub renamed-nothing : (w : World) → IsWorld w → (old new : List (List ℕ)) → are_same_seen (look w old) (look w new) ≡ true → after_rename w old new ≡ w
 unfolding after_rename
-renamed-nothing {w = w} stands old new e = ap (λ b. if b then w else without_lost (with_move w old new) (finmap.get w.paths new)) (same-file stands old new ∙ e)
+renamed-nothing w is old new e = ap (λ b. if b then w else without_lost (with_move w old new) (finmap.get w.paths new)) (same-file w is old new ∙ e)
 
-pub renamed-moved : {t : Tree} {w : World} (stands : Stands t w) (old new : List (List ℕ)) → are_same_seen (look_in t old) (look_in t new) ≡ false → after_rename w old new ≡ without_lost (with_move w old new) (finmap.get w.paths new)
+pub renamed-moved : (w : World) → IsWorld w → (old new : List (List ℕ)) → are_same_seen (look w old) (look w new) ≡ false → after_rename w old new ≡ without_lost (with_move w old new) (finmap.get w.paths new)
 unfolding after_rename
-renamed-moved {w = w} stands old new e = ap (λ b. if b then w else without_lost (with_move w old new) (finmap.get w.paths new)) (same-file stands old new ∙ e)
+renamed-moved w is old new e = ap (λ b. if b then w else without_lost (with_move w old new) (finmap.get w.paths new)) (same-file w is old new ∙ e)
 
-pub exchanged-nothing : {t : Tree} {w : World} (stands : Stands t w) (old new : List (List ℕ)) → are_same_seen (look_in t old) (look_in t new) ≡ true → after_exchange w old new ≡ w
+pub exchanged-nothing : (w : World) → IsWorld w → (old new : List (List ℕ)) → are_same_seen (look w old) (look w new) ≡ true → after_exchange w old new ≡ w
 unfolding after_exchange
-exchanged-nothing {w = w} stands old new e = ap (λ b. if b then w else with_swap w old new) (same-file stands old new ∙ e)
+exchanged-nothing w is old new e = ap (λ b. if b then w else with_swap w old new) (same-file w is old new ∙ e)
 
-pub exchanged-swapped : {t : Tree} {w : World} (stands : Stands t w) (old new : List (List ℕ)) → are_same_seen (look_in t old) (look_in t new) ≡ false → after_exchange w old new ≡ with_swap w old new
+pub exchanged-swapped : (w : World) → IsWorld w → (old new : List (List ℕ)) → are_same_seen (look w old) (look w new) ≡ false → after_exchange w old new ≡ with_swap w old new
 unfolding after_exchange
-exchanged-swapped {w = w} stands old new e = ap (λ b. if b then w else with_swap w old new) (same-file stands old new ∙ e)
+exchanged-swapped w is old new e = ap (λ b. if b then w else with_swap w old new) (same-file w is old new ∙ e)
 
 -- files that differ stand at paths that differ
 pub other-paths : (at : Look) (old new : List (List ℕ)) → IsSome (at old) → are_same_seen (at old) (at new) ≡ false → old ≢ new
@@ -79,3 +66,23 @@ other-paths at old new there off same = by (at old) there (ap (λ p. are_same_se
     by : (o : Option Seen) → IsSome o → are_same_seen o o ≡ false → ⊥
     by None there e = absurd (cc)
     by (Some s) there e = let itself : (s.number == s.number) ≡ true = eq-eqb s.number s.number refl in let clash : true ≡ false = sym itself ∙ e in cc
+
+-- ---- what is no directory
+
+nameless : (w : World) → IsWorld w → (p : List (List ℕ)) → is_directory_seen (look w p) ≡ false → has_names w p ≡ false
+unfolding has_names
+nameless w is p regular = keys-none path_total path_exact (is_below p) w.paths (λ q found. is_below-false p q (λ l s e. regular-seen w p regular (is.fronts p l s (ap (λ x. is_some (finmap.get w.paths x)) (sym e) ∙ found))))
+
+pub nameless-seen : (w : World) → IsWorld w → (p : List (List ℕ)) → IsSome (look w p) → is_directory_seen (look w p) ≡ false → IsSomeAnd (look w p) (λ (s : Seen). s.has_names ≡ false)
+unfolding seen_as
+nameless-seen w is p there regular =
+    let s = is_value (look w p) there in
+    let at = standing w p s.0 s.1 in
+    subst (λ o. IsSomeAnd o (λ (r : Seen). r.has_names ≡ false)) (sym s.1) (ap (λ (r : Seen). r.has_names) (sym at.seen) ∙ nameless w is p regular)
+
+pub regular-named : (w : World) → IsWorld w → (p : List (List ℕ)) → is_directory_seen (look w p) ≡ false → p ≢ []
+regular-named w is p regular e = let yes : is_directory_seen (look w p) ≡ true = ap (λ q. is_directory_seen (look w q)) e ∙ seen-directory w [] is.root_directory in let clash : true ≡ false = sym yes ∙ regular in cc
+
+pub empty-seen : (o : Option Seen) → IsSome o → has_names_seen o ≡ false → IsSomeAnd o (λ s. s.has_names ≡ false)
+empty-seen None there e = absurd (cc)
+empty-seen (Some s) there e = e

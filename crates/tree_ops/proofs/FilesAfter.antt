@@ -7,7 +7,7 @@ use Rattle.std.specs.FinMap.{nat_cmp-IsAntisymmetric}
 use Rattle.tree_paths.specs.declared.limits.Limits.{Limits}
 use Rattle.inode_table.specs.Bytes.{resized, written}
 use Rattle.inode_table.specs.Rows.{Label}
-use Rattle.inode_table.specs.World.{World, File, IsWorld, links, look, linked, with_file, with_path, without_path, with_move, with_swap, changed_at}
+use Rattle.inode_table.specs.World.{World, File, IsWorld, links, look, linked, with_file, with_path, without_path, with_move, changed_at}
 use Rattle.inode_table.proofs.TreeLemmas.{some_none}
 use Rattle.inode_table.proofs.CountLemmas.{IsCount-one, IsCount-more}
 use Rattle.inode_table.proofs.MapLemmas.{count-of}

@@ -3,7 +3,6 @@ pub mod Keys
 pub mod Fronts
 pub mod Told
 pub mod Changed
-pub mod SameRows
 pub mod NamesIn
 pub mod Numbers
 pub mod Same

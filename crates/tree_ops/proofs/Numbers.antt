@@ -1,20 +1,19 @@
 -- Which numbers the files have after a call.
-use Rattle.std.proofs.Common.{◌≡◌, inl, inr, ℕ, ◌+◌, ◌<◌, ◌==◌, Bool, true, false, List, [], Option, Some, None, refl, sym, subst, ◌∙◌, arith, if◌then◌else◌}
+use Rattle.std.proofs.Common.{◌≡◌, inl, inr, ℕ, ◌+◌, ◌<◌, ◌==◌, Bool, true, false, List, [], Option, Some, None, is_some, refl, sym, ap, subst, ◌∙◌, arith, if◌then◌else◌}
 use Rattle.std.specs.Ordering.{nat_cmp}
 use Rattle.std.specs.Option.{option_and_then}
 use Rattle.std.specs.Cmp.{nat_cmp_total}
 use Rattle.std.specs.FinMap as finmap
 use Rattle.std.specs.FinMap.{nat_cmp-IsAntisymmetric, get-empty}
 use Rattle.inode_table.specs.declared.seen.Kind.TheVariants.{Directory}
-use Rattle.inode_table.specs.Tree.{Tree}
+use Rattle.inode_table.specs.TableWorld.{HasNumbersBelow}
 use Rattle.inode_table.specs.World.{World, File, root_number, root_mode, opening_world, links, with_file, with_path, without_path, with_move, with_swap, with_content, without_file, without_lost, linked, content_by, changed_at}
-use Rattle.inode_table.specs.Stands.{Stands, file_of}
+use Rattle.inode_table.proofs.SeenLemmas.{is_value}
 use Rattle.tree_ops.proofs.Keys.{get-insert_either, get-remove_was}
 use Rattle.tree_ops.specs.declared.call.TheConstants.{RENAME_EXCHANGE}
 use Rattle.tree_ops.specs.declared.call.FileCall.{FileCall}
 use Rattle.tree_ops.specs.declared.call.FileCall.TheVariants.{Create, Write, ReadFile, Truncate, Chmod, Mkdir, Link, Unlink, Rmdir, Rename, Rename2, Stat as Status, List as Listed}
 use Rattle.tree_ops.specs.declared.call.Counts.{Counts}
-use Rattle.tree_ops.specs.ReadyCall.{HasNumbersBelow}
 use Rattle.tree_ops.specs.After.{after, after_unlink, after_rename, after_exchange, are_same, numbers_of}
 
 -- the number of each file is below this one
@@ -117,17 +116,26 @@ below-after w counts (Rename2 old new flags) h = none (after w counts (Rename2 o
 below-after w counts (Status p) h = none (after w counts (Status p)) counts.next_number h
 below-after w counts (Listed p) h = none (after w counts (Listed p)) counts.next_number h
 
--- the same of the tables that stand for these worlds
-pub numbers-after : {old new : Tree} (w : World) (counts : Counts) (call : FileCall) → Stands old w → Stands new (after w counts call) → HasNumbersBelow old counts.next_number → HasNumbersBelow new (counts.next_number + numbers_of call)
-numbers-after w counts call before stands h k v is =
-    below-after w counts call (λ n f e. let at = before.no_more n f e in subst (λ x. x < counts.next_number) at.3 (h at.0 at.1 at.2)) v.number (file_of v) (stands.files k v is)
+pub numbers-after : (w : World) (counts : Counts) (call : FileCall) → HasNumbersBelow w counts.next_number → HasNumbersBelow (after w counts call) (counts.next_number + numbers_of call)
+numbers-after w counts call h n there =
+    let f = is_value (finmap.get (after w counts call).files n) there in
+    below-after w counts call (λ m g e. h m (ap is_some e)) n f.0 f.1
 
 -- the root alone has number 1
-pub numbers-opening : (t : Tree) → Stands t opening_world → HasNumbersBelow t 2
+pub numbers-opening : HasNumbersBelow opening_world 2
 unfolding opening_world
-numbers-opening t stands k v is =
+numbers-opening n there =
     let root : File = record { kind = Directory; mode = root_mode; bytes = [] } in
-    elim (get-insert_either nat_cmp_total nat_cmp-IsAntisymmetric finmap.empty root_number v.number root (file_of v) (stands.files k v is)) [
+    let f = is_value (finmap.get opening_world.files n) there in
+    elim (get-insert_either nat_cmp_total nat_cmp-IsAntisymmetric finmap.empty root_number n root f.0 f.1) [
       | inl same ↦ omega arith
-      | inr was ↦ absurd (let clash : None ≡ Some (file_of v) = sym (get-empty nat_cmp v.number) ∙ was in cc)
+      | inr was ↦ absurd (let clash : None ≡ Some f.0 = sym (get-empty nat_cmp n) ∙ was in cc)
     ]
+
+-- the next number is free
+pub next-free : (w : World) (next : ℕ) → HasNumbersBelow w next → finmap.get w.files next ≡ None
+next-free w next below =
+    elim (finmap.get w.files next) as (λ o. finmap.get w.files next ≡ o → o ≡ None) [
+      | None ↦ λ _. refl
+      | Some f ↦ λ e. let less : next < next = below next (ap is_some e) in absurd (omega arith)
+    ] refl

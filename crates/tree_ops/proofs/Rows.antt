@@ -8,7 +8,7 @@ use Rattle.inode_table.specs.declared.seen.Seen.{Seen}
 use Rattle.inode_table.specs.Paths.{is_below}
 use Rattle.tree_ops.specs.declared.call.TheConstants.{RENAME_EXCHANGE, RENAME_NOREPLACE}
 use Rattle.tree_ops.specs.declared.call.Counts.{Counts}
-use Rattle.tree_ops.specs.Refused.{has_names_seen, links_seen, are_same_seen, make_rows, write_rows, read_rows, truncate_rows, chmod_rows, link_rows, unlink_rows, rmdir_rows, move_rows, rename_rows, cookies_row, noreplace_rows, swap_rows, exchange_rows, rename2_rows, find_rows, list_rows}
+use Rattle.tree_ops.specs.Refused.{has_names_seen, links_seen, are_same_seen, make_rows, write_rows, read_rows, truncate_rows, chmod_rows, link_rows, unlink_rows, rmdir_rows, move_rows, rename_rows, noreplace_rows, swap_rows, exchange_rows, rename2_rows, find_rows, list_rows}
 use Rattle.tree_paths.specs.Rows.{row, first_row}
 use Rattle.inode_table.specs.Refusals.{Look, find, parent, parent_of, is_directory_seen, longest_there}
 

@@ -4,13 +4,13 @@ ghost use Rattle.std.specs.Prelude.{◌≡◌, ◌≢◌, ℕ, List, [], Some, N
 ghost use Rattle.std.specs.Option.{IsSomeAnd};
 ghost use Rattle.std.specs.FinMap as finmap;
 ghost use Rattle.inode_table.specs.Bytes.{resized, written};
-ghost use Rattle.inode_table.specs.Tree.{at, what_at, IsNamedBut};
-ghost use Rattle.inode_table.specs.World.{World, with_file, changed_at, linked, without_lost};
-ghost use Rattle.inode_table.specs.Stands.{Stands, IsUnused, look_in, number_of, reserved_at};
+ghost use Rattle.inode_table.specs.World.{IsWhole, look, with_file, changed_at, linked};
+ghost use Rattle.inode_table.specs.Stands.{number_of, reserved_at};
+ghost use Rattle.inode_table.specs.TableWorld.{world_of, HasNumbersBelow};
 ghost use Rattle.inode_table.specs.Refusals.{is_directory_seen, parent_of};
 ghost use Rattle.inode_table.specs.Paths.{is_below};
 ghost use Rattle.tree_ops.specs.Refused.{has_names_seen, are_same_seen};
-ghost use Rattle.tree_ops.specs.ReadyCall.{IsReady, HasNumbersBelow};
+ghost use Rattle.tree_ops.specs.ReadyCall.{IsReady};
 ghost use Rattle.tree_ops.specs.After.{after, after_unlink, after_rename, after_exchange, bytes_at, answer_of, stat_of, names_in, numbers_of};
 
 use crate::answer::Answer;
@@ -23,12 +23,11 @@ use tree_paths::{Names, Path, Refusal};
 
 // Makes a file or a directory.
 fn make(table: &mut Table, path: &Path, number: u32, mode: u32, kind: Kind) -> Result<(), Refusal>
-    requires directory { is_directory_seen (look_in table.old (parent_of path.now)) ≡ true }
-    requires free { look_in table.old path.now ≡ None }
+    requires directory { is_directory_seen (look (world_of table.old) (parent_of path.now)) ≡ true }
+    requires free { look (world_of table.old) path.now ≡ None }
     requires named { path.now ≢ [] }
-    requires unused { IsUnused table.old number }
-    ensures world { OnOk result ((w : World) → Stands table.old w → Stands table.new (with_file w path.now number (record { kind = kind; mode = mode; bytes = [] }))) }
-    ensures named { OnOk result (IsNamedBut table.old None → IsNamedBut table.new None) }
+    requires unused { finmap.get (world_of table.old).files number ≡ None }
+    ensures world { OnOk result (world_of table.new ≡ with_file (world_of table.old) path.now number (record { kind = kind; mode = mode; bytes = [] })) }
     ensures err { OnErr result (table.new.rows ≡ table.old.rows) }
     ensures memory { IfErr result (λ refusal. refusal ≡ Refusal.Enomem) }
 {
@@ -38,12 +37,10 @@ fn make(table: &mut Table, path: &Path, number: u32, mode: u32, kind: Kind) -> R
 
 // Makes room for bytes in a file, from an offset on. No bytes need none.
 fn reserve(table: &mut Table, path: &Path, offset: usize, bytes: &[u8]) -> Result<(), Refusal>
-    requires there { IsSome (look_in table.old path.now) }
-    requires regular { is_directory_seen (look_in table.old path.now) ≡ false }
+    requires there { IsSome (look (world_of table.old) path.now) }
+    requires regular { is_directory_seen (look (world_of table.old) path.now) ≡ false }
     requires range { 0 < length bytes.now → offset + length bytes.now < 2 ^ 64 }
-    ensures looks { (p : List (List ℕ)) → look_in table.new p ≡ look_in table.old p }
-    ensures world { (w : World) → Stands table.old w → Stands table.new w }
-    ensures named { IsNamedBut table.old None → IsNamedBut table.new None }
+    ensures world { world_of table.new ≡ world_of table.old }
     ensures reserved { OnOk result (0 < length bytes.now → offset + length bytes.now ≤ reserved_at table.new path.now) }
     ensures err { OnErr result (table.new.rows ≡ table.old.rows) }
     ensures memory { IfErr result (λ refusal. refusal ≡ Refusal.Enomem) }
@@ -56,11 +53,10 @@ fn reserve(table: &mut Table, path: &Path, offset: usize, bytes: &[u8]) -> Resul
 
 // Writes over the bytes of a file from an offset on.
 fn write(table: &mut Table, path: &Path, offset: usize, bytes: &[u8]) -> Result<(), Refusal>
-    requires there { IsSome (look_in table.old path.now) }
-    requires regular { is_directory_seen (look_in table.old path.now) ≡ false }
+    requires there { IsSome (look (world_of table.old) path.now) }
+    requires regular { is_directory_seen (look (world_of table.old) path.now) ≡ false }
     requires range { 0 < length bytes.now → offset + length bytes.now < 2 ^ 64 }
-    ensures world { OnOk result ((w : World) → Stands table.old w → Stands table.new (changed_at w path.now (λ f. record f { bytes = written offset bytes.now f.bytes }))) }
-    ensures named { OnOk result (IsNamedBut table.old None → IsNamedBut table.new None) }
+    ensures world { OnOk result (world_of table.new ≡ changed_at (world_of table.old) path.now (λ f. record f { bytes = written offset bytes.now f.bytes })) }
     ensures err { OnErr result (table.new.rows ≡ table.old.rows) }
     ensures memory { IfErr result (λ refusal. refusal ≡ Refusal.Enomem) }
 {
@@ -71,10 +67,9 @@ fn write(table: &mut Table, path: &Path, offset: usize, bytes: &[u8]) -> Result<
 
 // Cuts a file, or fills it up with zero bytes.
 fn truncate(table: &mut Table, path: &Path, len: usize) -> Result<(), Refusal>
-    requires there { IsSome (look_in table.old path.now) }
-    requires regular { is_directory_seen (look_in table.old path.now) ≡ false }
-    ensures world { OnOk result ((w : World) → Stands table.old w → Stands table.new (changed_at w path.now (λ f. record f { bytes = resized len f.bytes }))) }
-    ensures named { OnOk result (IsNamedBut table.old None → IsNamedBut table.new None) }
+    requires there { IsSome (look (world_of table.old) path.now) }
+    requires regular { is_directory_seen (look (world_of table.old) path.now) ≡ false }
+    ensures world { OnOk result (world_of table.new ≡ changed_at (world_of table.old) path.now (λ f. record f { bytes = resized len f.bytes })) }
     ensures err { OnErr result (table.new.rows ≡ table.old.rows) }
     ensures memory { IfErr result (λ refusal. refusal ≡ Refusal.Enomem) }
 {
@@ -86,23 +81,21 @@ fn truncate(table: &mut Table, path: &Path, len: usize) -> Result<(), Refusal>
 
 // Gives another mode to what stands at a path.
 fn chmod(table: &mut Table, path: &Path, mode: u32)
-    requires there { IsSome (look_in table.old path.now) }
-    ensures world { (w : World) → Stands table.old w → Stands table.new (changed_at w path.now (λ f. record f { mode = mode })) }
-    ensures named { IsNamedBut table.old None → IsNamedBut table.new None }
+    requires there { IsSome (look (world_of table.old) path.now) }
+    ensures world { world_of table.new ≡ changed_at (world_of table.old) path.now (λ f. record f { mode = mode }) }
 {
     table.set_mode(path.names(), mode);
 }
 
 // Gives one more path to a regular file.
 fn link(table: &mut Table, old: &Path, new: &Path) -> Result<(), Refusal>
-    requires source { IsSome (look_in table.old old.now) }
-    requires regular { is_directory_seen (look_in table.old old.now) ≡ false }
-    requires links { IfSome (look_in table.old old.now) (λ seen. seen.links + 1 < 2 ^ 64) }
-    requires directory { is_directory_seen (look_in table.old (parent_of new.now)) ≡ true }
-    requires free { look_in table.old new.now ≡ None }
+    requires source { IsSome (look (world_of table.old) old.now) }
+    requires regular { is_directory_seen (look (world_of table.old) old.now) ≡ false }
+    requires links { IfSome (look (world_of table.old) old.now) (λ seen. seen.links + 1 < 2 ^ 64) }
+    requires directory { is_directory_seen (look (world_of table.old) (parent_of new.now)) ≡ true }
+    requires free { look (world_of table.old) new.now ≡ None }
     requires named { new.now ≢ [] }
-    ensures world { OnOk result ((w : World) → Stands table.old w → Stands table.new (linked w new.now (finmap.get w.paths old.now))) }
-    ensures named { OnOk result (IsNamedBut table.old None → IsNamedBut table.new None) }
+    ensures world { OnOk result (world_of table.new ≡ linked (world_of table.old) new.now (finmap.get (world_of table.old).paths old.now)) }
     ensures err { OnErr result (table.new.rows ≡ table.old.rows) }
     ensures memory { IfErr result (λ refusal. refusal ≡ Refusal.Enomem) }
 {
@@ -111,21 +104,18 @@ fn link(table: &mut Table, old: &Path, new: &Path) -> Result<(), Refusal>
 
 // Takes out the name of a file or of an empty directory, and the file too where that was its last one.
 fn remove(table: &mut Table, path: &Path)
-    requires there { IsSomeAnd (look_in table.old path.now) (λ seen. seen.has_names ≡ false) }
+    requires there { IsSomeAnd (look (world_of table.old) path.now) (λ seen. seen.has_names ≡ false) }
     requires named { path.now ≢ [] }
-    ensures world { (w : World) → Stands table.old w → Stands table.new (after_unlink w path.now) }
-    ensures named { IsNamedBut table.old None → IsNamedBut table.new None }
+    ensures world { world_of table.new ≡ after_unlink (world_of table.old) path.now }
 {
-    let key = table.drop_name(path.names());
-    table.drop_if_lost(key);
+    table.drop_name(path.names());
 }
 
 // Takes out a path of a regular file.
 fn unlink(table: &mut Table, path: &Path)
-    requires there { IsSome (look_in table.old path.now) }
-    requires regular { is_directory_seen (look_in table.old path.now) ≡ false }
-    ensures world { (w : World) → Stands table.old w → Stands table.new (after_unlink w path.now) }
-    ensures named { IsNamedBut table.old None → IsNamedBut table.new None }
+    requires there { IsSome (look (world_of table.old) path.now) }
+    requires regular { is_directory_seen (look (world_of table.old) path.now) ≡ false }
+    ensures world { world_of table.new ≡ after_unlink (world_of table.old) path.now }
 {
     table.law();
     remove(table, path);
@@ -133,58 +123,43 @@ fn unlink(table: &mut Table, path: &Path)
 
 // Takes out an empty directory.
 fn rmdir(table: &mut Table, path: &Path)
-    requires there { IsSome (look_in table.old path.now) }
-    requires empty { has_names_seen (look_in table.old path.now) ≡ false }
+    requires there { IsSome (look (world_of table.old) path.now) }
+    requires empty { has_names_seen (look (world_of table.old) path.now) ≡ false }
     requires named { path.now ≢ [] }
-    ensures world { (w : World) → Stands table.old w → Stands table.new (after_unlink w path.now) }
-    ensures named { IsNamedBut table.old None → IsNamedBut table.new None }
+    ensures world { world_of table.new ≡ after_unlink (world_of table.old) path.now }
 {
     remove(table, path);
 }
 
-// Takes away a file, if any, that has lost its last name.
-fn drop_any_if_lost(table: &mut Table, key: Option<Key>)
-    requires { IfSome key (λ lost. IsSome (what_at table.old lost)) }
-    ensures world { (w : World) → Stands table.old w → Stands table.new (without_lost w (number_of table.old key)) }
-    ensures named { IsNamedBut table.old key → IsNamedBut table.new None }
-{
-    match key {
-        Some(key) => table.drop_if_lost(key),
-        None => (),
-    }
-}
-
 // Moves what stands at a path, in the place of what stands at the other one.
 fn rename(table: &mut Table, old: &Path, new: &Path) -> Result<(), Refusal>
-    requires source { IsSome (look_in table.old old.now) }
-    requires directory { is_directory_seen (look_in table.old (parent_of new.now)) ≡ true }
+    requires source { IsSome (look (world_of table.old) old.now) }
+    requires directory { is_directory_seen (look (world_of table.old) (parent_of new.now)) ≡ true }
     requires named { old.now ≢ [] }
     requires other_named { new.now ≢ [] }
-    requires below { (is_directory_seen (look_in table.old old.now) && is_below old.now new.now) ≡ false }
-    requires empty { are_same_seen (look_in table.old old.now) (look_in table.old new.now) ≡ false → has_names_seen (look_in table.old new.now) ≡ false }
-    ensures world { OnOk result ((w : World) → Stands table.old w → Stands table.new (after_rename w old.now new.now)) }
-    ensures named { OnOk result (IsNamedBut table.old None → IsNamedBut table.new None) }
+    requires below { (is_directory_seen (look (world_of table.old) old.now) && is_below old.now new.now) ≡ false }
+    requires empty { are_same_seen (look (world_of table.old) old.now) (look (world_of table.old) new.now) ≡ false → has_names_seen (look (world_of table.old) new.now) ≡ false }
+    ensures world { OnOk result (world_of table.new ≡ after_rename (world_of table.old) old.now new.now) }
     ensures err { OnErr result (table.new.rows ≡ table.old.rows) }
     ensures memory { IfErr result (λ refusal. refusal ≡ Refusal.Enomem) }
 {
+    table.law();
     let is_same = are_same(seen(table, old), seen(table, new));
     if is_same {
         return Ok(());
     }
-    let replaced = table.replace_name(old.names(), new.names())?;
-    drop_any_if_lost(table, replaced);
-    Ok(())
+    table.replace_name(old.names(), new.names())
 }
 
 // Exchanges what stands at two paths. It takes no memory.
 fn exchange(table: &mut Table, old: &Path, new: &Path)
-    requires source { IsSome (look_in table.old old.now) }
-    requires target { IsSome (look_in table.old new.now) }
-    requires below { are_same_seen (look_in table.old old.now) (look_in table.old new.now) ≡ false → (is_directory_seen (look_in table.old old.now) && is_below old.now new.now) ≡ false }
-    requires above { are_same_seen (look_in table.old old.now) (look_in table.old new.now) ≡ false → (is_directory_seen (look_in table.old new.now) && is_below new.now old.now) ≡ false }
-    ensures world { (w : World) → Stands table.old w → Stands table.new (after_exchange w old.now new.now) }
-    ensures named { IsNamedBut table.old None → IsNamedBut table.new None }
+    requires source { IsSome (look (world_of table.old) old.now) }
+    requires target { IsSome (look (world_of table.old) new.now) }
+    requires below { are_same_seen (look (world_of table.old) old.now) (look (world_of table.old) new.now) ≡ false → (is_directory_seen (look (world_of table.old) old.now) && is_below old.now new.now) ≡ false }
+    requires above { are_same_seen (look (world_of table.old) old.now) (look (world_of table.old) new.now) ≡ false → (is_directory_seen (look (world_of table.old) new.now) && is_below new.now old.now) ≡ false }
+    ensures world { world_of table.new ≡ after_exchange (world_of table.old) old.now new.now }
 {
+    table.law();
     let is_one = are_same(seen(table, old), seen(table, new));
     if is_one {
         return;
@@ -194,9 +169,9 @@ fn exchange(table: &mut Table, old: &Path, new: &Path)
 
 // The key of what stands at a path.
 fn key_at(table: &Table, path: &Path) -> Key
-    requires there { IsSome (look_in table.now path.now) }
-    ensures found { at table.now path.now ≡ Some result }
-    ensures there { IsSome (what_at table.now result) }
+    requires there { IsSome (look (world_of table.now) path.now) }
+    ensures found { number_of table.now (Some result) ≡ finmap.get (world_of table.now).paths path.now }
+    ensures there { IsSome (number_of table.now (Some result)) }
 {
     match table.resolve(path.names()) {
         Ok(key) => key,
@@ -206,8 +181,8 @@ fn key_at(table: &Table, path: &Path) -> Key
 
 // What is told of a file.
 fn stat(table: &Table, path: &Path) -> Answer
-    requires there { IsSome (look_in table.now path.now) }
-    ensures { (w : World) → Stands table.now w → result ≡ stat_of w path.now }
+    requires there { IsSome (look (world_of table.now) path.now) }
+    ensures { result ≡ stat_of (world_of table.now) path.now }
 {
     let key = key_at(table, path);
     Answer::Stat {
@@ -249,8 +224,8 @@ fn read(
     offset: usize,
     count: usize,
 ) -> Result<Bytes, AllocError>
-    requires there { IsSome (look_in table.now path.now) }
-    ensures { IfOk result (λ bytes. (w : World) → Stands table.now w → bytes ≡ take count (drop offset (bytes_at w path.now))) }
+    requires there { IsSome (look (world_of table.now) path.now) }
+    ensures { IfOk result (λ bytes. bytes ≡ take count (drop offset (bytes_at (world_of table.now) path.now))) }
 {
     let content = table.content(key_at(table, path));
     let bytes = Vec::from_slice(alloc, front(rest(content, offset), count))?;
@@ -259,9 +234,9 @@ fn read(
 
 // The names in a directory, in the order of their bytes.
 fn list(alloc: Global, table: &Table, path: &Path) -> Result<Names, AllocError>
-    requires there { IsSome (look_in table.now path.now) }
-    requires directory { is_directory_seen (look_in table.now path.now) ≡ true }
-    ensures { IfOk result (λ names. (w : World) → Stands table.now w → names ≡ names_in w path.now) }
+    requires there { IsSome (look (world_of table.now) path.now) }
+    requires directory { is_directory_seen (look (world_of table.now) path.now) ≡ true }
+    ensures { IfOk result (λ names. names ≡ names_in (world_of table.now) path.now) }
 {
     let mut names = Vec::new(alloc);
     for name in table.child_names(key_at(table, path)) {
@@ -272,14 +247,12 @@ fn list(alloc: Global, table: &Table, path: &Path) -> Result<Names, AllocError>
 
 // Does what the call says.
 fn perform(alloc: Global, table: &mut Table, ready: Ready) -> Result<Answer, Refusal>
-    requires ready { IsReady table.old ready }
-    ensures world { OnOk result ((w : World) → Stands table.old w → Stands table.new (after w ready.entry.counts ready.entry.call)) }
-    ensures named { OnOk result (IsNamedBut table.old None → IsNamedBut table.new None) }
-    ensures answer { IfOk result (λ answer. (w : World) → Stands table.old w → answer ≡ answer_of w ready.entry.counts ready.entry.call) }
+    requires ready { IsReady (world_of table.old) ready }
+    ensures world { OnOk result (world_of table.new ≡ after (world_of table.old) ready.entry.counts ready.entry.call) }
+    ensures answer { IfOk result (λ answer. answer ≡ answer_of (world_of table.old) ready.entry.counts ready.entry.call) }
     ensures err { OnErr result (table.new.rows ≡ table.old.rows) }
     ensures memory { IfErr result (λ refusal. refusal ≡ Refusal.Enomem) }
 {
-    table.law();
     let number = ready.counts.next_number;
     match ready.call {
         FileCall::Create { path, mode } => {
@@ -352,14 +325,14 @@ fn perform(alloc: Global, table: &mut Table, ready: Ready) -> Result<Answer, Ref
 /// # Errors
 /// `ENOMEM` alone, and then the table is as before.
 pub fn carry_out(alloc: Global, table: &mut Table, ready: Ready) -> Result<Answer, Refusal>
-    requires ready { IsReady table.old ready }
-    ensures world { OnOk result ((w : World) → Stands table.old w → Stands table.new (after w ready.entry.counts ready.entry.call)) }
-    ensures numbers { OnOk result (HasNumbersBelow table.new (ready.entry.counts.next_number + numbers_of ready.entry.call)) }
-    ensures answer { IfOk result (λ answer. (w : World) → Stands table.old w → answer ≡ answer_of w ready.entry.counts ready.entry.call) }
+    requires ready { IsReady (world_of table.old) ready }
+    ensures world { OnOk result (world_of table.new ≡ after (world_of table.old) ready.entry.counts ready.entry.call) }
+    ensures numbers { OnOk result (HasNumbersBelow (world_of table.new) (ready.entry.counts.next_number + numbers_of ready.entry.call)) }
+    ensures answer { IfOk result (λ answer. answer ≡ answer_of (world_of table.old) ready.entry.counts ready.entry.call) }
     ensures err { OnErr result (table.new.rows ≡ table.old.rows) }
-    ensures err_world { OnErr result ((w : World) → Stands table.old w → Stands table.new w) }
-    ensures err_numbers { OnErr result (HasNumbersBelow table.new ready.entry.counts.next_number) }
-    ensures named { IsNamedBut table.old None → IsNamedBut table.new None }
+    ensures err_world { OnErr result (world_of table.new ≡ world_of table.old) }
+    ensures err_numbers { OnErr result (HasNumbersBelow (world_of table.new) ready.entry.counts.next_number) }
+    ensures whole { IsWhole (world_of table.old) → IsWhole (world_of table.new) }
     ensures memory { IfErr result (λ refusal. refusal ≡ Refusal.Enomem) }
 {
     table.law();

@@ -1,12 +1,12 @@
 //! Which calls are refused.
 ghost use Rattle.std.specs.Prelude.{◌≡◌, ◌<◌, length, Some, None, IfOk, IfErr, OnOk};
 ghost use Rattle.inode_table.specs.Paths.{is_below};
-ghost use Rattle.inode_table.specs.World.{World};
-ghost use Rattle.inode_table.specs.Stands.{Stands, look_in};
+ghost use Rattle.inode_table.specs.World.{look};
+ghost use Rattle.inode_table.specs.TableWorld.{world_of, HasNumbersBelow};
 ghost use Rattle.tree_paths.specs.Rows.{first_row};
 ghost use Rattle.inode_table.specs.Refusals.{is_directory_seen, find, parent};
 ghost use Rattle.tree_ops.specs.Refused.{is_root, make_rows, write_rows, read_rows, truncate_rows, chmod_rows, link_rows, unlink_rows, rmdir_rows, move_rows, rename_rows, noreplace_rows, swap_rows, exchange_rows, rename2_rows, find_rows, list_rows, refusal_of, cookies_seen, refused, cookies_of, has_names_seen, are_same_seen};
-ghost use Rattle.tree_ops.specs.ReadyCall.{IsReady, HasNumbersBelow};
+ghost use Rattle.tree_ops.specs.ReadyCall.{IsReady};
 
 use crate::call::{Counts, FileCall, MAX_MODE, RENAME_EXCHANGE, RENAME_NOREPLACE};
 use inode_table::{Kind, Seen, Table};
@@ -59,13 +59,13 @@ impl<'a> Ready<'a> {
 
 // What stands at a path, if anything does.
 pub(crate) fn seen(table: &Table, path: &Path) -> Option<Seen>
-    ensures { result ≡ look_in table.now path.now }
+    ensures { result ≡ look (world_of table.now) path.now }
 {
     table.look(path.names()).ok()
 }
 
 fn missing(table: &Table, path: &Path) -> Option<Refusal>
-    ensures { result ≡ find (look_in table.now) path.now }
+    ensures { result ≡ find (look (world_of table.now)) path.now }
 {
     table.look(path.names()).err()
 }
@@ -83,7 +83,7 @@ fn is_directory(seen: Option<Seen>) -> bool
 #[tactic(auto, unfolding(inode_table::specs::Refusals::parent))]
 fn parent_fault(table: &Table, path: &Path) -> Option<Refusal>
     requires { 0 < length path.now }
-    ensures { result ≡ parent (look_in table.now) path.now }
+    ensures { result ≡ parent (look (world_of table.now)) path.now }
 {
     let Some((parent, _)) = path.parent_and_name() else {
         unreachable!()
@@ -108,7 +108,7 @@ fn make_fault(
     counts: &Counts,
     limits: &Limits,
 ) -> Option<Refusal>
-    ensures { result ≡ first_row (make_rows (look_in table.now) limits.now counts.now path.now mode) }
+    ensures { result ≡ first_row (make_rows (look (world_of table.now)) limits.now counts.now path.now mode) }
 {
     if mode > MAX_MODE {
         return Some(Refusal::Einval);
@@ -130,14 +130,14 @@ fn make_fault(
 
 #[tactic(auto, unfolding(crate::specs::Refused::find_rows))]
 fn find_fault(table: &Table, path: &Path) -> Option<Refusal>
-    ensures { result ≡ first_row (find_rows (look_in table.now) path.now) }
+    ensures { result ≡ first_row (find_rows (look (world_of table.now)) path.now) }
 {
     missing(table, path)
 }
 
 #[tactic(auto, unfolding(crate::specs::Refused::read_rows))]
 fn read_fault(table: &Table, path: &Path) -> Option<Refusal>
-    ensures { result ≡ first_row (read_rows (look_in table.now) path.now) }
+    ensures { result ≡ first_row (read_rows (look (world_of table.now)) path.now) }
 {
     match table.look(path.names()) {
         Err(refusal) => Some(refusal),
@@ -154,7 +154,7 @@ fn write_fault(
     count: usize,
     limits: &Limits,
 ) -> Option<Refusal>
-    ensures { result ≡ first_row (write_rows (look_in table.now) limits.now path.now offset count) }
+    ensures { result ≡ first_row (write_rows (look (world_of table.now)) limits.now path.now offset count) }
 {
     match table.look(path.names()) {
         Err(refusal) => Some(refusal),
@@ -171,7 +171,7 @@ fn write_fault(
 
 #[tactic(auto, unfolding(crate::specs::Refused::truncate_rows))]
 fn truncate_fault(table: &Table, path: &Path, len: u64, limits: &Limits) -> Option<Refusal>
-    ensures { result ≡ first_row (truncate_rows (look_in table.now) limits.now path.now len) }
+    ensures { result ≡ first_row (truncate_rows (look (world_of table.now)) limits.now path.now len) }
 {
     match table.look(path.names()) {
         Err(refusal) => Some(refusal),
@@ -188,7 +188,7 @@ fn truncate_fault(table: &Table, path: &Path, len: u64, limits: &Limits) -> Opti
 
 #[tactic(auto, unfolding(crate::specs::Refused::chmod_rows))]
 fn chmod_fault(table: &Table, path: &Path, mode: u32) -> Option<Refusal>
-    ensures { result ≡ first_row (chmod_rows (look_in table.now) path.now mode) }
+    ensures { result ≡ first_row (chmod_rows (look (world_of table.now)) path.now mode) }
 {
     if mode > MAX_MODE {
         return Some(Refusal::Einval);
@@ -198,7 +198,7 @@ fn chmod_fault(table: &Table, path: &Path, mode: u32) -> Option<Refusal>
 
 #[tactic(auto, unfolding(crate::specs::Refused::link_rows))]
 fn link_fault(table: &Table, old: &Path, new: &Path, limits: &Limits) -> Option<Refusal>
-    ensures { result ≡ first_row (link_rows (look_in table.now) limits.now old.now new.now) }
+    ensures { result ≡ first_row (link_rows (look (world_of table.now)) limits.now old.now new.now) }
 {
     match table.look(old.names()) {
         Err(refusal) => Some(refusal),
@@ -225,7 +225,7 @@ fn link_fault(table: &Table, old: &Path, new: &Path, limits: &Limits) -> Option<
 
 #[tactic(auto, unfolding(crate::specs::Refused::unlink_rows))]
 fn unlink_fault(table: &Table, path: &Path) -> Option<Refusal>
-    ensures { result ≡ first_row (unlink_rows (look_in table.now) path.now) }
+    ensures { result ≡ first_row (unlink_rows (look (world_of table.now)) path.now) }
 {
     match table.look(path.names()) {
         Err(refusal) => Some(refusal),
@@ -236,7 +236,7 @@ fn unlink_fault(table: &Table, path: &Path) -> Option<Refusal>
 
 #[tactic(auto, unfolding(crate::specs::Refused::rmdir_rows))]
 fn rmdir_fault(table: &Table, path: &Path) -> Option<Refusal>
-    ensures { result ≡ first_row (rmdir_rows (look_in table.now) path.now) }
+    ensures { result ≡ first_row (rmdir_rows (look (world_of table.now)) path.now) }
 {
     if path.names().is_empty() {
         return Some(Refusal::Ebusy);
@@ -257,7 +257,7 @@ fn rmdir_fault(table: &Table, path: &Path) -> Option<Refusal>
 
 #[tactic(auto, unfolding(crate::specs::Refused::list_rows))]
 fn list_fault(table: &Table, path: &Path) -> Option<Refusal>
-    ensures { result ≡ first_row (list_rows (look_in table.now) path.now) }
+    ensures { result ≡ first_row (list_rows (look (world_of table.now)) path.now) }
 {
     match table.look(path.names()) {
         Err(refusal) => Some(refusal),
@@ -316,7 +316,7 @@ fn rename_fault(
     counts: &Counts,
     limits: &Limits,
 ) -> Option<Refusal>
-    ensures { result ≡ first_row (rename_rows (look_in table.now) limits.now counts.now old.now new.now) }
+    ensures { result ≡ first_row (rename_rows (look (world_of table.now)) limits.now counts.now old.now new.now) }
 {
     if old.names().is_empty() || new.names().is_empty() {
         return Some(Refusal::Ebusy);
@@ -346,7 +346,7 @@ fn noreplace_fault(
     counts: &Counts,
     limits: &Limits,
 ) -> Option<Refusal>
-    ensures { result ≡ first_row (noreplace_rows (look_in table.now) limits.now counts.now old.now new.now) }
+    ensures { result ≡ first_row (noreplace_rows (look (world_of table.now)) limits.now counts.now old.now new.now) }
 {
     if is_root(old) || is_root(new) {
         return Some(Refusal::Ebusy);
@@ -406,7 +406,7 @@ fn exchange_fault(
     counts: &Counts,
     limits: &Limits,
 ) -> Option<Refusal>
-    ensures { result ≡ first_row (exchange_rows (look_in table.now) limits.now counts.now old.now new.now) }
+    ensures { result ≡ first_row (exchange_rows (look (world_of table.now)) limits.now counts.now old.now new.now) }
 {
     if is_root(old) || is_root(new) {
         return Some(Refusal::Ebusy);
@@ -433,7 +433,7 @@ fn rename2_fault(
     counts: &Counts,
     limits: &Limits,
 ) -> Option<Refusal>
-    ensures { result ≡ first_row (rename2_rows (look_in table.now) limits.now counts.now old.now new.now flags) }
+    ensures { result ≡ first_row (rename2_rows (look (world_of table.now)) limits.now counts.now old.now new.now flags) }
 {
     match flags {
         0 => rename_fault(table, old, new, counts, limits),
@@ -459,7 +459,7 @@ fn is_below(path: &Path, above: &Path) -> bool
 // Why a call is refused, if it is.
 #[tactic(auto, unfolding(crate::specs::Refused::refusal_of))]
 fn fault(table: &Table, call: &FileCall, counts: &Counts, limits: &Limits) -> Option<Refusal>
-    ensures { result ≡ refusal_of (look_in table.now) limits.now counts.now call.now }
+    ensures { result ≡ refusal_of (look (world_of table.now)) limits.now counts.now call.now }
 {
     match call {
         FileCall::Create { path, mode } => make_fault(table, path, *mode, counts, limits),
@@ -486,7 +486,7 @@ fn fault(table: &Table, call: &FileCall, counts: &Counts, limits: &Limits) -> Op
 
 // How many cookies the call uses.
 fn cookies(table: &Table, call: &FileCall) -> u32
-    ensures { result ≡ cookies_seen (look_in table.now) call.now }
+    ensures { result ≡ cookies_seen (look (world_of table.now)) call.now }
 {
     match call {
         FileCall::Rename { old, new } if !are_same(seen(table, old), seen(table, new)) => 1,
@@ -506,15 +506,14 @@ pub fn check<'a>(
     counts: &Counts,
     limits: &Limits,
 ) -> Result<Ready<'a>, Refusal>
-    requires numbers { HasNumbersBelow table.now counts.now.next_number }
-    ensures refused { (w : World) → Stands table.now w → IfErr result (λ refusal. refused w limits.now counts.now call.now ≡ Some refusal) }
-    ensures accepted { (w : World) → Stands table.now w → OnOk result (refused w limits.now counts.now call.now ≡ None) }
-    ensures ready { IfOk result (λ ready. IsReady table.now ready) }
+    requires numbers { HasNumbersBelow (world_of table.now) counts.now.next_number }
+    ensures refused { IfErr result (λ refusal. refused (world_of table.now) limits.now counts.now call.now ≡ Some refusal) }
+    ensures accepted { OnOk result (refused (world_of table.now) limits.now counts.now call.now ≡ None) }
+    ensures ready { IfOk result (λ ready. IsReady (world_of table.now) ready) }
     ensures call { IfOk result (λ ready. ready.call ≡ call.now) }
     ensures counts { IfOk result (λ ready. ready.counts ≡ counts.now) }
-    ensures cookies { (w : World) → Stands table.now w → IfOk result (λ ready. ready.cookies ≡ cookies_of w call.now) }
+    ensures cookies { IfOk result (λ ready. ready.cookies ≡ cookies_of (world_of table.now) call.now) }
 {
-    table.law();
     match fault(table, call, counts, limits) {
         Some(refusal) => Err(refusal),
         None => Ok(Ready {

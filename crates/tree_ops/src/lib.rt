@@ -1,7 +1,7 @@
 //! The calls on files: which are refused, what the others do to the table, and what they answer.
 //!
 //! [`check`] finds the first row that refuses a call and takes no memory. What it lets through is a [`Ready`], which [`carry_out`]
-//! does to the table. Contracts see the table as the world of files that it stands for.
+//! does to the table. Contracts see the table as its world of files.
 #![tactic(auto)]
 
 mod answer;

@@ -6,7 +6,7 @@ ghost use Rattle.std.specs.FinMap as finmap;
 ghost use Rattle.inode_table.specs.Paths.{is_below};
 ghost use Rattle.inode_table.specs.Refusals.{parent_of};
 ghost use Rattle.inode_table.specs.Rows.{Label};
-ghost use Rattle.inode_table.specs.Tree.{at, what_at, IsNamedBut};
+ghost use Rattle.inode_table.specs.Tree.{at, what_at};
 
 use super::Table;
 use crate::content::Content;
@@ -16,9 +16,9 @@ use record_codec::Name;
 use tree_paths::Refusal;
 
 impl Table {
-    ghost use Rattle.inode_table.specs.World.{World, with_file, with_move, with_swap, without_path, without_file, without_lost, linked, changed_at};
+    ghost use Rattle.inode_table.specs.World.{with_file, with_move, with_swap, without_path, without_lost, linked, changed_at, look};
     ghost use Rattle.inode_table.specs.Refusals.{is_directory_seen};
-    ghost use Rattle.inode_table.specs.Stands.{Stands, IsUnused, look_in, number_of};
+    ghost use Rattle.inode_table.specs.TableWorld.{world_of};
 
     /// Gives a free path to a new file without bytes, or to a new empty directory. `reserve_node` has made room for it.
     pub fn add_node(
@@ -30,16 +30,15 @@ impl Table {
     ) -> Result<(), Refusal>
         requires room { 1 ≤ self.old.room }
         requires named { path.now ≢ [] }
-        requires directory { is_directory_seen (look_in self.old (parent_of path.now)) ≡ true }
-        requires free { look_in self.old path.now ≡ None }
-        requires unused { IsUnused self.old number }
-        ensures world { OnOk result ((w : World) → Stands self.old w → Stands self.new (with_file w path.now number (record { kind = kind; mode = mode; bytes = [] }))) }
-        ensures named { OnOk result (IsNamedBut self.old None → IsNamedBut self.new None) }
+        requires directory { is_directory_seen (look (world_of self.old) (parent_of path.now)) ≡ true }
+        requires free { look (world_of self.old) path.now ≡ None }
+        requires unused { finmap.get (world_of self.old).files number ≡ None }
+        ensures world { OnOk result (world_of self.new ≡ with_file (world_of self.old) path.now number (record { kind = kind; mode = mode; bytes = [] })) }
         ensures room { OnOk result (self.new.room + 1 ≡ self.old.room) }
         ensures err { OnErr result (self.new ≡ self.old) }
         ensures memory { IfErr result (λ refusal. refusal ≡ Refusal.Enomem) }
     {
-        self.law();
+        self.rows_law();
         let (parent, name) = parent_and_name(path);
         let copy = name.copy()?;
         let directory = self.key_at(parent);
@@ -50,19 +49,18 @@ impl Table {
 
     /// Gives a free path more to a file that is there (a hard link).
     pub fn add_name(&mut self, old: &[Name], new: &[Name]) -> Result<(), Refusal>
-        requires source { IsSome (look_in self.old old.now) }
-        requires regular { is_directory_seen (look_in self.old old.now) ≡ false }
-        requires links { IfSome (look_in self.old old.now) (λ seen. seen.links + 1 < 2 ^ 64) }
+        requires source { IsSome (look (world_of self.old) old.now) }
+        requires regular { is_directory_seen (look (world_of self.old) old.now) ≡ false }
+        requires links { IfSome (look (world_of self.old) old.now) (λ seen. seen.links + 1 < 2 ^ 64) }
         requires named { new.now ≢ [] }
-        requires directory { is_directory_seen (look_in self.old (parent_of new.now)) ≡ true }
-        requires free { look_in self.old new.now ≡ None }
-        ensures world { OnOk result ((w : World) → Stands self.old w → Stands self.new (linked w new.now (finmap.get w.paths old.now))) }
-        ensures named { OnOk result (IsNamedBut self.old None → IsNamedBut self.new None) }
+        requires directory { is_directory_seen (look (world_of self.old) (parent_of new.now)) ≡ true }
+        requires free { look (world_of self.old) new.now ≡ None }
+        ensures world { OnOk result (world_of self.new ≡ linked (world_of self.old) new.now (finmap.get (world_of self.old).paths old.now)) }
         ensures room { OnOk result (self.new.room ≡ self.old.room) }
         ensures err { OnErr result (self.new ≡ self.old) }
         ensures memory { IfErr result (λ refusal. refusal ≡ Refusal.Enomem) }
     {
-        self.law();
+        self.rows_law();
         let (parent, name) = parent_and_name(new);
         let copy = name.copy()?;
         let key = self.key_at(old);
@@ -72,8 +70,76 @@ impl Table {
     }
 
     /// Moves a file, or a directory with all that is below it, to another path, in the place of a file or an empty
-    /// directory that is there. What was there has one path less; its key is answered.
-    pub fn replace_name(&mut self, old: &[Name], new: &[Name]) -> Result<Option<Key>, Refusal>
+    /// directory that is there, which goes where that was its last path.
+    pub fn replace_name(&mut self, old: &[Name], new: &[Name]) -> Result<(), Refusal>
+        requires source { IsSome (look (world_of self.old) old.now) }
+        requires named { old.now ≢ [] }
+        requires other_named { new.now ≢ [] }
+        requires other { old.now ≢ new.now }
+        requires below { (is_directory_seen (look (world_of self.old) old.now) && is_below old.now new.now) ≡ false }
+        requires directory { is_directory_seen (look (world_of self.old) (parent_of new.now)) ≡ true }
+        requires empty { IfSome (look (world_of self.old) new.now) (λ seen. seen.has_names ≡ false) }
+        ensures world { OnOk result (world_of self.new ≡ without_lost (with_move (world_of self.old) old.now new.now) (finmap.get (world_of self.old).paths new.now)) }
+        ensures room { OnOk result (self.old.room ≤ self.new.room) }
+        ensures err { OnErr result (self.new ≡ self.old) }
+        ensures memory { IfErr result (λ refusal. refusal ≡ Refusal.Enomem) }
+    {
+        self.rows_law();
+        if let Some(replaced) = self.put_name(old, new)? {
+            self.drop_if_lost(replaced);
+        }
+        Ok(())
+    }
+
+    /// Takes out the path of a file or of an empty directory, which goes where that was its last path.
+    pub fn drop_name(&mut self, path: &[Name])
+        requires named { path.now ≢ [] }
+        requires there { IsSomeAnd (look (world_of self.old) path.now) (λ seen. seen.has_names ≡ false) }
+        ensures world { world_of self.new ≡ without_lost (without_path (world_of self.old) path.now) (finmap.get (world_of self.old).paths path.now) }
+        ensures room { self.old.room ≤ self.new.room }
+    {
+        self.rows_law();
+        let key = self.take_name(path);
+        self.drop_if_lost(key);
+    }
+
+    /// Exchanges two paths, with all that is below each.
+    pub fn swap_names(&mut self, one: &[Name], other: &[Name])
+        requires there { IsSome (look (world_of self.old) one.now) }
+        requires other_there { IsSome (look (world_of self.old) other.now) }
+        requires other { one.now ≢ other.now }
+        requires below { (is_directory_seen (look (world_of self.old) one.now) && is_below one.now other.now) ≡ false }
+        requires above { (is_directory_seen (look (world_of self.old) other.now) && is_below other.now one.now) ≡ false }
+        ensures world { world_of self.new ≡ with_swap (world_of self.old) one.now other.now }
+        ensures room { self.new.room ≡ self.old.room }
+    {
+        self.rows_law();
+        let (parent, name) = parent_and_name(one);
+        let (other_parent, other_name) = parent_and_name(other);
+        let directory = self.key_at(parent);
+        let other_directory = self.key_at(other_parent);
+        self.swap_names_at(directory, name, other_directory, other_name);
+    }
+
+    /// Gives another mode to what stands at a path.
+    pub fn set_mode(&mut self, path: &[Name], mode: u32)
+        requires there { IsSome (look (world_of self.old) path.now) }
+        ensures world { world_of self.new ≡ changed_at (world_of self.old) path.now (λ f. record f { mode = mode }) }
+        ensures room { self.new.room ≡ self.old.room }
+    {
+        self.rows_law();
+        let key = self.key_at(path);
+        self.set_mode_at(key, mode);
+    }
+}
+
+impl Table {
+    ghost use Rattle.inode_table.specs.World.{World, with_move, without_path, without_lost};
+    ghost use Rattle.inode_table.specs.Refusals.{is_directory_seen};
+    ghost use Rattle.inode_table.specs.Stands.{Stands, look_in, number_of};
+
+    // Moves a path to another one, which may be taken, and tells the key of what was there, which has one path less.
+    fn put_name(&mut self, old: &[Name], new: &[Name]) -> Result<Option<usize>, Refusal>
         requires source { IsSome (look_in self.old old.now) }
         requires named { old.now ≢ [] }
         requires other_named { new.now ≢ [] }
@@ -84,91 +150,48 @@ impl Table {
         ensures world { OnOk result ((w : World) → Stands self.old w → Stands self.new (with_move w old.now new.now)) }
         ensures replaced { IfOk result (λ key. key ≡ at self.old new.now) }
         ensures there { IfOk result (λ key. IfSome key (λ replaced. IsSome (what_at self.new replaced))) }
-        ensures named { IfOk result (λ key. IsNamedBut self.old None → IsNamedBut self.new key) }
         ensures number { IfOk result (λ key. (w : World) → Stands self.old w → finmap.get w.paths new.now ≡ number_of self.new key) }
         ensures room { OnOk result (self.new.room ≡ self.old.room) }
         ensures err { OnErr result (self.new ≡ self.old) }
         ensures memory { IfErr result (λ refusal. refusal ≡ Refusal.Enomem) }
     {
-        self.law();
+        self.rows_law();
         let (parent, name) = parent_and_name(old);
         let (other_parent, other_name) = parent_and_name(new);
         let copy = other_name.copy()?;
-        let replaced = self.resolve(new).ok();
+        let replaced = self.walk(new).ok();
         let directory = self.key_at(parent);
         let other_directory = self.key_at(other_parent);
         self.replace_name_at(directory, name, other_directory, copy)?;
         Ok(replaced)
     }
 
-    /// Takes out the path of a file or of an empty directory, and answers its key.
-    pub fn drop_name(&mut self, path: &[Name]) -> Key
+    // Takes out a path, and tells its key.
+    fn take_name(&mut self, path: &[Name]) -> usize
         requires named { path.now ≢ [] }
         requires there { IsSomeAnd (look_in self.old path.now) (λ seen. seen.has_names ≡ false) }
         ensures world { (w : World) → Stands self.old w → Stands self.new (without_path w path.now) }
         ensures key { at self.old path.now ≡ Some result }
         ensures there { IsSome (what_at self.new result) }
-        ensures named { IsNamedBut self.old None → IsNamedBut self.new (Some result) }
         ensures number { (w : World) → Stands self.old w → finmap.get w.paths path.now ≡ number_of self.new (Some result) }
         ensures room { self.new.room ≡ self.old.room }
     {
-        self.law();
+        self.rows_law();
         let (parent, name) = parent_and_name(path);
         let directory = self.key_at(parent);
-        Key::of(self.drop_name_at(directory, name))
+        self.drop_name_at(directory, name)
     }
 
-    /// Takes away a node that has lost its last name.
-    pub fn drop_node(&mut self, key: Key)
-        requires there { IsSome (what_at self.old key) }
-        requires lost { (p : List Label) → at self.old p ≢ Some key }
-        ensures world { (w : World) (n : ℕ) → Stands self.old w → number_of self.old (Some key) ≡ Some n → Stands self.new (without_file w n) }
-        ensures named { IsNamedBut self.old (Some key) → IsNamedBut self.new None }
-        ensures room { self.new.room ≡ self.old.room + 1 }
-    {
-        self.drop_node_at(key.slot());
-    }
-
-    /// Takes a node away if it has lost its last name.
-    pub fn drop_if_lost(&mut self, key: Key)
+    // Takes a node away if it has lost its last name.
+    fn drop_if_lost(&mut self, key: usize)
         requires there { IsSome (what_at self.old key) }
         ensures world { (w : World) → Stands self.old w → Stands self.new (without_lost w (number_of self.old (Some key))) }
-        ensures named { IsNamedBut self.old (Some key) → IsNamedBut self.new None }
+        ensures room { self.old.room ≤ self.new.room }
     {
-        if self.links(key) == 0 {
-            self.drop_node(key);
+        self.rows_law();
+        if self.node(Key::of(key)).links == 0 {
+            self.drop_node_at(key);
         }
-    }
-
-    /// Exchanges two paths, with all that is below each.
-    pub fn swap_names(&mut self, one: &[Name], other: &[Name])
-        requires there { IsSome (look_in self.old one.now) }
-        requires other_there { IsSome (look_in self.old other.now) }
-        requires other { one.now ≢ other.now }
-        requires below { (is_directory_seen (look_in self.old one.now) && is_below one.now other.now) ≡ false }
-        requires above { (is_directory_seen (look_in self.old other.now) && is_below other.now one.now) ≡ false }
-        ensures world { (w : World) → Stands self.old w → Stands self.new (with_swap w one.now other.now) }
-        ensures named { (lost : Option ℕ) → IsNamedBut self.old lost → IsNamedBut self.new lost }
-        ensures room { self.new.room ≡ self.old.room }
-    {
-        self.law();
-        let (parent, name) = parent_and_name(one);
-        let (other_parent, other_name) = parent_and_name(other);
-        let directory = self.key_at(parent);
-        let other_directory = self.key_at(other_parent);
-        self.swap_names_at(directory, name, other_directory, other_name);
-    }
-
-    /// Gives another mode to what stands at a path.
-    pub fn set_mode(&mut self, path: &[Name], mode: u32)
-        requires there { IsSome (look_in self.old path.now) }
-        ensures world { (w : World) → Stands self.old w → Stands self.new (changed_at w path.now (λ f. record f { mode = mode })) }
-        ensures named { (lost : Option ℕ) → IsNamedBut self.old lost → IsNamedBut self.new lost }
-        ensures room { self.new.room ≡ self.old.room }
-    {
-        self.law();
-        let key = self.key_at(path);
-        self.set_mode_at(key, mode);
     }
 }
 

@@ -16,14 +16,14 @@ use std::collections::BTreeMap;
 use tree_paths::Refusal;
 
 impl Table {
-    ghost use Rattle.inode_table.specs.World.{World};
-    ghost use Rattle.inode_table.specs.Stands.{Stands};
+    ghost use Rattle.inode_table.specs.TableWorld.{world_of};
 
     /// The files in the order of their numbers.
     pub fn files(&self) -> Result<Vec<FileRow>, Refusal>
-        ensures world { IfOk result (λ rows. (w : World) → Stands self.now w → rows.items ≡ map file_row (finmap.entries w.files)) }
+        ensures world { IfOk result (λ rows. rows.items ≡ map file_row (finmap.entries (world_of self.now).files)) }
         ensures memory { IfErr result (λ refusal. refusal ≡ Refusal.Enomem) }
     {
+        self.rows_law();
         let files = all_files(self.alloc, &self.nodes)?;
         let mut rows = Vec::new(self.alloc);
         for entry in files {

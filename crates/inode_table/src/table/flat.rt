@@ -17,14 +17,14 @@ use std::collections::BTreeMap;
 use tree_paths::{Path, Refusal};
 
 impl Table {
-    ghost use Rattle.inode_table.specs.World.{World};
-    ghost use Rattle.inode_table.specs.Stands.{Stands};
+    ghost use Rattle.inode_table.specs.TableWorld.{world_of};
 
     /// The paths in the order of their names, a prefix first, each with the number of its file.
     pub fn flat(&self) -> Result<Vec<(Path, u32)>, Refusal>
-        ensures world { IfOk result (λ rows. (w : World) → Stands self.now w → rows.items ≡ finmap.entries w.paths) }
+        ensures world { IfOk result (λ rows. rows.items ≡ finmap.entries (world_of self.now).paths) }
         ensures memory { IfErr result (λ refusal. refusal ≡ Refusal.Enomem) }
     {
+        self.rows_law();
         let found = all_paths(self.alloc, &self.nodes)?;
         let mut rows = Vec::new(self.alloc);
         for row in found {

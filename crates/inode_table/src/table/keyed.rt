@@ -205,6 +205,8 @@ impl Table {
         ensures looks { (p : List Label) → look_in self.new p ≡ look_in self.old p }
         ensures world { (w : World) → Stands self.old w → Stands self.new w }
         ensures reserved { OnOk result (len ≤ reserved self.new.rows key) }
+        ensures enough { len ≤ reserved self.old.rows key → OnOk result (self.new ≡ self.old) }
+        ensures short { OnErr result (reserved self.old.rows key < len) }
         ensures room { self.new.room ≡ self.old.room }
         ensures err { OnErr result (self.new ≡ self.old) }
     {

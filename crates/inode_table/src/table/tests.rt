@@ -4,9 +4,8 @@ ghost use Rattle.std.specs.Prelude.{◌≡◌, ◌≢◌, ◌<◌, ◌+◌, ℕ,
 ghost use Rattle.slab.specs.Slab.{get};
 ghost use Rattle.inode_table.specs.Paths.{is_below};
 ghost use Rattle.inode_table.specs.Refusals.{is_directory_seen, parent_of};
-ghost use Rattle.inode_table.specs.Rows.{What};
-ghost use Rattle.inode_table.specs.Stands.{look_in};
-ghost use Rattle.inode_table.specs.Tree.{what_at};
+ghost use Rattle.inode_table.specs.TableWorld.{world_of, HasNumbersBelow};
+ghost use Rattle.inode_table.specs.World.{look};
 ghost use Rattle.inode_table.specs.declared.node.Node.{Node};
 
 use super::Table;
@@ -36,13 +35,13 @@ fn are_below(nodes: &Slab<Node>, number: u32) -> bool
 
 // Whether the number of each file is below this one.
 fn has_below(table: &Table, number: u32) -> bool
-    ensures { IsTrue result → (k : ℕ) (v : What) → what_at table.now k ≡ Some v → v.number < number }
+    ensures { IsTrue result → HasNumbersBelow (world_of table.now) number }
 {
     are_below(&table.nodes, number)
 }
 
 fn is_directory(table: &Table, path: &[Name]) -> bool
-    ensures { result ≡ is_directory_seen (look_in table.now path.now) }
+    ensures { result ≡ is_directory_seen (look (world_of table.now) path.now) }
 {
     match table.look(path) {
         Ok(seen) => seen.kind == Kind::Directory,
@@ -52,7 +51,7 @@ fn is_directory(table: &Table, path: &[Name]) -> bool
 
 // Whether there are names below the path.
 fn has_names(table: &Table, path: &[Name]) -> bool
-    ensures { result ≡ false → IfSome (look_in table.now path.now) (λ seen. seen.has_names ≡ false) }
+    ensures { result ≡ false → IfSome (look (world_of table.now) path.now) (λ seen. seen.has_names ≡ false) }
 {
     match table.look(path) {
         Ok(seen) => seen.has_names,
@@ -63,7 +62,7 @@ fn has_names(table: &Table, path: &[Name]) -> bool
 // Whether a name can stand at the path: it is not the root's, and its directory is there.
 fn has_parent(table: &Table, path: &[Name]) -> bool
     ensures named { IsTrue result → path.now ≢ [] }
-    ensures directory { IsTrue result → is_directory_seen (look_in table.now (parent_of path.now)) ≡ true }
+    ensures directory { IsTrue result → is_directory_seen (look (world_of table.now) (parent_of path.now)) ≡ true }
 {
     match path.split_last() {
         Some((_, parent)) => is_directory(table, parent),
@@ -74,8 +73,8 @@ fn has_parent(table: &Table, path: &[Name]) -> bool
 // Whether a new name can stand at the path.
 fn is_free(table: &Table, path: &[Name]) -> bool
     ensures named { IsTrue result → path.now ≢ [] }
-    ensures directory { IsTrue result → is_directory_seen (look_in table.now (parent_of path.now)) ≡ true }
-    ensures free { IsTrue result → look_in table.now path.now ≡ None }
+    ensures directory { IsTrue result → is_directory_seen (look (world_of table.now) (parent_of path.now)) ≡ true }
+    ensures free { IsTrue result → look (world_of table.now) path.now ≡ None }
 {
     has_parent(table, path) && table.look(path).is_err()
 }
@@ -146,15 +145,14 @@ impl Calls {
     }
 
     fn add_last(&mut self, path: &str, number: u32, mode: u32, kind: Kind) -> Result<bool, Refusal>
-        requires { (k : ℕ) (v : What) → what_at self.old.table k ≡ Some v → v.number < number }
-        ensures { OnOk result ((k : ℕ) (v : What) → what_at self.new.table k ≡ Some v → v.number < number + 1) }
+        requires { HasNumbersBelow (world_of self.old.table) number }
+        ensures { OnOk result (HasNumbersBelow (world_of self.new.table) (number + 1)) }
     {
         let path = self.path(path)?;
         if !is_free(&self.table, path.names()) {
             return Ok(false);
         }
         self.table.reserve_node()?;
-        self.table.law();
         self.table.add_node(path.names(), number, mode, kind)?;
         Ok(true)
     }
@@ -178,10 +176,7 @@ impl Calls {
         if seen.has_names || path.names().is_empty() {
             return Ok(false);
         }
-        let key = self.table.drop_name(path.names());
-        if self.table.links(key) == 0 {
-            self.table.drop_node(key);
-        }
+        self.table.drop_name(path.names());
         Ok(true)
     }
 
@@ -194,9 +189,7 @@ impl Calls {
         if !has_parent(&self.table, new.names()) || has_names(&self.table, new.names()) {
             return Ok(false);
         }
-        if let Some(replaced) = self.table.replace_name(old.names(), new.names())? {
-            self.table.drop_if_lost(replaced);
-        }
+        self.table.replace_name(old.names(), new.names())?;
         Ok(true)
     }
 

@@ -1,4 +1,4 @@
-use Rattle.std.proofs.Common.{rules, ◌≡◌, true, Some, fold, sym, ◌∙◌}
+use Rattle.std.proofs.Common.{rules, ◌≡◌, true, Some, fold}
 use Rattle.watch_table.specs.Watching.{removed, watch_of}
 use Rattle.event_rules.specs.Raised.{ends_watch, told_number}
 use Rattle.event_rules.proofs.Stages.{heard_ended}

@@ -1,6 +1,6 @@
 use Rattle.std.proofs.Common.{◌≡◌, ℕ, ◌+◌, ◌≤◌, ◌^◌, List, false, if◌then◌else◌, sym, ap, ◌∙◌, subst, IfOk, arith}
+use Rattle.inode_table.specs.TableWorld.{world_of}
 use Rattle.inode_table.specs.World.{look}
-use Rattle.inode_table.specs.Stands.{look_in}
 use Rattle.inode_table.specs.Refusals.{Look}
 use Rattle.tree_ops.specs.declared.call.TheConstants.{RENAME_EXCHANGE}
 use Rattle.tree_ops.specs.declared.call.FileCall.TheVariants.{Rename2}
@@ -9,9 +9,9 @@ use Rattle.event_rules.specs.Table.{notices_of, read_told}
 use Rattle.event_rules.proofs.telling.told.Goals as goal
 
 pub returns-in-ReadFile : goal.returns-in-ReadFile
-returns-in-ReadFile c w stands =
-    let same : look_in c.args.table.now ≡ look w = λ i p. sym (c.law.ensures.looks w stands p) i in
-    let as_said = (λ i. read_told (same i) c.in-ReadFile.path (c.is_answered.ensures w stands i)) ∙ sym (ap (λ call. notices_of w call c.args.cookie) c.in-ReadFile.is) in
+returns-in-ReadFile c =
+    let w = world_of c.args.table.now in
+    let as_said = ap (read_told (look w) c.in-ReadFile.path) c.is_answered.ensures ∙ sym (ap (λ call. notices_of w call c.args.cookie) c.in-ReadFile.is) in
     subst (λ ns. IfOk c.read.result (λ told. told ≡ ns)) as_said c.read.ensures
 
 two-cookies : (at : Look) (old new : List (List ℕ)) (flags : ℕ) → are_same_seen (at old) (at new) ≡ false → flags ≡ RENAME_EXCHANGE → cookies_seen at (Rename2 old new flags) ≡ 2
@@ -20,9 +20,8 @@ two-cookies at old new flags off two = λ i. if off i then 0 else moves_by (two 
 pub exchange-requires : goal.exchange-requires
 exchange-requires c = record {
   next = λ off.
-      let has = c.law.ensures.world in
-      let same = c.law.ensures.looks has.0 has.1 in
-      let two : cookies_of has.0 c.args.call.now ≡ 2 = ap (cookies_of has.0) c.in-Rename2.is ∙ two-cookies (look has.0) c.in-Rename2.old c.in-Rename2.new c.in-Rename2.flags ((λ i. are_same_seen (same c.in-Rename2.old i) (same c.in-Rename2.new i)) ∙ off) c.if-flags-eq-RENAME_EXCHANGE.true in
-      let fits : c.args.cookie + cookies_of has.0 c.args.call.now ≤ 2 ^ 32 = c.requires.cookies has.0 has.1 in
+      let w = world_of c.args.table.now in
+      let two : cookies_of w c.args.call.now ≡ 2 = ap (cookies_of w) c.in-Rename2.is ∙ two-cookies (look w) c.in-Rename2.old c.in-Rename2.new c.in-Rename2.flags off c.if-flags-eq-RENAME_EXCHANGE.true in
+      let fits : c.args.cookie + cookies_of w c.args.call.now ≤ 2 ^ 32 = c.requires.cookies in
       omega (arith, two, fits);
 }

@@ -1,7 +1,10 @@
-use Rattle.std.proofs.Common.{Result, Ok, Err, OnOk, OnErr}
+use Rattle.std.proofs.Common.{◌+◌, Result, Ok, Err, OnOk, OnErr, ap, sym, subst}
 use Rattle.std.proofs.lemmas.Result.{on_ok_weaker, on_err_weaker}
-use Rattle.tree_ops.proofs.Numbers.{numbers-after}
-use Rattle.tree_ops.proofs.SameRows.{stands-rows, numbers-rows, named-rows}
+use Rattle.inode_table.specs.TableWorld.{HasNumbersBelow, world_in, world_of}
+use Rattle.inode_table.specs.World.{IsWhole}
+use Rattle.tree_ops.specs.After.{numbers_of}
+use Rattle.tree_ops.proofs.Numbers.{numbers-after, next-free}
+use Rattle.tree_ops.proofs.WorldsStay.{IsWhole-after}
 use Rattle.tree_ops.proofs.carrying.carry_out.Goals as goal
 
 either_way : {T E P : Type 0} (r : Result T E) → OnOk r P → OnErr r P → P
@@ -10,15 +13,20 @@ either_way (Err e) p q = q
 
 pub returns-clause-numbers : goal.returns-clause-numbers
 returns-clause-numbers c =
-    let has = c.law.ensures.world in
-    on_ok_weaker c.perform.result (λ h. numbers-after has.0 c.args.ready.counts c.args.ready.call has.1 (h has.0 has.1) c.requires.ready.numbers) c.perform.ensures.world
+    on_ok_weaker c.perform.result
+    (λ is. subst (λ w. HasNumbersBelow w (c.args.ready.counts.next_number + numbers_of c.args.ready.call)) (sym is) (numbers-after (world_of c.args.table.now) c.args.ready.counts c.args.ready.call c.requires.ready.numbers))
+    c.perform.ensures.world
 
 pub returns-clause-err_world : goal.returns-clause-err_world
-returns-clause-err_world c = on_err_weaker c.perform.result (λ e w stands. stands-rows c.args.table.now c.perform.new.table e w stands) c.perform.ensures.err
+returns-clause-err_world c = on_err_weaker c.perform.result (λ e. ap world_in e) c.perform.ensures.err
 
 pub returns-clause-err_numbers : goal.returns-clause-err_numbers
-returns-clause-err_numbers c = on_err_weaker c.perform.result (λ e. numbers-rows c.args.table.now c.perform.new.table e c.args.ready.counts.next_number c.requires.ready.numbers) c.perform.ensures.err
+returns-clause-err_numbers c = on_err_weaker c.perform.result (λ e. subst (λ w. HasNumbersBelow w c.args.ready.counts.next_number) (sym (ap world_in e)) c.requires.ready.numbers) c.perform.ensures.err
 
-pub returns-clause-named : goal.returns-clause-named
-returns-clause-named c =
-    either_way c.perform.result c.perform.ensures.named (on_err_weaker c.perform.result (λ e n. named-rows c.args.table.now c.perform.new.table e n) c.perform.ensures.err)
+pub returns-clause-whole : goal.returns-clause-whole
+returns-clause-whole c whole =
+    let w = world_of c.args.table.now in
+    let ready = c.requires.ready in
+    either_way c.perform.result
+    (on_ok_weaker c.perform.result (λ is. subst IsWhole (sym is) (IsWhole-after w ready.limits c.args.ready.counts c.law.ensures whole c.args.ready.call ready.accepted (next-free w c.args.ready.counts.next_number ready.numbers))) c.perform.ensures.world)
+    (on_err_weaker c.perform.result (λ e. subst IsWhole (sym (ap world_in e)) whole) c.perform.ensures.err)

@@ -1,15 +1,20 @@
-use Rattle.std.proofs.Common.{sym, ap, ◌∙◌}
-use Rattle.std.specs.Option.{option_map}
+use Rattle.std.proofs.Common.{◌≡◌, sym, ap, ◌∙◌, subst}
+use Rattle.std.specs.Option.{option_and_then, option_map, IsSomeAnd}
+use Rattle.std.specs.FinMap as finmap
+use Rattle.inode_table.specs.TableWorld.{world_of}
+use Rattle.inode_table.specs.World as world
 use Rattle.inode_table.specs.World.{links}
 use Rattle.tree_ops.proofs.Told.{stat-told, same-some}
 use Rattle.tree_ops.proofs.carrying.stat.Goals as goal
 
 pub returns : goal.returns
-returns c w stands =
+returns c =
+    let w = world_of c.args.table.now in
     let found = c.key_at-key.ensures.found in
+    let file = ap (option_and_then (finmap.get w.files)) found in
     stat-told w c.args.path.now c.number.result c.kind.result c.mode.result c.links.result c.content.result.now
-    (c.number.ensures.world w stands c.args.path.now found)
-    (c.kind.ensures.world w stands c.args.path.now found)
-    (c.mode.ensures.world w stands c.args.path.now found)
-    (same-some _ _ (ap (option_map (links w)) (sym c.number.ensures.node) ∙ c.links.ensures.world w stands))
-    (c.content.ensures.world w stands c.args.path.now found)
+    (sym found ∙ c.number.ensures)
+    (subst (λ o. IsSomeAnd o (λ (f : world.File). f.kind ≡ c.kind.result)) file c.kind.ensures)
+    (subst (λ o. IsSomeAnd o (λ (f : world.File). f.mode ≡ c.mode.result)) file c.mode.ensures)
+    (same-some _ _ (ap (option_map (links w)) (sym c.number.ensures) ∙ c.links.ensures))
+    (subst (λ o. IsSomeAnd o (λ (f : world.File). f.bytes ≡ c.content.result.now)) file c.content.ensures)

@@ -1,17 +1,26 @@
-use Rattle.std.proofs.Common.{◌++◌, ◌∷◌, [], is_some, sym, ap, ◌∙◌}
-use Rattle.std.specs.Option.{option_and_then, option_map}
-use Rattle.inode_table.specs.Rows.{Row, What, child, key_in, shown}
-use Rattle.inode_table.specs.Stands.{kind_of}
+use Rattle.std.proofs.Common.{◌≡◌, ◌++◌, ◌∷◌, [], is_some, sym, ap, ◌∙◌, subst}
+use Rattle.std.specs.Option.{option_and_then, option_map, IsSomeAnd}
+use Rattle.inode_table.specs.Rows.{Row, What, child, key_in, shown, row_of}
+use Rattle.inode_table.specs.World as world
+use Rattle.inode_table.specs.declared.seen.Kind.TheVariants.{Directory}
 use Rattle.inode_table.proofs.ChangeLemmas.{walk_end}
-use Rattle.inode_table.proofs.TreeLemmas.{same_some}
-use Rattle.inode_table.proofs.StandsLemmas.{there-same}
+use Rattle.inode_table.proofs.StandsLemmas.{there-same, key_of}
+use Rattle.inode_table.proofs.TableWorldLemmas.{file-under, numbered-file}
 use Rattle.inode_table.proofs.table.Table.child_names.Goals as goal
 
+pub node-requires : goal.node-requires
+node-requires c = numbered-file c.args.self.now c.args.key (λ (f : world.File). f.kind ≡ Directory) c.requires.directory
+
 pub names-requires : goal.names-requires
-names-requires c = same_some _ _ (sym (ap (λ o. option_map (λ (v : What). kind_of v.bytes) (option_map shown o)) c.node.ensures) ∙ c.requires.directory)
+names-requires c =
+    subst (λ o. IsSomeAnd o (λ (f : world.File). f.kind ≡ Directory)) (file-under c.rows_law.ensures.stands c.args.key (row_of c.node.result.now) c.node.ensures) c.requires.directory
 
 pub returns-clause-world : goal.returns-clause-world
-returns-clause-world c w stands p there =
+returns-clause-world c p number =
+    let stands = c.rows_law.ensures.stands in
+    let v = shown (row_of c.node.result.now) in
+    let is = ap (option_map shown) c.node.ensures in
+    let there = key_of stands p c.args.key v is (number ∙ ap (option_map (λ (u : What). u.number)) is) in
     record {
       ordered = c.names.ensures.ordered;
       members = λ l.

@@ -2,9 +2,9 @@ use Rattle.std.proofs.Common.{◌≡◌, refl, sym, subst}
 use Rattle.std.specs.Option.{IsSomeAnd}
 use Rattle.inode_table.specs.Rows.{row_of}
 use Rattle.inode_table.specs.World as world
-use Rattle.inode_table.proofs.SeenLemmas.{file-of-row}
+use Rattle.inode_table.proofs.TableWorldLemmas.{file-under}
 use Rattle.inode_table.proofs.table.Table.mode.Goals as goal
 
-pub returns-clause-world : goal.returns-clause-world
-returns-clause-world c w stands p there =
-    subst (λ o. IsSomeAnd o (λ (f : world.File). f.mode ≡ c.node.result.now.mode)) (sym (file-of-row stands p c.args.key (row_of c.node.result.now) there c.node.ensures)) (refl)
+pub returns : goal.returns
+returns c =
+    subst (λ o. IsSomeAnd o (λ (f : world.File). f.mode ≡ c.node.result.now.mode)) (sym (file-under c.rows_law.ensures.stands c.args.key (row_of c.node.result.now) c.node.ensures)) (refl)

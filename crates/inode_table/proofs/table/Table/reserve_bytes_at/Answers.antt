@@ -4,7 +4,8 @@ use Rattle.inode_table.specs.Rows.{Label, rows_of, child, what}
 use Rattle.inode_table.specs.Tree.{IsTable}
 use Rattle.inode_table.proofs.ChangeLemmas.{IsTable-same}
 use Rattle.inode_table.proofs.StandsLemmas.{Stands-same, look-same}
-use Rattle.inode_table.proofs.WorldLemmas.{HasWorld-table}
+use Rattle.inode_table.specs.TableWorld.{world_of}
+use Rattle.inode_table.proofs.TableWorldLemmas.{Stands-world_of}
 use Rattle.inode_table.proofs.table.Table.reserve_bytes_at.Goals as goal
 use Rattle.inode_table.proofs.table.Table.reserve_bytes_at.Goals.{After-reserve_bytes}
 
@@ -23,5 +24,6 @@ returns-clause-world c w stands =
 
 pub returns-clause-looks : goal.returns-clause-looks
 returns-clause-looks c p =
-    let has = HasWorld-table c.args.self.now.rows (subst IsTable (same c) c.self.invariant) c.args.self.now.room in
-    sym (look-same (returns-clause-world c has.0 has.1) p) ∙ look-same has.1 p
+    let t = c.args.self.now in
+    let stands = Stands-world_of t (subst IsTable (same c) c.self.invariant) in
+    sym (look-same (returns-clause-world c (world_of t) stands) p) ∙ look-same stands p

@@ -2,9 +2,10 @@ use Rattle.std.proofs.Common.{is_some, ap, sym, ◌∙◌, refl, None, false}
 use Rattle.tree_paths.specs.Rows.{first_row}
 use Rattle.tree_core.specs.declared.call.Call.TheVariants as call
 use Rattle.instance_table.specs.Instances.{instance_of, changed}
+use Rattle.tree_core.specs.FileSystems.{tree_in}
 use Rattle.tree_core.specs.Tree.{read_rows, read_answer, after_reading, after_accepted_read}
 use Rattle.tree_core.proofs.Serving.{result-serves}
-use Rattle.tree_core.proofs.Instances.{fault-there, read-open, there, IsFileSystemOf-changed}
+use Rattle.tree_core.proofs.Instances.{fault-there, read-open, IsNumbered-changed}
 use Rattle.tree_core.proofs.file_system.FileSystem.read.Goals as goal
 
 pub take_records-requires : goal.take_records-requires
@@ -14,11 +15,11 @@ pub returns : goal.returns
 unfolding after_accepted_read
 returns c =
     let m = c.args.self.now in
-    result-serves m (call.Read c.args.id c.args.bytes) c.args.keeps c.take_records.result c.take_records.new.self
+    result-serves m (call.Read c.args.id c.args.bytes) c.args.keeps c.requires c.take_records.result c.take_records.new.self
     (record m { instances = changed m.instances c.args.id (after_reading c.args.bytes) })
     (read_answer c.args.bytes (instance_of m.instances c.args.id))
-    (λ t s. fault-there t m s (λ o. first_row (read_rows false c.args.bytes o)) c.args.id _ None c.get.ensures c.in_default.ensures)
-    (λ t s. ap (read_answer c.args.bytes) (there t m s c.args.id))
-    (λ t s. IsFileSystemOf-changed t m s _ c.args.id (after_reading c.args.bytes) refl)
+    (fault-there m.instances (λ o. first_row (read_rows false c.args.bytes o)) c.args.id _ None c.get.ensures c.in_default.ensures)
     refl
+    refl
+    (IsNumbered-changed (tree_in m) c.requires c.args.id (after_reading c.args.bytes))
     c.take_records.ensures.replies c.take_records.ensures.ok c.take_records.ensures.err c.take_records.ensures.memory

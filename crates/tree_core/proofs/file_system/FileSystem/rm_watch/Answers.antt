@@ -3,11 +3,12 @@ use Rattle.std.proofs.lemmas.Int.{to_z-of_z}
 use Rattle.std.specs.Option.{option_copied}
 use Rattle.tree_paths.specs.Rows.{first_row}
 use Rattle.tree_core.specs.declared.call.Call.TheVariants as call
-use Rattle.instance_table.specs.Instances.{changed, unwatching}
+use Rattle.instance_table.specs.Instances.{Instances, changed, unwatching}
 use Rattle.tree_core.specs.declared.reply.Reply.TheVariants as reply
+use Rattle.tree_core.specs.FileSystems.{tree_in}
 use Rattle.tree_core.specs.Tree.{rm_watch_rows, after_rm_watch}
 use Rattle.tree_core.proofs.Serving.{accepted-serves}
-use Rattle.tree_core.proofs.Instances.{fault-there, IsFileSystemOf-changed}
+use Rattle.tree_core.proofs.Instances.{fault-there, IsNumbered-changed}
 use Rattle.tree_core.proofs.file_system.FileSystem.rm_watch.Goals as goal
 
 pub returns : goal.returns
@@ -15,8 +16,8 @@ unfolding after_rm_watch
 returns c =
     let m = c.args.self.now in
     let same = to_z-of_z w32 c.args.wd c.ranges.wd in
-    accepted-serves m (call.RmWatch c.args.id c.args.wd) c.args.keeps c.in_ok-replies.replies _ reply.Done c.in_ok-replies.ensures.ok
-    (λ t s. fault-there t m s (λ o. first_row (rm_watch_rows c.args.wd o)) c.args.id _ None c.get.ensures (c.in_default.ensures ∙ ap (λ z. first_row (rm_watch_rows z (option_copied c.get.result))) same))
-    (λ t s. refl)
-    (λ t s. IsFileSystemOf-changed t m s c.unwatch.new.self c.args.id (unwatching c.args.wd) (c.unwatch.ensures ∙ ap (λ z. changed m.instances c.args.id (unwatching z)) same))
+    accepted-serves m (call.RmWatch c.args.id c.args.wd) c.args.keeps c.requires c.in_ok-replies.replies _ reply.Done c.in_ok-replies.ensures.ok
+    (fault-there m.instances (λ o. first_row (rm_watch_rows c.args.wd o)) c.args.id _ None c.get.ensures (c.in_default.ensures ∙ ap (λ z. first_row (rm_watch_rows z (option_copied c.get.result))) same))
     refl
+    (ap (λ (x : Instances). record (tree_in m) { instances = x }) (c.unwatch.ensures ∙ ap (λ z. changed m.instances c.args.id (unwatching z)) same))
+    (IsNumbered-changed (tree_in m) c.requires c.args.id (unwatching c.args.wd))

@@ -2,11 +2,12 @@ use Rattle.std.proofs.Common.{refl, ◌≡◌, [], ◌∷◌, ◌++◌, false, O
 use Rattle.tree_core.specs.declared.reply.Entry.{Entry}
 use Rattle.tree_core.specs.declared.file_system.Replies.{Replies}
 use Rattle.tree_core.specs.Journal.{now, with_entry}
-use Rattle.tree_core.specs.Kept.{journal_of, tree_of}
-use Rattle.tree_core.specs.Tree.{reply_of}
-use Rattle.tree_core.specs.FileSystems.{Executes}
+use Rattle.tree_core.specs.Kept.{tree_of}
+use Rattle.tree_core.specs.Tree.{Tree, reply_of}
+use Rattle.tree_core.specs.FileSystems.{Executes, tree_in}
 use Rattle.tree_core.specs.Calls.{IsSpelled}
-use Rattle.tree_core.proofs.Spelled.{events-of-file_system, reply-spelled}
+use Rattle.tree_core.proofs.Spelled.{reply-spelled}
+use Rattle.tree_core.proofs.Lawful.{limits-executed}
 use Rattle.tree_core.proofs.Keeping.{IsKept-same, IsKept-more}
 use Rattle.tree_core.proofs.state.State.apply.Goals as goal
 
@@ -14,30 +15,27 @@ pub invariant_of-self-in_err-replies : goal.invariant_of-self-in_err-replies
 invariant_of-self-in_err-replies c =
     let a = c.self.inside in
     let served : Executes a.file_system c.args.call false (Err c.in_err-replies.field-0.0) c.answer.new.self = c.in_err-replies.ensures in
-    IsKept-same a (record { file_system = c.answer.new.self; snapshot = a.snapshot; journal = c.make_room.new.journal }) c.self.invariant refl served.limits c.make_room.ensures.items
-    (served.err (now (journal_of a)) c.self.invariant.stands)
+    IsKept-same a (record { file_system = c.answer.new.self; snapshot = a.snapshot; journal = c.make_room.new.journal }) c.self.invariant refl (ap (λ (t : Tree). t.limits) served.err) c.make_room.ensures.items served.err
 
 pub invariant_of-self-2 : goal.invariant_of-self-2
 invariant_of-self-2 c =
     let a = c.self.inside in
-    let t = now (journal_of a) in
     let replies = c.in_ok-replies.replies in
     let served : Executes a.file_system c.args.call false (Ok replies) c.answer.new.self = c.in_ok-replies.ensures in
     let entry : Entry = record { caller = c.args.caller; call = c.args.call; reply = replies.journaled } in
-    IsKept-more a (record { file_system = c.answer.new.self; snapshot = a.snapshot; journal = c.push_reserved.new.self }) c.self.invariant refl served.limits entry
+    IsKept-more a (record { file_system = c.answer.new.self; snapshot = a.snapshot; journal = c.push_reserved.new.self }) c.self.invariant refl (limits-executed a.file_system c.answer.new.self c.args.call served.tree) entry
     (c.push_reserved.ensures.items ∙ ap (λ es. es ++ entry ∷ []) c.make_room.ensures.items) c.in_ok-make_room.ensures.free c.in_ok-make_room.ensures.small
-    (ap (λ (r : Replies). r.journaled) (served.replies t c.self.invariant.stands)) (served.tree t c.self.invariant.stands) c.law.ensures
+    (ap (λ (r : Replies). r.journaled) served.replies) served.tree served.numbered c.law.ensures
 
 pub returns-clause-entry : goal.returns-clause-entry
 returns-clause-entry c =
     let a = c.self.inside in
-    let t = now (journal_of a) in
     let replies = c.in_ok-replies.replies in
     let served : Executes a.file_system c.args.call false (Ok replies) c.answer.new.self = c.in_ok-replies.ensures in
     let entry : Entry = record { caller = c.args.caller; call = c.args.call; reply = replies.journaled } in
     let items : c.push_reserved.new.self.items ≡ a.journal.items ++ entry ∷ [] = c.push_reserved.ensures.items ∙ ap (λ es. es ++ entry ∷ []) c.make_room.ensures.items in
-    let same : replies.journaled ≡ replies.given = ap (λ (r : Replies). r.journaled) (served.replies t c.self.invariant.stands) ∙ sym (ap (λ (r : Replies). r.given) (served.replies t c.self.invariant.stands)) in
-    (λ i. record { start = tree_of (served.limits i) a.snapshot; place = a.snapshot.place; entries = items i })
+    let same : replies.journaled ≡ replies.given = ap (λ (r : Replies). r.journaled) served.replies ∙ sym (ap (λ (r : Replies). r.given) served.replies) in
+    (λ i. record { start = tree_of (limits-executed a.file_system c.answer.new.self c.args.call served.tree i) a.snapshot; place = a.snapshot.place; entries = items i })
     ∙ (λ i. with_entry (c.self.view_is i) (record { caller = c.args.caller; call = c.args.call; reply = same i }))
 
 pub returns-clause-lawful : goal.returns-clause-lawful
@@ -47,11 +45,11 @@ pub returns-clause-reply : goal.returns-clause-reply
 returns-clause-reply c =
     let a = c.self.inside in
     let served : Executes a.file_system c.args.call false (Ok c.in_ok-replies.replies) c.answer.new.self = c.in_ok-replies.ensures in
-    ap (λ (r : Replies). r.given) (served.replies (now (journal_of a)) c.self.invariant.stands) ∙ ap (λ s. reply_of (now s) c.args.call) c.self.view_is
+    ap (λ (r : Replies). r.given) served.replies ∙ ap (λ (t : Tree). reply_of t c.args.call) c.self.invariant.stands ∙ ap (λ s. reply_of (now s) c.args.call) c.self.view_is
 
 pub returns-clause-spelled : goal.returns-clause-spelled
 returns-clause-spelled c =
     let a = c.self.inside in
-    let t = now (journal_of a) in
+    let t = tree_in a.file_system in
     let served : Executes a.file_system c.args.call false (Ok c.in_ok-replies.replies) c.answer.new.self = c.in_ok-replies.ensures in
-    subst IsSpelled (sym (ap (λ (r : Replies). r.given) (served.replies t c.self.invariant.stands))) (reply-spelled t (events-of-file_system t a.file_system c.self.invariant.stands c.law.ensures) c.args.call)
+    subst IsSpelled (sym (ap (λ (r : Replies). r.given) served.replies)) (reply-spelled t c.law.ensures c.args.call)

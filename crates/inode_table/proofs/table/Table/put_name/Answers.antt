@@ -1,0 +1,76 @@
+use Rattle.std.proofs.Common.{◌≡◌, ◌++◌, ◌∷◌, [], List, IsSome, IfSome, true, false, sym, ap, subst, ◌∙◌}
+use Rattle.inode_table.specs.Walk.{Avoids}
+use Rattle.inode_table.specs.Rows.{Label}
+use Rattle.inode_table.specs.Tree.{Tree, at, what_at}
+use Rattle.inode_table.specs.World.{World, with_move}
+use Rattle.inode_table.specs.Refusals.{is_directory_seen}
+use Rattle.inode_table.specs.Stands.{Stands, look_in, number_of}
+use Rattle.inode_table.specs.declared.seen.Seen.{Seen}
+use Rattle.inode_table.proofs.FindLemmas.{live-there}
+use Rattle.inode_table.proofs.SeenLemmas.{open-directory, avoids-seen, avoids-any, empty-below}
+use Rattle.inode_table.proofs.StandsLemmas.{SameFiles-loses, numbers-same}
+use Rattle.inode_table.proofs.CallLemmas.{parent-there, parent-open, child-some, ok-at, kept-there, if-some}
+use Rattle.inode_table.proofs.table.Table.put_name.Goals as goal
+use Rattle.inode_table.proofs.table.Table.put_name.Goals.{In_ok-replace_name_at}
+
+pub key_at-directory-requires : goal.key_at-directory-requires
+key_at-directory-requires c =
+    parent-there c.args.self.now c.rows_law.ensures.table c.args.old.now c.parent_and_name.result.0.now c.parent_and_name.result.1.now c.parent_and_name.ensures.parts c.requires.source
+
+pub replace_name_at-requires-clause-directory : goal.replace_name_at-requires-clause-directory
+replace_name_at-requires-clause-directory c =
+    parent-open c.args.self.now c.rows_law.ensures.table c.args.old.now c.parent_and_name.result.0.now c.parent_and_name.result.1.now c.parent_and_name.ensures.parts c.requires.source c.key_at-directory.result c.key_at-directory.ensures
+
+pub replace_name_at-requires-clause-there : goal.replace_name_at-requires-clause-there
+replace_name_at-requires-clause-there c =
+    child-some c.args.self.now c.rows_law.ensures.table c.args.old.now c.parent_and_name.result.0.now c.parent_and_name.result.1.now c.parent_and_name.ensures.parts c.requires.source c.key_at-directory.result c.key_at-directory.ensures
+
+pub replace_name_at-requires-clause-apart : goal.replace_name_at-requires-clause-apart
+replace_name_at-requires-clause-apart c p q to_p to_q =
+    let t = c.args.self.now in
+    let table = c.rows_law.ensures.table in
+    let other_parent = c.parent_and_name-2.result.0.now in
+    let other_name = c.parent_and_name-2.result.1.now in
+    let from = parent-open t table c.args.old.now c.parent_and_name.result.0.now c.parent_and_name.result.1.now c.parent_and_name.ensures.parts c.requires.source c.key_at-directory.result c.key_at-directory.ensures in
+    let directory : is_directory_seen (look_in t other_parent) ≡ true = ap (λ x. is_directory_seen (look_in t x)) c.parent_and_name-2.ensures.parent ∙ c.requires.directory in
+    let to = open-directory t table other_parent c.key_at-other_directory.result c.key_at-other_directory.ensures directory in
+    let off = avoids-seen t table c.args.old.now c.args.new.now other_parent other_name c.parent_and_name-2.ensures.parts c.requires.source directory c.requires.other c.requires.below in
+    avoids-any t table c.key_at-directory.result c.key_at-other_directory.result c.parent_and_name.result.0.now other_parent p q c.parent_and_name.result.1.now c.in_ok-copy.copy
+    c.key_at-directory.ensures c.key_at-other_directory.ensures from.kind to.kind to_p to_q
+    (subst (λ x. Avoids x (other_parent ++ c.in_ok-copy.copy ∷ [])) c.parent_and_name.ensures.parts
+    (subst (Avoids c.args.old.now) (c.parent_and_name-2.ensures.parts ∙ (λ i. other_parent ++ sym c.in_ok-copy.ensures.same i ∷ [])) off))
+
+pub replace_name_at-requires-clause-empty : goal.replace_name_at-requires-clause-empty
+replace_name_at-requires-clause-empty c =
+    let t = c.args.self.now in
+    let other_parent = c.parent_and_name-2.result.0.now in
+    empty-below t c.rows_law.ensures.table other_parent c.in_ok-copy.copy c.key_at-other_directory.result c.key_at-other_directory.ensures
+    (subst (λ x. IfSome (look_in t x) (λ (s : Seen). s.has_names ≡ false)) (c.parent_and_name-2.ensures.parts ∙ (λ i. other_parent ++ sym c.in_ok-copy.ensures.same i ∷ [])) c.requires.empty)
+
+-- the move is that of the whole paths
+after-move : (mid : Tree) (w : World) (parent other_parent old new : List Label) (name other_name copy : Label) → old ≡ parent ++ name ∷ [] → new ≡ other_parent ++ other_name ∷ [] → copy ≡ other_name → Stands mid (with_move w (parent ++ name ∷ []) (other_parent ++ copy ∷ [])) → Stands mid (with_move w old new)
+after-move mid w parent other_parent old new name other_name copy e f g h =
+    subst (λ x. Stands mid (with_move w x new)) (sym e) (subst (λ y. Stands mid (with_move w (parent ++ name ∷ []) y)) ((λ i. other_parent ++ g i ∷ []) ∙ sym f) h)
+
+pub returns-clause-world : goal.returns-clause-world
+returns-clause-world c w stands =
+    after-move c.replace_name_at.new.self w c.parent_and_name.result.0.now c.parent_and_name-2.result.0.now c.args.old.now c.args.new.now c.parent_and_name.result.1.now c.parent_and_name-2.result.1.now c.in_ok-copy.copy
+    c.parent_and_name.ensures.parts c.parent_and_name-2.ensures.parts c.in_ok-copy.ensures.same
+    (c.in_ok-replace_name_at.ensures.world w c.parent_and_name.result.0.now c.parent_and_name-2.result.0.now stands c.key_at-directory.ensures c.key_at-other_directory.ensures)
+
+led : (c : In_ok-replace_name_at) → c.ok-replaced.result ≡ at c.args.self.now c.args.new.now
+led c = c.ok-replaced.ensures.value ∙ ok-at c.args.self.now c.rows_law.ensures.table c.args.new.now c.walk.result c.walk.ensures.found c.walk.ensures.absent
+
+pub returns-clause-replaced : goal.returns-clause-replaced
+returns-clause-replaced c = led c
+
+pub returns-clause-there : goal.returns-clause-there
+returns-clause-there c =
+    let t = c.args.self.now in
+    if-some (λ k. IsSome (what_at c.replace_name_at.new.self k)) c.ok-replaced.result
+    (λ k is. kept-there t c.replace_name_at.new.self _ c.in_ok-replace_name_at.ensures.links k (live-there t c.rows_law.ensures.table c.args.new.now k (sym (led c) ∙ is)))
+
+pub returns-clause-number : goal.returns-clause-number
+returns-clause-number c w stands =
+    stands.paths c.args.new.now ∙ ap (number_of c.args.self.now) (sym (led c))
+    ∙ sym (numbers-same (SameFiles-loses c.args.self.now c.replace_name_at.new.self _ c.in_ok-replace_name_at.ensures.links) c.ok-replaced.result)
