@@ -10,7 +10,7 @@ use Rattle.record_codec.specs.declared.event.Event.{Event}
 use Rattle.watch_table.specs.Watching.{HasEnded, IsSound, Watch, Watching, dropped, watch_of, wd_of}
 use Rattle.event_rules.specs.declared.notice.Notice.{Notice}
 use Rattle.event_rules.specs.declared.notice.Notice.TheVariants.{Told, Gone}
-use Rattle.event_rules.specs.Raised.{asks_for, ended, ended_by, ends_watch, events_of, ignored, is_oneshot, left, left_by, raised, raised_by, told_number, watches_after, wds_ended}
+use Rattle.event_rules.specs.Raised.{asks_for, ended, ended_by, ends_watch, events_of, ignored, is_oneshot, left, left_by, raised, raised_at, told_number, watches_after, wds_ended}
 use Rattle.event_rules.specs.Laws.{TellsNothing, says_ended}
 use Rattle.event_rules.proofs.Removals.{Known, left-IsSound, left-either, some_none, wd-of}
 use Rattle.event_rules.proofs.Others.{raised-All}
@@ -48,7 +48,7 @@ module _ (n : Notice) (watch : Watch) where
   said-told number bits cookie name true false is =
       ap (λ b. if b then record { wd = watch.0; mask = bits; cookie = cookie; name = name } ∷ [] else []) (not_ended watch bits is)
 
-said-by : (n : Notice) (o : Option Watch) → filter says_ended (raised_by n o) ≡ map ignored (ended_by n o)
+said-by : (n : Notice) (o : Option Watch) → filter says_ended (raised_at n o) ≡ map ignored (ended_by n o)
 said-by n None = refl
 said-by (Told number bits cookie name) (Some watch) = said-told (Gone number) watch number bits cookie name (asks_for watch bits) (is_oneshot watch) refl
 said-by (Gone number) (Some watch) = refl
@@ -123,7 +123,7 @@ quiet-told watch bits cookie name rest true false is q over = (λ said. absurd (
 
 module _ (ending : Ending) where
   quiet-by : (w : Watching) (n : Notice) (o : Option Watch) (rest : List Event) → IsSound w → watch_of w (told_number n) ≡ o → Quiet rest
-      → ((wd : ℤ) → HasEnded (left_by w n o) wd → TellsNothing wd rest) → Quiet (raised_by n o ++ rest)
+      → ((wd : ℤ) → HasEnded (left_by w n o) wd → TellsNothing wd rest) → Quiet (raised_at n o ++ rest)
   quiet-by w n None rest sound is q over = q
   quiet-by w (Told number bits cookie name) (Some watch) rest sound is q over =
       quiet-told watch bits cookie name rest (asks_for watch bits) (is_oneshot watch) refl q (λ both. over watch.0 (subst (λ b. HasEnded (if b then dropped w number else w) watch.0) (sym both)

@@ -6,7 +6,7 @@ use Rattle.record_codec.specs.declared.event.Event.{Event}
 use Rattle.watch_table.specs.Watching.{IsSound, Watch, Watching, dropped, watch_of}
 use Rattle.event_rules.specs.declared.notice.Notice.{Notice}
 use Rattle.event_rules.specs.declared.notice.Notice.TheVariants.{Told, Gone}
-use Rattle.event_rules.specs.Raised.{asks_for, ended, ended_by, ends_watch, event_told, events_of, ignored, left, left_by, raised, raised_by, told_number, watches_after, wds_ended, where_ended}
+use Rattle.event_rules.specs.Raised.{asks_for, ended, ended_by, ends_watch, event_told, events_of, ignored, left, left_by, raised, raised_at, told_number, watches_after, wds_ended, where_ended}
 use Rattle.event_rules.specs.Laws.{HasWatch, IsPartOf}
 use Rattle.event_rules.proofs.Removals.{dropped-other, dropped-was, left-either, same_or_not, same_some, some_none, wd-of}
 
@@ -15,7 +15,7 @@ use Rattle.event_rules.proofs.Removals.{dropped-other, dropped-was, left-either,
 module _ (w : Watching) (n : Notice) (unwatched : watch_of w (told_number n) ≡ None) where
   raised-none : raised w n ≡ []
   unfolding raised
-  raised-none = ap (raised_by n) unwatched
+  raised-none = ap (raised_at n) unwatched
 
   ended-none : ended w n ≡ []
   unfolding ended
@@ -121,11 +121,11 @@ module _ (P : ℤ → Type 0) (watch : Watch) (holds : P watch.0) where
   told-All (Told number bits cookie name) = if-All (asks_for watch bits) (record { wd = watch.0; mask = bits; cookie = cookie; name = name }) holds
   told-All (Gone number) = All-nil (λ (x : Event). P x.wd)
 
-  pub raised_by-All : (n : Notice) → All (λ (x : Event). P x.wd) (raised_by n (Some watch))
+  pub raised_by-All : (n : Notice) → All (λ (x : Event). P x.wd) (raised_at n (Some watch))
   raised_by-All n = All-append (λ (x : Event). P x.wd) (event_told n watch) (where_ended n watch (ignored watch.0 ∷ [])) (told-All n) (if-All (ends_watch n watch) (ignored watch.0) holds)
 
 module _ (P : ℤ → Type 0) (w : Watching) (n : Notice) where
-  raised-All-by : (o : Option Watch) → ((watch : Watch) → o ≡ Some watch → P watch.0) → All (λ (x : Event). P x.wd) (raised_by n o)
+  raised-All-by : (o : Option Watch) → ((watch : Watch) → o ≡ Some watch → P watch.0) → All (λ (x : Event). P x.wd) (raised_at n o)
   raised-All-by None h = All-nil (λ (x : Event). P x.wd)
   raised-All-by (Some watch) h = raised_by-All P watch (h watch refl) n
 

@@ -7,7 +7,7 @@ use Rattle.record_codec.specs.declared.event.Event.{Event}
 use Rattle.watch_table.specs.Watching.{Watch, Watching, watch_of}
 use Rattle.event_rules.specs.declared.notice.Notice.{Notice}
 use Rattle.event_rules.specs.declared.notice.Notice.TheVariants.{Told, Gone}
-use Rattle.event_rules.specs.Raised.{asks_for, ends_watch, event_told, events_of, ignored, left, raised, raised_by, told_number, where_ended}
+use Rattle.event_rules.specs.Raised.{asks_for, ends_watch, event_told, events_of, ignored, left, raised, raised_at, told_number, where_ended}
 use Rattle.event_rules.specs.Laws.{AreTied, IsTied, Mark, marks_of, marks_told, moves_in}
 use Rattle.event_rules.proofs.Moves.{among-itself, among-trans, marks_told-append, moves_in-append, tied-append}
 
@@ -44,7 +44,7 @@ told-keeps (Told number bits cookie name) watch h = by (asks_for watch bits)
     by false = nothing-tied (moves_in ((bits, cookie) ∷ []))
 told-keeps (Gone number) watch h = nothing-tied []
 
-keeps-by : (n : Notice) (o : Option Watch) → All IsTied (marks_told (n ∷ [])) → Keeps (marks_told (n ∷ [])) (raised_by n o)
+keeps-by : (n : Notice) (o : Option Watch) → All IsTied (marks_told (n ∷ [])) → Keeps (marks_told (n ∷ [])) (raised_at n o)
 keeps-by n None h = nothing-tied (moves_in (marks_told (n ∷ [])))
 keeps-by n (Some watch) h =
     let told = event_told n watch in

@@ -6,7 +6,7 @@ use Rattle.record_codec.specs.declared.event.Event.{Event}
 use Rattle.watch_table.specs.Watching.{Watch, Watching, removed, watch_of}
 use Rattle.event_rules.specs.declared.notice.Notice.{Notice}
 use Rattle.event_rules.specs.declared.staging.StagedEvent.{StagedEvent}
-use Rattle.event_rules.specs.Raised.{raised, raised_by, ended, ends_watch, event_told, ignored, left, told_number, events_of, wds_ended, watches_after}
+use Rattle.event_rules.specs.Raised.{raised, raised_at, ended, ends_watch, event_told, ignored, left, told_number, events_of, wds_ended, watches_after}
 use Rattle.event_rules.specs.Staging.{staged_event}
 
 events_of-push : (w : Watching) (ns : List Notice) (n : Notice) → events_of w (ns ++ n ∷ []) ≡ events_of w ns ++ raised (watches_after w ns) n
@@ -41,4 +41,4 @@ unfolding raised
 heard_ended id w n watch was told new there ends so_far is =
     is ∙ ap (λ hs. hs ++ staged_event id (ignored watch.0) ∷ []) so_far ∙ append_assoc was (map (staged_event id) (event_told n watch)) (staged_event id (ignored watch.0) ∷ [])
     ∙ ap (λ hs. was ++ hs) (sym (map-append (staged_event id) (event_told n watch) (ignored watch.0 ∷ []))
-    ∙ ap (λ b. map (staged_event id) (event_told n watch ++ (if b then ignored watch.0 ∷ [] else []))) (sym ends) ∙ ap (λ o. map (staged_event id) (raised_by n o)) (sym there))
+    ∙ ap (λ b. map (staged_event id) (event_told n watch ++ (if b then ignored watch.0 ∷ [] else []))) (sym ends) ∙ ap (λ o. map (staged_event id) (raised_at n o)) (sym there))

@@ -45,9 +45,9 @@ abbrev pub where_ended : {A : Type 0} → Notice → Watch → List A → List A
 where_ended n watch xs = if ends_watch n watch then xs else []
 
 -- a watch that ends says so
-abbrev pub raised_by : Notice → Option Watch → List Event
-raised_by n None = []
-raised_by n (Some watch) = event_told n watch ++ where_ended n watch (ignored watch.0 ∷ [])
+abbrev pub raised_at : Notice → Option Watch → List Event
+raised_at n None = []
+raised_at n (Some watch) = event_told n watch ++ where_ended n watch (ignored watch.0 ∷ [])
 
 abbrev pub ended_by : Notice → Option Watch → List ℤ
 ended_by n None = []
@@ -59,7 +59,7 @@ left_by w n (Some watch) = if ends_watch n watch then dropped w (told_number n) 
 
 -- the events that a notice raises, the descriptors of the watches that it ends, and the watches that are left
 unfoldable pub raised : Watching → Notice → List Event
-raised w n = raised_by n (watch_of w (told_number n))
+raised w n = raised_at n (watch_of w (told_number n))
 
 unfoldable pub ended : Watching → Notice → List ℤ
 ended w n = ended_by n (watch_of w (told_number n))

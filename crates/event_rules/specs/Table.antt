@@ -43,7 +43,7 @@ told_in None name bits cookie = []
 
 -- the directory that holds a path's last name is told of an object of this kind there. The root is in no directory
 unfoldable pub to_dir : Look → List Label → Kind → ℕ → ℕ → List Notice
-to_dir at p kind event cookie = told_in (at (parent_of p)) (last_or None p) (about kind event) cookie
+to_dir seen_at p kind event cookie = told_in (seen_at (parent_of p)) (last_or None p) (about kind event) cookie
 
 -- the object itself is told
 abbrev pub to_self : Option Seen → ℕ → List Notice
@@ -52,7 +52,7 @@ to_self (Some s) bits = Told s.number bits NO_COOKIE None ∷ []
 
 -- both are told, and to both it says whether the object is a directory
 unfoldable pub to_both : Look → List Label → ℕ → List Notice
-to_both at p event = to_dir at p (kind_seen (at p)) event NO_COOKIE ++ to_self (at p) (about (kind_seen (at p)) event)
+to_both seen_at p event = to_dir seen_at p (kind_seen (seen_at p)) event NO_COOKIE ++ to_self (seen_at p) (about (kind_seen (seen_at p)) event)
 
 -- it is told that it is deleted, and is gone
 abbrev pub deleted_told : ℕ → List Notice
@@ -71,62 +71,62 @@ path_lost (Some s) = lost_told s.kind s.number s.links
 -- ---- the table of events
 
 unfoldable pub create_told : Look → List Label → List Notice
-create_told at p = to_dir at p Regular IN_CREATE NO_COOKIE ++ to_dir at p Regular IN_OPEN NO_COOKIE ++ to_dir at p Regular IN_CLOSE_WRITE NO_COOKIE
+create_told seen_at p = to_dir seen_at p Regular IN_CREATE NO_COOKIE ++ to_dir seen_at p Regular IN_OPEN NO_COOKIE ++ to_dir seen_at p Regular IN_CLOSE_WRITE NO_COOKIE
 
 unfoldable pub mkdir_told : Look → List Label → List Notice
-mkdir_told at p = to_dir at p Directory IN_CREATE NO_COOKIE
+mkdir_told seen_at p = to_dir seen_at p Directory IN_CREATE NO_COOKIE
 
 -- where a byte was given
 unfoldable pub write_told : Look → List Label → Bool → List Notice
-write_told at p given = to_both at p IN_OPEN ++ (if given then to_both at p IN_MODIFY else []) ++ to_both at p IN_CLOSE_WRITE
+write_told seen_at p given = to_both seen_at p IN_OPEN ++ (if given then to_both seen_at p IN_MODIFY else []) ++ to_both seen_at p IN_CLOSE_WRITE
 
 -- where a byte was answered
 unfoldable pub read_told : Look → List Label → Bool → List Notice
-read_told at p answered = to_both at p IN_OPEN ++ (if answered then to_both at p IN_ACCESS else []) ++ to_both at p IN_CLOSE_NOWRITE
+read_told seen_at p answered = to_both seen_at p IN_OPEN ++ (if answered then to_both seen_at p IN_ACCESS else []) ++ to_both seen_at p IN_CLOSE_NOWRITE
 
 -- also where the length stays
 unfoldable pub truncate_told : Look → List Label → List Notice
-truncate_told at p = to_both at p IN_MODIFY
+truncate_told seen_at p = to_both seen_at p IN_MODIFY
 
 -- also where the mode stays
 unfoldable pub chmod_told : Look → List Label → List Notice
-chmod_told at p = to_both at p IN_ATTRIB
+chmod_told seen_at p = to_both seen_at p IN_ATTRIB
 
 unfoldable pub link_told : Look → List Label → List Label → List Notice
-link_told at old new = to_self (at old) IN_ATTRIB ++ to_dir at new Regular IN_CREATE NO_COOKIE
+link_told seen_at old new = to_self (seen_at old) IN_ATTRIB ++ to_dir seen_at new Regular IN_CREATE NO_COOKIE
 
 unfoldable pub unlink_told : Look → List Label → List Notice
-unlink_told at p = path_lost (at p) ++ to_dir at p Regular IN_DELETE NO_COOKIE
+unlink_told seen_at p = path_lost (seen_at p) ++ to_dir seen_at p Regular IN_DELETE NO_COOKIE
 
 unfoldable pub rmdir_told : Look → List Label → List Notice
-rmdir_told at p = path_lost (at p) ++ to_dir at p Directory IN_DELETE NO_COOKIE
+rmdir_told seen_at p = path_lost (seen_at p) ++ to_dir seen_at p Directory IN_DELETE NO_COOKIE
 
 -- the name that was replaced is told of no deletion, though the object that had it is
 unfoldable pub move_told : Look → List Label → List Label → ℕ → List Notice
-move_told at old new cookie =
-    to_dir at old (kind_seen (at old)) IN_MOVED_FROM cookie
-    ++ to_dir at new (kind_seen (at old)) IN_MOVED_TO cookie
-    ++ path_lost (at new)
-    ++ to_self (at old) IN_MOVE_SELF
+move_told seen_at old new cookie =
+    to_dir seen_at old (kind_seen (seen_at old)) IN_MOVED_FROM cookie
+    ++ to_dir seen_at new (kind_seen (seen_at old)) IN_MOVED_TO cookie
+    ++ path_lost (seen_at new)
+    ++ to_self (seen_at old) IN_MOVE_SELF
 
 -- where both paths are of one file nothing is moved
 unfoldable pub rename_told : Look → List Label → List Label → ℕ → List Notice
-rename_told at old new cookie = if are_same_seen (at old) (at new) then [] else move_told at old new cookie
+rename_told seen_at old new cookie = if are_same_seen (seen_at old) (seen_at new) then [] else move_told seen_at old new cookie
 
 -- the object that was at the old path moves to the new one, with a cookie, and then the other one moves back, with the next
 -- cookie; each is told where it goes from, where it goes to, and then itself
 unfoldable pub swap_told : Look → List Label → List Label → ℕ → List Notice
-swap_told at old new cookie =
-    to_dir at old (kind_seen (at old)) IN_MOVED_FROM cookie
-    ++ to_dir at new (kind_seen (at old)) IN_MOVED_TO cookie
-    ++ to_self (at old) IN_MOVE_SELF
-    ++ to_dir at new (kind_seen (at new)) IN_MOVED_FROM (cookie + 1)
-    ++ to_dir at old (kind_seen (at new)) IN_MOVED_TO (cookie + 1)
-    ++ to_self (at new) IN_MOVE_SELF
+swap_told seen_at old new cookie =
+    to_dir seen_at old (kind_seen (seen_at old)) IN_MOVED_FROM cookie
+    ++ to_dir seen_at new (kind_seen (seen_at old)) IN_MOVED_TO cookie
+    ++ to_self (seen_at old) IN_MOVE_SELF
+    ++ to_dir seen_at new (kind_seen (seen_at new)) IN_MOVED_FROM (cookie + 1)
+    ++ to_dir seen_at old (kind_seen (seen_at new)) IN_MOVED_TO (cookie + 1)
+    ++ to_self (seen_at new) IN_MOVE_SELF
 
 -- where both paths are of one file nothing is moved
 unfoldable pub exchange_told : Look → List Label → List Label → ℕ → List Notice
-exchange_told at old new cookie = if are_same_seen (at old) (at new) then [] else swap_told at old new cookie
+exchange_told seen_at old new cookie = if are_same_seen (seen_at old) (seen_at new) then [] else swap_told seen_at old new cookie
 
 abbrev pub has_byte : List ℕ → Bool
 has_byte [] = false

@@ -8,7 +8,7 @@ use Rattle.std.proofs.lemmas.List.Elements.{All-from_recursion, recursion_from_A
 use Rattle.tree_core.specs.declared.reply.Entry.{Entry}
 use Rattle.tree_core.specs.declared.reply.Kept.{Kept}
 use Rattle.shared_tree.specs.declared.seat.SeatLog.{SeatLog}
-use Rattle.event_sinks.specs.Audited.{Stands, places, AreKept, IsStray}
+use Rattle.event_sinks.specs.Audited.{IsInJournal, places, AreKept, IsStray}
 use Rattle.event_sinks.specs.Marked.{marked, AreNext}
 use Rattle.event_sinks.proofs.Pairs.{PairsByRecursion, AllPairs-from_recursion, recursion_from_AllPairs, all_weaker, all_both, all_append, all_front, all_back, across_swap, pairs_weaker, pairs_append, pairs_front, pairs_across}
 use Rattle.event_sinks.proofs.Marks.{IsUnset, Fits, marked-append, unset_by, unset_after, unset_at_first, fits_from_next, next_from_fits}
@@ -16,7 +16,7 @@ use Rattle.event_sinks.proofs.Marks.{IsUnset, Fits, marked-append, unset_by, uns
 -- ---- by recursion
 
 abbrev pub Stand : ℕ → List Entry → SeatLog → Type 0
-Stand cut entries l = AllByRecursion (Stands cut entries l.number) l.kept
+Stand cut entries l = AllByRecursion (IsInJournal cut entries l.number) l.kept
 
 abbrev pub Rise : SeatLog → Type 0
 Rise l = PairsByRecursion (λ j k. j < k) (places l)
@@ -28,14 +28,14 @@ pub record ByRecursion (cut : ℕ) (entries : List Entry) (logs : List SeatLog) 
 
 pub by_recursion : (cut : ℕ) (entries : List Entry) (logs : List SeatLog) → AreKept cut entries logs → ByRecursion cut entries logs
 by_recursion cut entries logs kept = record {
-  stand = all_weaker (λ (l : SeatLog). All (Stands cut entries l.number) l.kept) (Stand cut entries) (λ l p. recursion_from_All (Stands cut entries l.number) l.kept p) logs (recursion_from_All _ logs kept.stand);
+  stand = all_weaker (λ (l : SeatLog). All (IsInJournal cut entries l.number) l.kept) (Stand cut entries) (λ l p. recursion_from_All (IsInJournal cut entries l.number) l.kept p) logs (recursion_from_All _ logs kept.stand);
   rise = all_weaker (λ (l : SeatLog). AllPairs (λ j k. j < k) (places l)) Rise (λ l p. recursion_from_AllPairs (λ j k. j < k) (places l) p) logs (recursion_from_All _ logs kept.rise);
   once = recursion_from_AllPairs (λ j k. j ≢ k) (flat_map places logs) kept.once;
 }
 
 from_recursion : (cut : ℕ) (entries : List Entry) (logs : List SeatLog) → ByRecursion cut entries logs → AreKept cut entries logs
 from_recursion cut entries logs kept = record {
-  stand = All-from_recursion (λ (l : SeatLog). All (Stands cut entries l.number) l.kept) logs (all_weaker (Stand cut entries) _ (λ l p. All-from_recursion (Stands cut entries l.number) l.kept p) logs kept.stand);
+  stand = All-from_recursion (λ (l : SeatLog). All (IsInJournal cut entries l.number) l.kept) logs (all_weaker (Stand cut entries) _ (λ l p. All-from_recursion (IsInJournal cut entries l.number) l.kept p) logs kept.stand);
   rise = All-from_recursion (λ (l : SeatLog). AllPairs (λ j k. j < k) (places l)) logs (all_weaker Rise _ (λ l p. AllPairs-from_recursion (λ j k. j < k) (places l) p) logs kept.rise);
   once = AllPairs-from_recursion (λ j k. j ≢ k) (flat_map places logs) kept.once;
 }
@@ -56,7 +56,7 @@ kept_front cut entries xs ys kept =
 abbrev pub IsPlaceIn : ℕ → List Entry → ℕ → Type 0
 IsPlaceIn cut entries p = (0 < p) × (p - 1 < cut + length entries)
 
-places_of : (cut : ℕ) (entries : List Entry) (number : ℕ) (ks : List Kept) → AllByRecursion (Stands cut entries number) ks → AllByRecursion (IsPlaceIn cut entries) (map (λ (k : Kept). k.place) ks)
+places_of : (cut : ℕ) (entries : List Entry) (number : ℕ) (ks : List Kept) → AllByRecursion (IsInJournal cut entries number) ks → AllByRecursion (IsPlaceIn cut entries) (map (λ (k : Kept). k.place) ks)
 places_of cut entries number [] stand = tt
 places_of cut entries number (k ∷ ks) stand = ((stand.0.low, (let low = stand.0.low in let high = stand.0.high in omega arith)), places_of cut entries number ks stand.1)
 

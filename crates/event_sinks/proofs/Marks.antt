@@ -7,7 +7,7 @@ use Rattle.std.proofs.lemmas.List.{length-set, drop_all, take_all}
 use Rattle.std.proofs.lemmas.Option.{none-some, same_Some}
 use Rattle.tree_core.specs.declared.reply.Entry.{Entry}
 use Rattle.tree_core.specs.declared.reply.Kept.{Kept}
-use Rattle.event_sinks.specs.Audited.{Stands}
+use Rattle.event_sinks.specs.Audited.{IsInJournal}
 use Rattle.event_sinks.specs.Marked.{marked, AreNext}
 use Rattle.event_sinks.proofs.Pairs.{PairsByRecursion, all_weaker, all_both}
 
@@ -65,7 +65,7 @@ unset_at_first (suc n) (suc j) within = unset_at_first n j (omega arith)
 
 -- each call stands in the journal, the places rise from above the last one on, and none is marked
 pub record Fits (cut : ℕ) (entries : List Entry) (seen : List Bool) (number last : ℕ) (ks : List Kept) : Type 0 where
-  pub stand : AllByRecursion (Stands cut entries number) ks
+  pub stand : AllByRecursion (IsInJournal cut entries number) ks
   pub above : AllByRecursion (λ p. last < p) (map (λ (k : Kept). k.place) ks)
   pub rise : PairsByRecursion (λ j k. j < k) (map (λ (k : Kept). k.place) ks)
   pub unset : AllByRecursion (λ p. IsUnset seen (p - 1)) (map (λ (k : Kept). k.place) ks)

@@ -25,7 +25,7 @@ calls_of logs = sum_by (λ (l : SeatLog). length l.kept) logs
 
 -- the place of a kept call, the first being 1, is one of the whole journal; where it is above the cut's, the entry at it is
 -- this call of the seat, with this reply. The entries are those since the cut
-pub record Stands (cut : ℕ) (entries : List Entry) (number : ℕ) (k : Kept) : Type 0 where
+pub record IsInJournal (cut : ℕ) (entries : List Entry) (number : ℕ) (k : Kept) : Type 0 where
   pub low : 0 < k.place
   pub high : k.place ≤ cut + length entries
   pub entry : cut < k.place → slice_get entries (k.place - cut - 1) ≡ Some (record { caller = number; call = k.call; reply = k.reply })
@@ -35,7 +35,7 @@ places l = map (λ (k : Kept). k.place) l.kept
 
 -- each kept call stands in the journal, the places of a seat rise, and no place is kept twice
 pub record AreKept (cut : ℕ) (entries : List Entry) (logs : List SeatLog) : Type 0 where
-  pub stand : All (λ l. All (Stands cut entries l.number) l.kept) logs
+  pub stand : All (λ l. All (IsInJournal cut entries l.number) l.kept) logs
   pub rise : All (λ l. AllPairs (λ j k. j < k) (places l)) logs
   pub once : AllPairs (λ j k. j ≢ k) (flat_map places logs)
 

@@ -2,7 +2,7 @@
 use Rattle.std.specs.Prelude.{◌≡◌, ◌<◌, ◌-◌, ⊤, ℕ, Bool, true, false, List, [], ◌∷◌, slice_get, slice_set, Some}
 use Rattle.tree_core.specs.declared.reply.Entry.{Entry}
 use Rattle.tree_core.specs.declared.reply.Kept.{Kept}
-use Rattle.event_sinks.specs.Audited.{Stands}
+use Rattle.event_sinks.specs.Audited.{IsInJournal}
 
 -- these places are marked too, the first being 1
 abbrev pub marked : List Bool → List ℕ → List Bool
@@ -11,7 +11,7 @@ marked seen (p ∷ ps) = marked (slice_set seen (p - 1) true) ps
 
 -- the call can be the next one of a seat: its place is above the last, it stands in the journal, and its place is not marked
 abbrev pub IsNext : ℕ → List Entry → List Bool → ℕ → ℕ → Kept → Type 0
-IsNext cut entries seen number last k = (last < k.place) × Stands cut entries number k × (slice_get seen (k.place - 1) ≡ Some false)
+IsNext cut entries seen number last k = (last < k.place) × IsInJournal cut entries number k × (slice_get seen (k.place - 1) ≡ Some false)
 
 -- each of these calls can be the next one, once those before it are marked
 abbrev pub AreNext : ℕ → List Entry → List Bool → ℕ → ℕ → List Kept → Type 0

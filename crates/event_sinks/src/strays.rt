@@ -2,7 +2,7 @@
 
 ghost use Rattle.std.specs.Prelude.{length, min, IfOk, IsTrue, MatchOption, ◌≡◌, ◌↔◌, ◌+◌, ◌^◌, ◌<◌, ◌≤◌};
 ghost use Rattle.std.specs.Bool.{OnFalse, OnTrue};
-ghost use Rattle.event_sinks.specs.Audited.{calls_of, places, AreKept, IsStray, Stands};
+ghost use Rattle.event_sinks.specs.Audited.{calls_of, places, AreKept, IsStray, IsInJournal};
 ghost use Rattle.event_sinks.specs.Marked.{marked, AreNext, IsNext};
 
 use shared_tree::{Book, SeatLog};
@@ -56,7 +56,7 @@ fn is_next(cut: u64, journal: &[Entry], seen: &[bool], number: u32, last: u64, k
 fn stands(cut: u64, journal: &[Entry], number: u32, kept: &Kept) -> bool
     requires low { 0 < kept.now.place }
     requires high { kept.now.place ≤ cut + length journal.now }
-    ensures { IsTrue result ↔ Stands cut journal.now number kept.now }
+    ensures { IsTrue result ↔ IsInJournal cut journal.now number kept.now }
 {
     if kept.place <= cut {
         return true;

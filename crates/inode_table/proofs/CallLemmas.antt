@@ -3,7 +3,7 @@ use Rattle.std.proofs.Common.{◌≡◌, ◌≢◌, ℕ, true, false, List, [], 
 use Rattle.std.specs.Option.{option_and_then, option_map, unwrap_or}
 use Rattle.std.specs.Result.{result_ok}
 use Rattle.inode_table.specs.Walk.{Avoids}
-use Rattle.inode_table.specs.Rows.{Label, What, row, child, is_directory}
+use Rattle.inode_table.specs.Rows.{Label, What, row_under, child, is_directory}
 use Rattle.inode_table.specs.Tree.{Tree, IsTable, IsOpen, LosesLink, at, what_at, with_bytes}
 use Rattle.inode_table.specs.Paths.{is_below}
 use Rattle.inode_table.specs.World as world
@@ -39,7 +39,7 @@ module _ (t : Tree) (table : IsTable t.rows) where
 
   -- a directory is seen at its path
   open-seen : (p : List Label) (k : ℕ) → at t p ≡ Some k → is_directory t.rows k ≡ true → is_directory_seen (look_in t p) ≡ true
-  open-seen p k there dir = ap (λ o. is_directory_seen (option_and_then (λ k. option_map seen_row (row t.rows k)) o)) there ∙ seen_directory (row t.rows k) ∙ dir
+  open-seen p k there dir = ap (λ o. is_directory_seen (option_and_then (λ k. option_map seen_row (row_under t.rows k)) o)) there ∙ seen_directory (row_under t.rows k) ∙ dir
 
   -- of two names of which neither is below the other, none is the root's
   pub swap-named : (one other : List Label) → one ≢ other → (is_directory_seen (look_in t one) && is_below one other) ≡ false → one ≢ []
@@ -80,7 +80,7 @@ if-some P (Some k) h = h k refl
 
 pub file-regular : (t : Tree) (p : List Label) (k : ℕ) (v : What) → at t p ≡ Some k → what_at t k ≡ Some v → is_directory_seen (look_in t p) ≡ false → is_none v.bytes ≡ false
 file-regular t p k v found is regular =
-    regular-what t.rows k v is (sym (seen_directory (row t.rows k)) ∙ sym (ap (λ o. is_directory_seen (option_and_then (λ k. option_map seen_row (row t.rows k)) o)) found) ∙ regular)
+    regular-what t.rows k v is (sym (seen_directory (row_under t.rows k)) ∙ sym (ap (λ o. is_directory_seen (option_and_then (λ k. option_map seen_row (row_under t.rows k)) o)) found) ∙ regular)
 
 abbrev file : List ℕ → ℕ → Option (List ℕ) → world.File
 file bytes mode kind = record { kind = kind_of kind; mode = mode; bytes = bytes }

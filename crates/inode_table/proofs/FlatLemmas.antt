@@ -14,7 +14,7 @@ use Rattle.std.specs.declared.cmp.Ordering.TheVariants.{Less}
 use Rattle.std.proofs.lemmas.Map.Keys.{sorted_head, sorted_tail}
 use Rattle.inode_table.specs.Flat.{Adds, Visits, longer, names_in, number_under}
 use Rattle.inode_table.specs.Paths.{path_cmp}
-use Rattle.inode_table.specs.Rows.{Body, File, Names, Label, Row, Rows, What, child, key_in, row, row_of, rows_of, same_label, shown, what}
+use Rattle.inode_table.specs.Rows.{Body, File, Names, Label, Row, Rows, What, child, key_in, row_under, row_of, rows_of, same_label, shown, what}
 use Rattle.inode_table.specs.Walk.{walk}
 use Rattle.inode_table.specs.declared.node.Node.{Node}
 use Rattle.slab.specs.Slab.{Slab, get}
@@ -85,7 +85,7 @@ Has found p = IsSome (tree.get path_cmp found p)
 
 -- a path to a key is found or put off, unless the key leads nowhere
 abbrev Meets : Rows → Found → Pending → List Label → ℕ → Type 0
-Meets rs found pending p k = (Has found p ⊎ (row rs k ≡ None)) ⊎ In pending (p, k)
+Meets rs found pending p k = (Has found p ⊎ (row_under rs k ≡ None)) ⊎ In pending (p, k)
 
 -- what is found is so, what is put off leads somewhere, and no path one name longer than a found one is left out
 pub record IsSearched (rs : Rows) (found : Found) (pending : Pending) : Type 0 where
@@ -120,7 +120,7 @@ module _ (rs : Rows) (found : Found) (rest : Pending) (path : List Label) (key :
   before = IsSearched rs found (rest ++ (path, key) ∷ [])
 
   -- a path that is left out
-  skip : before → (Has found path ⊎ (row rs key ≡ None)) → IsSearched rs found rest
+  skip : before → (Has found path ⊎ (row_under rs key ≡ None)) → IsSearched rs found rest
   skip s out = record {
     told = s.told;
     leads = λ p k h. s.leads p k (In-left rest _ (p, k) h);
@@ -134,11 +134,11 @@ module _ (rs : Rows) (found : Found) (rest : Pending) (path : List Label) (key :
         where
           by : In rest (p, k) ⊎ In {A = List Label × ℕ} ((path, key) ∷ []) (p, k) → Meets rs found rest p k
           by (inl there) = inr there
-          by (inr (inl same)) = inl (subst (λ (e : List Label × ℕ). Has found e.0 ⊎ (row rs e.1 ≡ None)) same out)
+          by (inr (inl same)) = inl (subst (λ (e : List Label × ℕ). Has found e.0 ⊎ (row_under rs e.1 ≡ None)) same out)
           by (inr (inr gone)) = absurd gone
 
   -- a path that is found
-  find : before → (r : Row) → row rs key ≡ Some r → Adds path r found rest new is → IsSearched rs new is
+  find : before → (r : Row) → row_under rs key ≡ Some r → Adds path r found rest new is → IsSearched rs new is
   find s r here adds = record {
     told = λ p n e. told p n (tie path_total path_exact path p) e;
     leads = λ p k h. leads p k (In-cases rest (longer path r) (p, k) (subst (λ xs. In xs (p, k)) adds.put_off h));
@@ -207,22 +207,22 @@ visits-fits rs path key found rest new is (inr (r, here, adds)) fits = adds.fits
 
 -- ---- at the end all is found
 
-nowhere : (rs : Rows) (j : ℕ) (s : List Label) (k : ℕ) (r : Row) → row rs j ≡ None → walk (child rs) j s ≡ Some k → row rs k ≡ Some r → ⊥
-nowhere rs j [] k r dead to is = some_none dead (ap (row rs) (same_some j k to) ∙ is)
+nowhere : (rs : Rows) (j : ℕ) (s : List Label) (k : ℕ) (r : Row) → row_under rs j ≡ None → walk (child rs) j s ≡ Some k → row_under rs k ≡ Some r → ⊥
+nowhere rs j [] k r dead to is = some_none dead (ap (row_under rs) (same_some j k to) ∙ is)
 nowhere rs j (l ∷ s) k r dead to is =
     some_none (ap (λ o. option_and_then (λ i. walk (child rs) i s) (option_and_then (λ (q : Row). key_in q.body l) o)) dead) to
 
 module _ (rs : Rows) (found : Found) (search : IsSearched rs found []) where
-  met : (p : List Label) (j : ℕ) (s : List Label) (k : ℕ) (r : Row) → Meets rs found [] p j → walk (child rs) j s ≡ Some k → row rs k ≡ Some r → Has found p
+  met : (p : List Label) (j : ℕ) (s : List Label) (k : ℕ) (r : Row) → Meets rs found [] p j → walk (child rs) j s ≡ Some k → row_under rs k ≡ Some r → Has found p
   met p j s k r (inl (inl has)) to is = has
   met p j s k r (inl (inr dead)) to is = absurd (nowhere rs j s k r dead to is)
   met p j s k r (inr gone) to is = absurd gone
 
-  all-found : (s p : List Label) (i k : ℕ) (r : Row) → Has found p → walk (child rs) 0 p ≡ Some i → walk (child rs) i s ≡ Some k → row rs k ≡ Some r → Has found (p ++ s)
+  all-found : (s p : List Label) (i k : ℕ) (r : Row) → Has found p → walk (child rs) 0 p ≡ Some i → walk (child rs) i s ≡ Some k → row_under rs k ≡ Some r → Has found (p ++ s)
   all-found [] p i k r has to rest is = subst (Has found) (sym (append-nil p)) has
   all-found (l ∷ s) p i k r has to rest is = by (λ j. all-found s (p ++ l ∷ []) j k r) (child rs i l) refl rest
     where
-      by : ((j : ℕ) → Has found (p ++ l ∷ []) → walk (child rs) 0 (p ++ l ∷ []) ≡ Some j → walk (child rs) j s ≡ Some k → row rs k ≡ Some r → Has found ((p ++ l ∷ []) ++ s)) → (o : Option ℕ) → child rs i l ≡ o → option_and_then (λ j. walk (child rs) j s) o ≡ Some k → Has found (p ++ l ∷ s)
+      by : ((j : ℕ) → Has found (p ++ l ∷ []) → walk (child rs) 0 (p ++ l ∷ []) ≡ Some j → walk (child rs) j s ≡ Some k → row_under rs k ≡ Some r → Has found ((p ++ l ∷ []) ++ s)) → (o : Option ℕ) → child rs i l ≡ o → option_and_then (λ j. walk (child rs) j s) o ≡ Some k → Has found (p ++ l ∷ s)
       by later None edge e = absurd (some_none refl e)
       by later (Some j) edge e =
           let to_j : walk (child rs) 0 (p ++ l ∷ []) ≡ Some j = walk-more rs p l i to ∙ ap (option_and_then (λ j. Some j)) edge in
@@ -233,9 +233,9 @@ module _ (rs : Rows) (found : Found) (search : IsSearched rs found []) where
     where
       none : tree.get path_cmp found p ≡ None → (o : Option ℕ) → walk (child rs) 0 p ≡ o → None ≡ option_and_then (λ k. option_map (λ (v : What). v.number) (what rs k)) o
       none e None to = refl
-      none e (Some k) to = at (row rs k) refl
+      none e (Some k) to = at (row_under rs k) refl
         where
-          at : (o : Option Row) → row rs k ≡ o → None ≡ option_map (λ (v : What). v.number) (option_map shown o)
+          at : (o : Option Row) → row_under rs k ≡ o → None ≡ option_map (λ (v : What). v.number) (option_map shown o)
           at None is = refl
           at (Some r) is =
               absurd (let has = all-found p [] 0 k r (met [] 0 p k r search.root to is) refl to is in let no = subst (λ (o : Option ℕ). IsSome o) e has in cc)
@@ -258,7 +258,7 @@ more-of (Some a) m n none e = absurd (cc)
 -- ---- one node
 
 module _ (s : Slab Node) (k : ℕ) (n : Node) where
-  pub row-node : Some n ≡ get s k → row (rows_of s) k ≡ Some (row_of n)
+  pub row-node : Some n ≡ get s k → row_under (rows_of s) k ≡ Some (row_of n)
   row-node found = row-rows_of s k ∙ ap (option_map row_of) (sym found)
 
 module _ (path : List Label) (r : Row) (was is : Pending) where

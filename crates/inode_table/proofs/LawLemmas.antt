@@ -3,7 +3,7 @@ use Rattle.std.proofs.Common.{◌≡◌, ℕ, true, false, List, [], ◌∷◌, 
 use Rattle.std.specs.Option.{option_and_then, option_map, option_map_or, IsSomeAnd}
 use Rattle.std.specs.FinMap as finmap
 use Rattle.inode_table.specs.Walk.{walk}
-use Rattle.inode_table.specs.Rows.{Label, Row, row, child, shown, bytes_in, is_directory, is_directory_row}
+use Rattle.inode_table.specs.Rows.{Label, Row, row_under, child, shown, bytes_in, is_directory, is_directory_row}
 use Rattle.inode_table.specs.Tree.{Tree, at, what_at}
 use Rattle.inode_table.specs.World as world
 use Rattle.inode_table.specs.World.{World, IsWorld, IsDirectoryAt, file_at}
@@ -23,7 +23,7 @@ directory-kind None e = refl
 directory-kind (Some x) e = absurd (cc)
 
 module _ {t : Tree} {w : World} (stands : Stands t w) where
-  row-directory : (k : ℕ) (r : Row) → row t.rows k ≡ Some r → is_directory t.rows k ≡ is_none (bytes_in r.body)
+  row-directory : (k : ℕ) (r : Row) → row_under t.rows k ≡ Some r → is_directory t.rows k ≡ is_none (bytes_in r.body)
   row-directory k r is = ap (λ o. option_map_or is_directory_row o false) is
 
   directory-at : (p : List Label) (k : ℕ) → at t p ≡ Some k → is_directory t.rows k ≡ true → IsDirectoryAt w p

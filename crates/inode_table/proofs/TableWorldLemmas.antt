@@ -11,7 +11,7 @@ use Rattle.std.specs.FinMap as map
 use Rattle.std.specs.FinMap.{nat_cmp-IsAntisymmetric, get-empty}
 use borrow.Author.Tests.{eqb-true}
 use Rattle.inode_table.specs.Walk.{walk}
-use Rattle.inode_table.specs.Rows.{Label, Body, File, Names, Row, Rows, What, row, child, what, shown, key_in, same_label, is_directory}
+use Rattle.inode_table.specs.Rows.{Label, Body, File, Names, Row, Rows, What, row_under, child, what, shown, key_in, same_label, is_directory}
 use Rattle.inode_table.specs.Tree.{Tree, IsTable, at, what_at}
 use Rattle.inode_table.specs.Flat.{names_in}
 use Rattle.inode_table.specs.Paths.{path_cmp}
@@ -65,14 +65,14 @@ In-body : (l : Label) (b : Body) (j : ℕ) → key_in b l ≡ Some j → In (map
 In-body l (File bytes reserved) j e = absurd (some_none refl e)
 In-body l (Names es) j e = In-lookup l es j e
 
-In-row : (rs : Rows) (k : ℕ) (r : Row) → row rs k ≡ Some r → In rs (Some r)
+In-row : (rs : Rows) (k : ℕ) (r : Row) → row_under rs k ≡ Some r → In rs (Some r)
 In-row [] k r e = absurd (some_none refl e)
 In-row (o ∷ rs) zero r e = inl (sym e)
 In-row (o ∷ rs) (suc k) r e = inr (In-row rs k r e)
 
 In-names : (rs : Rows) (k j : ℕ) (l : Label) → child rs k l ≡ Some j → In (names_of rs) l
 In-names rs k j l is =
-    elim (row rs k) as (λ o. row rs k ≡ o → option_and_then (λ (r : Row). key_in r.body l) o ≡ Some j → In (names_of rs) l) [
+    elim (row_under rs k) as (λ o. row_under rs k ≡ o → option_and_then (λ (r : Row). key_in r.body l) o ≡ Some j → In (names_of rs) l) [
       | None ↦ λ _ e. absurd (some_none refl e)
       | Some r ↦ λ there e. In-flat_map names_of_row rs (Some r) l (In-row rs k r there) (In-body l r.body j e)
     ] refl is
@@ -263,7 +263,7 @@ numbered t k there = by (what_at t k) there
     by None e = e
     by (Some v) e = refl
 
-pub file-under : {t : Tree} → Stands t (world_of t) → (k : ℕ) (r : Row) → row t.rows k ≡ Some r → file_under t k ≡ Some (file_of (shown r))
+pub file-under : {t : Tree} → Stands t (world_of t) → (k : ℕ) (r : Row) → row_under t.rows k ≡ Some r → file_under t k ≡ Some (file_of (shown r))
 file-under {t} stands k r is =
     ap (λ o. option_and_then (map.get (world_of t).files) (option_map (λ (v : What). v.number) (option_map shown o))) is
     ∙ stands.files k (shown r) (ap (option_map shown) is)

@@ -4,7 +4,7 @@ use Rattle.std.specs.BTreeMap as tree
 use Rattle.std.specs.List.{All}
 use Rattle.std.specs.Option.{option_and_then, option_map}
 use Rattle.inode_table.specs.Paths.{path_cmp}
-use Rattle.inode_table.specs.Rows.{Body, File, Names, Label, Row, Rows, What, child, key_in, row, what}
+use Rattle.inode_table.specs.Rows.{Body, File, Names, Label, Row, Rows, What, child, key_in, row_under, what}
 use Rattle.inode_table.specs.Walk.{walk}
 
 -- the number under a path
@@ -31,5 +31,5 @@ pub record Adds (path : List Label) (r : Row) (old : tree.BTreeMap (List Label) 
 -- a path is left out where it was found before, or its key leads nowhere
 abbrev pub Visits : Rows → List Label → ℕ → tree.BTreeMap (List Label) ℕ → List (List Label × ℕ) → tree.BTreeMap (List Label) ℕ → List (List Label × ℕ) → Type 0
 Visits rs path key old was new is =
-    (((IsSome (tree.get path_cmp old path) ⊎ (row rs key ≡ None)) × (new ≡ old) × (is ≡ was))
-    ⊎ ((r : Row) × (row rs key ≡ Some r) × Adds path r old was new is))
+    (((IsSome (tree.get path_cmp old path) ⊎ (row_under rs key ≡ None)) × (new ≡ old) × (is ≡ was))
+    ⊎ ((r : Row) × (row_under rs key ≡ Some r) × Adds path r old was new is))

@@ -2,7 +2,7 @@
 
 ghost use Rattle.std.specs.Prelude.{◌≡◌, ◌≤◌, ℕ, List, None, Some, IfOk, IfErr, OnOk, OnErr, IsSome, if◌then◌else◌};
 ghost use Rattle.std.specs.FinMap as finmap;
-ghost use Rattle.inode_table.specs.Rows.{Label, rows_of, is_directory, row, row_of};
+ghost use Rattle.inode_table.specs.Rows.{Label, rows_of, is_directory, row_under, row_of};
 ghost use Rattle.inode_table.specs.Tree.{at, what_at};
 
 use crate::content::Content;
@@ -151,7 +151,7 @@ impl Table {
     // The node under a key.
     fn node(&self, key: Key) -> &Node
         requires { IsSome (number_of self.now (Some key)) }
-        ensures { row self.now.rows key ≡ Some (row_of result.now) }
+        ensures { row_under self.now.rows key ≡ Some (row_of result.now) }
     {
         match self.nodes.get(key.slot()) {
             Some(node) => node,

@@ -17,7 +17,7 @@ use Rattle.instance_table.specs.declared.instance.Instance.{Instance}
 use Rattle.instance_table.specs.declared.instances.Instances.TheInside.{Inside}
 use Rattle.instance_table.specs.Index.{HasNoEmptyRow, is_noted}
 use Rattle.instance_table.specs.Instances.{Instances, WaitingAreEvents, instance_of, changed, waiting_of, watches_file}
-use Rattle.instance_table.specs.Views.{instances_of, IsIndexed}
+use Rattle.instance_table.specs.Views.{instances_of, NotesEveryWatch}
 
 -- ---- one instance changes
 
@@ -98,7 +98,7 @@ waiting-cut m id all q = subst (λ o. AreEvents (waiting_of o)) (sym (get-cut m 
 
 -- ---- the fields
 
-module _ (a : Inside) (whole : IsIndexed a) where
+module _ (a : Inside) (whole : NotesEveryWatch a) where
   there : (id : ℕ) (i : Instance) → tree.get nat_cmp a.opened id ≡ Some i → instance_of (instances_of a) id ≡ Some i
   there id i h = get-from_map a.opened id ∙ h
 
@@ -118,7 +118,7 @@ module _ (a : Inside) (whole : IsIndexed a) where
     pub instances_of-changed : (change : Instance → Instance) → change i ≡ j → instances_of with_instance ≡ changed (instances_of a) id change
     instances_of-changed change is = instances_of-put ∙ ap (map.insert (instances_of a) id) (sym is) ∙ sym (changed-there (instances_of a) id change i (there id i was))
 
-    pub IsIndexed-kept : i.watches ≡ j.watches → AreEvents j.queue.waiting → IsIndexed with_instance
+    pub IsIndexed-kept : i.watches ≡ j.watches → AreEvents j.queue.waiting → NotesEveryWatch with_instance
     IsIndexed-kept same events = record {
       noted = λ n q.
           whole.noted n q
@@ -132,7 +132,7 @@ module _ (a : Inside) (whole : IsIndexed a) where
     }
 
     -- an instance whose watches change as the index does
-    pub IsIndexed-changed : (index : Index) → ((n q : ℕ) → is_noted index n q ≡ cond (eqb q id) (is_some (watch_of j.watches n)) (is_noted a.index n q)) → HasNoEmptyRow index → j.queue ≡ i.queue → IsIndexed (record a { opened = m; index = index })
+    pub IsIndexed-changed : (index : Index) → ((n q : ℕ) → is_noted index n q ≡ cond (eqb q id) (is_some (watch_of j.watches n)) (is_noted a.index n q)) → HasNoEmptyRow index → j.queue ≡ i.queue → NotesEveryWatch (record a { opened = m; index = index })
     IsIndexed-changed index same rows queue = record {
       rows = rows;
       noted = λ n q.
@@ -144,12 +144,12 @@ module _ (a : Inside) (whole : IsIndexed a) where
     }
 
   -- a map with the same entries
-  pub IsIndexed-same : (m : BTreeMap ℕ Instance) → m ≡ a.opened → IsIndexed (record a { opened = m })
-  IsIndexed-same m e = subst (λ x. IsIndexed (record a { opened = x })) (sym e) whole
+  pub IsIndexed-same : (m : BTreeMap ℕ Instance) → m ≡ a.opened → NotesEveryWatch (record a { opened = m })
+  IsIndexed-same m e = subst (λ x. NotesEveryWatch (record a { opened = x })) (sym e) whole
 
   -- a new instance, which watches nothing
   pub IsIndexed-new : (m : BTreeMap ℕ Instance) (id : ℕ) (i : Instance) → tree.Updates nat_cmp a.opened m id (Some i) → instance_of (instances_of a) id ≡ None
-      → ((n : ℕ) → watch_of i.watches n ≡ None) → AreEvents i.queue.waiting → IsIndexed (record a { opened = m })
+      → ((n : ℕ) → watch_of i.watches n ≡ None) → AreEvents i.queue.waiting → NotesEveryWatch (record a { opened = m })
   IsIndexed-new m id i put free none events = record {
     rows = whole.rows;
     noted = λ n q.
@@ -164,7 +164,7 @@ module _ (a : Inside) (whole : IsIndexed a) where
 
   -- an instance less, which the index forgets
   pub IsIndexed-closed : (m : BTreeMap ℕ Instance) (index : Index) (id : ℕ) (i : Instance) → tree.Updates nat_cmp a.opened m id None → tree.get nat_cmp a.opened id ≡ Some i
-      → ((n q : ℕ) → is_noted index n q ≡ (not (is_some (watch_of i.watches n) && eqb q id) && is_noted a.index n q)) → HasNoEmptyRow index → IsIndexed (record a { opened = m; index = index })
+      → ((n q : ℕ) → is_noted index n q ≡ (not (is_some (watch_of i.watches n) && eqb q id) && is_noted a.index n q)) → HasNoEmptyRow index → NotesEveryWatch (record a { opened = m; index = index })
   IsIndexed-closed m index id i cut was forgotten rows = record {
     rows = rows;
     noted = λ n q.
@@ -188,7 +188,7 @@ module _ (a : Inside) (whole : IsIndexed a) where
       on true c = refl
       on false c = refl
 
-module _ (a : Inside) (whole : IsIndexed a) where
+module _ (a : Inside) (whole : NotesEveryWatch a) where
   pub instances_of-same : (m : BTreeMap ℕ Instance) → m ≡ a.opened → instances_of (record a { opened = m }) ≡ instances_of a
   instances_of-same m e = ap (λ x. instances_of (record a { opened = x })) e
 

@@ -15,7 +15,7 @@ use Rattle.instance_table.specs.declared.instances.Instances.TheInside.{Inside}
 use Rattle.instance_table.specs.Ids.{IdSet, set_of}
 use Rattle.instance_table.specs.Index.{ids_under}
 use Rattle.instance_table.specs.Instances.{Instances, instance_of, watchers_of, watches_file}
-use Rattle.instance_table.specs.Views.{instances_of, IsIndexed}
+use Rattle.instance_table.specs.Views.{instances_of, NotesEveryWatch}
 use Rattle.instance_table.proofs.Rising.{mark, same-set, items-rising, is-same}
 
 first : (a b : Bool) → T (a && b) → T a
@@ -69,7 +69,7 @@ marks : (o : Option (Unit {0})) → mark (is_some o) ≡ o
 marks None = refl
 marks (Some u) = refl
 
-pub watchers-noted : (a : Inside) (whole : IsIndexed a) (number : ℕ) → finmap.keys (ids_under a.index number) ≡ watchers_of (instances_of a) number
+pub watchers-noted : (a : Inside) (whole : NotesEveryWatch a) (number : ℕ) → finmap.keys (ids_under a.index number) ≡ watchers_of (instances_of a) number
 unfolding watchers_of
 watchers-noted a whole number =
     let m = instances_of a in

@@ -9,7 +9,7 @@ abbrev pub instances_of : Inside → Instances
 instances_of a = finmap.from_entries a.opened.entries
 
 -- the index notes who watches each file, and nobody else, with no row for a file that nobody watches; what waits are events
-pub record IsIndexed (a : Inside) : Type 0 where
+pub record NotesEveryWatch (a : Inside) : Type 0 where
   pub noted : (number id : ℕ) → is_noted a.index number id ≡ watches_file number (instance_of (instances_of a) id)
   pub rows : HasNoEmptyRow a.index
   pub records : WaitingAreEvents (instances_of a)

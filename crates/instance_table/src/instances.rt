@@ -15,7 +15,7 @@ ghost use Rattle.instance_table.specs.Instances.{WaitingAreEvents, after_read, c
 
 use crate::index::Index;
 use crate::instance::Instance;
-use crate::rows::{InstanceRow, row};
+use crate::rows::{InstanceRow, instance_row};
 use crate::staging::{offer_one, offer_run};
 use event_queue::Queue;
 use event_rules::{StagedEvent, ignored};
@@ -51,11 +51,11 @@ impl Model for Instances {
 
     ghost coded = { instances_code };
 
-    ghost use Rattle.instance_table.specs.Views.{instances_of, IsIndexed};
+    ghost use Rattle.instance_table.specs.Views.{instances_of, NotesEveryWatch};
 
     ghost view = { instances_of };
 
-    ghost invariant = { IsIndexed };
+    ghost invariant = { NotesEveryWatch };
 }
 
 impl Instances {
@@ -105,7 +105,7 @@ impl Instances {
     {
         let mut rows = Vec::new(self.alloc);
         for (id, instance) in &self.opened {
-            rows.push(row(self.alloc, *id, instance)?)?;
+            rows.push(instance_row(self.alloc, *id, instance)?)?;
         }
         Ok(rows)
     }

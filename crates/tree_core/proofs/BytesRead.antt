@@ -11,7 +11,7 @@ use Rattle.tree_core.specs.declared.call.Call.TheVariants as call
 use Rattle.tree_core.specs.declared.reply.Entry.{Entry}
 use Rattle.tree_core.specs.declared.reply.Reply.{Reply}
 use Rattle.tree_core.specs.declared.reply.Reply.TheVariants as reply
-use Rattle.tree_core.specs.Tree.{Tree, refusal_of, answer_of, read_answer, reply_by, reply_of, after}
+use Rattle.tree_core.specs.Tree.{Tree, refusal_of, accepted_reply, read_answer, reply_by, reply_of, after}
 use Rattle.tree_core.specs.Journal.{IsLawfulFrom}
 use Rattle.tree_core.specs.Histories.{where_open, oldest, records_for, read_by, read_in}
 use Rattle.tree_core.specs.QueueLaws.{bytes_in, bytes_of, bytes_read, BytesAreOfRecords}
@@ -46,7 +46,7 @@ nothing-read : (o : Option Instance) → [] ≡ spelling (where_open None o (λ 
 nothing-read None = refl
 nothing-read (Some i) = refl
 
-accepted-bytes : (t : Tree) (c : Call) (id : ℕ) → bytes_of id c (answer_of t c) ≡ spelling (where_open None (instance_of t.instances id) (records_for c id))
+accepted-bytes : (t : Tree) (c : Call) (id : ℕ) → bytes_of id c (accepted_reply t c) ≡ spelling (where_open None (instance_of t.instances id) (records_for c id))
 accepted-bytes t (call.File f) id = nothing-read (instance_of t.instances id)
 accepted-bytes t (call.Init limit is_piped) id = nothing-read (instance_of t.instances id)
 accepted-bytes t (call.AddWatch from p mask) id = nothing-read (instance_of t.instances id)
@@ -55,7 +55,7 @@ accepted-bytes t (call.Read from bytes) id = same-answer t from id bytes (from =
 accepted-bytes t (call.Pump from bytes) id = same-answer t from id bytes (from == id) refl ∙ answered (from == id) bytes (instance_of t.instances id)
 accepted-bytes t (call.Close from) id = nothing-read (instance_of t.instances id)
 
-by-refusal : (t : Tree) (c : Call) (id : ℕ) (o : Option Refusal) → bytes_of id c (reply_by o (answer_of t c)) ≡ spelling (where_open o (instance_of t.instances id) (records_for c id))
+by-refusal : (t : Tree) (c : Call) (id : ℕ) (o : Option Refusal) → bytes_of id c (reply_by o (accepted_reply t c)) ≡ spelling (where_open o (instance_of t.instances id) (records_for c id))
 by-refusal t c id (Some r) = refused-bytes id c r
 by-refusal t c id None = accepted-bytes t c id
 

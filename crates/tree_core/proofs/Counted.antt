@@ -17,7 +17,7 @@ use Rattle.tree_ops.specs.declared.call.Counts.{Counts}
 use Rattle.tree_ops.specs.declared.call.TheConstants.{RENAME_EXCHANGE, RENAME_NOREPLACE}
 use Rattle.tree_ops.specs.declared.call.FileCall.{FileCall}
 use Rattle.tree_ops.specs.declared.call.FileCall.TheVariants.{Create, Write, ReadFile, Truncate, Chmod, Mkdir, Link, Unlink, Rmdir, Rename, Rename2, Stat as Status, List as Listed}
-use Rattle.tree_ops.specs.Refused.{refused, refusal_of, cookies_of, cookies_row, two_cookies_row, are_same_seen, moves_by, make_rows, rename_rows, move_rows, noreplace_rows, swap_rows, exchange_rows, rename2_rows}
+use Rattle.tree_ops.specs.Refused.{refused, refusal_seen, cookies_of, cookies_row, two_cookies_row, are_same_seen, moves_by, make_rows, rename_rows, move_rows, noreplace_rows, swap_rows, exchange_rows, rename2_rows}
 use Rattle.tree_ops.specs.After.{numbers_of}
 use Rattle.event_rules.specs.Table.{notices_of}
 use Rattle.instance_table.specs.declared.instance.Instance.{Instance}
@@ -52,7 +52,7 @@ make-left at limits counts p mode none =
     ltb-false limits.numbers counts.next_number (row-passes (nat_lt limits.numbers counts.next_number) NumbersSpent each.1.1.1.1.0)
 
 numbers-left : (t : Tree) (f : FileCall) → refused t.world t.limits (counts_of t) f ≡ None → t.next_number ≤ t.limits.numbers + 1 → t.next_number + numbers_of f ≤ t.limits.numbers + 1
-unfolding refusal_of
+unfolding refusal_seen
 numbers-left t (Create p mode) none few = let last : t.next_number ≤ t.limits.numbers = make-left (look t.world) t.limits (counts_of t) p mode none in omega arith
 numbers-left t (Mkdir p mode) none few = let last : t.next_number ≤ t.limits.numbers = make-left (look t.world) t.limits (counts_of t) p mode none in omega arith
 numbers-left t (Write p offset bytes) none few = omega arith
@@ -151,7 +151,7 @@ module _ (at : Look) (limits : Limits) (counts : Counts) (next : ℕ) (now : cou
 
 -- the cookies that an accepted call uses are there
 pub cookies-there : (w : World) (limits : Limits) (counts : Counts) (next : ℕ) → counts.next_cookie ≡ cookie_now next → (f : FileCall) → refused w limits counts f ≡ None → HasRoom limits next (cookies_of w f)
-unfolding refusal_of
+unfolding refusal_seen
 cookies-there w limits counts next now (Create p mode) none = inl refl
 cookies-there w limits counts next now (Mkdir p mode) none = inl refl
 cookies-there w limits counts next now (Write p offset bytes) none = inl refl

@@ -19,7 +19,7 @@ use Rattle.tree_core.specs.declared.reply.Reply.{Reply}
 use Rattle.tree_core.specs.declared.reply.Reply.TheVariants as reply
 use Rattle.tree_core.specs.Journal.{IsLawfulFrom}
 use Rattle.tree_core.specs.Sound.{IsSoundTree}
-use Rattle.tree_core.specs.Tree.{Tree, accepted, after, after_reading, answer_of, cookie_now, number_seen, refusal_of, reply_by, reply_of, tree_by, watch_answer}
+use Rattle.tree_core.specs.Tree.{Tree, accepted, after, after_reading, accepted_reply, cookie_now, number_seen, refusal_of, reply_by, reply_of, tree_by, watch_answer}
 use Rattle.tree_core.specs.TurnLaws.{DescriptorsRunOn, RunOn, TreesAreSound, next_wd_of, wd_in, wds_given, wds_of}
 use Rattle.tree_core.proofs.Opened.{eqb-other, eqb-swap, instance_of-accepted, left_of}
 use Rattle.tree_core.proofs.Untouched.{next-after, none-after}
@@ -52,7 +52,7 @@ given-none true number None e = refl
 given-none true number (Some i) e = absurd (cc)
 given-none false number o e = refl
 
-closed-answers : (t : Tree) (id : ℕ) (c : Call) → instance_of t.instances id ≡ None → wds_of id c (answer_of t c) ≡ []
+closed-answers : (t : Tree) (id : ℕ) (c : Call) → instance_of t.instances id ≡ None → wds_of id c (accepted_reply t c) ≡ []
 closed-answers t id (call.File f) none = refl
 closed-answers t id (call.Init limit is_piped) none = refl
 closed-answers t id (call.AddWatch from p mask) none =
@@ -66,7 +66,7 @@ closed-answers t id (call.Close from) none = refl
 closed-gives : (t : Tree) (id : ℕ) (c : Call) → instance_of t.instances id ≡ None → wds_of id c (reply_of t c) ≡ []
 closed-gives t id c none = by (refusal_of t c)
   where
-    by : (r : Option Refusal) → wds_of id c (reply_by r (answer_of t c)) ≡ []
+    by : (r : Option Refusal) → wds_of id c (reply_by r (accepted_reply t c)) ≡ []
     by (Some r) = refused-none id c r
     by None = closed-answers t id c none
 
@@ -171,7 +171,7 @@ closes-gives (call.Close from) id r e = refl
 
 module _ (part : (w : Watching) (ns : List Notice) → IsPartOf (watches_after w ns) w) (t : Tree) (id : ℕ) (i : Instance) (at : instance_of t.instances id ≡ Some i) (made : id < t.next_id) (sound : IsSound i.watches) where
   -- a call that does not close the instance
-  open-step : (c : Call) → closes id c ≡ false → Step i.watches.next_wd (next_wd_of (left_of t c id (Some i))) (wds_of id c (answer_of t c))
+  open-step : (c : Call) → closes id c ≡ false → Step i.watches.next_wd (next_wd_of (left_of t c id (Some i))) (wds_of id c (accepted_reply t c))
   open-step (call.File f) other = gives-none _ _ _ refl ((part i.watches (notices_of t.world f (cookie_now t.next_cookie))).next_wd)
   open-step (call.Init limit is_piped) other =
       gives-none _ _ _ refl (ap (λ b. next_wd_of (cond b (Some (new_instance t.limits limit is_piped)) (Some i))) (eqb-other id t.next_id (λ e. absurd (omega arith))))
@@ -193,10 +193,10 @@ module _ (part : (w : Watching) (ns : List Notice) → IsPartOf (watches_after w
   unmade-step t c None none = ap next_wd_of (instance_of-accepted t c id ∙ ap (left_of t c id) none) ∙ unmade-left t c id
 
   step-by : (t : Tree) (c : Call) (i : Instance) (r : Option Refusal) → instance_of t.instances id ≡ Some i → id < t.next_id → IsSound i.watches → closes id c ≡ false
-      → Step i.watches.next_wd (next_wd_of (instance_of (tree_by r t (accepted t c)).instances id)) (wds_of id c (reply_by r (answer_of t c)))
+      → Step i.watches.next_wd (next_wd_of (instance_of (tree_by r t (accepted t c)).instances id)) (wds_of id c (reply_by r (accepted_reply t c)))
   step-by t c i (Some r) at made sound other = gives-none _ _ _ (refused-none id c r) (ap next_wd_of at)
   step-by t c i None at made sound other =
-      subst (λ o. Step i.watches.next_wd (next_wd_of o) (wds_of id c (answer_of t c))) (sym (instance_of-accepted t c id ∙ ap (left_of t c id) at)) (open-step part t id i at made sound c other)
+      subst (λ o. Step i.watches.next_wd (next_wd_of o) (wds_of id c (accepted_reply t c))) (sym (instance_of-accepted t c id ∙ ap (left_of t c id) at)) (open-step part t id i at made sound c other)
 
   gone-by : (t : Tree) (c : Call) (i : Instance) (es : List Entry) (r : Option Refusal) → instance_of t.instances id ≡ Some i → id < t.next_id → closes id c ≡ true → IsLawfulFrom (tree_by r t (accepted t c)) es
       → RunOn (next_wd_of (instance_of (tree_by r t (accepted t c)).instances id)) (wds_given id es) → t.next_id ≤ (tree_by r t (accepted t c)).next_id → RunOn i.watches.next_wd (wds_given id es)

@@ -160,7 +160,7 @@ unfolding close_rows
 close-fits o = first (close_rows o) (one _ _ refl, tt)
 
 refusal-fits : (t : Tree) (c : Call) → Fits (refusal_of t c)
-unfolding ops.refusal_of
+unfolding ops.refusal_seen
 refusal-fits t (call.File f) = first (ops.rows_of (look t.world) t.limits (counts_of t) f) (rows-fit (look t.world) t.limits (counts_of t) f)
 refusal-fits t (call.Init limit is_piped) = init-fits t limit
 refusal-fits t (call.AddWatch id p mask) = watch-fits (look t.world) p (known mask) (instance_of t.instances id)

@@ -10,7 +10,7 @@ use Rattle.instance_table.specs.Instances.{instance_of}
 use Rattle.tree_core.specs.declared.call.Call.{Call}
 use Rattle.tree_core.specs.declared.call.Call.TheVariants as call
 use Rattle.tree_core.specs.declared.reply.Reply.TheVariants as reply
-use Rattle.tree_core.specs.Tree.{Tree, refusal_of, add_watch_rows, read_rows, way_row, close_rows, accepted, watch_answer, read_answer, number_seen, answer_of, reply_by, tree_by, reply_of}
+use Rattle.tree_core.specs.Tree.{Tree, refusal_of, add_watch_rows, read_rows, way_row, close_rows, accepted, watch_answer, read_answer, number_seen, accepted_reply, reply_by, tree_by, reply_of}
 use Rattle.tree_core.specs.TurnLaws.{RepliesTell}
 use Rattle.tree_core.specs.Histories.{events_for, raised_by, raised_to, read_by, records_for, where_open}
 use Rattle.tree_core.proofs.Counted.{first-passes}
@@ -53,7 +53,7 @@ read-opens-none bytes id None e = cc
 read-opens-none bytes id (Some i) e = cc
 
 -- an instance is answered by the call that makes one alone
-opened-next : (t : Tree) (c : Call) (id : ℕ) → answer_of t c ≡ reply.Instance id → id ≡ t.next_id
+opened-next : (t : Tree) (c : Call) (id : ℕ) → accepted_reply t c ≡ reply.Instance id → id ≡ t.next_id
 opened-next t (call.File f) id e = absurd (cc)
 opened-next t (call.Init limit is_piped) id e = cc
 opened-next t (call.AddWatch from p mask) id e = absurd (watch-opens-none (number_seen (look t.world p)) id (instance_of t.instances from) e)
@@ -62,7 +62,7 @@ opened-next t (call.Read from bytes) id e = absurd (read-opens-none bytes id (in
 opened-next t (call.Pump from bytes) id e = absurd (read-opens-none bytes id (instance_of t.instances from) e)
 opened-next t (call.Close from) id e = absurd (cc)
 
-opened-by : (t : Tree) (c : Call) (id : ℕ) (o : Option Refusal) → reply_by o (answer_of t c) ≡ reply.Instance id → id ≡ t.next_id
+opened-by : (t : Tree) (c : Call) (id : ℕ) (o : Option Refusal) → reply_by o (accepted_reply t c) ≡ reply.Instance id → id ≡ t.next_id
 opened-by t c id None e = opened-next t c id e
 opened-by t c id (Some r) e = absurd (cc)
 
@@ -77,7 +77,7 @@ read-passes pumps bytes None r passes e = cc
 read-passes pumps bytes (Some i) r passes e = cc
 
 -- what an accepted call answers is no refusal
-no-refusal : (t : Tree) (c : Call) (r : Refusal) → refusal_of t c ≡ None → answer_of t c ≡ reply.Refused r → ⊥
+no-refusal : (t : Tree) (c : Call) (r : Refusal) → refusal_of t c ≡ None → accepted_reply t c ≡ reply.Refused r → ⊥
 no-refusal t (call.File f) r passes e = cc
 no-refusal t (call.Init limit is_piped) r passes e = cc
 no-refusal t (call.AddWatch id p mask) r passes e = watch-passes (look t.world) p (known mask) (number_seen (look t.world p)) (instance_of t.instances id) r passes e
@@ -86,7 +86,7 @@ no-refusal t (call.Read id bytes) r passes e = read-passes false bytes (instance
 no-refusal t (call.Pump id bytes) r passes e = read-passes true bytes (instance_of t.instances id) r passes e
 no-refusal t (call.Close id) r passes e = cc
 
-refused-same : (t : Tree) (c : Call) (r : Refusal) (o : Option Refusal) → refusal_of t c ≡ o → reply_by o (answer_of t c) ≡ reply.Refused r → tree_by o t (accepted t c) ≡ t
+refused-same : (t : Tree) (c : Call) (r : Refusal) (o : Option Refusal) → refusal_of t c ≡ o → reply_by o (accepted_reply t c) ≡ reply.Refused r → tree_by o t (accepted t c) ≡ t
 refused-same t c r None passes e = absurd (no-refusal t c r passes e)
 refused-same t c r (Some s) passes e = refl
 
@@ -99,7 +99,7 @@ unfolding read_by
 nothing-read t c r e id = ap (λ o. where_open o (instance_of t.instances id) (records_for c id)) e
 
 -- the refusal in a reply is the call's
-refusal-is : (t : Tree) (c : Call) (r : Refusal) (o : Option Refusal) → refusal_of t c ≡ o → reply_by o (answer_of t c) ≡ reply.Refused r → refusal_of t c ≡ Some r
+refusal-is : (t : Tree) (c : Call) (r : Refusal) (o : Option Refusal) → refusal_of t c ≡ o → reply_by o (accepted_reply t c) ≡ reply.Refused r → refusal_of t c ≡ Some r
 refusal-is t c r None passes e = absurd (no-refusal t c r passes e)
 refusal-is t c r (Some s) passes e = passes ∙ ap Some cc
 

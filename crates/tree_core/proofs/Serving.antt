@@ -8,18 +8,18 @@ use Rattle.tree_core.specs.declared.file_system.FileSystem.{FileSystem}
 use Rattle.tree_core.specs.declared.file_system.Replies.{Replies}
 use Rattle.tree_core.specs.declared.reply.Reply.{Reply}
 use Rattle.tree_core.specs.declared.reply.Reply.TheVariants as reply
-use Rattle.tree_core.specs.Tree.{Tree, refusal_of, answer_of, accepted, reply_by, tree_by, reply_of, after}
+use Rattle.tree_core.specs.Tree.{Tree, refusal_of, accepted_reply, accepted, reply_by, tree_by, reply_of, after}
 use Rattle.tree_core.specs.FileSystems.{tree_in, Executes, copies_of}
 use Rattle.tree_core.specs.Sound.{IsNumbered}
 
 pub reply_of-refused : (t : Tree) (c : Call) (r : Refusal) → refusal_of t c ≡ Some r → reply_of t c ≡ reply.Refused r
-reply_of-refused t c r e = ap (λ o. reply_by o (answer_of t c)) e
+reply_of-refused t c r e = ap (λ o. reply_by o (accepted_reply t c)) e
 
 pub after-refused : (t : Tree) (c : Call) (r : Refusal) → refusal_of t c ≡ Some r → after t c ≡ t
 after-refused t c r e = ap (λ o. tree_by o t (accepted t c)) e
 
-pub reply_of-accepted : (t : Tree) (c : Call) → refusal_of t c ≡ None → reply_of t c ≡ answer_of t c
-reply_of-accepted t c e = ap (λ o. reply_by o (answer_of t c)) e
+pub reply_of-accepted : (t : Tree) (c : Call) → refusal_of t c ≡ None → reply_of t c ≡ accepted_reply t c
+reply_of-accepted t c e = ap (λ o. reply_by o (accepted_reply t c)) e
 
 pub after-accepted : (t : Tree) (c : Call) → refusal_of t c ≡ None → after t c ≡ accepted t c
 after-accepted t c e = ap (λ o. tree_by o t (accepted t c)) e
@@ -49,7 +49,7 @@ module _ (m : FileSystem) (c : Call) (keeps : Bool) (numbered : IsNumbered (tree
   -- a call that is accepted
   pub accepted-serves : (out : Replies) (new : FileSystem) (answer : Reply) → out ≡ copies_of keeps answer
       → refusal_of (tree_in m) c ≡ None
-      → answer ≡ answer_of (tree_in m) c
+      → answer ≡ accepted_reply (tree_in m) c
       → tree_in new ≡ accepted (tree_in m) c
       → IsNumbered (accepted (tree_in m) c) → Executes m c keeps (Ok out) new
   accepted-serves out new answer is passes answers leads next = record {
@@ -63,7 +63,7 @@ module _ (m : FileSystem) (c : Call) (keeps : Bool) (numbered : IsNumbered (tree
   -- a call that is accepted, and that may want memory
   pub result-serves : (result : Result Replies Refusal) (new next : FileSystem) (answer : Reply)
       → refusal_of (tree_in m) c ≡ None
-      → answer ≡ answer_of (tree_in m) c
+      → answer ≡ accepted_reply (tree_in m) c
       → tree_in next ≡ accepted (tree_in m) c
       → IsNumbered (accepted (tree_in m) c)
       → IfOk result (λ r. r ≡ copies_of keeps answer) → OnOk result (new ≡ next)
@@ -76,7 +76,7 @@ module _ (m : FileSystem) (c : Call) (keeps : Bool) (numbered : IsNumbered (tree
   -- a call that is accepted, where the copy of its answer takes no memory
   pub answered-serves : (result : Result Replies Refusal) (new : FileSystem) (answer : Reply)
       → refusal_of (tree_in m) c ≡ None
-      → answer ≡ answer_of (tree_in m) c
+      → answer ≡ accepted_reply (tree_in m) c
       → tree_in new ≡ accepted (tree_in m) c
       → IsNumbered (accepted (tree_in m) c)
       → IfOk result (λ r. r ≡ copies_of keeps answer) → OnErr result (false ≡ true) → Executes m c keeps result new

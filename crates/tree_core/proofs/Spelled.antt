@@ -9,7 +9,7 @@ use Rattle.tree_core.specs.declared.call.Call.{Call}
 use Rattle.tree_core.specs.declared.call.Call.TheVariants as call
 use Rattle.tree_core.specs.declared.file_system.FileSystem.{FileSystem}
 use Rattle.tree_core.specs.declared.reply.Entry.{Entry}
-use Rattle.tree_core.specs.Tree.{Tree, refusal_of, answer_of, number_seen, read_answer, reply_by, reply_of, after, watch_answer}
+use Rattle.tree_core.specs.Tree.{Tree, refusal_of, accepted_reply, number_seen, read_answer, reply_by, reply_of, after, watch_answer}
 use Rattle.tree_core.specs.Journal.{tree_after}
 use Rattle.tree_core.specs.Calls.{IsSpelled}
 use Rattle.tree_core.specs.Histories.{oldest, read_by, read_in, records_for, where_open}
@@ -73,7 +73,7 @@ module _ (t : Tree) (waits : WaitingAreEvents t.instances) where
   watch-spelled number None = tt
   watch-spelled number (Some i) = tt
 
-  answer-spelled : (c : Call) → IsSpelled (answer_of t c)
+  answer-spelled : (c : Call) → IsSpelled (accepted_reply t c)
   answer-spelled (call.File f) = tt
   answer-spelled (call.Init limit is_piped) = tt
   answer-spelled (call.AddWatch from p mask) = watch-spelled (number_seen (look t.world p)) (instance_of t.instances from)
@@ -86,7 +86,7 @@ module _ (t : Tree) (waits : WaitingAreEvents t.instances) where
   pub reply-spelled : (c : Call) → IsSpelled (reply_of t c)
   reply-spelled c = by (refusal_of t c)
     where
-      by : (r : Option Refusal) → IsSpelled (reply_by r (answer_of t c))
+      by : (r : Option Refusal) → IsSpelled (reply_by r (accepted_reply t c))
       by (Some r) = tt
       by None = answer-spelled c
 

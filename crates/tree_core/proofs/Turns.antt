@@ -15,7 +15,7 @@ use Rattle.tree_core.specs.declared.reply.Entry.{Entry}
 use Rattle.tree_core.specs.declared.reply.Reply.{Reply}
 use Rattle.tree_core.specs.declared.reply.Reply.TheVariants as reply
 use Rattle.tree_core.specs.Journal.{IsLawfulFrom}
-use Rattle.tree_core.specs.Tree.{Tree, counts_of, refusal_of, after_file, after_init, after_add_watch, after_rm_watch, after_accepted_read, after_close, accepted, watch_answer, read_answer, number_seen, answer_of, reply_by, tree_by, after}
+use Rattle.tree_core.specs.Tree.{Tree, counts_of, refusal_of, after_file, after_init, after_add_watch, after_rm_watch, after_accepted_read, after_close, accepted, watch_answer, read_answer, number_seen, accepted_reply, reply_by, tree_by, after}
 use Rattle.tree_core.specs.TurnLaws.{AreInTurn, number_in, numbers_given, NumbersAreInTurn, id_in, ids_given, IdsAreInTurn}
 
 -- what a call gives is in turn: what is in turn from the number that comes next after it is so behind it too
@@ -69,7 +69,7 @@ file-step t (Rename2 old new flags) = gives-none _ _ _ refl (same-number t.next_
 file-step t (Status p) = gives-none _ _ _ (stat-number t.world (finmap.get t.world.paths p) (file_at t.world p)) (same-number t.next_number)
 file-step t (Listed p) = gives-none _ _ _ refl (same-number t.next_number)
 
-accepted-numbers : (t : Tree) (c : Call) → Step t.next_number (accepted t c).next_number (number_in (answer_of t c))
+accepted-numbers : (t : Tree) (c : Call) → Step t.next_number (accepted t c).next_number (number_in (accepted_reply t c))
 unfolding after_file after_init after_add_watch after_rm_watch after_accepted_read after_close
 accepted-numbers t (call.File f) = file-step t f
 accepted-numbers t (call.Init limit is_piped) = gives-none _ _ _ refl refl
@@ -79,7 +79,7 @@ accepted-numbers t (call.Read id bytes) = gives-none _ _ _ (read-number bytes (i
 accepted-numbers t (call.Pump id bytes) = gives-none _ _ _ (read-number bytes (instance_of t.instances id)) refl
 accepted-numbers t (call.Close id) = gives-none _ _ _ refl refl
 
-step-numbers : (t : Tree) (c : Call) (o : Option Refusal) → Step t.next_number (tree_by o t (accepted t c)).next_number (number_in (reply_by o (answer_of t c)))
+step-numbers : (t : Tree) (c : Call) (o : Option Refusal) → Step t.next_number (tree_by o t (accepted t c)).next_number (number_in (reply_by o (accepted_reply t c)))
 step-numbers t c None = accepted-numbers t c
 step-numbers t c (Some r) = gives-none _ _ _ refl refl
 
@@ -102,7 +102,7 @@ read-id : (bytes : ℕ) (o : Option Instance) → id_in (read_answer bytes o) �
 read-id bytes None = refl
 read-id bytes (Some i) = refl
 
-accepted-ids : (t : Tree) (c : Call) → Step t.next_id (accepted t c).next_id (id_in (answer_of t c))
+accepted-ids : (t : Tree) (c : Call) → Step t.next_id (accepted t c).next_id (id_in (accepted_reply t c))
 unfolding after_file after_init after_add_watch after_rm_watch after_accepted_read after_close
 accepted-ids t (call.File f) = gives-none _ _ _ refl refl
 accepted-ids t (call.Init limit is_piped) = gives-one _ _ _ refl refl
@@ -112,7 +112,7 @@ accepted-ids t (call.Read id bytes) = gives-none _ _ _ (read-id bytes (instance_
 accepted-ids t (call.Pump id bytes) = gives-none _ _ _ (read-id bytes (instance_of t.instances id)) refl
 accepted-ids t (call.Close id) = gives-none _ _ _ refl refl
 
-step-ids : (t : Tree) (c : Call) (o : Option Refusal) → Step t.next_id (tree_by o t (accepted t c)).next_id (id_in (reply_by o (answer_of t c)))
+step-ids : (t : Tree) (c : Call) (o : Option Refusal) → Step t.next_id (tree_by o t (accepted t c)).next_id (id_in (reply_by o (accepted_reply t c)))
 step-ids t c None = accepted-ids t c
 step-ids t c (Some r) = gives-none _ _ _ refl refl
 

@@ -157,14 +157,14 @@ read_answer bytes None = reply.Refused Ebadf
 read_answer bytes (Some i) = reply.Records (spelling (take (fitting bytes i.queue.waiting) i.queue.waiting))
 
 -- what an accepted call answers
-abbrev pub answer_of : Tree → Call → Reply
-answer_of t (call.File f) = reply.File (ops_after.answer_of t.world (counts_of t) f)
-answer_of t (call.Init limit is_piped) = reply.Instance t.next_id
-answer_of t (call.AddWatch id p mask) = watch_answer (number_seen (look t.world p)) (instance_of t.instances id)
-answer_of t (call.RmWatch id wd) = reply.Done
-answer_of t (call.Read id bytes) = read_answer bytes (instance_of t.instances id)
-answer_of t (call.Pump id bytes) = read_answer bytes (instance_of t.instances id)
-answer_of t (call.Close id) = reply.Done
+abbrev pub accepted_reply : Tree → Call → Reply
+accepted_reply t (call.File f) = reply.File (ops_after.answer_of t.world (counts_of t) f)
+accepted_reply t (call.Init limit is_piped) = reply.Instance t.next_id
+accepted_reply t (call.AddWatch id p mask) = watch_answer (number_seen (look t.world p)) (instance_of t.instances id)
+accepted_reply t (call.RmWatch id wd) = reply.Done
+accepted_reply t (call.Read id bytes) = read_answer bytes (instance_of t.instances id)
+accepted_reply t (call.Pump id bytes) = read_answer bytes (instance_of t.instances id)
+accepted_reply t (call.Close id) = reply.Done
 
 -- ---- every call
 
@@ -178,7 +178,7 @@ tree_by None before after = after
 
 -- what a call answers
 abbrev pub reply_of : Tree → Call → Reply
-reply_of t c = reply_by (refusal_of t c) (answer_of t c)
+reply_of t c = reply_by (refusal_of t c) (accepted_reply t c)
 
 -- the tree after a call, which is as before where the call is refused
 abbrev pub after : Tree → Call → Tree

@@ -17,7 +17,7 @@ use Rattle.tree_ops.specs.declared.call.Counts.{Counts}
 use Rattle.tree_ops.specs.declared.call.TheConstants.{RENAME_EXCHANGE}
 use Rattle.tree_ops.specs.declared.call.FileCall.{FileCall}
 use Rattle.tree_ops.specs.declared.call.FileCall.TheVariants.{Create, Write, ReadFile, Truncate, Chmod, Mkdir, Link, Unlink, Rmdir, Rename, Rename2, Stat as Status, List as Listed}
-use Rattle.tree_ops.specs.Refused.{refused, refusal_of, are_same_seen}
+use Rattle.tree_ops.specs.Refused.{refused, refusal_seen, are_same_seen}
 use Rattle.tree_ops.specs.After.{after, after_unlink, after_rename, after_exchange, numbers_of}
 use Rattle.tree_ops.proofs.Rows.{RenameKnown, rename-known, move-known}
 use Rattle.tree_ops.proofs.WorldChanges.{numbers-changed, dropped-other, files-left, numbers-lost, lost-is, none-counted}
@@ -145,7 +145,7 @@ Goes w (Rename2 old new flags) n = ((flags == RENAME_EXCHANGE) ≡ false) × (ar
 Goes w _ n = ⊥
 
 pub gone-goes : (w : World) → IsWorld w → (limits : Limits) (counts : Counts) (call : FileCall) (n : ℕ) → refused w limits counts call ≡ None → IsThere w n → finmap.get (after w counts call).files n ≡ None → Goes w call n
-unfolding refusal_of
+unfolding refusal_seen
 gone-goes w is limits counts (Create p mode) n e h gone = stays-made w p counts.next_number _ n h gone
 gone-goes w is limits counts (Mkdir p mode) n e h gone = stays-made w p counts.next_number _ n h gone
 gone-goes w is limits counts (Write p offset bytes) n e h gone = stays-changed w p (λ f. record f { bytes = written offset bytes f.bytes }) n h gone

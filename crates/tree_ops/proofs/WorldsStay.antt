@@ -23,7 +23,7 @@ use Rattle.tree_ops.specs.declared.call.Counts.{Counts}
 use Rattle.tree_ops.specs.declared.call.TheConstants.{RENAME_EXCHANGE}
 use Rattle.tree_ops.specs.declared.call.FileCall.{FileCall}
 use Rattle.tree_ops.specs.declared.call.FileCall.TheVariants.{Create, Write, ReadFile, Truncate, Chmod, Mkdir, Link, Unlink, Rmdir, Rename, Rename2, Stat as Status, List as Listed}
-use Rattle.tree_ops.specs.Refused.{refused, refusal_of, are_same_seen}
+use Rattle.tree_ops.specs.Refused.{refused, refusal_seen, are_same_seen}
 use Rattle.tree_ops.specs.After.{after, after_unlink, after_rename, after_exchange, are_same}
 use Rattle.tree_ops.proofs.Rows.{make-known, link-known, unlink-known, rmdir-known, rename-known, move-known, exchange-known, MakeKnown, LinkKnown, FileKnown, RmdirKnown, RenameKnown, ExchangeKnown, write-known, truncate-known}
 use Rattle.tree_ops.proofs.Worlds.{parted, directory-of, directory-by, directory-seen, regular-seen, standing, unseen, seen-some, nothing-below, nothing-under, apart-from}
@@ -287,7 +287,7 @@ writing w p known change f at kind = absurd (regular-seen w p known.regular (sub
 
 module _ (w : World) (limits : Limits) (counts : Counts) (is : IsWorld w) where
   pub IsWorld-after : (call : FileCall) → refused w limits counts call ≡ None → finmap.get w.files counts.next_number ≡ None → IsWorld (after w counts call)
-  unfolding refusal_of
+  unfolding refusal_seen
   IsWorld-after (Create p mode) e unused = let k = new-path w is p (make-known (look w) limits counts p mode e) in IsWorld-with_file w is counts.next_number unused _ (λ _. refl) p k.free (parent_of p) k.name k.parts k.directory
   IsWorld-after (Mkdir p mode) e unused = let k = new-path w is p (make-known (look w) limits counts p mode e) in IsWorld-with_file w is counts.next_number unused _ (λ _. refl) p k.free (parent_of p) k.name k.parts k.directory
   IsWorld-after (Write p offset bytes) e unused =
@@ -310,7 +310,7 @@ module _ (w : World) (limits : Limits) (counts : Counts) (is : IsWorld w) where
   IsWorld-after (Listed p) e unused = is
 
   pub IsWhole-after : IsWhole w → (call : FileCall) → refused w limits counts call ≡ None → finmap.get w.files counts.next_number ≡ None → IsWhole (after w counts call)
-  unfolding refusal_of
+  unfolding refusal_seen
   IsWhole-after whole (Create p mode) e unused = IsWhole-with_file w is counts.next_number unused _ whole p (new-path w is p (make-known (look w) limits counts p mode e)).free
   IsWhole-after whole (Mkdir p mode) e unused = IsWhole-with_file w is counts.next_number unused _ whole p (new-path w is p (make-known (look w) limits counts p mode e)).free
   IsWhole-after whole (Write p offset bytes) e unused = IsWhole-changed w whole p (λ f. record f { bytes = written offset bytes f.bytes })

@@ -53,50 +53,50 @@ abbrev pub two_cookies_row : Limits → Counts → Option Refusal
 two_cookies_row limits counts = row ((counts.next_cookie == 0) || nat_lt limits.cookies (counts.next_cookie + 1)) CookiesSpent
 
 unfoldable pub make_rows : Look → Limits → Counts → List (List ℕ) → ℕ → List (Option Refusal)
-make_rows at limits counts p mode =
+make_rows seen_at limits counts p mode =
     mode_row mode
     ∷ row (is_root p) Eexist
-    ∷ parent at p
-    ∷ row (is_some (at p)) Eexist
+    ∷ parent seen_at p
+    ∷ row (is_some (seen_at p)) Eexist
     ∷ numbers_row limits counts
     ∷ []
 
 unfoldable pub write_rows : Look → Limits → List (List ℕ) → ℕ → ℕ → List (Option Refusal)
-write_rows at limits p offset count =
-    find at p
-    ∷ row (is_directory_seen (at p)) Eisdir
+write_rows seen_at limits p offset count =
+    find seen_at p
+    ∷ row (is_directory_seen (seen_at p)) Eisdir
     ∷ row (nat_lt 0 count && nat_lt limits.file_bytes (offset + count)) Efbig
     ∷ []
 
 unfoldable pub read_rows : Look → List (List ℕ) → List (Option Refusal)
-read_rows at p = find at p ∷ row (is_directory_seen (at p)) Eisdir ∷ []
+read_rows seen_at p = find seen_at p ∷ row (is_directory_seen (seen_at p)) Eisdir ∷ []
 
 unfoldable pub truncate_rows : Look → Limits → List (List ℕ) → ℕ → List (Option Refusal)
-truncate_rows at limits p len =
-    find at p ∷ row (is_directory_seen (at p)) Eisdir ∷ row (nat_lt limits.file_bytes len) Efbig ∷ []
+truncate_rows seen_at limits p len =
+    find seen_at p ∷ row (is_directory_seen (seen_at p)) Eisdir ∷ row (nat_lt limits.file_bytes len) Efbig ∷ []
 
 unfoldable pub chmod_rows : Look → List (List ℕ) → ℕ → List (Option Refusal)
-chmod_rows at p mode = mode_row mode ∷ find at p ∷ []
+chmod_rows seen_at p mode = mode_row mode ∷ find seen_at p ∷ []
 
 unfoldable pub link_rows : Look → Limits → List (List ℕ) → List (List ℕ) → List (Option Refusal)
-link_rows at limits old new =
-    find at old
-    ∷ row (is_directory_seen (at old)) Eperm
+link_rows seen_at limits old new =
+    find seen_at old
+    ∷ row (is_directory_seen (seen_at old)) Eperm
     ∷ row (is_root new) Eexist
-    ∷ parent at new
-    ∷ row (is_some (at new)) Eexist
-    ∷ row (not (nat_lt (links_seen (at old)) limits.links)) Emlink
+    ∷ parent seen_at new
+    ∷ row (is_some (seen_at new)) Eexist
+    ∷ row (not (nat_lt (links_seen (seen_at old)) limits.links)) Emlink
     ∷ []
 
 unfoldable pub unlink_rows : Look → List (List ℕ) → List (Option Refusal)
-unlink_rows at p = find at p ∷ row (is_directory_seen (at p)) Eperm ∷ []
+unlink_rows seen_at p = find seen_at p ∷ row (is_directory_seen (seen_at p)) Eperm ∷ []
 
 unfoldable pub rmdir_rows : Look → List (List ℕ) → List (Option Refusal)
-rmdir_rows at p =
+rmdir_rows seen_at p =
     row (is_root p) Ebusy
-    ∷ find at p
-    ∷ row (not (is_directory_seen (at p))) Enotdir
-    ∷ row (has_names_seen (at p)) Enotempty
+    ∷ find seen_at p
+    ∷ row (not (is_directory_seen (seen_at p))) Enotdir
+    ∷ row (has_names_seen (seen_at p)) Enotempty
     ∷ []
 
 -- what stands at the new path may be replaced by what stands at the old one
@@ -110,21 +110,21 @@ move_rows limits counts old new =
 
 -- a rename between two paths of one file is accepted before these last rows
 unfoldable pub rename_rows : Look → Limits → Counts → List (List ℕ) → List (List ℕ) → List (Option Refusal)
-rename_rows at limits counts old new =
+rename_rows seen_at limits counts old new =
     row (is_root old || is_root new) Ebusy
-    ∷ find at old
-    ∷ row (is_directory_seen (at old) && is_below old new) Einval
-    ∷ parent at new
-    ∷ (if are_same_seen (at old) (at new) then [] else move_rows limits counts (at old) (at new))
+    ∷ find seen_at old
+    ∷ row (is_directory_seen (seen_at old) && is_below old new) Einval
+    ∷ parent seen_at new
+    ∷ (if are_same_seen (seen_at old) (seen_at new) then [] else move_rows limits counts (seen_at old) (seen_at new))
 
 -- RENAME_NOREPLACE: nothing stands at the new path
 unfoldable pub noreplace_rows : Look → Limits → Counts → List (List ℕ) → List (List ℕ) → List (Option Refusal)
-noreplace_rows at limits counts old new =
+noreplace_rows seen_at limits counts old new =
     row (is_root old || is_root new) Ebusy
-    ∷ find at old
-    ∷ row (is_directory_seen (at old) && is_below old new) Einval
-    ∷ parent at new
-    ∷ row (is_some (at new)) Eexist
+    ∷ find seen_at old
+    ∷ row (is_directory_seen (seen_at old) && is_below old new) Einval
+    ∷ parent seen_at new
+    ∷ row (is_some (seen_at new)) Eexist
     ∷ cookies_row limits counts
     ∷ []
 
@@ -137,45 +137,45 @@ swap_rows limits counts old new one other =
 
 -- RENAME_EXCHANGE: something stands at both paths. Two paths of one file are accepted before the last rows
 unfoldable pub exchange_rows : Look → Limits → Counts → List (List ℕ) → List (List ℕ) → List (Option Refusal)
-exchange_rows at limits counts old new =
+exchange_rows seen_at limits counts old new =
     row (is_root old || is_root new) Ebusy
-    ∷ find at old
-    ∷ find at new
-    ∷ (if are_same_seen (at old) (at new) then [] else swap_rows limits counts old new (at old) (at new))
+    ∷ find seen_at old
+    ∷ find seen_at new
+    ∷ (if are_same_seen (seen_at old) (seen_at new) then [] else swap_rows limits counts old new (seen_at old) (seen_at new))
 
 -- the flags are looked at before all else (renameat2(2), "ERRORS": EINVAL)
 unfoldable pub rename2_rows : Look → Limits → Counts → List (List ℕ) → List (List ℕ) → ℕ → List (Option Refusal)
-rename2_rows at limits counts old new flags =
-    if flags == 0 then rename_rows at limits counts old new
-    else if flags == RENAME_NOREPLACE then noreplace_rows at limits counts old new
-    else if flags == RENAME_EXCHANGE then exchange_rows at limits counts old new
+rename2_rows seen_at limits counts old new flags =
+    if flags == 0 then rename_rows seen_at limits counts old new
+    else if flags == RENAME_NOREPLACE then noreplace_rows seen_at limits counts old new
+    else if flags == RENAME_EXCHANGE then exchange_rows seen_at limits counts old new
     else Some Einval ∷ []
 
 unfoldable pub find_rows : Look → List (List ℕ) → List (Option Refusal)
-find_rows at p = find at p ∷ []
+find_rows seen_at p = find seen_at p ∷ []
 
 unfoldable pub list_rows : Look → List (List ℕ) → List (Option Refusal)
-list_rows at p = find at p ∷ row (not (is_directory_seen (at p))) Enotdir ∷ []
+list_rows seen_at p = find seen_at p ∷ row (not (is_directory_seen (seen_at p))) Enotdir ∷ []
 
 -- the rows of a call, in order
 abbrev pub rows_of : Look → Limits → Counts → FileCall → List (Option Refusal)
-rows_of at limits counts (Create p mode) = make_rows at limits counts p mode
-rows_of at limits counts (Mkdir p mode) = make_rows at limits counts p mode
-rows_of at limits counts (Write p offset bytes) = write_rows at limits p offset (length bytes)
-rows_of at limits counts (ReadFile p offset count) = read_rows at p
-rows_of at limits counts (Truncate p len) = truncate_rows at limits p len
-rows_of at limits counts (Chmod p mode) = chmod_rows at p mode
-rows_of at limits counts (Link old new) = link_rows at limits old new
-rows_of at limits counts (Unlink p) = unlink_rows at p
-rows_of at limits counts (Rmdir p) = rmdir_rows at p
-rows_of at limits counts (Rename old new) = rename_rows at limits counts old new
-rows_of at limits counts (Rename2 old new flags) = rename2_rows at limits counts old new flags
-rows_of at limits counts (Stat p) = find_rows at p
-rows_of at limits counts (Listed p) = list_rows at p
+rows_of seen_at limits counts (Create p mode) = make_rows seen_at limits counts p mode
+rows_of seen_at limits counts (Mkdir p mode) = make_rows seen_at limits counts p mode
+rows_of seen_at limits counts (Write p offset bytes) = write_rows seen_at limits p offset (length bytes)
+rows_of seen_at limits counts (ReadFile p offset count) = read_rows seen_at p
+rows_of seen_at limits counts (Truncate p len) = truncate_rows seen_at limits p len
+rows_of seen_at limits counts (Chmod p mode) = chmod_rows seen_at p mode
+rows_of seen_at limits counts (Link old new) = link_rows seen_at limits old new
+rows_of seen_at limits counts (Unlink p) = unlink_rows seen_at p
+rows_of seen_at limits counts (Rmdir p) = rmdir_rows seen_at p
+rows_of seen_at limits counts (Rename old new) = rename_rows seen_at limits counts old new
+rows_of seen_at limits counts (Rename2 old new flags) = rename2_rows seen_at limits counts old new flags
+rows_of seen_at limits counts (Stat p) = find_rows seen_at p
+rows_of seen_at limits counts (Listed p) = list_rows seen_at p
 
 -- the first row that holds for what is seen
-unfoldable pub refusal_of : Look → Limits → Counts → FileCall → Option Refusal
-refusal_of at limits counts call = first_row (rows_of at limits counts call)
+unfoldable pub refusal_seen : Look → Limits → Counts → FileCall → Option Refusal
+refusal_seen seen_at limits counts call = first_row (rows_of seen_at limits counts call)
 
 -- how many moves a rename by flags makes, where the paths are not of one file
 abbrev pub moves_by : ℕ → ℕ
@@ -183,15 +183,15 @@ moves_by flags = if flags == RENAME_EXCHANGE then 2 else 1
 
 -- a rename that moves something uses one cookie, an exchange of two files uses two, and no other call uses any
 abbrev pub cookies_seen : Look → FileCall → ℕ
-cookies_seen at (Rename old new) = if are_same_seen (at old) (at new) then 0 else 1
-cookies_seen at (Rename2 old new flags) = if are_same_seen (at old) (at new) then 0 else moves_by flags
-cookies_seen at _ = 0
+cookies_seen seen_at (Rename old new) = if are_same_seen (seen_at old) (seen_at new) then 0 else 1
+cookies_seen seen_at (Rename2 old new flags) = if are_same_seen (seen_at old) (seen_at new) then 0 else moves_by flags
+cookies_seen seen_at _ = 0
 
 -- ---- in a world
 
 -- why a call is refused, if it is
 abbrev pub refused : World → Limits → Counts → FileCall → Option Refusal
-refused w limits counts call = refusal_of (look w) limits counts call
+refused w limits counts call = refusal_seen (look w) limits counts call
 
 -- how many cookies an accepted call uses
 abbrev pub cookies_of : World → FileCall → ℕ

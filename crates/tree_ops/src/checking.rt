@@ -5,7 +5,7 @@ ghost use Rattle.inode_table.specs.World.{look};
 ghost use Rattle.inode_table.specs.TableWorld.{world_of, HasNumbersBelow};
 ghost use Rattle.tree_paths.specs.Rows.{first_row};
 ghost use Rattle.inode_table.specs.Refusals.{is_directory_seen, find, parent};
-ghost use Rattle.tree_ops.specs.Refused.{is_root, make_rows, write_rows, read_rows, truncate_rows, chmod_rows, link_rows, unlink_rows, rmdir_rows, move_rows, rename_rows, noreplace_rows, swap_rows, exchange_rows, rename2_rows, find_rows, list_rows, refusal_of, cookies_seen, refused, cookies_of, has_names_seen, are_same_seen};
+ghost use Rattle.tree_ops.specs.Refused.{is_root, make_rows, write_rows, read_rows, truncate_rows, chmod_rows, link_rows, unlink_rows, rmdir_rows, move_rows, rename_rows, noreplace_rows, swap_rows, exchange_rows, rename2_rows, find_rows, list_rows, refusal_seen, cookies_seen, refused, cookies_of, has_names_seen, are_same_seen};
 ghost use Rattle.tree_ops.specs.ReadyCall.{IsReady};
 
 use crate::call::{Counts, FileCall, MAX_MODE, RENAME_EXCHANGE, RENAME_NOREPLACE};
@@ -457,9 +457,9 @@ fn is_below(path: &Path, above: &Path) -> bool
 }
 
 // Why a call is refused, if it is.
-#[tactic(auto, unfolding(crate::specs::Refused::refusal_of))]
+#[tactic(auto, unfolding(crate::specs::Refused::refusal_seen))]
 fn fault(table: &Table, call: &FileCall, counts: &Counts, limits: &Limits) -> Option<Refusal>
-    ensures { result ≡ refusal_of (look (world_of table.now)) limits.now counts.now call.now }
+    ensures { result ≡ refusal_seen (look (world_of table.now)) limits.now counts.now call.now }
 {
     match call {
         FileCall::Create { path, mode } => make_fault(table, path, *mode, counts, limits),

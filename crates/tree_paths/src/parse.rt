@@ -15,7 +15,7 @@ const SEPARATOR: u8 = b'/';
 
 /// Why a text is no path.
 #[tactic(auto, unfolding(crate::specs::Paths::parsed))]
-pub(crate) fn refusal_of(text: &[u8]) -> Option<Refusal>
+pub(crate) fn text_refusal(text: &[u8]) -> Option<Refusal>
     ensures { MatchOption result (parsed text.now ≡ Ok (names_of text.now)) (λ refusal. parsed text.now ≡ Err refusal) }
 {
     if text.is_empty() {

@@ -17,7 +17,7 @@ use Rattle.tree_core.specs.declared.reply.Reply.TheVariants as reply
 use Rattle.tree_core.specs.Tree.{Tree, refusal_of, read_answer, reply_by, reply_of}
 use Rattle.tree_core.specs.Journal.{Journaled, now}
 use Rattle.watchtree_c.specs.declared.opened.Opened.{Opened}
-use Rattle.watchtree_c.specs.Answers.{Fits, IsFilled, IsReplied, IsMade, IsReply, AnswersBytes, number_of}
+use Rattle.watchtree_c.specs.Answers.{Fits, IsFilled, IsReplied, IsMade, IsReply, AnswersBytes, reply_number}
 use Rattle.watchtree_c.specs.Calls.{asked_bytes, on_path, read_call}
 
 read_by : (n : ℕ) (r : Option Refusal) (i : Option Instance) → Fits (reply_by r (read_answer n i)) n
@@ -79,7 +79,7 @@ asked_within out = omega arith
 
 -- what is answered to a call whose replies fit into as many bytes as C gives
 pub answers_bytes : (old : Option Opened) (c : Result Call Refusal) (new : Option Opened) (number : ℤ) (out filled : List ℕ) (r : Reply)
-    → AllFit (asked_bytes out) c → IsMade old c new r → number ≡ number_of r → IsFilled r out filled → AnswersBytes (IsMade old c new) number out filled
+    → AllFit (asked_bytes out) c → IsMade old c new r → number ≡ reply_number r → IsFilled r out filled → AnswersBytes (IsMade old c new) number out filled
 answers_bytes old c new number out filled r f made is_number is_filled = record {
   r = r;
   made = made;
@@ -90,7 +90,7 @@ answers_bytes old c new number out filled r f made is_number is_filled = record 
 
 -- the same, where there may be no memory to read what C asks for
 pub replies_bytes : (old : Option Opened) (c : Result Call Refusal) (new : Option Opened) (number : ℤ) (out filled : List ℕ) (r : Reply)
-    → AllFit (asked_bytes out) c → IsReply old c new r → number ≡ number_of r → IsFilled r out filled → AnswersBytes (IsReply old c new) number out filled
+    → AllFit (asked_bytes out) c → IsReply old c new r → number ≡ reply_number r → IsFilled r out filled → AnswersBytes (IsReply old c new) number out filled
 replies_bytes old c new number out filled r f made is_number is_filled = record {
   r = r;
   made = made;

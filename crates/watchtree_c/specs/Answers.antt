@@ -32,13 +32,13 @@ answer_number (answer.Names names) = count_number (length names)
 answer_number (answer.Stat number kind mode links size) = pos 0
 
 -- the number of a reply
-abbrev pub number_of : Reply → ℤ
-number_of (reply.File a) = answer_number a
-number_of (reply.Instance id) = pos id
-number_of (reply.Wd wd) = wd
-number_of (reply.Records bytes) = count_number (length bytes)
-number_of reply.Done = pos 0
-number_of (reply.Refused refusal) = refused_number refusal
+abbrev pub reply_number : Reply → ℤ
+reply_number (reply.File a) = answer_number a
+reply_number (reply.Instance id) = pos id
+reply_number (reply.Wd wd) = wd
+reply_number (reply.Records bytes) = count_number (length bytes)
+reply_number reply.Done = pos 0
+reply_number (reply.Refused refusal) = refused_number refusal
 
 -- ---- calls
 
@@ -64,7 +64,7 @@ IsAsked made call = (made ≡ call) ⊎ (made ≡ Err Enomem)
 pub record Answers (M : Reply → Type 0) (number : ℤ) : Type 0 where
   pub r : Reply
   pub made : M r
-  pub is_number : number ≡ number_of r
+  pub is_number : number ≡ reply_number r
 
 -- ---- bytes
 
@@ -104,7 +104,7 @@ Fits (reply.Refused refusal) room = ⊤
 pub record AnswersBytes (M : Reply → Type 0) (number : ℤ) (out filled : List ℕ) : Type 0 where
   pub r : Reply
   pub made : M r
-  pub is_number : number ≡ number_of r
+  pub is_number : number ≡ reply_number r
   pub is_filled : IsFilled r out filled
   pub fits : Fits r (length out)
 

@@ -6,7 +6,7 @@ use Rattle.tree_ops.specs.declared.answer.Answer.TheVariants as answer
 use Rattle.tree_core.specs.declared.reply.Reply.{Reply}
 use Rattle.tree_core.specs.declared.reply.Reply.TheVariants as reply
 use Rattle.watchtree_c.specs.declared.files.Stat.{Stat}
-use Rattle.watchtree_c.specs.Answers.{number_of}
+use Rattle.watchtree_c.specs.Answers.{reply_number}
 
 abbrev pub directory_number : Kind → ℕ
 directory_number Regular = 0
@@ -36,5 +36,5 @@ told_or None old = old
 pub record Tells (M : Reply → Type 0) (number : ℤ) (out told : Stat) : Type 0 where
   pub r : Reply
   pub made : M r
-  pub is_number : number ≡ number_of r
+  pub is_number : number ≡ reply_number r
   pub is_told : told ≡ told_or (stat_of r) out

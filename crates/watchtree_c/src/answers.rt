@@ -1,15 +1,15 @@
 //! The numbers that C is answered with.
 
 ghost use Rattle.std.specs.Prelude.{◌≡◌, ◌++◌, ◌≤◌, ◌^◌, ◌-◌, length, take, drop};
-ghost use Rattle.watchtree_c.specs.Answers.{number_of, answer_number, refused_number, count_number, IsFilled, overlaid};
+ghost use Rattle.watchtree_c.specs.Answers.{reply_number, answer_number, refused_number, count_number, IsFilled, overlaid};
 
 use tree_core::Reply;
 use tree_ops::Answer;
 use tree_paths::Refusal;
 
 /// The number of a reply: what a call of C gives, or a negative errno.
-pub(crate) fn number_of(reply: &Reply) -> i64
-    ensures { result ≡ number_of reply.now }
+pub(crate) fn reply_number(reply: &Reply) -> i64
+    ensures { result ≡ reply_number reply.now }
 {
     match reply {
         Reply::File(answer) => answer_number(answer),

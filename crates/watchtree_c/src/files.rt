@@ -7,7 +7,7 @@ ghost use Rattle.watchtree_c.specs.Stats.{Tells, stat_of};
 ghost use Rattle.watchtree_c.specs.Calls.{asked_bytes, mkdir_call, create_call, rename_call, rename2_call, truncate_call, chmod_call, unlink_call, rmdir_call, link_call, write_call, read_call, stat_call, list_call};
 ghost use Rattle.watchtree_c.specs.Listings.{Lists, ended};
 
-use crate::answers::{count_number, fill, number_of, put};
+use crate::answers::{count_number, fill, reply_number, put};
 use crate::tree::Tree;
 use inode_table::Kind;
 use record_codec::{Bytes, Name};
@@ -22,7 +22,7 @@ pub extern "C" fn wt_mkdir(alloc: Global, tree: &mut Tree, path: &[u8], mode: u3
     ensures { Answers (IsReply tree.old.held.state (mkdir_call path.now mode) tree.new.held.state) result }
 {
     let call = Path::parse(alloc, path).map(|path| Call::File(FileCall::Mkdir { path, mode }));
-    number_of(&tree.make(alloc, call))
+    reply_number(&tree.make(alloc, call))
 }
 
 /// As open(2) with `O_CREAT | O_EXCL` and close(2), but it answers the number of the file.
@@ -31,7 +31,7 @@ pub extern "C" fn wt_create(alloc: Global, tree: &mut Tree, path: &[u8], mode: u
     ensures { Answers (IsReply tree.old.held.state (create_call path.now mode) tree.new.held.state) result }
 {
     let call = Path::parse(alloc, path).map(|path| Call::File(FileCall::Create { path, mode }));
-    number_of(&tree.make(alloc, call))
+    reply_number(&tree.make(alloc, call))
 }
 
 /// As rename(2).
@@ -39,7 +39,7 @@ pub extern "C" fn wt_create(alloc: Global, tree: &mut Tree, path: &[u8], mode: u
 pub extern "C" fn wt_rename(alloc: Global, tree: &mut Tree, old: &[u8], to: &[u8]) -> i64
     ensures { Answers (IsReply tree.old.held.state (rename_call old.now to.now) tree.new.held.state) result }
 {
-    number_of(&tree.make(alloc, rename(alloc, old, to)))
+    reply_number(&tree.make(alloc, rename(alloc, old, to)))
 }
 
 fn rename(alloc: Global, old: &[u8], new: &[u8]) -> Result<Call, Refusal>
@@ -61,7 +61,7 @@ pub extern "C" fn wt_rename2(
 ) -> i64
     ensures { Answers (IsReply tree.old.held.state (rename2_call old.now to.now flags) tree.new.held.state) result }
 {
-    number_of(&tree.make(alloc, rename2(alloc, old, to, flags)))
+    reply_number(&tree.make(alloc, rename2(alloc, old, to, flags)))
 }
 
 fn rename2(alloc: Global, old: &[u8], new: &[u8], flags: u32) -> Result<Call, Refusal>
@@ -78,7 +78,7 @@ pub extern "C" fn wt_truncate(alloc: Global, tree: &mut Tree, path: &[u8], len: 
     ensures { Answers (IsReply tree.old.held.state (truncate_call path.now len) tree.new.held.state) result }
 {
     let call = Path::parse(alloc, path).map(|path| Call::File(FileCall::Truncate { path, len }));
-    number_of(&tree.make(alloc, call))
+    reply_number(&tree.make(alloc, call))
 }
 
 /// As chmod(2).
@@ -87,7 +87,7 @@ pub extern "C" fn wt_chmod(alloc: Global, tree: &mut Tree, path: &[u8], mode: u3
     ensures { Answers (IsReply tree.old.held.state (chmod_call path.now mode) tree.new.held.state) result }
 {
     let call = Path::parse(alloc, path).map(|path| Call::File(FileCall::Chmod { path, mode }));
-    number_of(&tree.make(alloc, call))
+    reply_number(&tree.make(alloc, call))
 }
 
 /// As unlink(2).
@@ -96,7 +96,7 @@ pub extern "C" fn wt_unlink(alloc: Global, tree: &mut Tree, path: &[u8]) -> i64
     ensures { Answers (IsReply tree.old.held.state (unlink_call path.now) tree.new.held.state) result }
 {
     let call = Path::parse(alloc, path).map(|path| Call::File(FileCall::Unlink { path }));
-    number_of(&tree.make(alloc, call))
+    reply_number(&tree.make(alloc, call))
 }
 
 /// As rmdir(2).
@@ -105,7 +105,7 @@ pub extern "C" fn wt_rmdir(alloc: Global, tree: &mut Tree, path: &[u8]) -> i64
     ensures { Answers (IsReply tree.old.held.state (rmdir_call path.now) tree.new.held.state) result }
 {
     let call = Path::parse(alloc, path).map(|path| Call::File(FileCall::Rmdir { path }));
-    number_of(&tree.make(alloc, call))
+    reply_number(&tree.make(alloc, call))
 }
 
 /// As link(2).
@@ -113,7 +113,7 @@ pub extern "C" fn wt_rmdir(alloc: Global, tree: &mut Tree, path: &[u8]) -> i64
 pub extern "C" fn wt_link(alloc: Global, tree: &mut Tree, old: &[u8], to: &[u8]) -> i64
     ensures { Answers (IsReply tree.old.held.state (link_call old.now to.now) tree.new.held.state) result }
 {
-    number_of(&tree.make(alloc, link(alloc, old, to)))
+    reply_number(&tree.make(alloc, link(alloc, old, to)))
 }
 
 fn link(alloc: Global, old: &[u8], new: &[u8]) -> Result<Call, Refusal>
@@ -135,7 +135,7 @@ pub extern "C" fn wt_write(
 ) -> i64
     ensures { Answers (IsReply tree.old.held.state (write_call path.now offset bytes.now) tree.new.held.state) result }
 {
-    number_of(&tree.make(alloc, write(alloc, path, offset, bytes)))
+    reply_number(&tree.make(alloc, write(alloc, path, offset, bytes)))
 }
 
 fn write(alloc: Global, path: &[u8], offset: u64, bytes: &[u8]) -> Result<Call, Refusal>
@@ -173,7 +173,7 @@ pub extern "C" fn wt_pread(
     });
     let reply = tree.make(alloc, call);
     fill(out, &reply);
-    number_of(&reply)
+    reply_number(&reply)
 }
 
 /// What stands at a path, as C has it: `struct wt_stat`.
@@ -197,7 +197,7 @@ pub extern "C" fn wt_stat(alloc: Global, tree: &mut Tree, path: &[u8], out: &mut
     if let Some(stat) = stat_of(&reply) {
         *out = stat;
     }
-    number_of(&reply)
+    reply_number(&reply)
 }
 
 fn stat_of(reply: &Reply) -> Option<Stat>
@@ -233,7 +233,7 @@ pub extern "C" fn wt_list(alloc: Global, tree: &mut Tree, path: &[u8], out: &mut
     let call = Path::parse(alloc, path).map(|path| Call::File(FileCall::List { path }));
     let reply = tree.make(alloc, call);
     let Reply::File(Answer::Names(names)) = &reply else {
-        return number_of(&reply);
+        return reply_number(&reply);
     };
     put_names(out, names.as_slice())
 }

@@ -5,7 +5,7 @@ ghost use Rattle.tree_core.specs.declared.call.Call.TheVariants as call;
 ghost use Rattle.watchtree_c.specs.Answers.{Answers, AnswersBytes, IsMade, IsReply, waiting_number};
 ghost use Rattle.watchtree_c.specs.Calls.{add_watch_call, asked_bytes};
 
-use crate::answers::{count_number, fill, number_of, refused_number};
+use crate::answers::{count_number, fill, reply_number, refused_number};
 use crate::tree::Tree;
 use std::alloc::Global;
 use tree_core::Call;
@@ -20,7 +20,7 @@ pub extern "C" fn wt_inotify_init(alloc: Global, tree: &mut Tree, limit: u32) ->
         limit,
         piped: false,
     };
-    number_of(&tree.make(alloc, Ok(call)))
+    reply_number(&tree.make(alloc, Ok(call)))
 }
 
 /// As inotify_add_watch(2).
@@ -39,7 +39,7 @@ pub extern "C" fn wt_inotify_add_watch(
         path,
         mask,
     });
-    number_of(&tree.make(alloc, call))
+    reply_number(&tree.make(alloc, call))
 }
 
 /// As read(2) of an inotify file descriptor that does not block: as many records as fit whole, or `EINVAL` where the first
@@ -51,7 +51,7 @@ pub extern "C" fn wt_read(alloc: Global, tree: &mut Tree, instance: u32, out: &m
     let bytes = u32::try_from(out.len()).unwrap_or(u32::MAX);
     let reply = tree.make(alloc, Ok(Call::Read { instance, bytes }));
     fill(out, &reply);
-    number_of(&reply)
+    reply_number(&reply)
 }
 
 /// As inotify_rm_watch(2).
@@ -59,7 +59,7 @@ pub extern "C" fn wt_read(alloc: Global, tree: &mut Tree, instance: u32, out: &m
 pub extern "C" fn wt_inotify_rm_watch(alloc: Global, tree: &mut Tree, instance: u32, wd: i32) -> i64
     ensures { Answers (IsMade tree.old.held.state (Ok (call.RmWatch instance wd)) tree.new.held.state) result }
 {
-    number_of(&tree.make(alloc, Ok(Call::RmWatch { instance, wd })))
+    reply_number(&tree.make(alloc, Ok(Call::RmWatch { instance, wd })))
 }
 
 /// As close(2) of an inotify file descriptor.
@@ -67,7 +67,7 @@ pub extern "C" fn wt_inotify_rm_watch(alloc: Global, tree: &mut Tree, instance: 
 pub extern "C" fn wt_inotify_close(alloc: Global, tree: &mut Tree, instance: u32) -> i64
     ensures { Answers (IsMade tree.old.held.state (Ok (call.Close instance)) tree.new.held.state) result }
 {
-    number_of(&tree.make(alloc, Ok(Call::Close { instance })))
+    reply_number(&tree.make(alloc, Ok(Call::Close { instance })))
 }
 
 /// How many records wait in an instance. No call is made for it.

@@ -35,8 +35,8 @@ abbrev pub most_digits : ℕ
 most_digits = 5
 
 -- N: decimal digits, as many as may be, that stand for a number in a range
-unfoldable pub number_of : ℕ → ℕ → List ℕ → Option ℕ
-number_of least most text =
+unfoldable pub number_within : ℕ → ℕ → List ℕ → Option ℕ
+number_within least most text =
     if nat_lt 0 (length text) && nat_le (length text) most_digits && list_all is_ascii_digit text
     && nat_le least (digits_value 10 text) && nat_le (digits_value 10 text) most
     then Some (digits_value 10 text) else None
@@ -44,7 +44,7 @@ number_of least most text =
 -- the number that was given, or the usual one
 abbrev pub number_or : ℕ → ℕ → ℕ → Option (List ℕ) → Option ℕ
 number_or usual least most None = Some usual
-number_or usual least most (Some text) = number_of least most text
+number_or usual least most (Some text) = number_within least most text
 
 -- a command to clap: it has no flags of its own for help and version
 abbrev pub without_flags : Shape → Shape

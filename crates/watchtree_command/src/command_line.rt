@@ -7,7 +7,7 @@ ghost use Rattle.std.specs.Option.{SomeIff};
 ghost use Rattle.std.specs.Str.Parse.{digits_value};
 ghost use Rattle.std.specs.String.{string_bytes};
 ghost use Rattle.clap.specs.Words.{app_of, first_of, found_of, rows_of, shape_of, subcommand_rows_of};
-ghost use Rattle.watchtree_command.specs.CommandLine.{Invokes, IsInvocation, invocation_in, invocation_of, is_dashes, number_of, number_or, program, with_option};
+ghost use Rattle.watchtree_command.specs.CommandLine.{Invokes, IsInvocation, invocation_in, invocation_of, is_dashes, number_within, number_or, program, with_option};
 
 use crate::fault::Fault;
 use clap::error::ErrorKind;
@@ -175,16 +175,16 @@ fn number_or(given: Option<&str>, usual: u32, least: u32, most: u32) -> Result<u
     let Some(number) = given else {
         return Ok(usual);
     };
-    match number_of(number, least, most) {
+    match number_within(number, least, most) {
         Some(number) => Ok(number),
         None => Err(Fault::CommandLine),
     }
 }
 
 /// A number in a range, of 1 to 5 decimal digits.
-#[tactic(auto, unfolding(crate::specs::CommandLine::number_of))]
-fn number_of(number: &str, least: u32, most: u32) -> Option<u32>
-    ensures value { result ≡ number_of least most number.now }
+#[tactic(auto, unfolding(crate::specs::CommandLine::number_within))]
+fn number_within(number: &str, least: u32, most: u32) -> Option<u32>
+    ensures value { result ≡ number_within least most number.now }
     ensures range { IfSome result (λ n. (least ≤ n) × (n ≤ most)) }
 {
     if DIGITS < number.len() || !are_digits(number) {

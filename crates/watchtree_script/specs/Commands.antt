@@ -183,36 +183,36 @@ asking how f (Ok x) = Ok (Run (f x) how)
 asking how f (Err e) = Err e
 
 -- the rows of the table: a command with the words behind it. An init without a number takes the limit of the run
-abbrev pub row_of : ℕ → Command → List (List ℕ) → Result Line LineError
-row_of queue command.Mkdir words = asking format.Plain (λ w. call.File (file.Mkdir w.0 w.1)) (two words path_and_mode)
-row_of queue command.Create words = asking format.Plain (λ w. call.File (file.Create w.0 w.1)) (two words path_and_mode)
-row_of queue command.Write words = asking format.Plain (λ c. c) (three words write_call)
-row_of queue command.Cat words = asking format.Plain (λ c. c) (three words cat_call)
-row_of queue command.Truncate words = asking format.Plain (λ c. c) (two words truncate_call)
-row_of queue command.Chmod words = asking format.Plain (λ w. call.File (file.Chmod w.0 w.1)) (two words path_and_mode)
-row_of queue command.Link words = asking format.Plain (λ w. call.File (file.Link w.0 w.1)) (two words old_and_new)
-row_of queue command.Unlink words = asking format.Plain (λ p. call.File (file.Unlink p)) (one words a_path)
-row_of queue command.Rmdir words = asking format.Plain (λ p. call.File (file.Rmdir p)) (one words a_path)
-row_of queue command.Rename words = asking format.Plain (λ w. call.File (file.Rename w.0 w.1)) (two words old_and_new)
-row_of queue command.Rename2 words = asking format.Plain (λ c. c) (three words rename2_call)
-row_of queue command.Stat words = asking format.Plain (λ p. call.File (file.Stat p)) (one words a_path)
-row_of queue command.List words = asking format.Plain (λ p. call.File (file.List p)) (one words a_path)
-row_of queue command.Init words = asking format.Plain (λ n. call.Init n false) (none_or_one words (Ok queue) u32_word)
-row_of queue command.Watch words = asking format.Plain (λ c. c) (three words watch_call)
-row_of queue command.Unwatch words = asking format.Plain (λ c. c) (two words unwatch_call)
-row_of queue command.Read words = asking format.Records (λ w. call.Read w.0 w.1) (two words id_and_bytes)
-row_of queue command.Hex words = asking format.Hexadecimal (λ w. call.Read w.0 w.1) (two words id_and_bytes)
-row_of queue command.Close words = asking format.Plain (λ id. call.Close id) (one words u32_word)
-row_of queue command.Cut words = if length words == 0 then Ok Cut else Err (Fault WrongNumber)
+abbrev pub line_asked : ℕ → Command → List (List ℕ) → Result Line LineError
+line_asked queue command.Mkdir words = asking format.Plain (λ w. call.File (file.Mkdir w.0 w.1)) (two words path_and_mode)
+line_asked queue command.Create words = asking format.Plain (λ w. call.File (file.Create w.0 w.1)) (two words path_and_mode)
+line_asked queue command.Write words = asking format.Plain (λ c. c) (three words write_call)
+line_asked queue command.Cat words = asking format.Plain (λ c. c) (three words cat_call)
+line_asked queue command.Truncate words = asking format.Plain (λ c. c) (two words truncate_call)
+line_asked queue command.Chmod words = asking format.Plain (λ w. call.File (file.Chmod w.0 w.1)) (two words path_and_mode)
+line_asked queue command.Link words = asking format.Plain (λ w. call.File (file.Link w.0 w.1)) (two words old_and_new)
+line_asked queue command.Unlink words = asking format.Plain (λ p. call.File (file.Unlink p)) (one words a_path)
+line_asked queue command.Rmdir words = asking format.Plain (λ p. call.File (file.Rmdir p)) (one words a_path)
+line_asked queue command.Rename words = asking format.Plain (λ w. call.File (file.Rename w.0 w.1)) (two words old_and_new)
+line_asked queue command.Rename2 words = asking format.Plain (λ c. c) (three words rename2_call)
+line_asked queue command.Stat words = asking format.Plain (λ p. call.File (file.Stat p)) (one words a_path)
+line_asked queue command.List words = asking format.Plain (λ p. call.File (file.List p)) (one words a_path)
+line_asked queue command.Init words = asking format.Plain (λ n. call.Init n false) (none_or_one words (Ok queue) u32_word)
+line_asked queue command.Watch words = asking format.Plain (λ c. c) (three words watch_call)
+line_asked queue command.Unwatch words = asking format.Plain (λ c. c) (two words unwatch_call)
+line_asked queue command.Read words = asking format.Records (λ w. call.Read w.0 w.1) (two words id_and_bytes)
+line_asked queue command.Hex words = asking format.Hexadecimal (λ w. call.Read w.0 w.1) (two words id_and_bytes)
+line_asked queue command.Close words = asking format.Plain (λ id. call.Close id) (one words u32_word)
+line_asked queue command.Cut words = if length words == 0 then Ok Cut else Err (Fault WrongNumber)
 
-abbrev pub row_of_word : ℕ → Option Command → List (List ℕ) → Result Line LineError
-row_of_word queue None words = Err (Fault UnknownCommand)
-row_of_word queue (Some c) words = row_of queue c words
+abbrev pub line_of_word : ℕ → Option Command → List (List ℕ) → Result Line LineError
+line_of_word queue None words = Err (Fault UnknownCommand)
+line_of_word queue (Some c) words = line_asked queue c words
 
 -- a command's word and the words behind it
 unfoldable pub words_line : ℕ → List (List ℕ) → Result Line LineError
 words_line queue [] = Err (Fault UnknownCommand)
-words_line queue (word ∷ words) = row_of_word queue (command_of word) words
+words_line queue (word ∷ words) = line_of_word queue (command_of word) words
 
 -- what a line asks for, or the first reason why it asks for no call
 unfoldable pub line_of : ℕ → List ℕ → Result Line LineError

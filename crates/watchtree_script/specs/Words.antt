@@ -56,8 +56,8 @@ abbrev pub i32_min_size : ℕ
 i32_min_size = 2 ^ 31
 
 -- the number of one digit or more, but no more than most, where it is at most greatest. Digits above 9 are letters, in either case
-unfoldable pub number_of : ℕ → ℕ → ℕ → List ℕ → Option ℕ
-number_of radix most greatest digits =
+unfoldable pub number_spelled : ℕ → ℕ → ℕ → List ℕ → Option ℕ
+number_spelled radix most greatest digits =
     if nat_lt 0 (length digits) && nat_le (length digits) most && list_all (λ c. is_digit c radix) digits && nat_le (digits_value radix digits) greatest
     then Some (digits_value radix digits) else None
 
@@ -67,7 +67,7 @@ before b bytes = option_and_then (λ x. option_map (λ xs. x ∷ xs) bytes) b
 
 -- the byte of two hexadecimal digits
 abbrev pub byte_of : ℕ → ℕ → Option ℕ
-byte_of high low = number_of hexadecimal escape_digits u8_max (high ∷ low ∷ [])
+byte_of high low = number_spelled hexadecimal escape_digits u8_max (high ∷ low ∷ [])
 
 -- the bytes of a word: a percent sign and two hexadecimal digits stand for that byte, other bytes for themselves
 abbrev pub unescaped : List ℕ → Option (List ℕ)
@@ -87,26 +87,26 @@ path_word word = or_fault BadEscape (unescaped word)
 
 -- MODE: 1 to 6 octal digits
 unfoldable pub mode_word : List ℕ → Result ℕ LineError
-mode_word word = or_fault BadMode (number_of octal mode_digits u32_max word)
+mode_word word = or_fault BadMode (number_spelled octal mode_digits u32_max word)
 
 -- MASK: 0x, and 1 to 8 hexadecimal digits
 unfoldable pub mask_word : List ℕ → Result ℕ LineError
-mask_word word = or_fault BadMask (option_and_then (number_of hexadecimal mask_digits u32_max) (behind (codes "0x") word))
+mask_word word = or_fault BadMask (option_and_then (number_spelled hexadecimal mask_digits u32_max) (behind (codes "0x") word))
 
 -- ID, COUNT, BYTES, LIMIT: 1 to 20 decimal digits that fit a u32
 unfoldable pub u32_word : List ℕ → Result ℕ LineError
-u32_word word = or_fault BadNumber (number_of decimals number_digits u32_max word)
+u32_word word = or_fault BadNumber (number_spelled decimals number_digits u32_max word)
 
 -- OFFSET, LEN: 1 to 20 decimal digits that fit a u64
 unfoldable pub u64_word : List ℕ → Result ℕ LineError
-u64_word word = or_fault BadNumber (number_of decimals number_digits u64_max word)
+u64_word word = or_fault BadNumber (number_spelled decimals number_digits u64_max word)
 
 -- the number of digits behind a minus sign, and of digits without one
 abbrev pub below_zero : List ℕ → Option ℤ
-below_zero digits = option_map (λ n. neg_ℤ (pos n)) (number_of decimals number_digits i32_min_size digits)
+below_zero digits = option_map (λ n. neg_ℤ (pos n)) (number_spelled decimals number_digits i32_min_size digits)
 
 abbrev pub from_zero : List ℕ → Option ℤ
-from_zero digits = option_map (λ n. pos n) (number_of decimals number_digits i32_max digits)
+from_zero digits = option_map (λ n. pos n) (number_spelled decimals number_digits i32_max digits)
 
 abbrev pub signed_number : Option (List ℕ) → List ℕ → Option ℤ
 signed_number (Some digits) word = below_zero digits

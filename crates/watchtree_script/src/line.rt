@@ -130,7 +130,7 @@ fn read_words(alloc: Global, queue: u32, mut words: Runs<'_>) -> Result<Line, Li
     let Some(command) = words.next_run().and_then(command_named) else {
         return Err(LineError::Fault(ScriptFault::UnknownCommand));
     };
-    Parser::new(alloc, queue, words).row(command)
+    Parser::new(alloc, queue, words).line_asked(command)
 }
 
 /// The command that a word names.

@@ -5,14 +5,14 @@ ghost use Rattle.std.specs.List.{list_all};
 ghost use Rattle.std.specs.Char.{is_digit};
 ghost use Rattle.std.specs.Str.Parse.{digits_value};
 ghost use Rattle.std.specs.Option.{SomeIff};
-ghost use Rattle.watchtree_script.specs.Words.{number_of};
+ghost use Rattle.watchtree_script.specs.Words.{number_spelled};
 
 /// The number of some digits of a radix, if they are at most so many and it is at most the greatest.
-#[tactic(auto, unfolding(crate::specs::Words::number_of))]
-pub(crate) fn number_of(radix: u32, most: usize, greatest: u64, digits: &[u8]) -> Option<u64>
+#[tactic(auto, unfolding(crate::specs::Words::number_spelled))]
+pub(crate) fn number_spelled(radix: u32, most: usize, greatest: u64, digits: &[u8]) -> Option<u64>
     requires least { 2 ≤ radix }
     requires largest { radix ≤ 36 }
-    ensures value { result ≡ number_of radix most greatest digits.now }
+    ensures value { result ≡ number_spelled radix most greatest digits.now }
     ensures within { IfSome result (λ number. number ≤ greatest) }
 {
     if most < digits.len() || !are_digits(radix, digits) {

@@ -1,7 +1,7 @@
 //! The rows of the table of commands: the words behind a command, and the call that they ask for.
 
 ghost use Rattle.std.specs.Prelude.{◌≡◌, ◌==◌, ◌∷◌, [], length, false, MatchResult};
-ghost use Rattle.watchtree_script.specs.Commands.{Gives, one, two, three, path_of, a_path, old_and_new, path_and_mode, id_and_bytes, write_call, cat_call, truncate_call, rename2_call, watch_call, unwatch_call, asking, row_of};
+ghost use Rattle.watchtree_script.specs.Commands.{Gives, one, two, three, path_of, a_path, old_and_new, path_and_mode, id_and_bytes, write_call, cat_call, truncate_call, rename2_call, watch_call, unwatch_call, asking, line_asked};
 ghost use Rattle.tree_core.specs.declared.call.Call.TheVariants as call;
 
 use crate::fault::ScriptFault;
@@ -34,9 +34,9 @@ impl<'a> Parser<'a> {
         }
     }
 
-    /// What a command asks for with the words behind it: its row in the table.
-    pub fn row(&self, command: Command) -> Result<Line, LineError>
-        ensures { Gives result (row_of self.now.queue command self.now.words) }
+    /// What a command asks for with the words behind it, as the table of commands says.
+    pub fn line_asked(&self, command: Command) -> Result<Line, LineError>
+        ensures { Gives result (line_asked self.now.queue command self.now.words) }
     {
         match command {
             Command::Mkdir => self.mkdir(),
@@ -63,14 +63,14 @@ impl<'a> Parser<'a> {
     }
 
     fn mkdir(&self) -> Result<Line, LineError>
-        ensures { Gives result (row_of self.now.queue Command.Mkdir self.now.words) }
+        ensures { Gives result (line_asked self.now.queue Command.Mkdir self.now.words) }
     {
         let (path, mode) = self.path_and_mode()?;
         Ok(plain(Call::File(FileCall::Mkdir { path, mode })))
     }
 
     fn create(&self) -> Result<Line, LineError>
-        ensures { Gives result (row_of self.now.queue Command.Create self.now.words) }
+        ensures { Gives result (line_asked self.now.queue Command.Create self.now.words) }
     {
         let (path, mode) = self.path_and_mode()?;
         Ok(plain(Call::File(FileCall::Create { path, mode })))
@@ -78,7 +78,7 @@ impl<'a> Parser<'a> {
 
     #[tactic(auto, unfolding(crate::specs::Commands::write_call))]
     fn write(&self) -> Result<Line, LineError>
-        ensures { Gives result (row_of self.now.queue Command.Write self.now.words) }
+        ensures { Gives result (line_asked self.now.queue Command.Write self.now.words) }
     {
         let (path, offset, bytes) = self.three()?;
         let text = path_word(self.alloc, path)?;
@@ -94,7 +94,7 @@ impl<'a> Parser<'a> {
 
     #[tactic(auto, unfolding(crate::specs::Commands::cat_call))]
     fn cat(&self) -> Result<Line, LineError>
-        ensures { Gives result (row_of self.now.queue Command.Cat self.now.words) }
+        ensures { Gives result (line_asked self.now.queue Command.Cat self.now.words) }
     {
         let (path, offset, count) = self.three()?;
         let text = path_word(self.alloc, path)?;
@@ -110,7 +110,7 @@ impl<'a> Parser<'a> {
 
     #[tactic(auto, unfolding(crate::specs::Commands::truncate_call))]
     fn truncate(&self) -> Result<Line, LineError>
-        ensures { Gives result (row_of self.now.queue Command.Truncate self.now.words) }
+        ensures { Gives result (line_asked self.now.queue Command.Truncate self.now.words) }
     {
         let (path, len) = self.two()?;
         let text = path_word(self.alloc, path)?;
@@ -120,35 +120,35 @@ impl<'a> Parser<'a> {
     }
 
     fn chmod(&self) -> Result<Line, LineError>
-        ensures { Gives result (row_of self.now.queue Command.Chmod self.now.words) }
+        ensures { Gives result (line_asked self.now.queue Command.Chmod self.now.words) }
     {
         let (path, mode) = self.path_and_mode()?;
         Ok(plain(Call::File(FileCall::Chmod { path, mode })))
     }
 
     fn link(&self) -> Result<Line, LineError>
-        ensures { Gives result (row_of self.now.queue Command.Link self.now.words) }
+        ensures { Gives result (line_asked self.now.queue Command.Link self.now.words) }
     {
         let (old, new) = self.old_and_new()?;
         Ok(plain(Call::File(FileCall::Link { old, new })))
     }
 
     fn unlink(&self) -> Result<Line, LineError>
-        ensures { Gives result (row_of self.now.queue Command.Unlink self.now.words) }
+        ensures { Gives result (line_asked self.now.queue Command.Unlink self.now.words) }
     {
         let path = self.a_path()?;
         Ok(plain(Call::File(FileCall::Unlink { path })))
     }
 
     fn rmdir(&self) -> Result<Line, LineError>
-        ensures { Gives result (row_of self.now.queue Command.Rmdir self.now.words) }
+        ensures { Gives result (line_asked self.now.queue Command.Rmdir self.now.words) }
     {
         let path = self.a_path()?;
         Ok(plain(Call::File(FileCall::Rmdir { path })))
     }
 
     fn rename(&self) -> Result<Line, LineError>
-        ensures { Gives result (row_of self.now.queue Command.Rename self.now.words) }
+        ensures { Gives result (line_asked self.now.queue Command.Rename self.now.words) }
     {
         let (old, new) = self.old_and_new()?;
         Ok(plain(Call::File(FileCall::Rename { old, new })))
@@ -156,7 +156,7 @@ impl<'a> Parser<'a> {
 
     #[tactic(auto, unfolding(crate::specs::Commands::rename2_call))]
     fn rename2(&self) -> Result<Line, LineError>
-        ensures { Gives result (row_of self.now.queue Command.Rename2 self.now.words) }
+        ensures { Gives result (line_asked self.now.queue Command.Rename2 self.now.words) }
     {
         let (old, new, flags) = self.three()?;
         let old_text = path_word(self.alloc, old)?;
@@ -168,21 +168,21 @@ impl<'a> Parser<'a> {
     }
 
     fn stat(&self) -> Result<Line, LineError>
-        ensures { Gives result (row_of self.now.queue Command.Stat self.now.words) }
+        ensures { Gives result (line_asked self.now.queue Command.Stat self.now.words) }
     {
         let path = self.a_path()?;
         Ok(plain(Call::File(FileCall::Stat { path })))
     }
 
     fn list(&self) -> Result<Line, LineError>
-        ensures { Gives result (row_of self.now.queue Command.List self.now.words) }
+        ensures { Gives result (line_asked self.now.queue Command.List self.now.words) }
     {
         let path = self.a_path()?;
         Ok(plain(Call::File(FileCall::List { path })))
     }
 
     fn init(&self) -> Result<Line, LineError>
-        ensures { Gives result (row_of self.now.queue Command.Init self.now.words) }
+        ensures { Gives result (line_asked self.now.queue Command.Init self.now.words) }
     {
         let limit = if self.words.has(0) {
             self.queue
@@ -197,7 +197,7 @@ impl<'a> Parser<'a> {
 
     #[tactic(auto, unfolding(crate::specs::Commands::watch_call))]
     fn watch(&self) -> Result<Line, LineError>
-        ensures { Gives result (row_of self.now.queue Command.Watch self.now.words) }
+        ensures { Gives result (line_asked self.now.queue Command.Watch self.now.words) }
     {
         let (id, path, mask) = self.three()?;
         let instance = u32_word(id)?;
@@ -213,7 +213,7 @@ impl<'a> Parser<'a> {
 
     #[tactic(auto, unfolding(crate::specs::Commands::unwatch_call))]
     fn unwatch(&self) -> Result<Line, LineError>
-        ensures { Gives result (row_of self.now.queue Command.Unwatch self.now.words) }
+        ensures { Gives result (line_asked self.now.queue Command.Unwatch self.now.words) }
     {
         let (id, wd) = self.two()?;
         let instance = u32_word(id)?;
@@ -236,14 +236,14 @@ impl<'a> Parser<'a> {
     }
 
     fn close(&self) -> Result<Line, LineError>
-        ensures { Gives result (row_of self.now.queue Command.Close self.now.words) }
+        ensures { Gives result (line_asked self.now.queue Command.Close self.now.words) }
     {
         let instance = u32_word(self.one()?)?;
         Ok(plain(Call::Close { instance }))
     }
 
     fn cut(&self) -> Result<Line, LineError>
-        ensures { Gives result (row_of self.now.queue Command.Cut self.now.words) }
+        ensures { Gives result (line_asked self.now.queue Command.Cut self.now.words) }
     {
         if self.words.has(0) {
             Ok(Line::Cut)

@@ -1,12 +1,12 @@
 //! What the words behind a command stand for.
 
 ghost use Rattle.std.specs.Prelude.{◌≡◌, ◌<◌, ◌≤◌, length, IfOk, IfSome, MatchOption, None, Some, option_map};
-ghost use Rattle.watchtree_script.specs.Words.{byte_of, before, unescaped, behind, number_of, below_zero, from_zero, path_word, mode_word, mask_word, u32_word, u64_word, i32_word, hex_word, u32_max};
+ghost use Rattle.watchtree_script.specs.Words.{byte_of, before, unescaped, behind, number_spelled, below_zero, from_zero, path_word, mode_word, mask_word, u32_word, u64_word, i32_word, hex_word, u32_max};
 ghost use Rattle.watchtree_script.specs.Commands.{Gives};
 
 use crate::fault::ScriptFault;
 use crate::line::LineError;
-use crate::numbers::number_of;
+use crate::numbers::number_spelled;
 use hex::FromHexError;
 use record_codec::Bytes;
 use std::alloc::{AllocError, Global};
@@ -35,7 +35,7 @@ const I32_MAX: u64 = 0x7fff_ffff;
 fn byte_of(high: u8, low: u8) -> Option<u8>
     ensures { result ≡ byte_of high low }
 {
-    let byte = number_of(HEXADECIMAL, ESCAPE_DIGITS, u64::from(u8::MAX), &[high, low])?;
+    let byte = number_spelled(HEXADECIMAL, ESCAPE_DIGITS, u64::from(u8::MAX), &[high, low])?;
     Some(byte as u8)
 }
 
@@ -86,9 +86,9 @@ pub(crate) fn path_word(alloc: Global, word: &[u8]) -> Result<Bytes, LineError>
 fn number32(radix: u32, most: usize, digits: &[u8]) -> Option<u32>
     requires least { 2 ≤ radix }
     requires largest { radix ≤ 36 }
-    ensures { result ≡ number_of radix most u32_max digits.now }
+    ensures { result ≡ number_spelled radix most u32_max digits.now }
 {
-    let number = number_of(radix, most, u64::from(u32::MAX), digits)?;
+    let number = number_spelled(radix, most, u64::from(u32::MAX), digits)?;
     Some(number as u32)
 }
 
@@ -124,7 +124,7 @@ pub(crate) fn u32_word(word: &[u8]) -> Result<u32, LineError>
 pub(crate) fn u64_word(word: &[u8]) -> Result<u64, LineError>
     ensures { result ≡ u64_word word.now }
 {
-    number_of(DECIMAL, NUMBER_DIGITS, u64::MAX, word).ok_or(LineError::Fault(
+    number_spelled(DECIMAL, NUMBER_DIGITS, u64::MAX, word).ok_or(LineError::Fault(
         ScriptFault::BadNumber,
     ))
 }
@@ -133,7 +133,7 @@ pub(crate) fn u64_word(word: &[u8]) -> Result<u64, LineError>
 fn below_zero(digits: &[u8]) -> Option<i32>
     ensures { result ≡ below_zero digits.now }
 {
-    let number = number_of(DECIMAL, NUMBER_DIGITS, I32_MIN_SIZE, digits)?;
+    let number = number_spelled(DECIMAL, NUMBER_DIGITS, I32_MIN_SIZE, digits)?;
     Some(-(number as i64) as i32)
 }
 
@@ -141,7 +141,7 @@ fn below_zero(digits: &[u8]) -> Option<i32>
 fn from_zero(digits: &[u8]) -> Option<i32>
     ensures { result ≡ from_zero digits.now }
 {
-    let number = number_of(DECIMAL, NUMBER_DIGITS, I32_MAX, digits)?;
+    let number = number_spelled(DECIMAL, NUMBER_DIGITS, I32_MAX, digits)?;
     Some(number as i32)
 }
 

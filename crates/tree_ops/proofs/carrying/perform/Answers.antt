@@ -14,14 +14,14 @@ use Rattle.tree_ops.specs.declared.answer.Answer.{Answer}
 use Rattle.tree_ops.specs.declared.answer.Answer.TheVariants.{Bytes, Names}
 use Rattle.tree_ops.specs.Checked.{Checked}
 use Rattle.tree_ops.specs.ReadyCall.{IsReady}
-use Rattle.tree_ops.specs.Refused.{refusal_of, rows_of, links_seen}
+use Rattle.tree_ops.specs.Refused.{refusal_seen, rows_of, links_seen}
 use Rattle.tree_ops.specs.After.{after, after_exchange, after_rename, after_rename2, answer_of}
 use Rattle.tree_ops.proofs.Rows.{make-known, write-known, read-known, truncate-known, chmod-known, link-known, unlink-known, rmdir-known, rename-known, move-known, exchange-known, find-known, list-known, RenameKnown, ExchangeKnown}
 use Rattle.tree_ops.proofs.carrying.perform.Goals as goal
 
 -- no row of the call's kind holds for what the table shows
 known : (w : World) (ready view : Checked) (shape : FileCall) (r : IsReady w ready) → view ≡ ready → view.call ≡ shape → first_row (rows_of (look w) r.limits ready.counts shape) ≡ None
-unfolding refusal_of
+unfolding refusal_seen
 known w ready view shape r view_is is =
     ap (λ x. first_row (rows_of (look w) r.limits ready.counts x)) (sym is ∙ ap (λ (x : Checked). x.call) view_is) ∙ r.accepted
 

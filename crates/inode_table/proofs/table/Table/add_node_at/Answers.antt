@@ -1,6 +1,6 @@
 use Rattle.std.proofs.Common.{◌≡◌, Some, None, refl, sym, ap, subst, ◌∙◌}
 use Rattle.std.specs.Option.{option_map}
-use Rattle.inode_table.specs.Rows.{rows_of, row_of, row, shown, SetsChild}
+use Rattle.inode_table.specs.Rows.{rows_of, row_of, row_under, shown, SetsChild}
 use Rattle.inode_table.specs.Tree.{IsTable, what_at}
 use Rattle.inode_table.proofs.RowsLemmas.{SetsRow-at, row-rows_of}
 use Rattle.inode_table.proofs.ChangeLemmas.{AddsRow, IsTable-add, add-AddsPath, add-what_here, add-what_others}
@@ -15,7 +15,7 @@ added c =
     record {
       table = subst IsTable same c.self.invariant;
       directory = c.requires.directory.kind;
-      vacant = ap (λ rs. row rs c.vacant_key-key.result) (sym same) ∙ row-rows_of c.self.inside.nodes c.vacant_key-key.result ∙ ap (option_map row_of) c.vacant_key-key.ensures.vacant;
+      vacant = ap (λ rs. row_under rs c.vacant_key-key.result) (sym same) ∙ row-rows_of c.self.inside.nodes c.vacant_key-key.result ∙ ap (option_map row_of) c.vacant_key-key.ensures.vacant;
       free = c.requires.free;
       names = subst (λ rs. SetsChild rs (rows_of c.set_child.new.nodes) c.args.directory c.args.name (Some c.vacant_key-key.result)) same c.in_ok-set_child.ensures.ok;
       node = SetsRow-at c.set_child.new.nodes c.insert_reserved.new.self c.insert_reserved.result c.vacant_key-key.result _ key c.insert_reserved.ensures.updates;
