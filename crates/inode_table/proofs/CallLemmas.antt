@@ -5,7 +5,7 @@ use Rattle.std.specs.Result.{result_ok}
 use Rattle.inode_table.specs.Walk.{Avoids}
 use Rattle.inode_table.specs.Rows.{Label, What, row_under, child, is_directory}
 use Rattle.inode_table.specs.Tree.{Tree, IsTable, IsOpen, LosesLink, at, what_at, with_bytes}
-use Rattle.inode_table.specs.Paths.{is_below}
+use Rattle.tree_paths.specs.Paths.{is_below}
 use Rattle.inode_table.specs.World as world
 use Rattle.inode_table.specs.Refusals.{is_directory_seen}
 use Rattle.inode_table.specs.Stands.{kind_of, file_of, seen_row, look_in}
@@ -42,11 +42,11 @@ module _ (t : Tree) (table : IsTable t.rows) where
   open-seen p k there dir = ap (λ o. is_directory_seen (option_and_then (λ k. option_map seen_row (row_under t.rows k)) o)) there ∙ seen_directory (row_under t.rows k) ∙ dir
 
   -- of two names of which neither is below the other, none is the root's
-  pub swap-named : (one other : List Label) → one ≢ other → (is_directory_seen (look_in t one) && is_below one other) ≡ false → one ≢ []
+  pub swap-named : (one other : List Label) → one ≢ other → (is_directory_seen (look_in t one) && is_below other one) ≡ false → one ≢ []
   swap-named one [] apart below is = apart is
   swap-named one (l ∷ s) apart below is =
       let d : is_directory_seen (look_in t one) ≡ true = ap (λ p. is_directory_seen (look_in t p)) is ∙ root-directory t table in
-      let b : is_below one (l ∷ s) ≡ true = is_below-rest one (l ∷ s) l s (ap (λ p. p ++ l ∷ s) (sym is)) in
+      let b : is_below (l ∷ s) one ≡ true = is_below-rest one (l ∷ s) l s (ap (λ p. p ++ l ∷ s) (sym is)) in
       let e : true ≡ false = (λ i. sym d i && sym b i) ∙ below in
       cc
 
@@ -54,7 +54,7 @@ module _ (t : Tree) (table : IsTable t.rows) where
   pub swap-apart : (one parent : List Label) (name : Label) → one ≡ parent ++ name ∷ [] → IsSome (look_in t one)
       → (other other_parent : List Label) (other_name : Label) → other ≡ other_parent ++ other_name ∷ [] → IsSome (look_in t other)
       → (k j : ℕ) → at t parent ≡ Some k → at t other_parent ≡ Some j
-      → one ≢ other → (is_directory_seen (look_in t one) && is_below one other) ≡ false
+      → one ≢ other → (is_directory_seen (look_in t one) && is_below other one) ≡ false
       → (p q : List Label) → at t p ≡ Some k → at t q ≡ Some j → Avoids (p ++ name ∷ []) (q ++ other_name ∷ [])
   swap-apart one parent name parts there other other_parent other_name other_parts other_there k j found other_found apart below p q to_p to_q =
       let from = parent-open one parent name parts there k found in

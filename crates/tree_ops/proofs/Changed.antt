@@ -9,7 +9,7 @@ use Rattle.inode_table.proofs.SeenLemmas.{is_value}
 use Rattle.inode_table.proofs.MapLemmas.{keys-none}
 use Rattle.inode_table.proofs.PathLemmas.{is_below-false}
 use Rattle.inode_table.proofs.WorldLemmas.{path_total, path_exact}
-use Rattle.inode_table.specs.Paths.{is_below}
+use Rattle.tree_paths.specs.Paths.{is_below}
 use Rattle.tree_ops.proofs.Worlds.{standing, regular-seen, seen-directory}
 use Rattle.tree_ops.specs.Refused.{are_same_seen, has_names_seen}
 use Rattle.inode_table.specs.Refusals.{Look, is_directory_seen}
@@ -71,7 +71,7 @@ other-paths at old new there off same = by (at old) there (ap (λ p. are_same_se
 
 nameless : (w : World) → IsWorld w → (p : List (List ℕ)) → is_directory_seen (look w p) ≡ false → has_names w p ≡ false
 unfolding has_names
-nameless w is p regular = keys-none path_total path_exact (is_below p) w.paths (λ q found. is_below-false p q (λ l s e. regular-seen w p regular (is.fronts p l s (ap (λ x. is_some (finmap.get w.paths x)) (sym e) ∙ found))))
+nameless w is p regular = keys-none path_total path_exact (λ q. is_below q p) w.paths (λ q found. is_below-false p q (λ l s e. regular-seen w p regular (is.fronts p l s (ap (λ x. is_some (finmap.get w.paths x)) (sym e) ∙ found))))
 
 pub nameless-seen : (w : World) → IsWorld w → (p : List (List ℕ)) → IsSome (look w p) → is_directory_seen (look w p) ≡ false → IsSomeAnd (look w p) (λ (s : Seen). s.has_names ≡ false)
 unfolding seen_as

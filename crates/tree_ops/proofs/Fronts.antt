@@ -2,7 +2,7 @@
 use Rattle.std.proofs.Common.{◌≡◌, true, false, cond, List, [], ◌∷◌, ◌++◌, Some, None, refl, sym, ap, ◌∙◌}
 use Rattle.std.specs.Cmp.Lexicographic.{nat_list_cmp_total}
 use Rattle.inode_table.specs.Rows.{Label, same_label}
-use Rattle.inode_table.specs.Paths.{rest_after}
+use Rattle.tree_paths.specs.Paths.{rest_after}
 use Rattle.tree_ops.proofs.Keys.{tested, itself, name_exact}
 
 pub rest_after-append : (p s : List Label) → rest_after p (p ++ s) ≡ Some s

@@ -9,7 +9,8 @@ use Rattle.std.specs.FinMap as finmap
 use Rattle.std.specs.FinMap.{find, is_sorted, same_map, get-from_entries, get-from_sorted, entries-from_sorted, contains_key-keys}
 use Rattle.std.specs.FinMap.Entries.{below_all}
 use Rattle.inode_table.specs.Rows.{Label}
-use Rattle.inode_table.specs.Paths.{path_cmp, rest_after}
+use Rattle.tree_paths.specs.Paths.{rest_after}
+use Rattle.inode_table.specs.Paths.{path_cmp}
 use Rattle.inode_table.specs.World.{World, AreNamesOf}
 use Rattle.tree_ops.proofs.Keys.{tie, tested, itself, name_exact, path_total, path_exact}
 use Rattle.tree_ops.proofs.Fronts.{rest_after-append, rest_after-some}

@@ -5,7 +5,7 @@ use Rattle.tree_paths.specs.declared.refusal.Refusal.{Refusal}
 use Rattle.tree_paths.specs.declared.refusal.Refusal.TheVariants.{Enoent, Enotdir, Eperm, Ebusy, Eexist, Eisdir, Einval, Efbig, Emlink, Enotempty}
 use Rattle.tree_paths.specs.declared.limits.Limits.{Limits}
 use Rattle.inode_table.specs.declared.seen.Seen.{Seen}
-use Rattle.inode_table.specs.Paths.{is_below}
+use Rattle.tree_paths.specs.Paths.{is_below}
 use Rattle.tree_ops.specs.declared.call.TheConstants.{RENAME_EXCHANGE, RENAME_NOREPLACE}
 use Rattle.tree_ops.specs.declared.call.Counts.{Counts}
 use Rattle.tree_ops.specs.Refused.{has_names_seen, links_seen, are_same_seen, make_rows, write_rows, read_rows, truncate_rows, chmod_rows, link_rows, unlink_rows, rmdir_rows, move_rows, rename_rows, noreplace_rows, swap_rows, exchange_rows, rename2_rows, find_rows, list_rows}
@@ -153,7 +153,7 @@ pub record RenameKnown (at : Look) (old new : List (List ℕ)) : Type 0 where
   pub named : old ≢ []
   pub other_named : new ≢ []
   pub there : is_some (at old) ≡ true
-  pub below : (is_directory_seen (at old) && is_below old new) ≡ false
+  pub below : (is_directory_seen (at old) && is_below new old) ≡ false
   pub directory : is_directory_seen (at (parent_of new)) ≡ true
   pub empty : are_same_seen (at old) (at new) ≡ false → has_names_seen (at new) ≡ false
 
@@ -165,16 +165,16 @@ pub rename-known : (at : Look) (limits : Limits) (counts : Counts) (old new : Li
 unfolding rename_rows
 rename-known at limits counts old new e =
     let last = if are_same_seen (at old) (at new) then [] else move_rows limits counts (at old) (at new) in
-    let a = no-row (row ((length old == 0) || (length new == 0)) Ebusy) (find at old ∷ row (is_directory_seen (at old) && is_below old new) Einval ∷ parent at new ∷ last) e in
-    let b = no-row (find at old) (row (is_directory_seen (at old) && is_below old new) Einval ∷ parent at new ∷ last) a.1 in
-    let c = no-row (row (is_directory_seen (at old) && is_below old new) Einval) (parent at new ∷ last) b.1 in
+    let a = no-row (row ((length old == 0) || (length new == 0)) Ebusy) (find at old ∷ row (is_directory_seen (at old) && is_below new old) Einval ∷ parent at new ∷ last) e in
+    let b = no-row (find at old) (row (is_directory_seen (at old) && is_below new old) Einval ∷ parent at new ∷ last) a.1 in
+    let c = no-row (row (is_directory_seen (at old) && is_below new old) Einval) (parent at new ∷ last) b.1 in
     let d = no-row (parent at new) last c.1 in
     let names = neither (length old == 0) (length new == 0) (row-false ((length old == 0) || (length new == 0)) Ebusy a.0) in
     record {
       named = named-by old names.0;
       other_named = named-by new names.1;
       there = found-some at old b.0;
-      below = row-false (is_directory_seen (at old) && is_below old new) Einval c.0;
+      below = row-false (is_directory_seen (at old) && is_below new old) Einval c.0;
       directory = parent-directory at new d.0;
       empty = λ f. move-empty limits counts (at old) (at new) (ap (λ b. first_row (if b then [] else move_rows limits counts (at old) (at new))) (sym f) ∙ d.1);
     }
@@ -189,7 +189,7 @@ noreplace-known at limits counts old new e =
       named = named-by old names.0;
       other_named = named-by new names.1;
       there = found-some at old h.1.0;
-      below = row-false (is_directory_seen (at old) && is_below old new) Einval h.1.1.0;
+      below = row-false (is_directory_seen (at old) && is_below new old) Einval h.1.1.0;
       directory = parent-directory at new h.1.1.1.0;
       empty = λ _. ap has_names_seen (is_some-none (at new) (row-false (is_some (at new)) Eexist h.1.1.1.1.0));
     }
@@ -199,14 +199,14 @@ pub record ExchangeKnown (at : Look) (old new : List (List ℕ)) : Type 0 where
   pub other_named : new ≢ []
   pub there : is_some (at old) ≡ true
   pub other_there : is_some (at new) ≡ true
-  pub below : are_same_seen (at old) (at new) ≡ false → (is_directory_seen (at old) && is_below old new) ≡ false
-  pub above : are_same_seen (at old) (at new) ≡ false → (is_directory_seen (at new) && is_below new old) ≡ false
+  pub below : are_same_seen (at old) (at new) ≡ false → (is_directory_seen (at old) && is_below new old) ≡ false
+  pub above : are_same_seen (at old) (at new) ≡ false → (is_directory_seen (at new) && is_below old new) ≡ false
 
 swap-apart : (limits : Limits) (counts : Counts) (old new : List (List ℕ)) (one other : Option Seen) → first_row (swap_rows limits counts old new one other) ≡ None
-    → ((is_directory_seen one && is_below old new) ≡ false) × ((is_directory_seen other && is_below new old) ≡ false)
+    → ((is_directory_seen one && is_below new old) ≡ false) × ((is_directory_seen other && is_below old new) ≡ false)
 unfolding swap_rows
 swap-apart limits counts old new one other e =
-    neither (is_directory_seen one && is_below old new) (is_directory_seen other && is_below new old) (row-false _ Einval (each-none (swap_rows limits counts old new one other) e).0)
+    neither (is_directory_seen one && is_below new old) (is_directory_seen other && is_below old new) (row-false _ Einval (each-none (swap_rows limits counts old new one other) e).0)
 
 exchanged-known : (at : Look) (limits : Limits) (counts : Counts) (old new : List (List ℕ)) → first_row (exchange_rows at limits counts old new) ≡ None → ExchangeKnown at old new
 unfolding exchange_rows
@@ -216,7 +216,7 @@ exchanged-known at limits counts old new e =
     let b = no-row (find at old) (find at new ∷ last) a.1 in
     let c = no-row (find at new) last b.1 in
     let names = neither (length old == 0) (length new == 0) (row-false ((length old == 0) || (length new == 0)) Ebusy a.0) in
-    let apart : are_same_seen (at old) (at new) ≡ false → ((is_directory_seen (at old) && is_below old new) ≡ false) × ((is_directory_seen (at new) && is_below new old) ≡ false) =
+    let apart : are_same_seen (at old) (at new) ≡ false → ((is_directory_seen (at old) && is_below new old) ≡ false) × ((is_directory_seen (at new) && is_below old new) ≡ false) =
     λ f. swap-apart limits counts old new (at old) (at new) (ap (λ b. first_row (if b then [] else swap_rows limits counts old new (at old) (at new))) (sym f) ∙ c.1) in
     record {
       named = named-by old names.0;

@@ -7,7 +7,7 @@ use Rattle.inode_table.specs.declared.seen.Kind.TheVariants.{Regular, Directory}
 use Rattle.inode_table.specs.declared.seen.Seen.{Seen}
 use Rattle.inode_table.specs.Walk.{Avoids}
 use Rattle.inode_table.specs.Rows.{Label}
-use Rattle.inode_table.specs.Paths.{is_below}
+use Rattle.tree_paths.specs.Paths.{is_below}
 use Rattle.inode_table.specs.Refusals.{is_directory_kind, is_directory_seen, parent_of}
 use Rattle.inode_table.specs.World.{World, File, IsWorld, IsDirectoryAt, look, seen_as, has_names}
 use Rattle.inode_table.proofs.TreeLemmas.{some_none, same_some}
@@ -137,7 +137,7 @@ nothing-below w is p none l s =
       | None ↦ λ _. refl
       | Some n ↦ λ there.
           let d = directory-of w p (is.fronts p l s (ap is_some there)) in
-          let yes : has_names_seen (look w p) ≡ true = ap has_names_seen (look-is w p d.number d.file d.there d.is) ∙ keys-any path_total path_exact (is_below p) w.paths (p ++ l ∷ s) (ap is_some there) (is_below-rest p (p ++ l ∷ s) l s refl) in
+          let yes : has_names_seen (look w p) ≡ true = ap has_names_seen (look-is w p d.number d.file d.there d.is) ∙ keys-any path_total path_exact (λ q. is_below q p) w.paths (p ++ l ∷ s) (ap is_some there) (is_below-rest p (p ++ l ∷ s) l s refl) in
           absurd (cc)
     ] refl
 
@@ -150,11 +150,11 @@ nothing-under w is p off l s =
     ] refl
 
 -- a path in a directory does not begin with another path that it is not, but for a directory above it
-pub apart-from : (w : World) → IsWorld w → (old new q : List Label) (l : Label) → new ≡ q ++ l ∷ [] → IsDirectoryAt w q → old ≢ new → (is_directory_seen (look w old) && is_below old new) ≡ false → Avoids old new
+pub apart-from : (w : World) → IsWorld w → (old new q : List Label) (l : Label) → new ≡ q ++ l ∷ [] → IsDirectoryAt w q → old ≢ new → (is_directory_seen (look w old) && is_below new old) ≡ false → Avoids old new
 apart-from w is old new q l parts directory other below [] e = other (sym (e ∙ append-nil old))
 apart-from w is old new q l parts directory other below (m ∷ s) e =
     let r = front-past q old l m s (sym parts ∙ e) in
     let above = seen-directory w old (directory-front w is q old r.0 directory r.1) in
-    let under : is_below old new ≡ true = is_below-rest old new m s e in
+    let under : is_below new old ≡ true = is_below-rest old new m s e in
     let clash : true ≡ false = (λ i. sym above i && sym under i) ∙ below in
     cc

@@ -13,7 +13,8 @@ use Rattle.inode_table.specs.declared.seen.Seen.{Seen}
 use Rattle.inode_table.specs.Bytes.{resized, written}
 use Rattle.inode_table.specs.Walk.{Avoids}
 use Rattle.inode_table.specs.Rows.{Label}
-use Rattle.inode_table.specs.Paths.{is_below, path_cmp}
+use Rattle.tree_paths.specs.Paths.{is_below}
+use Rattle.inode_table.specs.Paths.{path_cmp}
 use Rattle.inode_table.specs.Refusals.{is_directory_seen, parent_of}
 use Rattle.inode_table.specs.World.{World, File, IsWorld, IsWhole, IsDirectoryAt, look, seen_as, linked, opening_world, root_number, root_mode, without_path, with_move, with_swap, without_lost, file_at}
 use Rattle.inode_table.proofs.TreeLemmas.{some_none, same_some}
@@ -214,7 +215,7 @@ record Swapping (w : World) (old new : List Label) : Type 0 where
   other_there : IsSome (finmap.get w.paths new)
 
 -- a path in a directory avoids one that stands elsewhere, and is no directory above it
-avoiding : (w : World) → IsWorld w → (old new : List Label) → new ≢ [] → IsSome (finmap.get w.paths new) → old ≢ new → (is_directory_seen (look w old) && is_below old new) ≡ false → Avoids old new
+avoiding : (w : World) → IsWorld w → (old new : List Label) → new ≢ [] → IsSome (finmap.get w.paths new) → old ≢ new → (is_directory_seen (look w old) && is_below new old) ≡ false → Avoids old new
 avoiding w is old new named there other below =
     let m = parted new named in
     apart-from w is old new (parent_of new) m.0 m.1 (is.fronts (parent_of new) m.0 [] (subst (λ p. IsSome (finmap.get w.paths p)) m.1 there)) other below

@@ -7,7 +7,7 @@ use Rattle.std.specs.Cmp.Lexicographic.{slice_cmp}
 use Rattle.std.specs.FinMap as finmap
 use Rattle.inode_table.specs.declared.seen.Kind.TheVariants.{Regular, Directory}
 use Rattle.inode_table.specs.Bytes.{resized, written}
-use Rattle.inode_table.specs.Paths.{rest_after}
+use Rattle.tree_paths.specs.Paths.{rest_after}
 use Rattle.inode_table.specs.World.{World, File, links, file_at, changed_at, linked, with_file, without_path, with_move, with_swap, without_lost}
 use Rattle.tree_ops.specs.declared.call.TheConstants.{RENAME_EXCHANGE}
 use Rattle.tree_ops.specs.declared.call.FileCall.{FileCall}

@@ -6,7 +6,7 @@ use Rattle.tree_paths.specs.declared.refusal.Refusal.{Refusal}
 use Rattle.tree_paths.specs.declared.refusal.Refusal.TheVariants.{Eperm, Ebusy, Eexist, Enotdir, Eisdir, Einval, Efbig, Emlink, Enotempty, CookiesSpent, NumbersSpent}
 use Rattle.tree_paths.specs.declared.limits.Limits.{Limits}
 use Rattle.inode_table.specs.declared.seen.Seen.{Seen}
-use Rattle.inode_table.specs.Paths.{is_below}
+use Rattle.tree_paths.specs.Paths.{is_below}
 use Rattle.inode_table.specs.World.{World, look}
 use Rattle.tree_paths.specs.Rows.{row, first_row}
 use Rattle.inode_table.specs.Refusals.{Look, is_directory_seen, find, parent}
@@ -113,7 +113,7 @@ unfoldable pub rename_rows : Look → Limits → Counts → List (List ℕ) → 
 rename_rows seen_at limits counts old new =
     row (is_root old || is_root new) Ebusy
     ∷ find seen_at old
-    ∷ row (is_directory_seen (seen_at old) && is_below old new) Einval
+    ∷ row (is_directory_seen (seen_at old) && is_below new old) Einval
     ∷ parent seen_at new
     ∷ (if are_same_seen (seen_at old) (seen_at new) then [] else move_rows limits counts (seen_at old) (seen_at new))
 
@@ -122,7 +122,7 @@ unfoldable pub noreplace_rows : Look → Limits → Counts → List (List ℕ) �
 noreplace_rows seen_at limits counts old new =
     row (is_root old || is_root new) Ebusy
     ∷ find seen_at old
-    ∷ row (is_directory_seen (seen_at old) && is_below old new) Einval
+    ∷ row (is_directory_seen (seen_at old) && is_below new old) Einval
     ∷ parent seen_at new
     ∷ row (is_some (seen_at new)) Eexist
     ∷ cookies_row limits counts
@@ -131,7 +131,7 @@ noreplace_rows seen_at limits counts old new =
 -- neither of two directories can be put below itself, and each of the two moves has its cookie
 unfoldable pub swap_rows : Limits → Counts → List (List ℕ) → List (List ℕ) → Option Seen → Option Seen → List (Option Refusal)
 swap_rows limits counts old new one other =
-    row ((is_directory_seen one && is_below old new) || (is_directory_seen other && is_below new old)) Einval
+    row ((is_directory_seen one && is_below new old) || (is_directory_seen other && is_below old new)) Einval
     ∷ two_cookies_row limits counts
     ∷ []
 

@@ -8,7 +8,7 @@ ghost use Rattle.inode_table.specs.World.{IsWhole, look, with_file, changed_at, 
 ghost use Rattle.inode_table.specs.Stands.{number_of, reserved_at};
 ghost use Rattle.inode_table.specs.TableWorld.{world_of, HasNumbersBelow};
 ghost use Rattle.inode_table.specs.Refusals.{is_directory_seen, parent_of};
-ghost use Rattle.inode_table.specs.Paths.{is_below};
+ghost use Rattle.tree_paths.specs.Paths.{is_below};
 ghost use Rattle.tree_ops.specs.Refused.{has_names_seen, are_same_seen};
 ghost use Rattle.tree_ops.specs.ReadyCall.{IsReady};
 ghost use Rattle.tree_ops.specs.After.{after, after_unlink, after_rename, after_exchange, bytes_at, answer_of, stat_of, names_in, numbers_of};
@@ -137,7 +137,7 @@ fn rename(table: &mut Table, old: &Path, new: &Path) -> Result<(), Refusal>
     requires directory { is_directory_seen (look (world_of table.old) (parent_of new.now)) ≡ true }
     requires named { old.now ≢ [] }
     requires other_named { new.now ≢ [] }
-    requires below { (is_directory_seen (look (world_of table.old) old.now) && is_below old.now new.now) ≡ false }
+    requires below { (is_directory_seen (look (world_of table.old) old.now) && is_below new.now old.now) ≡ false }
     requires empty { are_same_seen (look (world_of table.old) old.now) (look (world_of table.old) new.now) ≡ false → has_names_seen (look (world_of table.old) new.now) ≡ false }
     ensures world { OnOk result (world_of table.new ≡ after_rename (world_of table.old) old.now new.now) }
     ensures err { OnErr result (table.new.rows ≡ table.old.rows) }
@@ -155,8 +155,8 @@ fn rename(table: &mut Table, old: &Path, new: &Path) -> Result<(), Refusal>
 fn exchange(table: &mut Table, old: &Path, new: &Path)
     requires source { IsSome (look (world_of table.old) old.now) }
     requires target { IsSome (look (world_of table.old) new.now) }
-    requires below { are_same_seen (look (world_of table.old) old.now) (look (world_of table.old) new.now) ≡ false → (is_directory_seen (look (world_of table.old) old.now) && is_below old.now new.now) ≡ false }
-    requires above { are_same_seen (look (world_of table.old) old.now) (look (world_of table.old) new.now) ≡ false → (is_directory_seen (look (world_of table.old) new.now) && is_below new.now old.now) ≡ false }
+    requires below { are_same_seen (look (world_of table.old) old.now) (look (world_of table.old) new.now) ≡ false → (is_directory_seen (look (world_of table.old) old.now) && is_below new.now old.now) ≡ false }
+    requires above { are_same_seen (look (world_of table.old) old.now) (look (world_of table.old) new.now) ≡ false → (is_directory_seen (look (world_of table.old) new.now) && is_below old.now new.now) ≡ false }
     ensures world { world_of table.new ≡ after_exchange (world_of table.old) old.now new.now }
 {
     table.law();

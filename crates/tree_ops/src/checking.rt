@@ -1,6 +1,5 @@
 //! Which calls are refused.
 ghost use Rattle.std.specs.Prelude.{◌≡◌, ◌<◌, length, Some, None, IfOk, IfErr, OnOk};
-ghost use Rattle.inode_table.specs.Paths.{is_below};
 ghost use Rattle.inode_table.specs.World.{look};
 ghost use Rattle.inode_table.specs.TableWorld.{world_of, HasNumbersBelow};
 ghost use Rattle.tree_paths.specs.Rows.{first_row};
@@ -325,7 +324,7 @@ fn rename_fault(
         return Some(refusal);
     }
     let source = seen(table, old);
-    if is_directory(source) && is_below(new, old) {
+    if is_directory(source) && new.is_below(old) {
         return Some(Refusal::Einval);
     }
     if let Some(refusal) = parent_fault(table, new) {
@@ -354,7 +353,7 @@ fn noreplace_fault(
     match table.look(old.names()) {
         Err(refusal) => Some(refusal),
         Ok(source) => {
-            if is_directory(Some(source)) && is_below(new, old) {
+            if is_directory(Some(source)) && new.is_below(old) {
                 return Some(Refusal::Einval);
             }
             if let Some(refusal) = parent_fault(table, new) {
@@ -385,10 +384,10 @@ fn swap_fault(
 ) -> Option<Refusal>
     ensures { result ≡ first_row (swap_rows limits.now counts.now old.now new.now source target) }
 {
-    if is_directory(source) && is_below(new, old) {
+    if is_directory(source) && new.is_below(old) {
         return Some(Refusal::Einval);
     }
-    if is_directory(target) && is_below(old, new) {
+    if is_directory(target) && old.is_below(new) {
         return Some(Refusal::Einval);
     }
     let last = u64::from(counts.next_cookie) + 1;
@@ -447,13 +446,6 @@ fn is_root(path: &Path) -> bool
     ensures { result ≡ is_root path.now }
 {
     path.names().is_empty()
-}
-
-// Whether the path is below the other one.
-fn is_below(path: &Path, above: &Path) -> bool
-    ensures { result ≡ is_below above.now path.now }
-{
-    path.is_below(above)
 }
 
 // Why a call is refused, if it is.

@@ -1,3 +1,4 @@
+mod BelowLemmas
 mod PathLemmas
 mod PathnameLemmas
 mod PieceLemmas

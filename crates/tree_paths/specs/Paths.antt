@@ -1,6 +1,9 @@
 -- What a pathname's text stands for, and how paths lie to one another.
-use Rattle.std.specs.Prelude.{◌≡◌, ℕ, ◌-◌, Bool, not, ◌&&◌, ◌||◌, ◌==◌, nat_lt, nat_le, List, [], ◌∷◌, ◌++◌, length, slice_index, codes, Result, Ok, Err, if◌then◌else◌}
+use Rattle.std.specs.Prelude.{◌≡◌, ℕ, ◌-◌, Bool, true, false, not, ◌&&◌, ◌||◌, ◌==◌, nat_lt, nat_le, cond, List, [], ◌∷◌, ◌++◌, length, slice_index, codes, Option, Some, None, Result, Ok, Err, if◌then◌else◌}
+use Rattle.std.specs.BTreeMap.{is_at}
+use Rattle.std.specs.Cmp.Lexicographic.{slice_cmp}
 use Rattle.std.specs.List.{list_any, flat_map}
+use Rattle.std.specs.Ordering.{nat_cmp}
 use Rattle.std.specs.Str.{bytes_eq}
 use Rattle.record_codec.specs.declared.name.TheConstants.{NAME_MAX}
 use Rattle.tree_paths.specs.declared.refusal.Refusal.{Refusal}
@@ -49,3 +52,21 @@ pathname_of (name ∷ names) = flat_map (λ n. slash ∷ n) (name ∷ names)
 -- above is a proper prefix of path
 abbrev pub IsBelow : List (List ℕ) → List (List ℕ) → Type 0
 IsBelow path above = (name : List ℕ) × (rest : List (List ℕ)) × (path ≡ above ++ name ∷ rest)
+
+abbrev pub same_name : List ℕ → List ℕ → Bool
+same_name l = is_at (slice_cmp nat_cmp l)
+
+-- what is left of a path behind a front, if it begins with it
+abbrev pub rest_after : List (List ℕ) → List (List ℕ) → Option (List (List ℕ))
+rest_after [] p = Some p
+rest_after (l ∷ front) [] = None
+rest_after (l ∷ front) (m ∷ p) = cond (same_name l m) (rest_after front p) None
+
+abbrev pub is_some_name : Option (List (List ℕ)) → Bool
+is_some_name None = false
+is_some_name (Some []) = false
+is_some_name (Some (l ∷ p)) = true
+
+-- whether a path is below another one, which is a proper front of it
+unfoldable pub is_below : List (List ℕ) → List (List ℕ) → Bool
+is_below path above = is_some_name (rest_after above path)

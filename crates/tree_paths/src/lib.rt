@@ -8,7 +8,7 @@ mod parse;
 mod path;
 mod refusal;
 
-pub use laws::{parsed_names_are_names, pathnames_are_parsed};
+pub use laws::{is_below_tells_proper_prefixes, parsed_names_are_names, pathnames_are_parsed};
 pub use limits::Limits;
 pub use names::Names;
 pub use path::Path;

@@ -77,7 +77,7 @@ impl PartialOrd for Path {
 }
 
 impl Path {
-    ghost use Rattle.tree_paths.specs.Paths.{parsed, IsBelow};
+    ghost use Rattle.tree_paths.specs.Paths.{is_below, parsed};
     ghost use Rattle.tree_paths.specs.declared.refusal.Refusal.TheVariants.{Enomem};
 
     /// The path of a text. Several slashes together count as one.
@@ -122,7 +122,7 @@ impl Path {
 
     /// Whether the other path is a proper prefix of this one.
     pub fn is_below(&self, other: &Path) -> bool
-        ensures { IsTrue result ↔ IsBelow self.now other.now }
+        ensures { result ≡ is_below self.now other.now }
     {
         other.names().len() < self.names().len() && self.names().starts_with(other.names())
     }

@@ -3,7 +3,7 @@
 ghost use Rattle.std.specs.Prelude.{◌≡◌, ◌≢◌, ℕ, List, [], Option, Some, None, IfOk, IfErr, OnOk, OnErr, true, false, IsSome, IfSome, ◌&&◌, ◌+◌, ◌<◌, ◌≤◌, ◌^◌, ◌++◌, ◌∷◌};
 ghost use Rattle.std.specs.Option.{IsSomeAnd};
 ghost use Rattle.std.specs.FinMap as finmap;
-ghost use Rattle.inode_table.specs.Paths.{is_below};
+ghost use Rattle.tree_paths.specs.Paths.{is_below};
 ghost use Rattle.inode_table.specs.Refusals.{parent_of};
 ghost use Rattle.inode_table.specs.Rows.{Label};
 ghost use Rattle.inode_table.specs.Tree.{at, what_at};
@@ -76,7 +76,7 @@ impl Table {
         requires named { old.now ≢ [] }
         requires other_named { new.now ≢ [] }
         requires other { old.now ≢ new.now }
-        requires below { (is_directory_seen (look (world_of self.old) old.now) && is_below old.now new.now) ≡ false }
+        requires below { (is_directory_seen (look (world_of self.old) old.now) && is_below new.now old.now) ≡ false }
         requires directory { is_directory_seen (look (world_of self.old) (parent_of new.now)) ≡ true }
         requires empty { IfSome (look (world_of self.old) new.now) (λ seen. seen.has_names ≡ false) }
         ensures world { OnOk result (world_of self.new ≡ without_lost (with_move (world_of self.old) old.now new.now) (finmap.get (world_of self.old).paths new.now)) }
@@ -108,8 +108,8 @@ impl Table {
         requires there { IsSome (look (world_of self.old) one.now) }
         requires other_there { IsSome (look (world_of self.old) other.now) }
         requires other { one.now ≢ other.now }
-        requires below { (is_directory_seen (look (world_of self.old) one.now) && is_below one.now other.now) ≡ false }
-        requires above { (is_directory_seen (look (world_of self.old) other.now) && is_below other.now one.now) ≡ false }
+        requires below { (is_directory_seen (look (world_of self.old) one.now) && is_below other.now one.now) ≡ false }
+        requires above { (is_directory_seen (look (world_of self.old) other.now) && is_below one.now other.now) ≡ false }
         ensures world { world_of self.new ≡ with_swap (world_of self.old) one.now other.now }
         ensures room { self.new.room ≡ self.old.room }
     {
@@ -144,7 +144,7 @@ impl Table {
         requires named { old.now ≢ [] }
         requires other_named { new.now ≢ [] }
         requires other { old.now ≢ new.now }
-        requires below { (is_directory_seen (look_in self.old old.now) && is_below old.now new.now) ≡ false }
+        requires below { (is_directory_seen (look_in self.old old.now) && is_below new.now old.now) ≡ false }
         requires directory { is_directory_seen (look_in self.old (parent_of new.now)) ≡ true }
         requires empty { IfSome (look_in self.old new.now) (λ seen. seen.has_names ≡ false) }
         ensures world { OnOk result ((w : World) → Stands self.old w → Stands self.new (with_move w old.now new.now)) }

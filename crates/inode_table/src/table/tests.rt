@@ -2,7 +2,7 @@
 
 ghost use Rattle.std.specs.Prelude.{◌≡◌, ◌≢◌, ◌<◌, ◌+◌, ℕ, [], Some, None, true, false, IsTrue, IfSome, OnOk};
 ghost use Rattle.slab.specs.Slab.{get};
-ghost use Rattle.inode_table.specs.Paths.{is_below};
+ghost use Rattle.tree_paths.specs.Paths.{is_below};
 ghost use Rattle.inode_table.specs.Refusals.{is_directory_seen, parent_of};
 ghost use Rattle.inode_table.specs.TableWorld.{world_of, HasNumbersBelow};
 ghost use Rattle.inode_table.specs.World.{look};
@@ -82,7 +82,7 @@ fn is_free(table: &Table, path: &[Name]) -> bool
 // Whether the path is neither the other one nor below it.
 fn is_outside(path: &Path, other: &Path) -> bool
     ensures other { IsTrue result → other.now ≢ path.now }
-    ensures below { IsTrue result → is_below other.now path.now ≡ false }
+    ensures below { IsTrue result → is_below path.now other.now ≡ false }
 {
     if *other == *path || path.is_below(other) {
         return false;

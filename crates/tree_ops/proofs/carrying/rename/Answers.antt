@@ -1,7 +1,7 @@
 use Rattle.std.proofs.Common.{◌≡◌, ◌≢◌, [], false, ◌&&◌, Option, Some, None, IsSome, IfSome, sym, ap, subst, ◌∙◌}
 use Rattle.std.specs.FinMap as finmap
 use Rattle.inode_table.specs.declared.seen.Seen.{Seen}
-use Rattle.inode_table.specs.Paths.{is_below}
+use Rattle.tree_paths.specs.Paths.{is_below}
 use Rattle.inode_table.specs.Refusals.{is_directory_seen, parent_of}
 use Rattle.inode_table.specs.World.{look, with_move, without_lost}
 use Rattle.inode_table.specs.TableWorld.{world_of}
@@ -28,7 +28,7 @@ pub replace_name-requires-clause-other : goal.replace_name-requires-clause-other
 replace_name-requires-clause-other c e = other-paths (look (world_of c.args.table.now)) c.args.old.now c.args.new.now c.requires.source ((λ i. are_same_seen (sym c.seen.ensures i) (sym c.seen-2.ensures i)) ∙ sym c.are_same-is_same.ensures ∙ c.if-is_same.false) (sym c.names.ensures ∙ e ∙ c.names-2.ensures)
 
 pub replace_name-requires-clause-below : goal.replace_name-requires-clause-below
-replace_name-requires-clause-below c = (λ i. is_directory_seen (look (world_of c.args.table.now) (c.names.ensures i)) && is_below (c.names.ensures i) (c.names-2.ensures i)) ∙ c.requires.below
+replace_name-requires-clause-below c = (λ i. is_directory_seen (look (world_of c.args.table.now) (c.names.ensures i)) && is_below (c.names-2.ensures i) (c.names.ensures i)) ∙ c.requires.below
 
 pub replace_name-requires-clause-directory : goal.replace_name-requires-clause-directory
 replace_name-requires-clause-directory c = ap (λ p. is_directory_seen (look (world_of c.args.table.now) (parent_of p))) c.names-2.ensures ∙ c.requires.directory

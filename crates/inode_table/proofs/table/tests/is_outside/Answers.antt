@@ -1,5 +1,4 @@
 use Rattle.std.proofs.Common.{◌≡◌, true, false, sym, ◌∙◌}
-use Rattle.inode_table.proofs.PathLemmas.{is_below-false}
 use Rattle.inode_table.proofs.table.tests.is_outside.Goals as goal
 
 pub returns-clause-other : goal.returns-clause-other
@@ -8,8 +7,4 @@ returns-clause-other c _ is =
     cc
 
 pub returns-clause-below : goal.returns-clause-below
-returns-clause-below c _ =
-    is_below-false c.args.other.now c.args.path.now
-    (λ l s is.
-    let e : true ≡ false = sym (c.is_below.ensures.1 (l, s, is)) ∙ c.if-is_below.false in
-    cc)
+returns-clause-below c _ = sym c.is_below.ensures ∙ c.if-is_below.false
