@@ -1,9 +1,12 @@
 -- Whether one path is below another one.
-use Rattle.std.proofs.Common.{◌≡◌, ◌∷◌, ◌++◌, [], List, ℕ, Bool, true, false, cond, Option, Some, None, IsTrue, refl, sym, ap, ◌∙◌}
+use Rattle.std.proofs.Common.{◌≡◌, ◌<◌, ◌≤◌, ◌+◌, ◌∷◌, ◌++◌, [], List, ℕ, Bool, true, false, cond, length, Option, Some, None, IsTrue, refl, sym, ap, ◌∙◌, arith}
+use Rattle.std.proofs.lemmas.Bool.{lt-ltb, ltb-true}
+use Rattle.std.proofs.lemmas.List.{length-append}
 use Rattle.std.proofs.lemmas.Map.Lookups.{exact_bytes}
 use Rattle.std.specs.Cmp.{tied_itself, Equal-is}
 use Rattle.std.specs.Cmp.Lexicographic.{slice_cmp, nat_list_cmp_total}
 use Rattle.std.specs.Ordering.{nat_cmp, is_eq}
+use Rattle.std.specs.Prelude.{nat_lt}
 use Rattle.tree_paths.specs.Paths.{IsBelow, is_below, is_some_name, rest_after, same_name}
 
 same_name-true : (m l : List ℕ) → same_name m l ≡ true → l ≡ m
@@ -46,3 +49,13 @@ same-test path above r both = by r (is_below path above) (λ h. below path above
     by true c f g = sym (f refl)
     by false true f g = g refl
     by false false f g = refl
+
+-- a path that is not longer than another one is not below it
+pub short : (path above : List (List ℕ)) → length path ≤ length above → nat_lt (length above) (length path) ≡ is_below path above
+short path above within = same-test path above (nat_lt (length above) (length path)) (λ t. absurd (shorter t), λ b. lt-ltb (length above) (length path) (longer b))
+  where
+    shorter : nat_lt (length above) (length path) ≡ true → ⊥
+    shorter t = let h = ltb-true (length above) (length path) t in omega arith
+
+    longer : IsBelow path above → length above < length path
+    longer b = let n : length path ≡ length above + length (b.0 ∷ b.1) = ap length b.2 ∙ length-append above (b.0 ∷ b.1) in omega arith
