@@ -3,7 +3,6 @@
 ghost use Rattle.std.specs.Prelude.{◌≡◌, ◌∷◌, ◌++◌, [], OnOk};
 
 use record_codec::Name;
-use smallvec::SmallVec;
 use std::alloc::{AllocError, Global};
 use std::marker::Model;
 
@@ -45,22 +44,9 @@ impl Notice {
     }
 }
 
-impl Default for Notice {
-    ghost use Rattle.event_rules.specs.declared.notice.Notice.TheVariants.{Gone};
-
-    ghost is_default = { λ notice. notice ≡ Gone 0 };
-
-    fn default() -> Notice {
-        Notice::Gone { number: 0 }
-    }
-}
-
-/// How many notices a call has at most: a write, a rename that replaces a file, and an exchange.
-const MOST: usize = 6;
-
-/// Notices, of which contracts see the list. Those of a call take no memory beside it.
+/// Notices, of which contracts see the list. Its room stays when it is emptied, so that it is used again.
 pub struct Notices {
-    notices: SmallVec<Notice, MOST>,
+    notices: Vec<Notice>,
 }
 
 impl Drop for Notices {
@@ -80,12 +66,19 @@ impl Model for Notices {
 
 impl Notices {
     /// No notices. It takes no memory.
-    pub(crate) fn new(alloc: Global) -> Notices
+    pub fn new(alloc: Global) -> Notices
         ensures { result ≡ [] }
     {
         Notices {
-            notices: SmallVec::new(alloc),
+            notices: Vec::new(alloc),
         }
+    }
+
+    /// Empties it.
+    pub(crate) fn clear(&mut self)
+        ensures { self.new ≡ [] }
+    {
+        self.notices.clear();
     }
 
     /// Puts one more behind the others.

@@ -1,6 +1,6 @@
 //! What calls on files tell.
 
-ghost use Rattle.std.specs.Prelude.{◌≡◌, ◌++◌, ◌+◌, ◌≤◌, ◌<◌, ◌^◌, ℕ, false, IfOk, IfErr, OnOk};
+ghost use Rattle.std.specs.Prelude.{◌≡◌, ◌++◌, ◌+◌, ◌≤◌, ◌<◌, ◌^◌, [], ℕ, false, IfErr, OnOk};
 ghost use Rattle.inode_table.specs.World.{look};
 ghost use Rattle.inode_table.specs.TableWorld.{world_of};
 ghost use Rattle.tree_ops.specs.After.{answer_of};
@@ -11,7 +11,7 @@ ghost use Rattle.event_rules.specs.Table.{about, answers_byte, chmod_told, creat
 use crate::notice::{NO_COOKIE, Notice, Notices};
 use inode_table::{Kind, Seen, Table};
 use record_codec::bits;
-use std::alloc::{AllocError, Global};
+use std::alloc::AllocError;
 use tree_ops::{FileCall, RENAME_EXCHANGE, Ready};
 use tree_paths::{Path, Refusal};
 
@@ -116,36 +116,36 @@ impl Notices {
 }
 
 #[tactic(auto, unfolding(crate::specs::Table::create_told))]
-fn create(alloc: Global, table: &Table, path: &Path) -> Result<Notices, AllocError>
-    ensures { IfOk result (λ told. told ≡ create_told (look (world_of table.now)) path.now) }
+fn create(told: &mut Notices, table: &Table, path: &Path) -> Result<(), AllocError>
+    requires empty { told.old ≡ [] }
+    ensures { OnOk result (told.new ≡ create_told (look (world_of table.now)) path.now) }
 {
-    let mut told = Notices::new(alloc);
     told.tell_dir(table, path, Kind::Regular, bits::IN_CREATE, NO_COOKIE)?;
     told.tell_dir(table, path, Kind::Regular, bits::IN_OPEN, NO_COOKIE)?;
     told.tell_dir(table, path, Kind::Regular, bits::IN_CLOSE_WRITE, NO_COOKIE)?;
-    Ok(told)
+    Ok(())
 }
 
 #[tactic(auto, unfolding(crate::specs::Table::mkdir_told))]
-fn mkdir(alloc: Global, table: &Table, path: &Path) -> Result<Notices, AllocError>
-    ensures { IfOk result (λ told. told ≡ mkdir_told (look (world_of table.now)) path.now) }
+fn mkdir(told: &mut Notices, table: &Table, path: &Path) -> Result<(), AllocError>
+    requires empty { told.old ≡ [] }
+    ensures { OnOk result (told.new ≡ mkdir_told (look (world_of table.now)) path.now) }
 {
-    let mut told = Notices::new(alloc);
     told.tell_dir(table, path, Kind::Directory, bits::IN_CREATE, NO_COOKIE)?;
-    Ok(told)
+    Ok(())
 }
 
 #[tactic(auto, unfolding(crate::specs::Table::write_told))]
-fn write(alloc: Global, table: &Table, path: &Path, is_given: bool) -> Result<Notices, AllocError>
-    ensures { IfOk result (λ told. told ≡ write_told (look (world_of table.now)) path.now is_given) }
+fn write(told: &mut Notices, table: &Table, path: &Path, is_given: bool) -> Result<(), AllocError>
+    requires empty { told.old ≡ [] }
+    ensures { OnOk result (told.new ≡ write_told (look (world_of table.now)) path.now is_given) }
 {
-    let mut told = Notices::new(alloc);
     told.tell_both(table, path, bits::IN_OPEN)?;
     if is_given {
         told.tell_both(table, path, bits::IN_MODIFY)?;
     }
     told.tell_both(table, path, bits::IN_CLOSE_WRITE)?;
-    Ok(told)
+    Ok(())
 }
 
 // Whether a read answers a byte.
@@ -159,64 +159,64 @@ fn is_answered(table: &Table, path: &Path, offset: u64, count: u32) -> bool
 }
 
 #[tactic(auto, unfolding(crate::specs::Table::read_told))]
-fn read(alloc: Global, table: &Table, path: &Path, is_answered: bool) -> Result<Notices, AllocError>
-    ensures { IfOk result (λ told. told ≡ read_told (look (world_of table.now)) path.now is_answered) }
+fn read(told: &mut Notices, table: &Table, path: &Path, is_answered: bool) -> Result<(), AllocError>
+    requires empty { told.old ≡ [] }
+    ensures { OnOk result (told.new ≡ read_told (look (world_of table.now)) path.now is_answered) }
 {
-    let mut told = Notices::new(alloc);
     told.tell_both(table, path, bits::IN_OPEN)?;
     if is_answered {
         told.tell_both(table, path, bits::IN_ACCESS)?;
     }
     told.tell_both(table, path, bits::IN_CLOSE_NOWRITE)?;
-    Ok(told)
+    Ok(())
 }
 
 #[tactic(auto, unfolding(crate::specs::Table::truncate_told))]
-fn truncate(alloc: Global, table: &Table, path: &Path) -> Result<Notices, AllocError>
-    ensures { IfOk result (λ told. told ≡ truncate_told (look (world_of table.now)) path.now) }
+fn truncate(told: &mut Notices, table: &Table, path: &Path) -> Result<(), AllocError>
+    requires empty { told.old ≡ [] }
+    ensures { OnOk result (told.new ≡ truncate_told (look (world_of table.now)) path.now) }
 {
-    let mut told = Notices::new(alloc);
     told.tell_both(table, path, bits::IN_MODIFY)?;
-    Ok(told)
+    Ok(())
 }
 
 #[tactic(auto, unfolding(crate::specs::Table::chmod_told))]
-fn chmod(alloc: Global, table: &Table, path: &Path) -> Result<Notices, AllocError>
-    ensures { IfOk result (λ told. told ≡ chmod_told (look (world_of table.now)) path.now) }
+fn chmod(told: &mut Notices, table: &Table, path: &Path) -> Result<(), AllocError>
+    requires empty { told.old ≡ [] }
+    ensures { OnOk result (told.new ≡ chmod_told (look (world_of table.now)) path.now) }
 {
-    let mut told = Notices::new(alloc);
     told.tell_both(table, path, bits::IN_ATTRIB)?;
-    Ok(told)
+    Ok(())
 }
 
 #[tactic(auto, unfolding(crate::specs::Table::link_told))]
-fn link(alloc: Global, table: &Table, old: &Path, new: &Path) -> Result<Notices, AllocError>
-    ensures { IfOk result (λ told. told ≡ link_told (look (world_of table.now)) old.now new.now) }
+fn link(told: &mut Notices, table: &Table, old: &Path, new: &Path) -> Result<(), AllocError>
+    requires empty { told.old ≡ [] }
+    ensures { OnOk result (told.new ≡ link_told (look (world_of table.now)) old.now new.now) }
 {
-    let mut told = Notices::new(alloc);
     told.tell_self(seen(table, old), bits::IN_ATTRIB)?;
     told.tell_dir(table, new, Kind::Regular, bits::IN_CREATE, NO_COOKIE)?;
-    Ok(told)
+    Ok(())
 }
 
 #[tactic(auto, unfolding(crate::specs::Table::unlink_told))]
-fn unlink(alloc: Global, table: &Table, path: &Path) -> Result<Notices, AllocError>
-    ensures { IfOk result (λ told. told ≡ unlink_told (look (world_of table.now)) path.now) }
+fn unlink(told: &mut Notices, table: &Table, path: &Path) -> Result<(), AllocError>
+    requires empty { told.old ≡ [] }
+    ensures { OnOk result (told.new ≡ unlink_told (look (world_of table.now)) path.now) }
 {
-    let mut told = Notices::new(alloc);
     told.tell_path_lost(seen(table, path))?;
     told.tell_dir(table, path, Kind::Regular, bits::IN_DELETE, NO_COOKIE)?;
-    Ok(told)
+    Ok(())
 }
 
 #[tactic(auto, unfolding(crate::specs::Table::rmdir_told))]
-fn rmdir(alloc: Global, table: &Table, path: &Path) -> Result<Notices, AllocError>
-    ensures { IfOk result (λ told. told ≡ rmdir_told (look (world_of table.now)) path.now) }
+fn rmdir(told: &mut Notices, table: &Table, path: &Path) -> Result<(), AllocError>
+    requires empty { told.old ≡ [] }
+    ensures { OnOk result (told.new ≡ rmdir_told (look (world_of table.now)) path.now) }
 {
-    let mut told = Notices::new(alloc);
     told.tell_path_lost(seen(table, path))?;
     told.tell_dir(table, path, Kind::Directory, bits::IN_DELETE, NO_COOKIE)?;
-    Ok(told)
+    Ok(())
 }
 
 // Whether the same file stands at both paths.
@@ -231,45 +231,45 @@ fn are_same(old: Option<Seen>, new: Option<Seen>) -> bool
 
 #[tactic(auto, unfolding(crate::specs::Table::rename_told, crate::specs::Table::move_told))]
 fn rename(
-    alloc: Global,
+    told: &mut Notices,
     table: &Table,
     old: &Path,
     new: &Path,
     cookie: u32,
-) -> Result<Notices, AllocError>
-    ensures { IfOk result (λ told. told ≡ rename_told (look (world_of table.now)) old.now new.now cookie) }
+) -> Result<(), AllocError>
+    requires empty { told.old ≡ [] }
+    ensures { OnOk result (told.new ≡ rename_told (look (world_of table.now)) old.now new.now cookie) }
 {
-    let mut told = Notices::new(alloc);
     let moved = seen(table, old);
     let replaced = seen(table, new);
     if are_same(moved, replaced) {
-        return Ok(told);
+        return Ok(());
     }
     let kind = kind_seen(moved);
     told.tell_dir(table, old, kind, bits::IN_MOVED_FROM, cookie)?;
     told.tell_dir(table, new, kind, bits::IN_MOVED_TO, cookie)?;
     told.tell_path_lost(replaced)?;
     told.tell_self(moved, bits::IN_MOVE_SELF)?;
-    Ok(told)
+    Ok(())
 }
 
 // The next cookie is there too, where the paths are of two files.
 #[tactic(auto, unfolding(crate::specs::Table::exchange_told, crate::specs::Table::swap_told))]
 fn exchange(
-    alloc: Global,
+    told: &mut Notices,
     table: &Table,
     old: &Path,
     new: &Path,
     cookie: u32,
-) -> Result<Notices, AllocError>
+) -> Result<(), AllocError>
+    requires empty { told.old ≡ [] }
     requires next { are_same_seen (look (world_of table.now) old.now) (look (world_of table.now) new.now) ≡ false → cookie + 1 < 2 ^ 32 }
-    ensures { IfOk result (λ told. told ≡ exchange_told (look (world_of table.now)) old.now new.now cookie) }
+    ensures { OnOk result (told.new ≡ exchange_told (look (world_of table.now)) old.now new.now cookie) }
 {
-    let mut told = Notices::new(alloc);
     let one = seen(table, old);
     let other = seen(table, new);
     if are_same(one, other) {
-        return Ok(told);
+        return Ok(());
     }
     let next = cookie + 1;
     let one_kind = kind_seen(one);
@@ -280,56 +280,59 @@ fn exchange(
     told.tell_dir(table, new, other_kind, bits::IN_MOVED_FROM, next)?;
     told.tell_dir(table, old, other_kind, bits::IN_MOVED_TO, next)?;
     told.tell_self(other, bits::IN_MOVE_SELF)?;
-    Ok(told)
+    Ok(())
 }
 
 // What a call tells.
-fn told(alloc: Global, table: &Table, call: &FileCall, cookie: u32) -> Result<Notices, AllocError>
+fn tell_call(
+    told: &mut Notices,
+    table: &Table,
+    call: &FileCall,
+    cookie: u32,
+) -> Result<(), AllocError>
+    requires empty { told.old ≡ [] }
     requires cookies { cookie + cookies_of (world_of table.now) call.now ≤ 2 ^ 32 }
-    ensures { IfOk result (λ told. told ≡ notices_of (world_of table.now) call.now cookie) }
+    ensures { OnOk result (told.new ≡ notices_of (world_of table.now) call.now cookie) }
 {
     match call {
-        FileCall::Create { path, .. } => create(alloc, table, path),
-        FileCall::Mkdir { path, .. } => mkdir(alloc, table, path),
+        FileCall::Create { path, .. } => create(told, table, path),
+        FileCall::Mkdir { path, .. } => mkdir(told, table, path),
         FileCall::Write { path, bytes, .. } => {
-            write(alloc, table, path, !bytes.as_slice().is_empty())
+            write(told, table, path, !bytes.as_slice().is_empty())
         }
         FileCall::ReadFile {
             path,
             offset,
             count,
-        } => read(
-            alloc,
-            table,
-            path,
-            is_answered(table, path, *offset, *count),
-        ),
-        FileCall::Truncate { path, .. } => truncate(alloc, table, path),
-        FileCall::Chmod { path, .. } => chmod(alloc, table, path),
-        FileCall::Link { old, new } => link(alloc, table, old, new),
-        FileCall::Unlink { path } => unlink(alloc, table, path),
-        FileCall::Rmdir { path } => rmdir(alloc, table, path),
-        FileCall::Rename { old, new } => rename(alloc, table, old, new, cookie),
+        } => read(told, table, path, is_answered(table, path, *offset, *count)),
+        FileCall::Truncate { path, .. } => truncate(told, table, path),
+        FileCall::Chmod { path, .. } => chmod(told, table, path),
+        FileCall::Link { old, new } => link(told, table, old, new),
+        FileCall::Unlink { path } => unlink(told, table, path),
+        FileCall::Rmdir { path } => rmdir(told, table, path),
+        FileCall::Rename { old, new } => rename(told, table, old, new, cookie),
         FileCall::Rename2 { old, new, flags } => {
             if *flags == RENAME_EXCHANGE {
-                exchange(alloc, table, old, new, cookie)
+                exchange(told, table, old, new, cookie)
             } else {
-                rename(alloc, table, old, new, cookie)
+                rename(told, table, old, new, cookie)
             }
         }
-        FileCall::Stat { .. } | FileCall::List { .. } => Ok(Notices::new(alloc)),
+        FileCall::Stat { .. } | FileCall::List { .. } => Ok(()),
     }
 }
 
-/// What an accepted call tells, in the table before it. `cookie` is that of a rename that moves something, and the first of an
-/// exchange. A record has room for each cookie that the call uses.
+/// What an accepted call tells, in the table before it, in place of what `told` held. `cookie` is that of a rename that moves
+/// something, and the first of an exchange. A record has room for each cookie that the call uses.
 ///
 /// # Errors
 /// `ENOMEM` alone.
-pub fn notices(alloc: Global, table: &Table, ready: &Ready, cookie: u32) -> Result<Notices, Refusal>
+pub fn notices(table: &Table, ready: &Ready, cookie: u32, told: &mut Notices) -> Result<(), Refusal>
     requires cookies { cookie + cookies_of (world_of table.now) ready.now.call ≤ 2 ^ 32 }
-    ensures told { IfOk result (λ notices. notices ≡ notices_of (world_of table.now) ready.now.call cookie) }
+    ensures told { OnOk result (told.new ≡ notices_of (world_of table.now) ready.now.call cookie) }
     ensures memory { IfErr result (λ refusal. refusal ≡ Refusal.Enomem) }
 {
-    Ok(told(alloc, table, ready.call(), cookie)?)
+    told.clear();
+    tell_call(told, table, ready.call(), cookie)?;
+    Ok(())
 }

@@ -93,11 +93,12 @@ impl Calls {
         let Some(next_cookie) = self.counts.next_cookie.checked_add(ready.cookies()) else {
             return Err(Refusal::CookiesSpent);
         };
-        let notices = notices(self.alloc, &self.table, &ready, self.counts.next_cookie)?;
+        let mut told = Notices::new(self.alloc);
+        notices(&self.table, &ready, self.counts.next_cookie, &mut told)?;
         carry_out(self.alloc, &mut self.table, ready)?;
         self.counts.next_number = next_number;
         self.counts.next_cookie = next_cookie;
-        Ok(notices)
+        Ok(told)
     }
 
     fn path(&self, text: &str) -> Result<Path, Refusal> {

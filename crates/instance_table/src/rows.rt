@@ -24,7 +24,11 @@ pub struct InstanceRow {
 }
 
 // The row of an instance.
-pub(crate) fn instance_row(alloc: Global, id: u32, instance: &Instance) -> Result<InstanceRow, Refusal>
+pub(crate) fn instance_row(
+    alloc: Global,
+    id: u32,
+    instance: &Instance,
+) -> Result<InstanceRow, Refusal>
     ensures ok { IfOk result (λ row. row ≡ instance_row (id, instance.now)) }
     ensures err { IfErr result (λ refusal. refusal ≡ Refusal.Enomem) }
 {

@@ -17,7 +17,7 @@ use crate::call::Call;
 use crate::reply::Reply;
 use crate::snapshot::Snapshot;
 use event_queue::Queue;
-use event_rules::notices;
+use event_rules::{Notices, notices};
 use inode_table::{Kind, Table};
 use instance_table::{Instance, Instances, Staging};
 use record_codec::{Bytes, Events, append};
@@ -38,6 +38,7 @@ pub struct FileSystem {
     pub(crate) next_cookie: u64,
     pub(crate) next_id: u32,
     pub(crate) instances: Instances,
+    pub(crate) notices: Notices,
     pub(crate) staging: Staging,
 }
 
@@ -51,6 +52,7 @@ impl Drop for FileSystem {
             next_cookie: _,
             next_id: _,
             instances: _,
+            notices: _,
             staging: _,
         } = self;
     }
@@ -118,6 +120,7 @@ impl FileSystem {
             next_cookie: 1,
             next_id: 1,
             instances: Instances::new(alloc),
+            notices: Notices::new(alloc),
             staging: Staging::new(alloc),
         })
     }
@@ -178,8 +181,8 @@ impl FileSystem {
             Ok(ready) => ready,
             Err(refusal) => return Ok(Replies::refused(refusal, keeps)),
         };
-        let notices = notices(self.alloc, &self.table, &ready, counts.next_cookie)?;
-        let told = notices.as_slice();
+        notices(&self.table, &ready, counts.next_cookie, &mut self.notices)?;
+        let told = self.notices.as_slice();
         self.instances.stage(told, &mut self.staging)?;
         let numbers = ready.numbers();
         let cookies = ready.cookies();

@@ -7,7 +7,7 @@ ghost use Rattle.watchtree_c.specs.Stats.{Tells, stat_of};
 ghost use Rattle.watchtree_c.specs.Calls.{asked_bytes, mkdir_call, create_call, rename_call, rename2_call, truncate_call, chmod_call, unlink_call, rmdir_call, link_call, write_call, read_call, stat_call, list_call};
 ghost use Rattle.watchtree_c.specs.Listings.{Lists, ended};
 
-use crate::answers::{count_number, fill, reply_number, put};
+use crate::answers::{count_number, fill, put, reply_number};
 use crate::tree::Tree;
 use inode_table::Kind;
 use record_codec::{Bytes, Name};

@@ -5,7 +5,7 @@ ghost use Rattle.tree_core.specs.declared.call.Call.TheVariants as call;
 ghost use Rattle.watchtree_c.specs.Answers.{Answers, AnswersBytes, IsMade, IsReply, waiting_number};
 ghost use Rattle.watchtree_c.specs.Calls.{add_watch_call, asked_bytes};
 
-use crate::answers::{count_number, fill, reply_number, refused_number};
+use crate::answers::{count_number, fill, refused_number, reply_number};
 use crate::tree::Tree;
 use std::alloc::Global;
 use tree_core::Call;

@@ -78,7 +78,9 @@ fn noticed(calls: &Calls, call: &FileCall) -> Result<Notices, Refusal> {
     if next_cookie.checked_add(ready.cookies()).is_none() {
         return Err(Refusal::CookiesSpent);
     }
-    notices(calls.alloc, &calls.table, &ready, next_cookie)
+    let mut told = Notices::new(calls.alloc);
+    notices(&calls.table, &ready, next_cookie, &mut told)?;
+    Ok(told)
 }
 
 // How many growths the notices of a call have, each refused. None where one was not.
