@@ -4,10 +4,12 @@
 //! overflow mark in it says so, once until that mark is read. Nothing else is ever dropped.
 #![tactic(auto)]
 
+mod fit;
 mod laws;
 mod offered;
 mod queue;
 
+pub use fit::Fit;
 pub use laws::{bounds_are_kept, fitting_is_greatest, follows_its_history, nothing_is_lost_unsaid};
 pub use offered::Offered;
 pub use queue::Queue;

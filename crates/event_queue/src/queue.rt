@@ -1,10 +1,12 @@
 //! A bounded queue of events.
-ghost use Rattle.std.specs.Prelude.{◌≡◌, ◌≤◌, ◌+◌, ◌==◌, [], ◌∷◌, ◌++◌, false, true, IfOk, IfErr, length, slice_get, option_copied};
+ghost use Rattle.std.specs.Prelude.{◌≡◌, ◌≤◌, ◌+◌, ◌==◌, [], ◌∷◌, ◌++◌, false, true, IfOk, IfErr, nat_lt, length, take, slice_get, option_copied};
 ghost use Rattle.event_queue.specs.Backlogs.{IsLimit, overflow_mark, is_mark, has_mark, is_repeated, offered, after_offer, after_take};
 ghost use Rattle.record_codec.specs.Equality.{event_eq};
+ghost use Rattle.record_codec.specs.Records.{spelling};
 ghost use Rattle.event_queue.specs.Reads.{fitting, IsGreatestFit};
 ghost use Rattle.tree_paths.specs.declared.refusal.Refusal.TheVariants.{Enomem};
 
+use crate::fit::Fit;
 use crate::offered::Offered;
 use circular_buffer::HeapCircularBuffer;
 use record_codec::{Event, bits, record_len};
@@ -89,24 +91,36 @@ impl Queue {
         Offered::Marked
     }
 
-    /// How many of the oldest records fit whole into `bytes` bytes, as read(2) gives them: as many as possible.
-    /// 0 where none waits, or where the oldest does not fit.
+    /// How many of the oldest records fit whole into `bytes` bytes, as read(2) gives them, as many as possible, and how
+    /// many bytes these take. 0 where none waits, or where the oldest does not fit.
     ///
     /// It looks at those records and the next one alone.
     #[tactic(auto, using(crate::proofs::ReadLemmas::fitting_is_greatest))]
-    pub fn fit(&self, bytes: usize) -> usize
-        ensures value { result ≡ fitting bytes self.now.waiting }
-        ensures greatest { IsGreatestFit bytes self.now.waiting result }
+    pub fn fit(&self, bytes: usize) -> Fit
+        ensures count { result.count ≡ fitting bytes self.now.waiting }
+        ensures len { result.len ≡ length (spelling (take result.count self.now.waiting)) }
+        ensures greatest { IsGreatestFit bytes self.now.waiting result.count }
     {
-        let mut left = bytes;
-        for (count, event) in self.records.iter().enumerate() {
+        let mut fit = Fit { count: 0, len: 0 };
+        for event in self.records.iter() {
             let len = record_len(event);
-            if left < len {
-                return count;
+            if bytes - fit.len < len {
+                return fit;
             }
-            left -= len;
+            fit.count += 1;
+            fit.len += len;
         }
-        self.len()
+        fit
+    }
+
+    /// Whether any record fits whole into `bytes` bytes, which the oldest decides.
+    pub fn any_fits(&self, bytes: usize) -> bool
+        ensures { result ≡ nat_lt 0 (fitting bytes self.now.waiting) }
+    {
+        let Some(oldest) = self.records.front() else {
+            return false;
+        };
+        record_len(oldest) <= bytes
     }
 
     /// The record that is read after `index` others.

@@ -2,25 +2,20 @@
 
 ghost use Rattle.std.specs.Prelude.{◌≡◌, ◌++◌, ◌+◌, ◌≤◌, ◌<◌, ◌^◌, [], ℕ, false, IfErr, OnOk};
 ghost use Rattle.inode_table.specs.World.{look};
+ghost use Rattle.inode_table.specs.Resolution.{IsResolved};
 ghost use Rattle.inode_table.specs.TableWorld.{world_of};
 ghost use Rattle.tree_ops.specs.After.{answer_of};
+ghost use Rattle.tree_ops.specs.ReadyCall.{IsReady};
 ghost use Rattle.tree_ops.specs.Refused.{are_same_seen, cookies_of};
 ghost use Rattle.tree_ops.specs.declared.call.FileCall.TheVariants.{ReadFile};
 ghost use Rattle.event_rules.specs.Table.{about, answers_byte, chmod_told, create_told, exchange_told, kind_seen, link_told, mkdir_told, move_told, no_counts, notices_of, path_lost, read_told, rename_told, rmdir_told, swap_told, to_both, to_dir, to_self, truncate_told, unlink_told, write_told};
 
 use crate::notice::{NO_COOKIE, Notice, Notices};
-use inode_table::{Kind, Seen, Table};
+use inode_table::{Kind, Resolved, Seen, Table};
 use record_codec::bits;
 use std::alloc::AllocError;
-use tree_ops::{FileCall, RENAME_EXCHANGE, Ready};
-use tree_paths::{Path, Refusal};
-
-// What stands at a path.
-fn seen(table: &Table, path: &Path) -> Option<Seen>
-    ensures { result ≡ look (world_of table.now) path.now }
-{
-    table.look(path.names()).ok()
-}
+use tree_ops::{FileCall, RENAME_EXCHANGE, Ready, are_same};
+use tree_paths::Refusal;
 
 fn kind_seen(seen: Option<Seen>) -> Kind
     ensures { result ≡ kind_seen seen }
@@ -47,17 +42,18 @@ impl Notices {
     fn tell_dir(
         &mut self,
         table: &Table,
-        path: &Path,
+        path: &Resolved,
         kind: Kind,
         event: u32,
         cookie: u32,
     ) -> Result<(), AllocError>
-        ensures { OnOk result (self.new ≡ self.old ++ to_dir (look (world_of table.now)) path.now kind event cookie) }
+        requires resolved { IsResolved table.now path.now }
+        ensures { OnOk result (self.new ≡ self.old ++ to_dir (look (world_of table.now)) path.now.names kind event cookie) }
     {
-        let Some((parent, name)) = path.parent_and_name() else {
+        let Some((_, name)) = path.as_path().parent_and_name() else {
             return Ok(());
         };
-        let Ok(directory) = table.look(parent) else {
+        let Ok(directory) = table.look_parent(path) else {
             return Ok(());
         };
         self.push(Notice::Told {
@@ -85,10 +81,11 @@ impl Notices {
 
     // Tells both.
     #[tactic(auto, unfolding(crate::specs::Table::to_both))]
-    fn tell_both(&mut self, table: &Table, path: &Path, event: u32) -> Result<(), AllocError>
-        ensures { OnOk result (self.new ≡ self.old ++ to_both (look (world_of table.now)) path.now event) }
+    fn tell_both(&mut self, table: &Table, path: &Resolved, event: u32) -> Result<(), AllocError>
+        requires resolved { IsResolved table.now path.now }
+        ensures { OnOk result (self.new ≡ self.old ++ to_both (look (world_of table.now)) path.now.names event) }
     {
-        let seen = seen(table, path);
+        let seen = table.seen(path);
         let kind = kind_seen(seen);
         self.tell_dir(table, path, kind, event, NO_COOKIE)?;
         self.tell_self(seen, about(kind, event))
@@ -116,9 +113,10 @@ impl Notices {
 }
 
 #[tactic(auto, unfolding(crate::specs::Table::create_told))]
-fn create(told: &mut Notices, table: &Table, path: &Path) -> Result<(), AllocError>
+fn create(told: &mut Notices, table: &Table, path: &Resolved) -> Result<(), AllocError>
+    requires resolved { IsResolved table.now path.now }
     requires empty { told.old ≡ [] }
-    ensures { OnOk result (told.new ≡ create_told (look (world_of table.now)) path.now) }
+    ensures { OnOk result (told.new ≡ create_told (look (world_of table.now)) path.now.names) }
 {
     told.tell_dir(table, path, Kind::Regular, bits::IN_CREATE, NO_COOKIE)?;
     told.tell_dir(table, path, Kind::Regular, bits::IN_OPEN, NO_COOKIE)?;
@@ -127,18 +125,25 @@ fn create(told: &mut Notices, table: &Table, path: &Path) -> Result<(), AllocErr
 }
 
 #[tactic(auto, unfolding(crate::specs::Table::mkdir_told))]
-fn mkdir(told: &mut Notices, table: &Table, path: &Path) -> Result<(), AllocError>
+fn mkdir(told: &mut Notices, table: &Table, path: &Resolved) -> Result<(), AllocError>
+    requires resolved { IsResolved table.now path.now }
     requires empty { told.old ≡ [] }
-    ensures { OnOk result (told.new ≡ mkdir_told (look (world_of table.now)) path.now) }
+    ensures { OnOk result (told.new ≡ mkdir_told (look (world_of table.now)) path.now.names) }
 {
     told.tell_dir(table, path, Kind::Directory, bits::IN_CREATE, NO_COOKIE)?;
     Ok(())
 }
 
 #[tactic(auto, unfolding(crate::specs::Table::write_told))]
-fn write(told: &mut Notices, table: &Table, path: &Path, is_given: bool) -> Result<(), AllocError>
+fn write(
+    told: &mut Notices,
+    table: &Table,
+    path: &Resolved,
+    is_given: bool,
+) -> Result<(), AllocError>
+    requires resolved { IsResolved table.now path.now }
     requires empty { told.old ≡ [] }
-    ensures { OnOk result (told.new ≡ write_told (look (world_of table.now)) path.now is_given) }
+    ensures { OnOk result (told.new ≡ write_told (look (world_of table.now)) path.now.names is_given) }
 {
     told.tell_both(table, path, bits::IN_OPEN)?;
     if is_given {
@@ -149,19 +154,26 @@ fn write(told: &mut Notices, table: &Table, path: &Path, is_given: bool) -> Resu
 }
 
 // Whether a read answers a byte.
-fn is_answered(table: &Table, path: &Path, offset: u64, count: u32) -> bool
-    ensures { result ≡ answers_byte (answer_of (world_of table.now) no_counts (ReadFile path.now offset count)) }
+fn is_answered(table: &Table, path: &Resolved, offset: u64, count: u32) -> bool
+    requires resolved { IsResolved table.now path.now }
+    ensures { result ≡ answers_byte (answer_of (world_of table.now) no_counts (ReadFile path.now.names offset count)) }
 {
-    match table.resolve(path.names()) {
-        Ok(key) => count > 0 && offset < table.content(key).len() as u64,
-        Err(_) => false,
+    match table.seen(path) {
+        Some(_) => count > 0 && offset < table.content(table.key(path)).len() as u64,
+        None => false,
     }
 }
 
 #[tactic(auto, unfolding(crate::specs::Table::read_told))]
-fn read(told: &mut Notices, table: &Table, path: &Path, is_answered: bool) -> Result<(), AllocError>
+fn read(
+    told: &mut Notices,
+    table: &Table,
+    path: &Resolved,
+    is_answered: bool,
+) -> Result<(), AllocError>
+    requires resolved { IsResolved table.now path.now }
     requires empty { told.old ≡ [] }
-    ensures { OnOk result (told.new ≡ read_told (look (world_of table.now)) path.now is_answered) }
+    ensures { OnOk result (told.new ≡ read_told (look (world_of table.now)) path.now.names is_answered) }
 {
     told.tell_both(table, path, bits::IN_OPEN)?;
     if is_answered {
@@ -172,76 +184,74 @@ fn read(told: &mut Notices, table: &Table, path: &Path, is_answered: bool) -> Re
 }
 
 #[tactic(auto, unfolding(crate::specs::Table::truncate_told))]
-fn truncate(told: &mut Notices, table: &Table, path: &Path) -> Result<(), AllocError>
+fn truncate(told: &mut Notices, table: &Table, path: &Resolved) -> Result<(), AllocError>
+    requires resolved { IsResolved table.now path.now }
     requires empty { told.old ≡ [] }
-    ensures { OnOk result (told.new ≡ truncate_told (look (world_of table.now)) path.now) }
+    ensures { OnOk result (told.new ≡ truncate_told (look (world_of table.now)) path.now.names) }
 {
     told.tell_both(table, path, bits::IN_MODIFY)?;
     Ok(())
 }
 
 #[tactic(auto, unfolding(crate::specs::Table::chmod_told))]
-fn chmod(told: &mut Notices, table: &Table, path: &Path) -> Result<(), AllocError>
+fn chmod(told: &mut Notices, table: &Table, path: &Resolved) -> Result<(), AllocError>
+    requires resolved { IsResolved table.now path.now }
     requires empty { told.old ≡ [] }
-    ensures { OnOk result (told.new ≡ chmod_told (look (world_of table.now)) path.now) }
+    ensures { OnOk result (told.new ≡ chmod_told (look (world_of table.now)) path.now.names) }
 {
     told.tell_both(table, path, bits::IN_ATTRIB)?;
     Ok(())
 }
 
 #[tactic(auto, unfolding(crate::specs::Table::link_told))]
-fn link(told: &mut Notices, table: &Table, old: &Path, new: &Path) -> Result<(), AllocError>
+fn link(told: &mut Notices, table: &Table, old: &Resolved, new: &Resolved) -> Result<(), AllocError>
+    requires resolved { IsResolved table.now old.now }
+    requires other_resolved { IsResolved table.now new.now }
     requires empty { told.old ≡ [] }
-    ensures { OnOk result (told.new ≡ link_told (look (world_of table.now)) old.now new.now) }
+    ensures { OnOk result (told.new ≡ link_told (look (world_of table.now)) old.now.names new.now.names) }
 {
-    told.tell_self(seen(table, old), bits::IN_ATTRIB)?;
+    told.tell_self(table.seen(old), bits::IN_ATTRIB)?;
     told.tell_dir(table, new, Kind::Regular, bits::IN_CREATE, NO_COOKIE)?;
     Ok(())
 }
 
 #[tactic(auto, unfolding(crate::specs::Table::unlink_told))]
-fn unlink(told: &mut Notices, table: &Table, path: &Path) -> Result<(), AllocError>
+fn unlink(told: &mut Notices, table: &Table, path: &Resolved) -> Result<(), AllocError>
+    requires resolved { IsResolved table.now path.now }
     requires empty { told.old ≡ [] }
-    ensures { OnOk result (told.new ≡ unlink_told (look (world_of table.now)) path.now) }
+    ensures { OnOk result (told.new ≡ unlink_told (look (world_of table.now)) path.now.names) }
 {
-    told.tell_path_lost(seen(table, path))?;
+    told.tell_path_lost(table.seen(path))?;
     told.tell_dir(table, path, Kind::Regular, bits::IN_DELETE, NO_COOKIE)?;
     Ok(())
 }
 
 #[tactic(auto, unfolding(crate::specs::Table::rmdir_told))]
-fn rmdir(told: &mut Notices, table: &Table, path: &Path) -> Result<(), AllocError>
+fn rmdir(told: &mut Notices, table: &Table, path: &Resolved) -> Result<(), AllocError>
+    requires resolved { IsResolved table.now path.now }
     requires empty { told.old ≡ [] }
-    ensures { OnOk result (told.new ≡ rmdir_told (look (world_of table.now)) path.now) }
+    ensures { OnOk result (told.new ≡ rmdir_told (look (world_of table.now)) path.now.names) }
 {
-    told.tell_path_lost(seen(table, path))?;
+    told.tell_path_lost(table.seen(path))?;
     told.tell_dir(table, path, Kind::Directory, bits::IN_DELETE, NO_COOKIE)?;
     Ok(())
-}
-
-// Whether the same file stands at both paths.
-fn are_same(old: Option<Seen>, new: Option<Seen>) -> bool
-    ensures { result ≡ are_same_seen old new }
-{
-    match (old, new) {
-        (Some(old), Some(new)) => old.number == new.number,
-        _ => false,
-    }
 }
 
 #[tactic(auto, unfolding(crate::specs::Table::rename_told, crate::specs::Table::move_told))]
 fn rename(
     told: &mut Notices,
     table: &Table,
-    old: &Path,
-    new: &Path,
+    old: &Resolved,
+    new: &Resolved,
     cookie: u32,
 ) -> Result<(), AllocError>
+    requires resolved { IsResolved table.now old.now }
+    requires other_resolved { IsResolved table.now new.now }
     requires empty { told.old ≡ [] }
-    ensures { OnOk result (told.new ≡ rename_told (look (world_of table.now)) old.now new.now cookie) }
+    ensures { OnOk result (told.new ≡ rename_told (look (world_of table.now)) old.now.names new.now.names cookie) }
 {
-    let moved = seen(table, old);
-    let replaced = seen(table, new);
+    let moved = table.seen(old);
+    let replaced = table.seen(new);
     if are_same(moved, replaced) {
         return Ok(());
     }
@@ -258,16 +268,18 @@ fn rename(
 fn exchange(
     told: &mut Notices,
     table: &Table,
-    old: &Path,
-    new: &Path,
+    old: &Resolved,
+    new: &Resolved,
     cookie: u32,
 ) -> Result<(), AllocError>
+    requires resolved { IsResolved table.now old.now }
+    requires other_resolved { IsResolved table.now new.now }
     requires empty { told.old ≡ [] }
-    requires next { are_same_seen (look (world_of table.now) old.now) (look (world_of table.now) new.now) ≡ false → cookie + 1 < 2 ^ 32 }
-    ensures { OnOk result (told.new ≡ exchange_told (look (world_of table.now)) old.now new.now cookie) }
+    requires next { are_same_seen (look (world_of table.now) old.now.names) (look (world_of table.now) new.now.names) ≡ false → cookie + 1 < 2 ^ 32 }
+    ensures { OnOk result (told.new ≡ exchange_told (look (world_of table.now)) old.now.names new.now.names cookie) }
 {
-    let one = seen(table, old);
-    let other = seen(table, new);
+    let one = table.seen(old);
+    let other = table.seen(new);
     if are_same(one, other) {
         return Ok(());
     }
@@ -287,52 +299,52 @@ fn exchange(
 fn tell_call(
     told: &mut Notices,
     table: &Table,
-    call: &FileCall,
+    ready: &Ready,
     cookie: u32,
 ) -> Result<(), AllocError>
     requires empty { told.old ≡ [] }
-    requires cookies { cookie + cookies_of (world_of table.now) call.now ≤ 2 ^ 32 }
-    ensures { OnOk result (told.new ≡ notices_of (world_of table.now) call.now cookie) }
+    requires ready { IsReady table.now ready.now }
+    requires cookies { cookie + cookies_of (world_of table.now) ready.now.call ≤ 2 ^ 32 }
+    ensures { OnOk result (told.new ≡ notices_of (world_of table.now) ready.now.call cookie) }
 {
-    match call {
-        FileCall::Create { path, .. } => create(told, table, path),
-        FileCall::Mkdir { path, .. } => mkdir(told, table, path),
-        FileCall::Write { path, bytes, .. } => {
-            write(told, table, path, !bytes.as_slice().is_empty())
+    let path = ready.path();
+    let other_path = ready.other_path();
+    match ready.call() {
+        FileCall::Create { .. } => create(told, table, path),
+        FileCall::Mkdir { .. } => mkdir(told, table, path),
+        FileCall::Write { bytes, .. } => write(told, table, path, !bytes.as_slice().is_empty()),
+        FileCall::ReadFile { offset, count, .. } => {
+            read(told, table, path, is_answered(table, path, *offset, *count))
         }
-        FileCall::ReadFile {
-            path,
-            offset,
-            count,
-        } => read(told, table, path, is_answered(table, path, *offset, *count)),
-        FileCall::Truncate { path, .. } => truncate(told, table, path),
-        FileCall::Chmod { path, .. } => chmod(told, table, path),
-        FileCall::Link { old, new } => link(told, table, old, new),
-        FileCall::Unlink { path } => unlink(told, table, path),
-        FileCall::Rmdir { path } => rmdir(told, table, path),
-        FileCall::Rename { old, new } => rename(told, table, old, new, cookie),
-        FileCall::Rename2 { old, new, flags } => {
+        FileCall::Truncate { .. } => truncate(told, table, path),
+        FileCall::Chmod { .. } => chmod(told, table, path),
+        FileCall::Link { .. } => link(told, table, path, other_path),
+        FileCall::Unlink { .. } => unlink(told, table, path),
+        FileCall::Rmdir { .. } => rmdir(told, table, path),
+        FileCall::Rename { .. } => rename(told, table, path, other_path, cookie),
+        FileCall::Rename2 { flags, .. } => {
             if *flags == RENAME_EXCHANGE {
-                exchange(told, table, old, new, cookie)
+                exchange(told, table, path, other_path, cookie)
             } else {
-                rename(told, table, old, new, cookie)
+                rename(told, table, path, other_path, cookie)
             }
         }
         FileCall::Stat { .. } | FileCall::List { .. } => Ok(()),
     }
 }
 
-/// What an accepted call tells, in the table before it, in place of what `told` held. `cookie` is that of a rename that moves
-/// something, and the first of an exchange. A record has room for each cookie that the call uses.
+/// What an accepted call tells, in the table that it was checked on, in place of what `told` held. `cookie` is that of a rename that
+/// moves something, and the first of an exchange. A record has room for each cookie that the call uses.
 ///
 /// # Errors
 /// `ENOMEM` alone.
 pub fn notices(table: &Table, ready: &Ready, cookie: u32, told: &mut Notices) -> Result<(), Refusal>
+    requires ready { IsReady table.now ready.now }
     requires cookies { cookie + cookies_of (world_of table.now) ready.now.call ≤ 2 ^ 32 }
     ensures told { OnOk result (told.new ≡ notices_of (world_of table.now) ready.now.call cookie) }
     ensures memory { IfErr result (λ refusal. refusal ≡ Refusal.Enomem) }
 {
     told.clear();
-    tell_call(told, table, ready.call(), cookie)?;
+    tell_call(told, table, ready, cookie)?;
     Ok(())
 }

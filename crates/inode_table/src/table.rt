@@ -20,6 +20,7 @@ mod files;
 mod flat;
 mod keyed;
 mod reading;
+mod resolving;
 mod writing;
 
 const ROOT: usize = 0;
@@ -30,8 +31,8 @@ const ROOT_MODE: u32 = 0o755;
 
 /// A tree of directories and files, which contracts see as the map from paths to what stands there.
 ///
-/// A changing call names files by whole paths. One that grows the table makes its growths before its first change, so that
-/// after an `Err`, which is `Refusal::Enomem` alone, the table is as it was.
+/// [`Table::resolve`] walks along a path, and the calls take what it found. A changing call that grows the table makes its growths
+/// before its first change, so that after an `Err`, which is `Refusal::Enomem` alone, the table is as it was.
 pub struct Table {
     nodes: Slab<Node>,
     alloc: Global,
@@ -58,6 +59,7 @@ impl Model for Table {
 
 impl Table {
     ghost use Rattle.inode_table.specs.World.{IsWorld, look, opening_world};
+    ghost use Rattle.inode_table.specs.Resolution.{ResolvedPath, IsResolved};
     ghost use Rattle.inode_table.specs.Refusals.{find};
     ghost use Rattle.inode_table.specs.Stands.{Stands, look_in, number_of};
     ghost use Rattle.inode_table.specs.TableWorld.{world_of};
@@ -79,21 +81,10 @@ impl Table {
         Ok(Table { nodes, alloc })
     }
 
-    /// The node to which the path leads, or why there is none: `ENOENT` below a directory, `ENOTDIR` below a file.
-    pub fn resolve(&self, path: &[Name]) -> Result<Key, Refusal>
-        ensures found { IfOk result (λ key. number_of self.now (Some key) ≡ finmap.get (world_of self.now).paths path.now) }
-        ensures there { IfOk result (λ key. IsSome (number_of self.now (Some key))) }
-        ensures none { IfOk result (λ _. find (look (world_of self.now)) path.now ≡ None) }
-        ensures missing { IfErr result (λ refusal. find (look (world_of self.now)) path.now ≡ Some refusal) }
-        ensures absent { IfErr result (λ _. look (world_of self.now) path.now ≡ None) }
-    {
-        self.rows_law();
-        Ok(Key::of(self.walk(path)?))
-    }
-
     /// Makes room for one node.
     pub fn reserve_node(&mut self) -> Result<(), Refusal>
         ensures rows { self.new.rows ≡ self.old.rows }
+        ensures resolved { (p : ResolvedPath) → IsResolved self.old p → IsResolved self.new p }
         ensures room { OnOk result (1 ≤ self.new.room) }
         ensures enough { 1 ≤ self.old.room → OnOk result (self.new ≡ self.old) }
         ensures err { OnErr result (self.old.room ≡ 0) }
@@ -135,17 +126,6 @@ impl Table {
             }
         }
         Ok(key)
-    }
-
-    // The key of what stands at a path.
-    fn key_at(&self, path: &[Name]) -> usize
-        requires { IsSome (look_in self.now path.now) }
-        ensures { at self.now path.now ≡ Some result }
-    {
-        match self.walk(path) {
-            Ok(key) => key,
-            Err(_) => unreachable!(),
-        }
     }
 
     // The node under a key.

@@ -41,6 +41,8 @@ impl Kept {
         ensures sound { IfOk result IsKept }
     {
         let len = bytes.len();
+        // Cleared up here it takes three stores. Right before the copy LLVM would clear what the copy leaves, by a call.
+        let mut short = [0; NAME_IN_PLACE - 1];
         if NAME_IN_PLACE < len {
             return in_memory(alloc, bytes);
         }
@@ -49,7 +51,6 @@ impl Kept {
             full.copy_from_slice(bytes);
             return Ok(Kept::Full(full));
         }
-        let mut short = [0; NAME_IN_PLACE - 1];
         short[..len].copy_from_slice(bytes);
         Ok(Kept::Short {
             len: len as u8,

@@ -16,7 +16,7 @@ ghost use Rattle.tree_core.specs.Tree.{opening, counts_of, init_rows, rm_watch_r
 use crate::call::Call;
 use crate::reply::Reply;
 use crate::snapshot::Snapshot;
-use event_queue::Queue;
+use event_queue::{Fit, Queue};
 use event_rules::{Notices, notices};
 use inode_table::{Kind, Table};
 use instance_table::{Instance, Instances, Staging};
@@ -244,7 +244,7 @@ impl FileSystem {
         if let Some(refusal) = mask.fault() {
             return Ok(Replies::refused(refusal, keeps));
         }
-        let seen = match self.table.look(path.names()) {
+        let seen = match self.table.look(&self.table.resolve(path)) {
             Ok(seen) => seen,
             Err(refusal) => return Ok(Replies::refused(refusal, keeps)),
         };
@@ -304,10 +304,10 @@ impl FileSystem {
         let Some(instance) = self.instances.get(id) else {
             unreachable!()
         };
-        let count = instance.queue.fit(bytes as usize);
-        let records = spelled(self.alloc, &instance.queue, count)?;
+        let fit = instance.queue.fit(bytes as usize);
+        let records = spelled(self.alloc, &instance.queue, fit)?;
         let replies = Replies::of(Reply::Records(records), keeps)?;
-        self.instances.drop_oldest(id, count);
+        self.instances.drop_oldest(id, fit.count);
         Ok(replies)
     }
 
@@ -340,11 +340,11 @@ impl FileSystem {
         let Some(instance) = self.instances.get(id) else {
             unreachable!()
         };
-        let count = instance.queue.fit(bytes as usize);
-        let spelled = spelled(self.alloc, &instance.queue, count)?;
+        let fit = instance.queue.fit(bytes as usize);
+        let spelled = spelled(self.alloc, &instance.queue, fit)?;
         let replies = Replies::of(Reply::Records(spelled), true)?;
-        let mut records = Vec::with_capacity(self.alloc, count)?;
-        self.instances.move_oldest(id, count, &mut records);
+        let mut records = Vec::with_capacity(self.alloc, fit.count)?;
+        self.instances.move_oldest(id, fit.count, &mut records);
         Ok(Pumped {
             replies,
             records: Some(Events::from_vec(records)),
@@ -402,7 +402,7 @@ fn read_fault(instance: Option<&Instance>, bytes: u32, pumps: bool) -> Option<Re
     if instance.queue.is_empty() {
         return Some(Refusal::Eagain);
     }
-    if instance.queue.fit(bytes as usize) == 0 {
+    if !instance.queue.any_fits(bytes as usize) {
         return Some(Refusal::Einval);
     }
     None
@@ -419,14 +419,14 @@ fn close_fault(instance: Option<&Instance>) -> Option<Refusal>
     }
 }
 
-// The bytes of the oldest records.
-fn spelled(alloc: Global, queue: &Queue, count: usize) -> Result<Bytes, AllocError>
-    requires { count ≤ length queue.now.waiting }
-    ensures bytes { IfOk result (λ bytes. bytes ≡ spelling (take count queue.now.waiting)) }
-    ensures events { OnOk result (AreEvents (take count queue.now.waiting)) }
+// The bytes of the oldest records, for which room is made at once.
+fn spelled(alloc: Global, queue: &Queue, fit: Fit) -> Result<Bytes, AllocError>
+    requires { fit.count ≤ length queue.now.waiting }
+    ensures bytes { IfOk result (λ bytes. bytes ≡ spelling (take fit.count queue.now.waiting)) }
+    ensures events { OnOk result (AreEvents (take fit.count queue.now.waiting)) }
 {
-    let mut bytes = Vec::new(alloc);
-    for index in 0..count {
+    let mut bytes = Vec::with_capacity(alloc, fit.len)?;
+    for index in 0..fit.count {
         let Some(event) = queue.peek(index) else {
             unreachable!()
         };

@@ -1,6 +1,6 @@
 //! Calls on files.
 
-ghost use Rattle.std.specs.Prelude.{◌≡◌, ◌↔◌, IfOk, IfErr, IsTrue};
+ghost use Rattle.std.specs.Prelude.{◌≡◌, ◌↔◌, None, IfOk, IfErr, IfSome, IsTrue};
 
 use record_codec::Bytes;
 use tree_paths::{Path, Refusal};
@@ -90,6 +90,7 @@ pub enum FileCall {
 
 impl FileCall {
     ghost use Rattle.tree_paths.specs.declared.refusal.Refusal.TheVariants.{Enomem};
+    ghost use Rattle.tree_ops.specs.Checked.{path_of, other_path_of};
 
     /// The same call once more. `Err` is want of memory.
     pub fn copy(&self) -> Result<FileCall, Refusal>
@@ -149,6 +150,40 @@ impl FileCall {
             FileCall::Stat { path } => FileCall::Stat { path: path.copy()? },
             FileCall::List { path } => FileCall::List { path: path.copy()? },
         })
+    }
+
+    /// The path of the call, and the old one where it has two.
+    pub fn path(&self) -> &Path
+        ensures { result.now ≡ path_of self.now }
+    {
+        match self {
+            FileCall::Create { path, .. }
+            | FileCall::Mkdir { path, .. }
+            | FileCall::Write { path, .. }
+            | FileCall::ReadFile { path, .. }
+            | FileCall::Truncate { path, .. }
+            | FileCall::Chmod { path, .. }
+            | FileCall::Unlink { path }
+            | FileCall::Rmdir { path }
+            | FileCall::Stat { path }
+            | FileCall::List { path } => path,
+            FileCall::Link { old, .. }
+            | FileCall::Rename { old, .. }
+            | FileCall::Rename2 { old, .. } => old,
+        }
+    }
+
+    /// The new path of a call that has two.
+    pub fn other_path(&self) -> Option<&Path>
+        ensures some { IfSome result (λ path. path.now ≡ other_path_of self.now) }
+        ensures none { result ≡ None → other_path_of self.now ≡ path_of self.now }
+    {
+        match self {
+            FileCall::Link { new, .. }
+            | FileCall::Rename { new, .. }
+            | FileCall::Rename2 { new, .. } => Some(new),
+            _ => None,
+        }
     }
 
     /// Whether the other call is the same one.

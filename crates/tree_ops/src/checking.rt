@@ -1,22 +1,26 @@
 //! Which calls are refused.
-ghost use Rattle.std.specs.Prelude.{◌≡◌, ◌<◌, length, Some, None, IfOk, IfErr, OnOk};
+ghost use Rattle.std.specs.Prelude.{◌≡◌, Some, None, IfOk, IfErr, OnOk};
 ghost use Rattle.inode_table.specs.World.{look};
+ghost use Rattle.inode_table.specs.Resolution.{IsResolved};
 ghost use Rattle.inode_table.specs.TableWorld.{world_of, HasNumbersBelow};
 ghost use Rattle.tree_paths.specs.Rows.{first_row};
 ghost use Rattle.inode_table.specs.Refusals.{is_directory_seen, find, parent};
 ghost use Rattle.tree_ops.specs.Refused.{is_root, make_rows, write_rows, read_rows, truncate_rows, chmod_rows, link_rows, unlink_rows, rmdir_rows, move_rows, rename_rows, noreplace_rows, swap_rows, exchange_rows, rename2_rows, find_rows, list_rows, refusal_seen, cookies_seen, refused, cookies_of, has_names_seen, are_same_seen};
+ghost use Rattle.tree_ops.specs.Checked.{path_of, other_path_of};
 ghost use Rattle.tree_ops.specs.ReadyCall.{IsReady};
 
 use crate::call::{Counts, FileCall, MAX_MODE, RENAME_EXCHANGE, RENAME_NOREPLACE};
-use inode_table::{Kind, Seen, Table};
+use inode_table::{Kind, Resolved, Seen, Table};
 use std::marker::Model;
-use tree_paths::{Limits, Path, Refusal};
+use tree_paths::{Limits, Refusal};
 
 /// A call that no row refuses on the table that it was checked on, as [`check`] makes it. It borrows the call.
 #[derive(Drop)]
 pub struct Ready<'a> {
     pub(crate) call: &'a FileCall,
     pub(crate) counts: Counts,
+    pub(crate) path: Resolved<'a>,
+    pub(crate) other_path: Resolved<'a>,
     cookies: u32,
 }
 
@@ -25,7 +29,7 @@ impl<'a> Model for Ready<'a> {
 
     ghost Value = { Checked };
 
-    ghost view = { λ ready. record { call = ready.call.now; counts = ready.counts; cookies = ready.cookies } };
+    ghost view = { λ ready. record { call = ready.call.now; counts = ready.counts; path = ready.path; other_path = ready.other_path; cookies = ready.cookies } };
 }
 
 impl<'a> Ready<'a> {
@@ -36,6 +40,20 @@ impl<'a> Ready<'a> {
         ensures { result.now ≡ self.now.call }
     {
         self.call
+    }
+
+    /// The path of the call, and the old one where it has two.
+    pub fn path(&self) -> &Resolved<'a>
+        ensures { result.now ≡ self.now.path }
+    {
+        &self.path
+    }
+
+    /// The new path of the call, and its path where it has but one.
+    pub fn other_path(&self) -> &Resolved<'a>
+        ensures { result.now ≡ self.now.other_path }
+    {
+        &self.other_path
     }
 
     /// How many file numbers the call uses: 1 for one that makes a file or a directory, and else 0.
@@ -56,17 +74,12 @@ impl<'a> Ready<'a> {
     }
 }
 
-// What stands at a path, if anything does.
-pub(crate) fn seen(table: &Table, path: &Path) -> Option<Seen>
-    ensures { result ≡ look (world_of table.now) path.now }
+// Why nothing stands at a path, if nothing does.
+fn missing(table: &Table, path: &Resolved) -> Option<Refusal>
+    requires { IsResolved table.now path.now }
+    ensures { result ≡ find (look (world_of table.now)) path.now.names }
 {
-    table.look(path.names()).ok()
-}
-
-fn missing(table: &Table, path: &Path) -> Option<Refusal>
-    ensures { result ≡ find (look (world_of table.now)) path.now }
-{
-    table.look(path.names()).err()
+    table.look(path).err()
 }
 
 fn is_directory(seen: Option<Seen>) -> bool
@@ -80,14 +93,11 @@ fn is_directory(seen: Option<Seen>) -> bool
 
 // Why a name cannot stand in the directory of its path.
 #[tactic(auto, unfolding(inode_table::specs::Refusals::parent))]
-fn parent_fault(table: &Table, path: &Path) -> Option<Refusal>
-    requires { 0 < length path.now }
-    ensures { result ≡ parent (look (world_of table.now)) path.now }
+fn parent_fault(table: &Table, path: &Resolved) -> Option<Refusal>
+    requires resolved { IsResolved table.now path.now }
+    ensures { result ≡ parent (look (world_of table.now)) path.now.names }
 {
-    let Some((parent, _)) = path.parent_and_name() else {
-        unreachable!()
-    };
-    match table.look(parent) {
+    match table.look_parent(path) {
         Err(refusal) => Some(refusal),
         Ok(seen) => {
             if is_directory(Some(seen)) {
@@ -102,23 +112,24 @@ fn parent_fault(table: &Table, path: &Path) -> Option<Refusal>
 #[tactic(auto, unfolding(crate::specs::Refused::make_rows))]
 fn make_fault(
     table: &Table,
-    path: &Path,
+    path: &Resolved,
     mode: u32,
     counts: &Counts,
     limits: &Limits,
 ) -> Option<Refusal>
-    ensures { result ≡ first_row (make_rows (look (world_of table.now)) limits.now counts.now path.now mode) }
+    requires resolved { IsResolved table.now path.now }
+    ensures { result ≡ first_row (make_rows (look (world_of table.now)) limits.now counts.now path.now.names mode) }
 {
     if mode > MAX_MODE {
         return Some(Refusal::Einval);
     }
-    if path.names().is_empty() {
+    if is_root(path) {
         return Some(Refusal::Eexist);
     }
     if let Some(refusal) = parent_fault(table, path) {
         return Some(refusal);
     }
-    if seen(table, path).is_some() {
+    if table.seen(path).is_some() {
         return Some(Refusal::Eexist);
     }
     if counts.next_number > limits.numbers {
@@ -128,17 +139,19 @@ fn make_fault(
 }
 
 #[tactic(auto, unfolding(crate::specs::Refused::find_rows))]
-fn find_fault(table: &Table, path: &Path) -> Option<Refusal>
-    ensures { result ≡ first_row (find_rows (look (world_of table.now)) path.now) }
+fn find_fault(table: &Table, path: &Resolved) -> Option<Refusal>
+    requires resolved { IsResolved table.now path.now }
+    ensures { result ≡ first_row (find_rows (look (world_of table.now)) path.now.names) }
 {
     missing(table, path)
 }
 
 #[tactic(auto, unfolding(crate::specs::Refused::read_rows))]
-fn read_fault(table: &Table, path: &Path) -> Option<Refusal>
-    ensures { result ≡ first_row (read_rows (look (world_of table.now)) path.now) }
+fn read_fault(table: &Table, path: &Resolved) -> Option<Refusal>
+    requires resolved { IsResolved table.now path.now }
+    ensures { result ≡ first_row (read_rows (look (world_of table.now)) path.now.names) }
 {
-    match table.look(path.names()) {
+    match table.look(path) {
         Err(refusal) => Some(refusal),
         Ok(seen) if is_directory(Some(seen)) => Some(Refusal::Eisdir),
         Ok(_) => None,
@@ -148,14 +161,15 @@ fn read_fault(table: &Table, path: &Path) -> Option<Refusal>
 #[tactic(auto, unfolding(crate::specs::Refused::write_rows))]
 fn write_fault(
     table: &Table,
-    path: &Path,
+    path: &Resolved,
     offset: u64,
     count: usize,
     limits: &Limits,
 ) -> Option<Refusal>
-    ensures { result ≡ first_row (write_rows (look (world_of table.now)) limits.now path.now offset count) }
+    requires resolved { IsResolved table.now path.now }
+    ensures { result ≡ first_row (write_rows (look (world_of table.now)) limits.now path.now.names offset count) }
 {
-    match table.look(path.names()) {
+    match table.look(path) {
         Err(refusal) => Some(refusal),
         Ok(seen) if is_directory(Some(seen)) => Some(Refusal::Eisdir),
         Ok(_) => {
@@ -169,10 +183,11 @@ fn write_fault(
 }
 
 #[tactic(auto, unfolding(crate::specs::Refused::truncate_rows))]
-fn truncate_fault(table: &Table, path: &Path, len: u64, limits: &Limits) -> Option<Refusal>
-    ensures { result ≡ first_row (truncate_rows (look (world_of table.now)) limits.now path.now len) }
+fn truncate_fault(table: &Table, path: &Resolved, len: u64, limits: &Limits) -> Option<Refusal>
+    requires resolved { IsResolved table.now path.now }
+    ensures { result ≡ first_row (truncate_rows (look (world_of table.now)) limits.now path.now.names len) }
 {
-    match table.look(path.names()) {
+    match table.look(path) {
         Err(refusal) => Some(refusal),
         Ok(seen) if is_directory(Some(seen)) => Some(Refusal::Eisdir),
         Ok(_) => {
@@ -186,8 +201,9 @@ fn truncate_fault(table: &Table, path: &Path, len: u64, limits: &Limits) -> Opti
 }
 
 #[tactic(auto, unfolding(crate::specs::Refused::chmod_rows))]
-fn chmod_fault(table: &Table, path: &Path, mode: u32) -> Option<Refusal>
-    ensures { result ≡ first_row (chmod_rows (look (world_of table.now)) path.now mode) }
+fn chmod_fault(table: &Table, path: &Resolved, mode: u32) -> Option<Refusal>
+    requires resolved { IsResolved table.now path.now }
+    ensures { result ≡ first_row (chmod_rows (look (world_of table.now)) path.now.names mode) }
 {
     if mode > MAX_MODE {
         return Some(Refusal::Einval);
@@ -196,22 +212,24 @@ fn chmod_fault(table: &Table, path: &Path, mode: u32) -> Option<Refusal>
 }
 
 #[tactic(auto, unfolding(crate::specs::Refused::link_rows))]
-fn link_fault(table: &Table, old: &Path, new: &Path, limits: &Limits) -> Option<Refusal>
-    ensures { result ≡ first_row (link_rows (look (world_of table.now)) limits.now old.now new.now) }
+fn link_fault(table: &Table, old: &Resolved, new: &Resolved, limits: &Limits) -> Option<Refusal>
+    requires resolved { IsResolved table.now old.now }
+    requires other_resolved { IsResolved table.now new.now }
+    ensures { result ≡ first_row (link_rows (look (world_of table.now)) limits.now old.now.names new.now.names) }
 {
-    match table.look(old.names()) {
+    match table.look(old) {
         Err(refusal) => Some(refusal),
         Ok(file) => {
             if is_directory(Some(file)) {
                 return Some(Refusal::Eperm);
             }
-            if new.names().is_empty() {
+            if is_root(new) {
                 return Some(Refusal::Eexist);
             }
             if let Some(refusal) = parent_fault(table, new) {
                 return Some(refusal);
             }
-            if seen(table, new).is_some() {
+            if table.seen(new).is_some() {
                 return Some(Refusal::Eexist);
             }
             if file.links >= u64::from(limits.links) {
@@ -223,10 +241,11 @@ fn link_fault(table: &Table, old: &Path, new: &Path, limits: &Limits) -> Option<
 }
 
 #[tactic(auto, unfolding(crate::specs::Refused::unlink_rows))]
-fn unlink_fault(table: &Table, path: &Path) -> Option<Refusal>
-    ensures { result ≡ first_row (unlink_rows (look (world_of table.now)) path.now) }
+fn unlink_fault(table: &Table, path: &Resolved) -> Option<Refusal>
+    requires resolved { IsResolved table.now path.now }
+    ensures { result ≡ first_row (unlink_rows (look (world_of table.now)) path.now.names) }
 {
-    match table.look(path.names()) {
+    match table.look(path) {
         Err(refusal) => Some(refusal),
         Ok(seen) if is_directory(Some(seen)) => Some(Refusal::Eperm),
         Ok(_) => None,
@@ -234,13 +253,14 @@ fn unlink_fault(table: &Table, path: &Path) -> Option<Refusal>
 }
 
 #[tactic(auto, unfolding(crate::specs::Refused::rmdir_rows))]
-fn rmdir_fault(table: &Table, path: &Path) -> Option<Refusal>
-    ensures { result ≡ first_row (rmdir_rows (look (world_of table.now)) path.now) }
+fn rmdir_fault(table: &Table, path: &Resolved) -> Option<Refusal>
+    requires resolved { IsResolved table.now path.now }
+    ensures { result ≡ first_row (rmdir_rows (look (world_of table.now)) path.now.names) }
 {
-    if path.names().is_empty() {
+    if is_root(path) {
         return Some(Refusal::Ebusy);
     }
-    match table.look(path.names()) {
+    match table.look(path) {
         Err(refusal) => Some(refusal),
         Ok(seen) => {
             if !is_directory(Some(seen)) {
@@ -255,10 +275,11 @@ fn rmdir_fault(table: &Table, path: &Path) -> Option<Refusal>
 }
 
 #[tactic(auto, unfolding(crate::specs::Refused::list_rows))]
-fn list_fault(table: &Table, path: &Path) -> Option<Refusal>
-    ensures { result ≡ first_row (list_rows (look (world_of table.now)) path.now) }
+fn list_fault(table: &Table, path: &Resolved) -> Option<Refusal>
+    requires resolved { IsResolved table.now path.now }
+    ensures { result ≡ first_row (list_rows (look (world_of table.now)) path.now.names) }
 {
-    match table.look(path.names()) {
+    match table.look(path) {
         Err(refusal) => Some(refusal),
         Ok(seen) if is_directory(Some(seen)) => None,
         Ok(_) => Some(Refusal::Enotdir),
@@ -298,7 +319,8 @@ fn has_names(seen: Option<Seen>) -> bool
     }
 }
 
-pub(crate) fn are_same(old: Option<Seen>, new: Option<Seen>) -> bool
+/// Whether the same file stands at both paths.
+pub fn are_same(old: Option<Seen>, new: Option<Seen>) -> bool
     ensures { result ≡ are_same_seen old new }
 {
     match (old, new) {
@@ -310,27 +332,29 @@ pub(crate) fn are_same(old: Option<Seen>, new: Option<Seen>) -> bool
 #[tactic(auto, unfolding(crate::specs::Refused::rename_rows))]
 fn rename_fault(
     table: &Table,
-    old: &Path,
-    new: &Path,
+    old: &Resolved,
+    new: &Resolved,
     counts: &Counts,
     limits: &Limits,
 ) -> Option<Refusal>
-    ensures { result ≡ first_row (rename_rows (look (world_of table.now)) limits.now counts.now old.now new.now) }
+    requires resolved { IsResolved table.now old.now }
+    requires other_resolved { IsResolved table.now new.now }
+    ensures { result ≡ first_row (rename_rows (look (world_of table.now)) limits.now counts.now old.now.names new.now.names) }
 {
-    if old.names().is_empty() || new.names().is_empty() {
+    if is_root(old) || is_root(new) {
         return Some(Refusal::Ebusy);
     }
     if let Some(refusal) = missing(table, old) {
         return Some(refusal);
     }
-    let source = seen(table, old);
-    if is_directory(source) && new.is_below(old) {
+    let source = table.seen(old);
+    if is_directory(source) && new.as_path().is_below(old.as_path()) {
         return Some(Refusal::Einval);
     }
     if let Some(refusal) = parent_fault(table, new) {
         return Some(refusal);
     }
-    let target = seen(table, new);
+    let target = table.seen(new);
     if are_same(source, target) {
         return None;
     }
@@ -340,26 +364,28 @@ fn rename_fault(
 #[tactic(auto, unfolding(crate::specs::Refused::noreplace_rows))]
 fn noreplace_fault(
     table: &Table,
-    old: &Path,
-    new: &Path,
+    old: &Resolved,
+    new: &Resolved,
     counts: &Counts,
     limits: &Limits,
 ) -> Option<Refusal>
-    ensures { result ≡ first_row (noreplace_rows (look (world_of table.now)) limits.now counts.now old.now new.now) }
+    requires resolved { IsResolved table.now old.now }
+    requires other_resolved { IsResolved table.now new.now }
+    ensures { result ≡ first_row (noreplace_rows (look (world_of table.now)) limits.now counts.now old.now.names new.now.names) }
 {
     if is_root(old) || is_root(new) {
         return Some(Refusal::Ebusy);
     }
-    match table.look(old.names()) {
+    match table.look(old) {
         Err(refusal) => Some(refusal),
         Ok(source) => {
-            if is_directory(Some(source)) && new.is_below(old) {
+            if is_directory(Some(source)) && new.as_path().is_below(old.as_path()) {
                 return Some(Refusal::Einval);
             }
             if let Some(refusal) = parent_fault(table, new) {
                 return Some(refusal);
             }
-            let target = seen(table, new);
+            let target = table.seen(new);
             if target.is_some() {
                 return Some(Refusal::Eexist);
             }
@@ -375,19 +401,19 @@ fn noreplace_fault(
 // Why two files do not change places.
 #[tactic(auto, unfolding(crate::specs::Refused::swap_rows))]
 fn swap_fault(
-    old: &Path,
-    new: &Path,
+    old: &Resolved,
+    new: &Resolved,
     source: Option<Seen>,
     target: Option<Seen>,
     counts: &Counts,
     limits: &Limits,
 ) -> Option<Refusal>
-    ensures { result ≡ first_row (swap_rows limits.now counts.now old.now new.now source target) }
+    ensures { result ≡ first_row (swap_rows limits.now counts.now old.now.names new.now.names source target) }
 {
-    if is_directory(source) && new.is_below(old) {
+    if is_directory(source) && new.as_path().is_below(old.as_path()) {
         return Some(Refusal::Einval);
     }
-    if is_directory(target) && old.is_below(new) {
+    if is_directory(target) && old.as_path().is_below(new.as_path()) {
         return Some(Refusal::Einval);
     }
     let last = u64::from(counts.next_cookie) + 1;
@@ -400,17 +426,19 @@ fn swap_fault(
 #[tactic(auto, unfolding(crate::specs::Refused::exchange_rows))]
 fn exchange_fault(
     table: &Table,
-    old: &Path,
-    new: &Path,
+    old: &Resolved,
+    new: &Resolved,
     counts: &Counts,
     limits: &Limits,
 ) -> Option<Refusal>
-    ensures { result ≡ first_row (exchange_rows (look (world_of table.now)) limits.now counts.now old.now new.now) }
+    requires resolved { IsResolved table.now old.now }
+    requires other_resolved { IsResolved table.now new.now }
+    ensures { result ≡ first_row (exchange_rows (look (world_of table.now)) limits.now counts.now old.now.names new.now.names) }
 {
     if is_root(old) || is_root(new) {
         return Some(Refusal::Ebusy);
     }
-    match (table.look(old.names()), table.look(new.names())) {
+    match (table.look(old), table.look(new)) {
         (Err(refusal), _) => Some(refusal),
         (Ok(_), Err(refusal)) => Some(refusal),
         (Ok(source), Ok(target)) => {
@@ -426,13 +454,15 @@ fn exchange_fault(
 #[tactic(auto, unfolding(crate::specs::Refused::rename2_rows))]
 fn rename2_fault(
     table: &Table,
-    old: &Path,
-    new: &Path,
+    old: &Resolved,
+    new: &Resolved,
     flags: u32,
     counts: &Counts,
     limits: &Limits,
 ) -> Option<Refusal>
-    ensures { result ≡ first_row (rename2_rows (look (world_of table.now)) limits.now counts.now old.now new.now flags) }
+    requires resolved { IsResolved table.now old.now }
+    requires other_resolved { IsResolved table.now new.now }
+    ensures { result ≡ first_row (rename2_rows (look (world_of table.now)) limits.now counts.now old.now.names new.now.names flags) }
 {
     match flags {
         0 => rename_fault(table, old, new, counts, limits),
@@ -442,54 +472,82 @@ fn rename2_fault(
     }
 }
 
-fn is_root(path: &Path) -> bool
-    ensures { result ≡ is_root path.now }
+fn is_root(path: &Resolved) -> bool
+    ensures { result ≡ is_root path.now.names }
 {
-    path.names().is_empty()
+    path.as_path().names().is_empty()
 }
 
 // Why a call is refused, if it is.
 #[tactic(auto, unfolding(crate::specs::Refused::refusal_seen))]
-fn fault(table: &Table, call: &FileCall, counts: &Counts, limits: &Limits) -> Option<Refusal>
+fn fault(
+    table: &Table,
+    call: &FileCall,
+    path: &Resolved,
+    other_path: &Resolved,
+    counts: &Counts,
+    limits: &Limits,
+) -> Option<Refusal>
+    requires resolved { IsResolved table.now path.now }
+    requires other_resolved { IsResolved table.now other_path.now }
+    requires names { path.now.names ≡ path_of call.now }
+    requires other_names { other_path.now.names ≡ other_path_of call.now }
     ensures { result ≡ refusal_seen (look (world_of table.now)) limits.now counts.now call.now }
 {
     match call {
-        FileCall::Create { path, mode } => make_fault(table, path, *mode, counts, limits),
-        FileCall::Write {
-            path,
-            offset,
-            bytes,
-        } => write_fault(table, path, *offset, bytes.as_slice().len(), limits),
-        FileCall::ReadFile { path, .. } => read_fault(table, path),
-        FileCall::Truncate { path, len } => truncate_fault(table, path, *len, limits),
-        FileCall::Chmod { path, mode } => chmod_fault(table, path, *mode),
-        FileCall::Mkdir { path, mode } => make_fault(table, path, *mode, counts, limits),
-        FileCall::Link { old, new } => link_fault(table, old, new, limits),
-        FileCall::Unlink { path } => unlink_fault(table, path),
-        FileCall::Rmdir { path } => rmdir_fault(table, path),
-        FileCall::Rename { old, new } => rename_fault(table, old, new, counts, limits),
-        FileCall::Rename2 { old, new, flags } => {
-            rename2_fault(table, old, new, *flags, counts, limits)
+        FileCall::Create { mode, .. } | FileCall::Mkdir { mode, .. } => {
+            make_fault(table, path, *mode, counts, limits)
         }
-        FileCall::Stat { path } => find_fault(table, path),
-        FileCall::List { path } => list_fault(table, path),
+        FileCall::Write { offset, bytes, .. } => {
+            write_fault(table, path, *offset, bytes.as_slice().len(), limits)
+        }
+        FileCall::ReadFile { .. } => read_fault(table, path),
+        FileCall::Truncate { len, .. } => truncate_fault(table, path, *len, limits),
+        FileCall::Chmod { mode, .. } => chmod_fault(table, path, *mode),
+        FileCall::Link { .. } => link_fault(table, path, other_path, limits),
+        FileCall::Unlink { .. } => unlink_fault(table, path),
+        FileCall::Rmdir { .. } => rmdir_fault(table, path),
+        FileCall::Rename { .. } => rename_fault(table, path, other_path, counts, limits),
+        FileCall::Rename2 { flags, .. } => {
+            rename2_fault(table, path, other_path, *flags, counts, limits)
+        }
+        FileCall::Stat { .. } => find_fault(table, path),
+        FileCall::List { .. } => list_fault(table, path),
     }
 }
 
 // How many cookies the call uses.
-fn cookies(table: &Table, call: &FileCall) -> u32
+fn cookies(table: &Table, call: &FileCall, path: &Resolved, other_path: &Resolved) -> u32
+    requires resolved { IsResolved table.now path.now }
+    requires other_resolved { IsResolved table.now other_path.now }
+    requires names { path.now.names ≡ path_of call.now }
+    requires other_names { other_path.now.names ≡ other_path_of call.now }
     ensures { result ≡ cookies_seen (look (world_of table.now)) call.now }
 {
     match call {
-        FileCall::Rename { old, new } if !are_same(seen(table, old), seen(table, new)) => 1,
-        FileCall::Rename2 { old, new, flags } if !are_same(seen(table, old), seen(table, new)) => {
+        FileCall::Rename { .. } if !are_same(table.seen(path), table.seen(other_path)) => 1,
+        FileCall::Rename2 { flags, .. } if !are_same(table.seen(path), table.seen(other_path)) => {
             if *flags == RENAME_EXCHANGE { 2 } else { 1 }
         }
         _ => 0,
     }
 }
 
-/// Finds the first row that refuses the call, or makes it ready to be carried out. It takes no memory.
+// The other path of the call, of which the first one is resolved.
+fn resolve_other<'a>(table: &Table, call: &'a FileCall, path: &Resolved<'a>) -> Resolved<'a>
+    requires resolved { IsResolved table.now path.now }
+    requires names { path.now.names ≡ path_of call.now }
+    ensures resolved { IsResolved table.now result }
+    ensures names { result.names ≡ other_path_of call.now }
+{
+    match call.other_path() {
+        Some(other) => table.resolve(other),
+        None => path.copy(),
+    }
+}
+
+/// Finds the first row that refuses the call, or makes it ready to be carried out. It walks each path of the call once, and takes
+/// no memory.
 ///
 /// `counts` says what the call gets where it makes a file or moves one. No number of the table has reached `next_number`.
 pub fn check<'a>(
@@ -501,17 +559,21 @@ pub fn check<'a>(
     requires numbers { HasNumbersBelow (world_of table.now) counts.now.next_number }
     ensures refused { IfErr result (λ refusal. refused (world_of table.now) limits.now counts.now call.now ≡ Some refusal) }
     ensures accepted { OnOk result (refused (world_of table.now) limits.now counts.now call.now ≡ None) }
-    ensures ready { IfOk result (λ ready. IsReady (world_of table.now) ready) }
+    ensures ready { IfOk result (λ ready. IsReady table.now ready) }
     ensures call { IfOk result (λ ready. ready.call ≡ call.now) }
     ensures counts { IfOk result (λ ready. ready.counts ≡ counts.now) }
     ensures cookies { IfOk result (λ ready. ready.cookies ≡ cookies_of (world_of table.now) call.now) }
 {
-    match fault(table, call, counts, limits) {
+    let path = table.resolve(call.path());
+    let other_path = resolve_other(table, call, &path);
+    match fault(table, call, &path, &other_path, counts, limits) {
         Some(refusal) => Err(refusal),
         None => Ok(Ready {
             call,
             counts: *counts,
-            cookies: cookies(table, call),
+            cookies: cookies(table, call, &path, &other_path),
+            path,
+            other_path,
         }),
     }
 }

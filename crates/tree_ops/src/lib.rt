@@ -14,6 +14,6 @@ mod opening;
 pub use answer::Answer;
 pub use call::{Counts, FileCall, MAX_MODE, RENAME_EXCHANGE, RENAME_NOREPLACE};
 pub use carrying::carry_out;
-pub use checking::{Ready, check};
+pub use checking::{Ready, are_same, check};
 pub use laws::{files_get_numbers, worlds_stay_worlds};
 pub use opening::opening_table;

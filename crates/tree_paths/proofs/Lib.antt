@@ -1,4 +1,5 @@
 mod BelowLemmas
+mod FrontLemmas
 mod PathLemmas
 mod PathnameLemmas
 mod PieceLemmas

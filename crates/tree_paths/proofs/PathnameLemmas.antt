@@ -51,7 +51,7 @@ behind xs = flat_map (λ n. 47 ∷ n) xs
 
 -- ---- no zero
 
-no_null : (x : List ℕ) → list_all is_name_byte x ≡ true → list_any is_null x ≡ false
+pub no_null : (x : List ℕ) → list_all is_name_byte x ≡ true → list_any is_null x ≡ false
 no_null [] h = refl
 no_null (b ∷ bs) h =
     let both = and_parts (is_name_byte b) (list_all is_name_byte bs) h in
@@ -93,7 +93,7 @@ no_slash b h = not_true (eqb b 47) (and_parts (not (eqb b 0)) (not (eqb b 47)) h
 
 -- ---- the names
 
-no_slashes : (x : List ℕ) → list_all is_name_byte x ≡ true → All (λ b. eqb b 47 ≡ false) x
+pub no_slashes : (x : List ℕ) → list_all is_name_byte x ≡ true → All (λ b. eqb b 47 ≡ false) x
 no_slashes [] h k d lt = absurd (omega (arith, lt))
 no_slashes (b ∷ bs) h zero d lt = no_slash b (and_parts (is_name_byte b) (list_all is_name_byte bs) h).0
 no_slashes (b ∷ bs) h (suc k) d lt = no_slashes bs (and_parts (is_name_byte b) (list_all is_name_byte bs) h).1 k d (omega (arith, lt))

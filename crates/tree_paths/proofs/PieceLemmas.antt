@@ -22,7 +22,9 @@ list_any-nonempty p e ((b ∷ bs) ∷ xs) = rw (nonempty-cons b bs) (ap (λ (r :
 
 -- ---- the rows of `parsed` that did not hold
 
-pub record Passes (nul dots long : Bool) (names given : List (List ℕ)) : Type 0 where
+pub record Passes (none relative nul dots long : Bool) (names given : List (List ℕ)) : Type 0 where
+  pub some : none ≡ false
+  pub absolute : relative ≡ false
   pub no_zero : nul ≡ false
   pub no_dots : dots ≡ false
   pub none_long : long ≡ false
@@ -30,7 +32,7 @@ pub record Passes (nul dots long : Bool) (names given : List (List ℕ)) : Type 
 
 passes : (none much relative nul ends dots long : Bool) (names given : List (List ℕ))
     → cond none (Err Enoent) (cond much (Err Enametoolong) (cond relative (Err Einval) (cond nul (Err Einval) (cond ends (Err Einval) (cond dots (Err Einval) (cond long (Err Enametoolong) (Ok names)))))))
-    ≡ Ok given → Passes nul dots long names given
+    ≡ Ok given → Passes none relative nul dots long names given
 passes true much relative nul ends dots long names given h = absurd cc
 passes false true relative nul ends dots long names given h = absurd cc
 passes false false true nul ends dots long names given h = absurd cc
@@ -38,10 +40,10 @@ passes false false false true ends dots long names given h = absurd cc
 passes false false false false true dots long names given h = absurd cc
 passes false false false false false true long names given h = absurd cc
 passes false false false false false false true names given h = absurd cc
-passes false false false false false false false names given h = record { no_zero = refl; no_dots = refl; none_long = refl; all = cc }
+passes false false false false false false false names given h = record { some = refl; absolute = refl; no_zero = refl; no_dots = refl; none_long = refl; all = cc }
 
 pub accepted : (text : List ℕ) (names : List (List ℕ)) → parsed text ≡ Ok names
-    → Passes (list_any (λ b. eqb b 0) text) (list_any is_dots (names_of text)) (list_any is_long (names_of text)) (names_of text) names
+    → Passes (eqb (length text) 0) (not (eqb (get_or text 0 0) 47)) (list_any (λ b. eqb b 0) text) (list_any is_dots (names_of text)) (list_any is_long (names_of text)) (names_of text) names
 unfolding parsed
 accepted text names h =
     passes (eqb (length text) 0) (leb 4096 (length text)) (not (eqb (get_or text 0 0) 47)) (list_any (λ b. eqb b 0) text)

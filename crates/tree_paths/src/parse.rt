@@ -1,7 +1,9 @@
 //! Pathnames as texts.
 
-ghost use Rattle.std.specs.Prelude.{◌≡◌, IfOk, MatchOption, length};
-ghost use Rattle.std.specs.List.{list_any};
+ghost use Rattle.std.specs.Prelude.{◌≡◌, ◌≤◌, ◌<◌, true, false, IfOk, MatchResult, if◌then◌else◌, length, take, slice_index};
+ghost use Rattle.std.specs.List.{list_any, list_all};
+ghost use Rattle.record_codec.specs.Names.{is_name_byte};
+ghost use Rattle.tree_paths.specs.declared.refusal.Refusal.TheVariants.{Einval, Enametoolong};
 ghost use Rattle.tree_paths.specs.Paths.{parsed, names_of, is_null, is_dots, is_long};
 
 use crate::Refusal;
@@ -13,73 +15,92 @@ const PATH_MAX: usize = 4096;
 
 const SEPARATOR: u8 = b'/';
 
-/// Why a text is no path.
+/// How many names a path's text has, or why the text is no path.
 #[tactic(auto, unfolding(crate::specs::Paths::parsed))]
-pub(crate) fn text_refusal(text: &[u8]) -> Option<Refusal>
-    ensures { MatchOption result (parsed text.now ≡ Ok (names_of text.now)) (λ refusal. parsed text.now ≡ Err refusal) }
+pub(crate) fn count_of_names(text: &[u8]) -> Result<usize, Refusal>
+    ensures answer { MatchResult result (λ count. parsed text.now ≡ Ok (names_of text.now)) (λ refusal. parsed text.now ≡ Err refusal) }
+    ensures count { IfOk result (λ count. count ≡ length (names_of text.now)) }
 {
     if text.is_empty() {
-        return Some(Refusal::Enoent);
+        return Err(Refusal::Enoent);
     }
     if PATH_MAX <= text.len() {
-        return Some(Refusal::Enametoolong);
+        return Err(Refusal::Enametoolong);
     }
-    if text[0] != SEPARATOR || has_zero(text) {
-        return Some(Refusal::Einval);
+    if text[0] != SEPARATOR {
+        return Err(Refusal::Einval);
     }
     if 1 < text.len() && text[text.len() - 1] == SEPARATOR {
-        return Some(Refusal::Einval);
+        return Err(Refusal::Einval);
     }
-    if has_dots(text) {
-        return Some(Refusal::Einval);
-    }
-    if has_long(text) {
-        return Some(Refusal::Enametoolong);
-    }
-    None
+    count_between(&text[1..])
 }
 
-fn has_zero(text: &[u8]) -> bool
-    ensures { result ≡ list_any is_null text.now }
+/// How many names there are between slashes, or why they are no path's.
+fn count_between(text: &[u8]) -> Result<usize, Refusal>
+    ensures { result ≡ (if list_any is_null text.now then Err Einval else if list_any is_dots (names_of text.now) then Err Einval else if list_any is_long (names_of text.now) then Err Enametoolong else Ok (length (names_of text.now))) }
 {
-    text.iter().any(|b| *b == 0)
+    let mut rest = text;
+    let mut count = 0;
+    let mut has_long = false;
+    loop {
+        let len = front_len(rest);
+        let front = &rest[..len];
+        if has_dots(front) {
+            return Err(Refusal::Einval);
+        }
+        count += usize::from(0 < len);
+        has_long |= NAME_MAX < len;
+        if len == rest.len() {
+            if has_long {
+                return Err(Refusal::Enametoolong);
+            }
+            return Ok(count);
+        }
+        if rest[len] != SEPARATOR {
+            return Err(Refusal::Einval);
+        }
+        rest = &rest[len + 1..];
+    }
+}
+
+/// How many bytes stand before the first slash or zero byte.
+fn front_len(text: &[u8]) -> usize
+    ensures within { result ≤ length text.now }
+    ensures front { list_all is_name_byte (take result text.now) ≡ true }
+    ensures end { result < length text.now → is_name_byte (slice_index text.now result) ≡ false }
+{
+    for (i, b) in text.iter().enumerate() {
+        // The first test alone passes over most bytes of a name.
+        if *b <= SEPARATOR && (*b == SEPARATOR || *b == 0) {
+            return i;
+        }
+    }
+    text.len()
 }
 
 /// Whether a name is `.` or `..`.
-fn has_dots(text: &[u8]) -> bool
-    ensures { result ≡ list_any is_dots (names_of text.now) }
+fn has_dots(name: &[u8]) -> bool
+    ensures { result ≡ is_dots name.now }
 {
-    text.split(|b| *b == SEPARATOR)
-        .any(|name| name == b".".as_slice() || name == b"..".as_slice())
+    name == b".".as_slice() || name == b"..".as_slice()
 }
 
-/// Whether a name is longer than names may be.
-fn has_long(text: &[u8]) -> bool
-    ensures { result ≡ list_any is_long (names_of text.now) }
-{
-    text.split(|b| *b == SEPARATOR)
-        .any(|name| NAME_MAX < name.len())
-}
-
-/// How many names a path's text has.
-fn count_of_names(text: &[u8]) -> usize
-    ensures { result ≡ length (names_of text.now) }
-{
-    text.split(|b| *b == SEPARATOR)
-        .filter(|piece| !piece.is_empty())
-        .count()
-}
-
-/// The names of a path's text, in memory for just so many.
-pub(crate) fn names_in(alloc: Global, text: &[u8]) -> Result<Vec<Name>, AllocError>
+/// The names of a path's text, in memory for `count` of them.
+pub(crate) fn names_in(alloc: Global, text: &[u8], count: usize) -> Result<Vec<Name>, AllocError>
     requires { parsed text.now ≡ Ok (names_of text.now) }
     ensures { IfOk result (λ names. names.items ≡ names_of text.now) }
 {
-    let mut names = Vec::with_capacity(alloc, count_of_names(text))?;
-    for piece in text.split(|b| *b == SEPARATOR) {
-        if let Some(name) = Name::new(alloc, piece)? {
-            names.push(name)?;
+    let mut names = Vec::with_capacity(alloc, count)?;
+    let mut rest = &text[1..];
+    loop {
+        let len = front_len(rest);
+        if 0 < len {
+            names.push(Name::of(alloc, &rest[..len])?)?;
         }
+        if len == rest.len() {
+            return Ok(names);
+        }
+        rest = &rest[len + 1..];
     }
-    Ok(names)
 }

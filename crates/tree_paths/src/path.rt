@@ -9,7 +9,7 @@ ghost use Rattle.std.specs.Cmp.Lexicographic.{pointwise, slice_cmp, lists_ties};
 ghost use Rattle.std.specs.Ordering.{as_partial_cmp, nat_cmp};
 
 use crate::Refusal;
-use crate::parse::{names_in, text_refusal};
+use crate::parse::{count_of_names, names_in};
 use record_codec::Name;
 use std::alloc::{AllocError, Global};
 use std::cmp::Ordering;
@@ -88,11 +88,9 @@ impl Path {
         ensures err { IfErr result (λ refusal. (refusal ≡ Enomem) ⊎ (parsed text.now ≡ Err refusal)) }
         ensures refused { IfErr (parsed text.now) (λ refusal. result ≡ Err refusal) }
     {
-        if let Some(refusal) = text_refusal(text) {
-            return Err(refusal);
-        }
+        let count = count_of_names(text)?;
         Ok(Path {
-            names: names_in(alloc, text)?,
+            names: names_in(alloc, text, count)?,
         })
     }
 

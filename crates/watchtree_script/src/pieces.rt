@@ -1,6 +1,6 @@
 //! Bytes between separators.
 
-ghost use Rattle.std.specs.Prelude.{◌≡◌, ◌∷◌, ◌<◌, [], MatchOption, length, position, ◌==◌};
+ghost use Rattle.std.specs.Prelude.{◌≡◌, ◌∷◌, [], MatchOption, false, length, position, ◌==◌};
 ghost use Rattle.std.specs.Option.{option_copied};
 ghost use Rattle.tree_paths.specs.Pieces.{pieces, runs};
 ghost use Rattle.watchtree_script.specs.Lines.{pieces_in};
@@ -91,28 +91,37 @@ impl<'a> Runs<'a> {
         }
     }
 
-    /// Whether so many are left.
-    pub fn has(&self, count: usize) -> bool
-        ensures { result ≡ (length self.now == count) }
+    /// Whether none is left.
+    pub fn is_empty(&self) -> bool
+        ensures { result ≡ (length self.now == 0) }
     {
-        let mut others = self.copied();
-        for _ in 0..count {
-            if others.next_run().is_none() {
-                return false;
-            }
-        }
-        others.next_run().is_none()
+        self.copied().next_run().is_none()
     }
 
-    /// The next one, where one is left.
-    pub fn take_run(&mut self) -> &'a [u8]
-        requires { 0 < length self.old }
-        ensures { self.old ≡ result.now ∷ self.new }
+    /// The only one that is left.
+    pub fn one(mut self) -> Option<&'a [u8]>
+        ensures { MatchOption result ((length self.entry == 1) ≡ false) (λ run. self.entry ≡ run.now ∷ []) }
     {
-        match self.next_run() {
-            Some(run) => run,
-            None => unreachable!(),
-        }
+        let run = self.next_run()?;
+        if self.is_empty() { Some(run) } else { None }
+    }
+
+    /// The only two that are left.
+    pub fn two(mut self) -> Option<(&'a [u8], &'a [u8])>
+        ensures { MatchOption result ((length self.entry == 2) ≡ false) (λ runs. self.entry ≡ runs.0.now ∷ runs.1.now ∷ []) }
+    {
+        let first = self.next_run()?;
+        let second = self.one()?;
+        Some((first, second))
+    }
+
+    /// The only three that are left.
+    pub fn three(mut self) -> Option<(&'a [u8], &'a [u8], &'a [u8])>
+        ensures { MatchOption result ((length self.entry == 3) ≡ false) (λ runs. self.entry ≡ runs.0.now ∷ runs.1.now ∷ runs.2.now ∷ []) }
+    {
+        let first = self.next_run()?;
+        let (second, third) = self.two()?;
+        Some((first, second, third))
     }
 }
 

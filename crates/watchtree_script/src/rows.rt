@@ -184,7 +184,7 @@ impl<'a> Parser<'a> {
     fn init(&self) -> Result<Line, LineError>
         ensures { Gives result (line_asked self.now.queue Command.Init self.now.words) }
     {
-        let limit = if self.words.has(0) {
+        let limit = if self.words.is_empty() {
             self.queue
         } else {
             u32_word(self.one()?)?
@@ -245,7 +245,7 @@ impl<'a> Parser<'a> {
     fn cut(&self) -> Result<Line, LineError>
         ensures { Gives result (line_asked self.now.queue Command.Cut self.now.words) }
     {
-        if self.words.has(0) {
+        if self.words.is_empty() {
             Ok(Line::Cut)
         } else {
             Err(LineError::Fault(ScriptFault::WrongNumber))
@@ -290,33 +290,30 @@ impl<'a> Parser<'a> {
     fn one(&self) -> Result<&'a [u8], LineError>
         ensures { MatchResult result (λ word. self.now.words ≡ word.now ∷ []) (λ error. (error ≡ LineError.Fault ScriptFault.WrongNumber) × ((length self.now.words == 1) ≡ false)) }
     {
-        if !self.words.has(1) {
-            return Err(LineError::Fault(ScriptFault::WrongNumber));
-        }
-        let mut words = self.words.copied();
-        Ok(words.take_run())
+        self.words
+            .copied()
+            .one()
+            .ok_or(LineError::Fault(ScriptFault::WrongNumber))
     }
 
     /// The only two words.
     fn two(&self) -> Result<(&'a [u8], &'a [u8]), LineError>
         ensures { MatchResult result (λ words. self.now.words ≡ words.0.now ∷ words.1.now ∷ []) (λ error. (error ≡ LineError.Fault ScriptFault.WrongNumber) × ((length self.now.words == 2) ≡ false)) }
     {
-        if !self.words.has(2) {
-            return Err(LineError::Fault(ScriptFault::WrongNumber));
-        }
-        let mut words = self.words.copied();
-        Ok((words.take_run(), words.take_run()))
+        self.words
+            .copied()
+            .two()
+            .ok_or(LineError::Fault(ScriptFault::WrongNumber))
     }
 
     /// The only three words.
     fn three(&self) -> Result<(&'a [u8], &'a [u8], &'a [u8]), LineError>
         ensures { MatchResult result (λ words. self.now.words ≡ words.0.now ∷ words.1.now ∷ words.2.now ∷ []) (λ error. (error ≡ LineError.Fault ScriptFault.WrongNumber) × ((length self.now.words == 3) ≡ false)) }
     {
-        if !self.words.has(3) {
-            return Err(LineError::Fault(ScriptFault::WrongNumber));
-        }
-        let mut words = self.words.copied();
-        Ok((words.take_run(), words.take_run(), words.take_run()))
+        self.words
+            .copied()
+            .three()
+            .ok_or(LineError::Fault(ScriptFault::WrongNumber))
     }
 }
 

@@ -1,6 +1,9 @@
 //! What the words behind a command stand for.
 
-ghost use Rattle.std.specs.Prelude.{◌≡◌, ◌<◌, ◌≤◌, length, IfOk, IfSome, MatchOption, None, Some, option_map};
+ghost use Rattle.std.specs.Prelude.{◌≡◌, ◌==◌, ◌<◌, ◌≤◌, length, IfOk, IfSome, MatchOption, None, Some, option_map};
+ghost use Rattle.std.specs.List.{list_any};
+ghost use Rattle.std.specs.Str.{byte};
+ghost use Rattle.std.specs.Cow.{cow_slice_items};
 ghost use Rattle.watchtree_script.specs.Words.{byte_of, before, unescaped, behind, number_spelled, below_zero, from_zero, path_word, mode_word, mask_word, u32_word, u64_word, i32_word, hex_word, u32_max};
 ghost use Rattle.watchtree_script.specs.Commands.{Gives};
 
@@ -10,6 +13,8 @@ use crate::numbers::number_spelled;
 use hex::FromHexError;
 use record_codec::Bytes;
 use std::alloc::{AllocError, Global};
+use std::borrow::CowSlice;
+use std::marker::Model;
 
 const OCTAL: u32 = 8;
 
@@ -70,13 +75,51 @@ fn unescape(alloc: Global, word: &[u8]) -> Result<Option<Vec<u8>>, AllocError>
     Ok(Some(bytes))
 }
 
-/// PATH: the bytes that it stands for.
-#[tactic(auto, unfolding(crate::specs::Words::path_word))]
-pub(crate) fn path_word(alloc: Global, word: &[u8]) -> Result<Bytes, LineError>
-    ensures { Gives result (path_word word.now) }
+/// Whether a byte of a word is escaped.
+fn has_escape(word: &[u8]) -> bool
+    ensures { result ≡ list_any (λ b. b == byte "%") word.now }
 {
+    word.iter().any(|b| *b == b'%')
+}
+
+/// What the word of a path stands for.
+#[derive(Drop)]
+pub(crate) struct PathText<'a> {
+    /// The word itself, where none of its bytes is escaped.
+    bytes: CowSlice<'a, u8>,
+}
+
+impl<'a> Model for PathText<'a> {
+    ghost use Rattle.std.specs.Prelude.{ℕ, List};
+    ghost use Rattle.std.specs.Cow.{cow_slice_items};
+
+    ghost Value = { List ℕ };
+
+    ghost view = { λ text. cow_slice_items text.bytes };
+}
+
+impl<'a> PathText<'a> {
+    pub fn as_slice(&self) -> &[u8]
+        ensures { result.now ≡ self.now }
+    {
+        self.bytes.as_slice()
+    }
+}
+
+/// PATH: the bytes that it stands for.
+#[tactic(auto, using(crate::proofs::WordLemmas::unescaped_plain), unfolding(crate::specs::Words::path_word))]
+pub(crate) fn path_word<'a>(alloc: Global, word: &'a [u8]) -> Result<PathText<'a>, LineError>
+    ensures { Gives result (path_word word.entry.now) }
+{
+    if !has_escape(word) {
+        return Ok(PathText {
+            bytes: CowSlice::Borrowed(word),
+        });
+    }
     match unescape(alloc, word) {
-        Ok(Some(bytes)) => Ok(Bytes::from_vec(bytes)),
+        Ok(Some(bytes)) => Ok(PathText {
+            bytes: CowSlice::Owned(bytes),
+        }),
         Ok(None) => Err(LineError::Fault(ScriptFault::BadEscape)),
         Err(_) => Err(LineError::Memory),
     }

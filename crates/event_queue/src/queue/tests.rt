@@ -51,13 +51,20 @@ fn limit_two(rt: HostRuntime) -> Result<(), Refusal> {
     holds(&rt, "!queue.is_empty()", !queue.is_empty());
     // The mark takes 16 bytes, and a record with a short name 32.
     let fits = [15, 16, 47, 48, 1000].map(|bytes| queue.fit(bytes));
-    equal(&rt, fits, [0, 1, 1, 2, 2]);
+    let counted = [(0, 0), (1, 16), (1, 16), (2, 48), (2, 48)];
+    equal(&rt, fits, counted.map(|(count, len)| Fit { count, len }));
+    equal(
+        &rt,
+        [15, 16].map(|bytes| queue.any_fits(bytes)),
+        [false, true],
+    );
     equal(&rt, queue.peek(0), Some(&overflow_mark()));
     equal(&rt, queue.peek(1), Some(&last));
     equal(&rt, queue.peek(2), None);
     equal(&rt, queue.take(), Some(overflow_mark()));
     equal(&rt, queue.take(), Some(last));
     equal(&rt, queue.take(), None);
+    holds(&rt, "!queue.any_fits(1000)", !queue.any_fits(1000));
     holds(&rt, "queue.is_empty()", queue.is_empty());
     Ok(())
 }
@@ -98,7 +105,11 @@ fn greatest_limit(rt: HostRuntime) -> Result<(), Refusal> {
     equal(&rt, queue.offer(touched(0)), Offered::Marked);
     equal(&rt, queue.offer(touched(1)), Offered::Lost);
     equal(&rt, queue.len(), 65_536);
-    equal(&rt, queue.fit(16 * 65_535), 65_535);
+    let fit = Fit {
+        count: 65_535,
+        len: 1_048_560,
+    };
+    equal(&rt, queue.fit(1_048_575), fit);
     for cookie in 0..limit {
         equal(&rt, queue.take(), Some(touched(cookie)));
     }

@@ -1,4 +1,4 @@
-//! The changes of a table, by whole paths.
+//! The changes of a table, by paths that are resolved on it.
 
 ghost use Rattle.std.specs.Prelude.{◌≡◌, ◌≢◌, ℕ, List, [], Option, Some, None, IfOk, IfErr, OnOk, OnErr, true, false, IsSome, IfSome, ◌&&◌, ◌+◌, ◌<◌, ◌≤◌, ◌^◌, ◌++◌, ◌∷◌};
 ghost use Rattle.std.specs.Option.{IsSomeAnd};
@@ -11,75 +11,81 @@ ghost use Rattle.inode_table.specs.Tree.{at, what_at};
 use super::Table;
 use crate::content::Content;
 use crate::key::Key;
+use crate::resolved::Resolved;
 use crate::seen::Kind;
-use record_codec::Name;
 use tree_paths::Refusal;
 
 impl Table {
     ghost use Rattle.inode_table.specs.World.{with_file, with_move, with_swap, without_path, without_lost, linked, changed_at, look};
     ghost use Rattle.inode_table.specs.Refusals.{is_directory_seen};
     ghost use Rattle.inode_table.specs.TableWorld.{world_of};
+    ghost use Rattle.inode_table.specs.Resolution.{IsResolved};
 
     /// Gives a free path to a new file without bytes, or to a new empty directory. `reserve_node` has made room for it.
     pub fn add_node(
         &mut self,
-        path: &[Name],
+        path: &Resolved,
         number: u32,
         mode: u32,
         kind: Kind,
     ) -> Result<(), Refusal>
+        requires resolved { IsResolved self.old path.now }
         requires room { 1 ≤ self.old.room }
-        requires named { path.now ≢ [] }
-        requires directory { is_directory_seen (look (world_of self.old) (parent_of path.now)) ≡ true }
-        requires free { look (world_of self.old) path.now ≡ None }
+        requires named { path.now.names ≢ [] }
+        requires directory { is_directory_seen (look (world_of self.old) (parent_of path.now.names)) ≡ true }
+        requires free { look (world_of self.old) path.now.names ≡ None }
         requires unused { finmap.get (world_of self.old).files number ≡ None }
-        ensures world { OnOk result (world_of self.new ≡ with_file (world_of self.old) path.now number (record { kind = kind; mode = mode; bytes = [] })) }
+        ensures world { OnOk result (world_of self.new ≡ with_file (world_of self.old) path.now.names number (record { kind = kind; mode = mode; bytes = [] })) }
         ensures room { OnOk result (self.new.room + 1 ≡ self.old.room) }
         ensures err { OnErr result (self.new ≡ self.old) }
         ensures memory { IfErr result (λ refusal. refusal ≡ Refusal.Enomem) }
     {
         self.rows_law();
-        let (parent, name) = parent_and_name(path);
+        let (_, name) = path.parent_and_name();
         let copy = name.copy()?;
-        let directory = self.key_at(parent);
+        let directory = self.directory_at(path);
         let content = Content::empty(self.alloc, kind);
         self.add_node_at(directory, copy, number, mode, content)?;
         Ok(())
     }
 
     /// Gives a free path more to a file that is there (a hard link).
-    pub fn add_name(&mut self, old: &[Name], new: &[Name]) -> Result<(), Refusal>
-        requires source { IsSome (look (world_of self.old) old.now) }
-        requires regular { is_directory_seen (look (world_of self.old) old.now) ≡ false }
-        requires links { IfSome (look (world_of self.old) old.now) (λ seen. seen.links + 1 < 2 ^ 64) }
-        requires named { new.now ≢ [] }
-        requires directory { is_directory_seen (look (world_of self.old) (parent_of new.now)) ≡ true }
-        requires free { look (world_of self.old) new.now ≡ None }
-        ensures world { OnOk result (world_of self.new ≡ linked (world_of self.old) new.now (finmap.get (world_of self.old).paths old.now)) }
+    pub fn add_name(&mut self, old: &Resolved, new: &Resolved) -> Result<(), Refusal>
+        requires resolved { IsResolved self.old old.now }
+        requires other_resolved { IsResolved self.old new.now }
+        requires source { IsSome (look (world_of self.old) old.now.names) }
+        requires regular { is_directory_seen (look (world_of self.old) old.now.names) ≡ false }
+        requires links { IfSome (look (world_of self.old) old.now.names) (λ seen. seen.links + 1 < 2 ^ 64) }
+        requires named { new.now.names ≢ [] }
+        requires directory { is_directory_seen (look (world_of self.old) (parent_of new.now.names)) ≡ true }
+        requires free { look (world_of self.old) new.now.names ≡ None }
+        ensures world { OnOk result (world_of self.new ≡ linked (world_of self.old) new.now.names (finmap.get (world_of self.old).paths old.now.names)) }
         ensures room { OnOk result (self.new.room ≡ self.old.room) }
         ensures err { OnErr result (self.new ≡ self.old) }
         ensures memory { IfErr result (λ refusal. refusal ≡ Refusal.Enomem) }
     {
         self.rows_law();
-        let (parent, name) = parent_and_name(new);
+        let (_, name) = new.parent_and_name();
         let copy = name.copy()?;
         let key = self.key_at(old);
-        let directory = self.key_at(parent);
+        let directory = self.directory_at(new);
         self.add_name_at(directory, copy, key)?;
         Ok(())
     }
 
     /// Moves a file, or a directory with all that is below it, to another path, in the place of a file or an empty
     /// directory that is there, which goes where that was its last path.
-    pub fn replace_name(&mut self, old: &[Name], new: &[Name]) -> Result<(), Refusal>
-        requires source { IsSome (look (world_of self.old) old.now) }
-        requires named { old.now ≢ [] }
-        requires other_named { new.now ≢ [] }
-        requires other { old.now ≢ new.now }
-        requires below { (is_directory_seen (look (world_of self.old) old.now) && is_below new.now old.now) ≡ false }
-        requires directory { is_directory_seen (look (world_of self.old) (parent_of new.now)) ≡ true }
-        requires empty { IfSome (look (world_of self.old) new.now) (λ seen. seen.has_names ≡ false) }
-        ensures world { OnOk result (world_of self.new ≡ without_lost (with_move (world_of self.old) old.now new.now) (finmap.get (world_of self.old).paths new.now)) }
+    pub fn replace_name(&mut self, old: &Resolved, new: &Resolved) -> Result<(), Refusal>
+        requires resolved { IsResolved self.old old.now }
+        requires other_resolved { IsResolved self.old new.now }
+        requires source { IsSome (look (world_of self.old) old.now.names) }
+        requires named { old.now.names ≢ [] }
+        requires other_named { new.now.names ≢ [] }
+        requires other { old.now.names ≢ new.now.names }
+        requires below { (is_directory_seen (look (world_of self.old) old.now.names) && is_below new.now.names old.now.names) ≡ false }
+        requires directory { is_directory_seen (look (world_of self.old) (parent_of new.now.names)) ≡ true }
+        requires empty { IfSome (look (world_of self.old) new.now.names) (λ seen. seen.has_names ≡ false) }
+        ensures world { OnOk result (world_of self.new ≡ without_lost (with_move (world_of self.old) old.now.names new.now.names) (finmap.get (world_of self.old).paths new.now.names)) }
         ensures room { OnOk result (self.old.room ≤ self.new.room) }
         ensures err { OnErr result (self.new ≡ self.old) }
         ensures memory { IfErr result (λ refusal. refusal ≡ Refusal.Enomem) }
@@ -92,10 +98,11 @@ impl Table {
     }
 
     /// Takes out the path of a file or of an empty directory, which goes where that was its last path.
-    pub fn drop_name(&mut self, path: &[Name])
-        requires named { path.now ≢ [] }
-        requires there { IsSomeAnd (look (world_of self.old) path.now) (λ seen. seen.has_names ≡ false) }
-        ensures world { world_of self.new ≡ without_lost (without_path (world_of self.old) path.now) (finmap.get (world_of self.old).paths path.now) }
+    pub fn drop_name(&mut self, path: &Resolved)
+        requires resolved { IsResolved self.old path.now }
+        requires named { path.now.names ≢ [] }
+        requires there { IsSomeAnd (look (world_of self.old) path.now.names) (λ seen. seen.has_names ≡ false) }
+        ensures world { world_of self.new ≡ without_lost (without_path (world_of self.old) path.now.names) (finmap.get (world_of self.old).paths path.now.names) }
         ensures room { self.old.room ≤ self.new.room }
     {
         self.rows_law();
@@ -104,27 +111,30 @@ impl Table {
     }
 
     /// Exchanges two paths, with all that is below each.
-    pub fn swap_names(&mut self, one: &[Name], other: &[Name])
-        requires there { IsSome (look (world_of self.old) one.now) }
-        requires other_there { IsSome (look (world_of self.old) other.now) }
-        requires other { one.now ≢ other.now }
-        requires below { (is_directory_seen (look (world_of self.old) one.now) && is_below other.now one.now) ≡ false }
-        requires above { (is_directory_seen (look (world_of self.old) other.now) && is_below one.now other.now) ≡ false }
-        ensures world { world_of self.new ≡ with_swap (world_of self.old) one.now other.now }
+    pub fn swap_names(&mut self, one: &Resolved, other: &Resolved)
+        requires resolved { IsResolved self.old one.now }
+        requires other_resolved { IsResolved self.old other.now }
+        requires there { IsSome (look (world_of self.old) one.now.names) }
+        requires other_there { IsSome (look (world_of self.old) other.now.names) }
+        requires other { one.now.names ≢ other.now.names }
+        requires below { (is_directory_seen (look (world_of self.old) one.now.names) && is_below other.now.names one.now.names) ≡ false }
+        requires above { (is_directory_seen (look (world_of self.old) other.now.names) && is_below one.now.names other.now.names) ≡ false }
+        ensures world { world_of self.new ≡ with_swap (world_of self.old) one.now.names other.now.names }
         ensures room { self.new.room ≡ self.old.room }
     {
         self.rows_law();
-        let (parent, name) = parent_and_name(one);
-        let (other_parent, other_name) = parent_and_name(other);
-        let directory = self.key_at(parent);
-        let other_directory = self.key_at(other_parent);
+        let (_, name) = one.parent_and_name();
+        let (_, other_name) = other.parent_and_name();
+        let directory = self.directory_at(one);
+        let other_directory = self.directory_at(other);
         self.swap_names_at(directory, name, other_directory, other_name);
     }
 
     /// Gives another mode to what stands at a path.
-    pub fn set_mode(&mut self, path: &[Name], mode: u32)
-        requires there { IsSome (look (world_of self.old) path.now) }
-        ensures world { world_of self.new ≡ changed_at (world_of self.old) path.now (λ f. record f { mode = mode }) }
+    pub fn set_mode(&mut self, path: &Resolved, mode: u32)
+        requires resolved { IsResolved self.old path.now }
+        requires there { IsSome (look (world_of self.old) path.now.names) }
+        ensures world { world_of self.new ≡ changed_at (world_of self.old) path.now.names (λ f. record f { mode = mode }) }
         ensures room { self.new.room ≡ self.old.room }
     {
         self.rows_law();
@@ -137,48 +147,52 @@ impl Table {
     ghost use Rattle.inode_table.specs.World.{World, with_move, without_path, without_lost};
     ghost use Rattle.inode_table.specs.Refusals.{is_directory_seen};
     ghost use Rattle.inode_table.specs.Stands.{Stands, look_in, number_of};
+    ghost use Rattle.inode_table.specs.Resolution.{IsResolved};
 
     // Moves a path to another one, which may be taken, and tells the key of what was there, which has one path less.
-    fn put_name(&mut self, old: &[Name], new: &[Name]) -> Result<Option<usize>, Refusal>
-        requires source { IsSome (look_in self.old old.now) }
-        requires named { old.now ≢ [] }
-        requires other_named { new.now ≢ [] }
-        requires other { old.now ≢ new.now }
-        requires below { (is_directory_seen (look_in self.old old.now) && is_below new.now old.now) ≡ false }
-        requires directory { is_directory_seen (look_in self.old (parent_of new.now)) ≡ true }
-        requires empty { IfSome (look_in self.old new.now) (λ seen. seen.has_names ≡ false) }
-        ensures world { OnOk result ((w : World) → Stands self.old w → Stands self.new (with_move w old.now new.now)) }
-        ensures replaced { IfOk result (λ key. key ≡ at self.old new.now) }
+    fn put_name(&mut self, old: &Resolved, new: &Resolved) -> Result<Option<usize>, Refusal>
+        requires resolved { IsResolved self.old old.now }
+        requires other_resolved { IsResolved self.old new.now }
+        requires source { IsSome (look_in self.old old.now.names) }
+        requires named { old.now.names ≢ [] }
+        requires other_named { new.now.names ≢ [] }
+        requires other { old.now.names ≢ new.now.names }
+        requires below { (is_directory_seen (look_in self.old old.now.names) && is_below new.now.names old.now.names) ≡ false }
+        requires directory { is_directory_seen (look_in self.old (parent_of new.now.names)) ≡ true }
+        requires empty { IfSome (look_in self.old new.now.names) (λ seen. seen.has_names ≡ false) }
+        ensures world { OnOk result ((w : World) → Stands self.old w → Stands self.new (with_move w old.now.names new.now.names)) }
+        ensures replaced { IfOk result (λ key. key ≡ at self.old new.now.names) }
         ensures there { IfOk result (λ key. IfSome key (λ replaced. IsSome (what_at self.new replaced))) }
-        ensures number { IfOk result (λ key. (w : World) → Stands self.old w → finmap.get w.paths new.now ≡ number_of self.new key) }
+        ensures number { IfOk result (λ key. (w : World) → Stands self.old w → finmap.get w.paths new.now.names ≡ number_of self.new key) }
         ensures room { OnOk result (self.new.room ≡ self.old.room) }
         ensures err { OnErr result (self.new ≡ self.old) }
         ensures memory { IfErr result (λ refusal. refusal ≡ Refusal.Enomem) }
     {
         self.rows_law();
-        let (parent, name) = parent_and_name(old);
-        let (other_parent, other_name) = parent_and_name(new);
+        let (_, name) = old.parent_and_name();
+        let (_, other_name) = new.parent_and_name();
         let copy = other_name.copy()?;
-        let replaced = self.walk(new).ok();
-        let directory = self.key_at(parent);
-        let other_directory = self.key_at(other_parent);
+        let replaced = self.key_if(new);
+        let directory = self.directory_at(old);
+        let other_directory = self.directory_at(new);
         self.replace_name_at(directory, name, other_directory, copy)?;
         Ok(replaced)
     }
 
     // Takes out a path, and tells its key.
-    fn take_name(&mut self, path: &[Name]) -> usize
-        requires named { path.now ≢ [] }
-        requires there { IsSomeAnd (look_in self.old path.now) (λ seen. seen.has_names ≡ false) }
-        ensures world { (w : World) → Stands self.old w → Stands self.new (without_path w path.now) }
-        ensures key { at self.old path.now ≡ Some result }
+    fn take_name(&mut self, path: &Resolved) -> usize
+        requires resolved { IsResolved self.old path.now }
+        requires named { path.now.names ≢ [] }
+        requires there { IsSomeAnd (look_in self.old path.now.names) (λ seen. seen.has_names ≡ false) }
+        ensures world { (w : World) → Stands self.old w → Stands self.new (without_path w path.now.names) }
+        ensures key { at self.old path.now.names ≡ Some result }
         ensures there { IsSome (what_at self.new result) }
-        ensures number { (w : World) → Stands self.old w → finmap.get w.paths path.now ≡ number_of self.new (Some result) }
+        ensures number { (w : World) → Stands self.old w → finmap.get w.paths path.now.names ≡ number_of self.new (Some result) }
         ensures room { self.new.room ≡ self.old.room }
     {
         self.rows_law();
-        let (parent, name) = parent_and_name(path);
-        let directory = self.key_at(parent);
+        let (_, name) = path.parent_and_name();
+        let directory = self.directory_at(path);
         self.drop_name_at(directory, name)
     }
 
@@ -192,17 +206,5 @@ impl Table {
         if self.node(Key::of(key)).links == 0 {
             self.drop_node_at(key);
         }
-    }
-}
-
-// The path of the directory of a path's last name, and that name.
-fn parent_and_name(path: &[Name]) -> (&[Name], &Name)
-    requires { path.now ≢ [] }
-    ensures parts { path.now ≡ result.0.now ++ result.1.now ∷ [] }
-    ensures parent { result.0.now ≡ parent_of path.now }
-{
-    match path.split_last() {
-        Some((name, parent)) => (parent, name),
-        None => unreachable!(),
     }
 }

@@ -78,7 +78,7 @@ impl Table {
     }
 
     // What decides whether a call on a node is refused.
-    pub(super) fn seen(&self, key: Key) -> Seen
+    pub(super) fn seen_under(&self, key: Key) -> Seen
         requires there { IsSome (number_of self.now (Some key)) }
         ensures { seen_at self.now key ≡ Some result }
     {
@@ -89,17 +89,5 @@ impl Table {
             links: node.links,
             has_names: node.content.has_names(),
         }
-    }
-
-    /// What stands at a path, or why nothing does.
-    pub fn look(&self, path: &[Name]) -> Result<Seen, Refusal>
-        ensures seen { IfOk result (λ seen. look (world_of self.now) path.now ≡ Some seen) }
-        ensures none { IfOk result (λ _. find (look (world_of self.now)) path.now ≡ None) }
-        ensures missing { IfErr result (λ refusal. find (look (world_of self.now)) path.now ≡ Some refusal) }
-        ensures absent { IfErr result (λ _. look (world_of self.now) path.now ≡ None) }
-    {
-        self.rows_law();
-        let key = self.walk(path)?;
-        Ok(self.seen(Key::of(key)))
     }
 }

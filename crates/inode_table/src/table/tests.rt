@@ -1,17 +1,20 @@
 //! Each call where its conditions were tested at run time: a call whose conditions do not hold is not made.
 
-ghost use Rattle.std.specs.Prelude.{◌≡◌, ◌≢◌, ◌<◌, ◌+◌, ℕ, [], Some, None, true, false, IsTrue, IfSome, OnOk};
+ghost use Rattle.std.specs.Prelude.{◌≡◌, ◌≢◌, ◌<◌, ◌+◌, ℕ, [], Some, None, true, false, IsSome, IsTrue, IfOk, IfSome, OnOk};
 ghost use Rattle.slab.specs.Slab.{get};
 ghost use Rattle.tree_paths.specs.Paths.{is_below};
 ghost use Rattle.inode_table.specs.Refusals.{is_directory_seen, parent_of};
+ghost use Rattle.inode_table.specs.Resolution.{IsResolved};
+ghost use Rattle.inode_table.specs.Stands.{number_of};
 ghost use Rattle.inode_table.specs.TableWorld.{world_of, HasNumbersBelow};
 ghost use Rattle.inode_table.specs.World.{look};
 ghost use Rattle.inode_table.specs.declared.node.Node.{Node};
 
 use super::Table;
+use crate::key::Key;
 use crate::node::Node;
+use crate::resolved::Resolved;
 use crate::seen::Kind;
-use record_codec::Name;
 use slab::Slab;
 use std::alloc::Global;
 use std::test::Fail;
@@ -40,18 +43,10 @@ fn has_below(table: &Table, number: u32) -> bool
     are_below(&table.nodes, number)
 }
 
-fn is_directory(table: &Table, path: &[Name]) -> bool
-    ensures { result ≡ is_directory_seen (look (world_of table.now) path.now) }
-{
-    match table.look(path) {
-        Ok(seen) => seen.kind == Kind::Directory,
-        Err(_) => false,
-    }
-}
-
 // Whether there are names below the path.
-fn has_names(table: &Table, path: &[Name]) -> bool
-    ensures { result ≡ false → IfSome (look (world_of table.now) path.now) (λ seen. seen.has_names ≡ false) }
+fn has_names(table: &Table, path: &Resolved) -> bool
+    requires { IsResolved table.now path.now }
+    ensures { result ≡ false → IfSome (look (world_of table.now) path.now.names) (λ seen. seen.has_names ≡ false) }
 {
     match table.look(path) {
         Ok(seen) => seen.has_names,
@@ -59,22 +54,35 @@ fn has_names(table: &Table, path: &[Name]) -> bool
     }
 }
 
-// Whether a name can stand at the path: it is not the root's, and its directory is there.
-fn has_parent(table: &Table, path: &[Name]) -> bool
-    ensures named { IsTrue result → path.now ≢ [] }
-    ensures directory { IsTrue result → is_directory_seen (look (world_of table.now) (parent_of path.now)) ≡ true }
+// Whether a directory is there for the last name of the path.
+fn is_in_directory(table: &Table, path: &Resolved) -> bool
+    requires { IsResolved table.now path.now }
+    ensures { result ≡ is_directory_seen (look (world_of table.now) (parent_of path.now.names)) }
 {
-    match path.split_last() {
-        Some((_, parent)) => is_directory(table, parent),
+    match table.look_parent(path) {
+        Ok(seen) => seen.kind == Kind::Directory,
+        Err(_) => false,
+    }
+}
+
+// Whether a name can stand at the path: it is not the root's, and its directory is there.
+fn has_parent(table: &Table, path: &Resolved) -> bool
+    requires resolved { IsResolved table.now path.now }
+    ensures named { IsTrue result → path.now.names ≢ [] }
+    ensures directory { IsTrue result → is_directory_seen (look (world_of table.now) (parent_of path.now.names)) ≡ true }
+{
+    match path.as_path().parent_and_name() {
+        Some(_) => is_in_directory(table, path),
         None => false,
     }
 }
 
 // Whether a new name can stand at the path.
-fn is_free(table: &Table, path: &[Name]) -> bool
-    ensures named { IsTrue result → path.now ≢ [] }
-    ensures directory { IsTrue result → is_directory_seen (look (world_of table.now) (parent_of path.now)) ≡ true }
-    ensures free { IsTrue result → look (world_of table.now) path.now ≡ None }
+fn is_free(table: &Table, path: &Resolved) -> bool
+    requires resolved { IsResolved table.now path.now }
+    ensures named { IsTrue result → path.now.names ≢ [] }
+    ensures directory { IsTrue result → is_directory_seen (look (world_of table.now) (parent_of path.now.names)) ≡ true }
+    ensures free { IsTrue result → look (world_of table.now) path.now.names ≡ None }
 {
     has_parent(table, path) && table.look(path).is_err()
 }
@@ -149,106 +157,124 @@ impl Calls {
         ensures { OnOk result (HasNumbersBelow (world_of self.new.table) (number + 1)) }
     {
         let path = self.path(path)?;
-        if !is_free(&self.table, path.names()) {
+        let path = self.table.resolve(&path);
+        if !is_free(&self.table, &path) {
             return Ok(false);
         }
         self.table.reserve_node()?;
-        self.table.add_node(path.names(), number, mode, kind)?;
+        self.table.add_node(&path, number, mode, kind)?;
         Ok(true)
     }
 
     fn link(&mut self, old: &str, new: &str) -> Result<bool, Refusal> {
         let (old, new) = (self.path(old)?, self.path(new)?);
-        let seen = self.table.look(old.names())?;
+        let (old, new) = (self.table.resolve(&old), self.table.resolve(&new));
+        let seen = self.table.look(&old)?;
         if seen.kind == Kind::Directory || seen.links == u64::MAX {
             return Ok(false);
         }
-        if !is_free(&self.table, new.names()) {
+        if !is_free(&self.table, &new) {
             return Ok(false);
         }
-        self.table.add_name(old.names(), new.names())?;
+        self.table.add_name(&old, &new)?;
         Ok(true)
     }
 
     fn unlink(&mut self, path: &str) -> Result<bool, Refusal> {
         let path = self.path(path)?;
-        let seen = self.table.look(path.names())?;
-        if seen.has_names || path.names().is_empty() {
+        let path = self.table.resolve(&path);
+        let seen = self.table.look(&path)?;
+        if seen.has_names || path.as_path().names().is_empty() {
             return Ok(false);
         }
-        self.table.drop_name(path.names());
+        self.table.drop_name(&path);
         Ok(true)
     }
 
     fn rename(&mut self, old: &str, new: &str) -> Result<bool, Refusal> {
         let (old, new) = (self.path(old)?, self.path(new)?);
-        self.table.look(old.names())?;
         if old.names().is_empty() || !is_outside(&new, &old) {
             return Ok(false);
         }
-        if !has_parent(&self.table, new.names()) || has_names(&self.table, new.names()) {
+        let (old, new) = (self.table.resolve(&old), self.table.resolve(&new));
+        self.table.look(&old)?;
+        if !has_parent(&self.table, &new) || has_names(&self.table, &new) {
             return Ok(false);
         }
-        self.table.replace_name(old.names(), new.names())?;
+        self.table.replace_name(&old, &new)?;
         Ok(true)
     }
 
     fn swap(&mut self, one: &str, other: &str) -> Result<bool, Refusal> {
         let (one, other) = (self.path(one)?, self.path(other)?);
-        self.table.look(one.names())?;
-        self.table.look(other.names())?;
         if !is_outside(&one, &other) || !is_outside(&other, &one) {
             return Ok(false);
         }
-        self.table.swap_names(one.names(), other.names());
+        let (one, other) = (self.table.resolve(&one), self.table.resolve(&other));
+        self.table.look(&one)?;
+        self.table.look(&other)?;
+        self.table.swap_names(&one, &other);
         Ok(true)
     }
 
     fn set_mode(&mut self, path: &str, mode: u32) -> Result<bool, Refusal> {
         let path = self.path(path)?;
-        self.table.look(path.names())?;
-        self.table.set_mode(path.names(), mode);
+        let path = self.table.resolve(&path);
+        self.table.look(&path)?;
+        self.table.set_mode(&path, mode);
         Ok(true)
     }
 
     fn set_content(&mut self, path: &str, bytes: &[u8]) -> Result<bool, Refusal> {
         let path = self.path(path)?;
+        let path = self.table.resolve(&path);
         let bytes = Vec::from_slice(self.alloc, bytes)?;
-        if self.table.look(path.names())?.kind == Kind::Directory {
+        if self.table.look(&path)?.kind == Kind::Directory {
             return Ok(false);
         }
-        self.table.set_content(path.names(), bytes);
+        self.table.set_content(&path, bytes);
         Ok(true)
     }
 
     fn write(&mut self, path: &str, offset: usize, bytes: &[u8]) -> Result<bool, Refusal> {
         let path = self.path(path)?;
+        let path = self.table.resolve(&path);
         let Some(end) = offset.checked_add(bytes.len()) else {
             return Ok(false);
         };
-        if self.table.look(path.names())?.kind == Kind::Directory {
+        if self.table.look(&path)?.kind == Kind::Directory {
             return Ok(false);
         }
-        self.table.reserve_content(path.names(), end)?;
-        self.table.write(path.names(), offset, bytes);
+        self.table.reserve_content(&path, end)?;
+        self.table.write(&path, offset, bytes);
         Ok(true)
     }
 
     fn set_len(&mut self, path: &str, len: usize) -> Result<bool, Refusal> {
         let path = self.path(path)?;
-        if self.table.look(path.names())?.kind == Kind::Directory {
+        let path = self.table.resolve(&path);
+        if self.table.look(&path)?.kind == Kind::Directory {
             return Ok(false);
         }
-        self.table.reserve_content(path.names(), len)?;
-        self.table.set_len(path.names(), len);
+        self.table.reserve_content(&path, len)?;
+        self.table.set_len(&path, len);
         Ok(true)
     }
 
-    fn has(&self, path: &str, kind: Kind, mode: u32, links: u64) -> Result<bool, Refusal> {
+    // The key of what stands at a path.
+    fn key(&self, path: &str) -> Result<Key, Refusal>
+        ensures { IfOk result (λ key. IsSome (number_of self.now.table (Some key))) }
+    {
         let path = self.path(path)?;
+        let path = self.table.resolve(&path);
+        self.table.look(&path)?;
+        Ok(self.table.key(&path))
+    }
+
+    fn has(&self, path: &str, kind: Kind, mode: u32, links: u64) -> Result<bool, Refusal> {
         let table = &self.table;
-        let key = table.resolve(path.names())?;
-        let seen = table.seen(key);
+        let key = self.key(path)?;
+        let seen = table.seen_under(key);
         Ok(
             table.kind(key) == kind
                 && table.mode(key) == mode
@@ -258,25 +284,22 @@ impl Calls {
     }
 
     fn number(&self, path: &str) -> Result<u32, Refusal> {
-        let path = self.path(path)?;
-        let key = self.table.resolve(path.names())?;
+        let key = self.key(path)?;
         Ok(self.table.number(key))
     }
 
     fn holds(&self, path: &str, bytes: &[u8]) -> Result<bool, Refusal> {
-        let path = self.path(path)?;
-        let key = self.table.resolve(path.names())?;
+        let key = self.key(path)?;
         Ok(self.table.content(key) == bytes)
     }
 
     // Whether these are the names in the directory, each with a space behind it.
     fn lists(&self, path: &str, names: &str) -> Result<bool, Refusal> {
-        let path = self.path(path)?;
-        let key = self.table.resolve(path.names())?;
+        let key = self.key(path)?;
         if self.table.kind(key) != Kind::Directory {
             return Ok(false);
         }
-        if self.table.seen(key).has_names == names.is_empty() {
+        if self.table.seen_under(key).has_names == names.is_empty() {
             return Ok(false);
         }
         let mut text = Vec::new(self.alloc);
@@ -289,8 +312,7 @@ impl Calls {
 
     // How many names are in the directory.
     fn count(&self, path: &str) -> Result<usize, Refusal> {
-        let path = self.path(path)?;
-        let key = self.table.resolve(path.names())?;
+        let key = self.key(path)?;
         if self.table.kind(key) != Kind::Directory {
             return Ok(0);
         }

@@ -1,11 +1,10 @@
 use Rattle.std.proofs.Common.{take, drop, sym, ap, ◌∙◌}
 use Rattle.inode_table.specs.TableWorld.{world_of}
-use Rattle.inode_table.specs.World.{look}
 use Rattle.event_rules.specs.Table.{has_byte}
 use Rattle.event_rules.proofs.Reading.{bytes-none, nothing-read}
 use Rattle.event_rules.proofs.telling.is_answered.Goals as goal
 
-pub returns-in-Err : goal.returns-in-Err
-returns-in-Err c =
+pub returns-in-None : goal.returns-in-None
+returns-in-None c =
     let w = world_of c.args.table.now in
-    sym (ap (λ bytes. has_byte (take c.args.count (drop c.args.offset bytes))) (bytes-none w c.args.path.now (ap (look w) (sym c.names.ensures) ∙ c.in-Err.ensures.absent)) ∙ nothing-read c.args.offset c.args.count)
+    sym (ap (λ bytes. has_byte (take c.args.count (drop c.args.offset bytes))) (bytes-none w c.args.path.now.names (sym c.seen.ensures ∙ c.in-None.is)) ∙ nothing-read c.args.offset c.args.count)

@@ -13,10 +13,10 @@ use Rattle.tree_ops.proofs.carrying.list.Goals as goal
 pub child_names-name-items-requires : goal.child_names-name-items-requires
 child_names-name-items-requires c =
     let w = world_of c.args.table.now in
-    record { directory = subst (λ o. IsSomeAnd o (λ (f : world.File). f.kind ≡ Directory)) (sym (ap (option_and_then (finmap.get w.files)) c.key_at.ensures.found)) (directory-seen w c.args.path.now c.requires.directory) }
+    record { directory = subst (λ o. IsSomeAnd o (λ (f : world.File). f.kind ≡ Directory)) (sym (ap (option_and_then (finmap.get w.files)) c.key.ensures.found)) (directory-seen w c.args.path.now.names c.requires.directory) }
 
 pub returns : goal.returns
 returns c =
     let yielded = iter_end deref _ c.loop-name.yielded _ _ _ _ c.into_iter-name-iterator.ensures.into_iter_gives c.loop-name.yielded_by c.in-None.is c.next.ensures.steps in
     let all : c.loop-name.names.items ≡ c.child_names-name-items.result = c.loop-name.invariant ∙ yielded.0 in
-    c.from_vec.ensures ∙ all ∙ sym (names-are (world_of c.args.table.now) c.args.path.now c.child_names-name-items.result (c.child_names-name-items.ensures.world c.args.path.now (sym c.key_at.ensures.found)))
+    c.from_vec.ensures ∙ all ∙ sym (names-are (world_of c.args.table.now) c.args.path.now.names c.child_names-name-items.result (c.child_names-name-items.ensures.world c.args.path.now.names (sym c.key.ensures.found)))

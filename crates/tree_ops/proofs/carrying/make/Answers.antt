@@ -1,4 +1,4 @@
-use Rattle.std.proofs.Common.{◌≢◌, [], sym, ap, subst, ◌∙◌}
+use Rattle.std.proofs.Common.{[], ap, ◌∙◌}
 use Rattle.std.specs.FinMap as finmap
 use Rattle.inode_table.specs.Tree.{Tree}
 use Rattle.inode_table.specs.Refusals.{is_directory_seen, parent_of}
@@ -7,14 +7,14 @@ use Rattle.inode_table.specs.World.{look, with_file}
 use Rattle.std.proofs.lemmas.Result.{on_ok_weaker, on_err_weaker}
 use Rattle.tree_ops.proofs.carrying.make.Goals as goal
 
-pub add_node-requires-clause-named : goal.add_node-requires-clause-named
-add_node-requires-clause-named c = subst (λ p. p ≢ []) (sym c.names.ensures) c.requires.named
+pub add_node-requires-clause-resolved : goal.add_node-requires-clause-resolved
+add_node-requires-clause-resolved c = c.reserve_node.ensures.resolved c.args.path.now c.requires.resolved
 
 pub add_node-requires-clause-directory : goal.add_node-requires-clause-directory
-add_node-requires-clause-directory c = (λ i. is_directory_seen (look (world_in (c.reserve_node.ensures.rows i)) (parent_of (c.names.ensures i)))) ∙ c.requires.directory
+add_node-requires-clause-directory c = ap (λ rs. is_directory_seen (look (world_in rs) (parent_of c.args.path.now.names))) c.reserve_node.ensures.rows ∙ c.requires.directory
 
 pub add_node-requires-clause-free : goal.add_node-requires-clause-free
-add_node-requires-clause-free c = (λ i. look (world_in (c.reserve_node.ensures.rows i)) (c.names.ensures i)) ∙ c.requires.free
+add_node-requires-clause-free c = ap (λ rs. look (world_in rs) c.args.path.now.names) c.reserve_node.ensures.rows ∙ c.requires.free
 
 pub add_node-requires-clause-unused : goal.add_node-requires-clause-unused
 add_node-requires-clause-unused c = ap (λ rs. finmap.get (world_in rs).files c.args.number) c.reserve_node.ensures.rows ∙ c.requires.unused
@@ -22,7 +22,7 @@ add_node-requires-clause-unused c = ap (λ rs. finmap.get (world_in rs).files c.
 pub returns-clause-world : goal.returns-clause-world
 returns-clause-world c =
     on_ok_weaker c.add_node.result
-    (λ e. e ∙ (λ i. with_file (world_in (c.reserve_node.ensures.rows i)) (c.names.ensures i) c.args.number (record { kind = c.args.kind; mode = c.args.mode; bytes = [] }))) c.add_node.ensures.world
+    (λ e. e ∙ ap (λ rs. with_file (world_in rs) c.args.path.now.names c.args.number (record { kind = c.args.kind; mode = c.args.mode; bytes = [] })) c.reserve_node.ensures.rows) c.add_node.ensures.world
 
 pub returns-clause-err : goal.returns-clause-err
 returns-clause-err c = on_err_weaker c.add_node.result (λ e. ap (λ (t : Tree). t.rows) e ∙ c.reserve_node.ensures.rows) c.add_node.ensures.err

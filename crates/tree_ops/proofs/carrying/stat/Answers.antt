@@ -10,9 +10,9 @@ use Rattle.tree_ops.proofs.carrying.stat.Goals as goal
 pub returns : goal.returns
 returns c =
     let w = world_of c.args.table.now in
-    let found = c.key_at-key.ensures.found in
+    let found = c.key-key.ensures.found in
     let file = ap (option_and_then (finmap.get w.files)) found in
-    stat-told w c.args.path.now c.number.result c.kind.result c.mode.result c.links.result c.content.result.now
+    stat-told w c.args.path.now.names c.number.result c.kind.result c.mode.result c.links.result c.content.result.now
     (sym found ∙ c.number.ensures)
     (subst (λ o. IsSomeAnd o (λ (f : world.File). f.kind ≡ c.kind.result)) file c.kind.ensures)
     (subst (λ o. IsSomeAnd o (λ (f : world.File). f.mode ≡ c.mode.result)) file c.mode.ensures)

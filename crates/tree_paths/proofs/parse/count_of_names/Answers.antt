@@ -1,13 +1,16 @@
-use Rattle.std.proofs.Common.{eqb, rules}
-use borrow.Author.Tests.{tests}
-use Rattle.std.proofs.lemmas.Iterator.Consumers.{YieldsList-from_filter, count_from_yields_List}
-use Rattle.std.proofs.lemmas.Iterator.Splits.{YieldsList-from_slice_split}
-use Rattle.tree_paths.specs.Pieces.{is_nonempty}
+use Rattle.std.proofs.Common.{◌≡◌, ◌<◌, ◌-◌, false, ◌&&◌, ltb, eqb, length, get_or, sym, ◌∙◌}
+use Rattle.std.proofs.lemmas.Bool.{ne_eqb}
+use Rattle.tree_paths.proofs.FrontLemmas.{text_answer, no_end, no_more, some_by}
 use Rattle.tree_paths.proofs.parse.count_of_names.Goals as goal
+use Rattle.tree_paths.proofs.parse.count_of_names.Goals.{else-text-gt1-via-then-text-gt1+else-text-eq-SEPARATOR, else-text-gt1-via-else-text-gt1}
 
 pub returns : goal.returns
 returns c =
-    count_from_yields_List c.filter.result _ c.count.ensures.ran
-    (YieldsList-from_filter _ is_nonempty
-    (YieldsList-from_slice_split _ (λ b. eqb b 47) c.args.text.now (cc) (cc) (cc) (λ x b q k. search (rules, tests)))
-    c.filter.ensures.closure (λ x b q k. search (rules, tests)))
+    let text = c.args.text.now in
+    let some : 0 < length text = some_by text (sym c.is_empty.ensures ∙ c.if-is_empty.false) in
+    let ends : (ltb 1 (length text) && eqb (get_or text (length text - 1) 0) 47) ≡ false = elim c.else-text-gt1.branch [
+      | else-text-gt1-via-then-text-gt1+else-text-eq-SEPARATOR w ↦ no_end text (ne_eqb (get_or text (length text - 1) 0) 47 w.if-text-eq-SEPARATOR.false)
+      | else-text-gt1-via-else-text-gt1 w ↦ no_more text w.if-text-gt1.false
+    ] in
+    let both = text_answer text c.count_between.result some c.if-text-ge-PATH_MAX.false c.if-text-ne-SEPARATOR.false ends c.count_between.ensures in
+    record { answer = both.answer; count = both.count }

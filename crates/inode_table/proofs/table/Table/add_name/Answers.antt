@@ -1,5 +1,5 @@
 use Rattle.std.proofs.Common.{◌++◌, ◌∷◌, [], ◌∙◌, sym, ap, subst}
-use Rattle.inode_table.specs.Tree.{what_at}
+use Rattle.inode_table.specs.Tree.{what_at, at}
 use Rattle.inode_table.specs.World.{linked, with_path}
 use Rattle.inode_table.specs.Stands.{Stands, look_in}
 use Rattle.inode_table.proofs.FindLemmas.{live-there}
@@ -11,8 +11,8 @@ use Rattle.inode_table.proofs.table.Table.add_name.Goals as goal
 
 pub add_name_at-requires-clause-free : goal.add_name_at-requires-clause-free
 add_name_at-requires-clause-free c =
-    free-child c.args.self.now c.rows_law.ensures.table c.parent_and_name.result.0.now c.in_ok-copy.copy c.key_at-directory.result c.key_at-directory.ensures
-    (ap (look_in c.args.self.now) ((λ i. c.parent_and_name.result.0.now ++ c.in_ok-copy.ensures.same i ∷ []) ∙ sym c.parent_and_name.ensures.parts) ∙ (ap (λ l. l c.args.new.now) (sym c.rows_law.ensures.looks) ∙ c.requires.free))
+    free-child c.args.self.now c.rows_law.ensures.table c.parent_and_name.result.0.now c.in_ok-copy.copy c.directory_at-directory.result (ap (at c.args.self.now) c.parent_and_name.ensures.parent ∙ c.directory_at-directory.ensures)
+    (ap (look_in c.args.self.now) ((λ i. c.parent_and_name.result.0.now ++ c.in_ok-copy.ensures.same i ∷ []) ∙ sym c.parent_and_name.ensures.parts) ∙ (ap (λ l. l c.args.new.now.names) (sym c.rows_law.ensures.looks) ∙ c.requires.free))
 
 pub returns-clause-world : goal.returns-clause-world
 returns-clause-world c =
@@ -22,8 +22,8 @@ returns-clause-world c =
     (
     let t = c.args.self.now in
     let found = c.key_at-key.ensures in
-    let v = is_value (what_at t c.key_at-key.result) (live-there t c.rows_law.ensures.table c.args.old.now c.key_at-key.result found) in
-    subst (λ o. Stands c.add_name_at.new.self (linked w c.args.new.now o)) (sym (number-at stands c.args.old.now c.key_at-key.result v.0 found v.1))
+    let v = is_value (what_at t c.key_at-key.result) (live-there t c.rows_law.ensures.table c.args.old.now.names c.key_at-key.result found) in
+    subst (λ o. Stands c.add_name_at.new.self (linked w c.args.new.now.names o)) (sym (number-at stands c.args.old.now.names c.key_at-key.result v.0 found v.1))
     (subst (λ p. Stands c.add_name_at.new.self (with_path w p v.0.number)) ((λ i. c.parent_and_name.result.0.now ++ c.in_ok-copy.ensures.same i ∷ []) ∙ sym c.parent_and_name.ensures.parts)
-    (c.in_ok-add_name_at.ensures.world w c.parent_and_name.result.0.now v.0 stands c.key_at-directory.ensures v.1))
+    (c.in_ok-add_name_at.ensures.world w c.parent_and_name.result.0.now v.0 stands (ap (at c.args.self.now) c.parent_and_name.ensures.parent ∙ c.directory_at-directory.ensures) v.1))
     )

@@ -13,17 +13,17 @@ use Rattle.inode_table.proofs.CallLemmas.{parent-there, parent-open, child-some,
 use Rattle.inode_table.proofs.table.Table.put_name.Goals as goal
 use Rattle.inode_table.proofs.table.Table.put_name.Goals.{In_ok-replace_name_at}
 
-pub key_at-directory-requires : goal.key_at-directory-requires
-key_at-directory-requires c =
-    parent-there c.args.self.now c.rows_law.ensures.table c.args.old.now c.parent_and_name.result.0.now c.parent_and_name.result.1.now c.parent_and_name.ensures.parts c.requires.source
+pub directory_at-directory-requires-clause-there : goal.directory_at-directory-requires-clause-there
+directory_at-directory-requires-clause-there c =
+    subst (λ q. IsSome (look_in c.args.self.now q)) c.parent_and_name.ensures.parent (parent-there c.args.self.now c.rows_law.ensures.table c.args.old.now.names c.parent_and_name.result.0.now c.parent_and_name.result.1.now c.parent_and_name.ensures.parts c.requires.source)
 
 pub replace_name_at-requires-clause-directory : goal.replace_name_at-requires-clause-directory
 replace_name_at-requires-clause-directory c =
-    parent-open c.args.self.now c.rows_law.ensures.table c.args.old.now c.parent_and_name.result.0.now c.parent_and_name.result.1.now c.parent_and_name.ensures.parts c.requires.source c.key_at-directory.result c.key_at-directory.ensures
+    parent-open c.args.self.now c.rows_law.ensures.table c.args.old.now.names c.parent_and_name.result.0.now c.parent_and_name.result.1.now c.parent_and_name.ensures.parts c.requires.source c.directory_at-directory.result (ap (at c.args.self.now) c.parent_and_name.ensures.parent ∙ c.directory_at-directory.ensures)
 
 pub replace_name_at-requires-clause-there : goal.replace_name_at-requires-clause-there
 replace_name_at-requires-clause-there c =
-    child-some c.args.self.now c.rows_law.ensures.table c.args.old.now c.parent_and_name.result.0.now c.parent_and_name.result.1.now c.parent_and_name.ensures.parts c.requires.source c.key_at-directory.result c.key_at-directory.ensures
+    child-some c.args.self.now c.rows_law.ensures.table c.args.old.now.names c.parent_and_name.result.0.now c.parent_and_name.result.1.now c.parent_and_name.ensures.parts c.requires.source c.directory_at-directory.result (ap (at c.args.self.now) c.parent_and_name.ensures.parent ∙ c.directory_at-directory.ensures)
 
 pub replace_name_at-requires-clause-apart : goal.replace_name_at-requires-clause-apart
 replace_name_at-requires-clause-apart c p q to_p to_q =
@@ -31,20 +31,20 @@ replace_name_at-requires-clause-apart c p q to_p to_q =
     let table = c.rows_law.ensures.table in
     let other_parent = c.parent_and_name-2.result.0.now in
     let other_name = c.parent_and_name-2.result.1.now in
-    let from = parent-open t table c.args.old.now c.parent_and_name.result.0.now c.parent_and_name.result.1.now c.parent_and_name.ensures.parts c.requires.source c.key_at-directory.result c.key_at-directory.ensures in
+    let from = parent-open t table c.args.old.now.names c.parent_and_name.result.0.now c.parent_and_name.result.1.now c.parent_and_name.ensures.parts c.requires.source c.directory_at-directory.result (ap (at c.args.self.now) c.parent_and_name.ensures.parent ∙ c.directory_at-directory.ensures) in
     let directory : is_directory_seen (look_in t other_parent) ≡ true = ap (λ x. is_directory_seen (look_in t x)) c.parent_and_name-2.ensures.parent ∙ c.requires.directory in
-    let to = open-directory t table other_parent c.key_at-other_directory.result c.key_at-other_directory.ensures directory in
-    let off = avoids-seen t table c.args.old.now c.args.new.now other_parent other_name c.parent_and_name-2.ensures.parts c.requires.source directory c.requires.other c.requires.below in
-    avoids-any t table c.key_at-directory.result c.key_at-other_directory.result c.parent_and_name.result.0.now other_parent p q c.parent_and_name.result.1.now c.in_ok-copy.copy
-    c.key_at-directory.ensures c.key_at-other_directory.ensures from.kind to.kind to_p to_q
+    let to = open-directory t table other_parent c.directory_at-other_directory.result (ap (at c.args.self.now) c.parent_and_name-2.ensures.parent ∙ c.directory_at-other_directory.ensures) directory in
+    let off = avoids-seen t table c.args.old.now.names c.args.new.now.names other_parent other_name c.parent_and_name-2.ensures.parts c.requires.source directory c.requires.other c.requires.below in
+    avoids-any t table c.directory_at-directory.result c.directory_at-other_directory.result c.parent_and_name.result.0.now other_parent p q c.parent_and_name.result.1.now c.in_ok-copy.copy
+    (ap (at c.args.self.now) c.parent_and_name.ensures.parent ∙ c.directory_at-directory.ensures) (ap (at c.args.self.now) c.parent_and_name-2.ensures.parent ∙ c.directory_at-other_directory.ensures) from.kind to.kind to_p to_q
     (subst (λ x. Avoids x (other_parent ++ c.in_ok-copy.copy ∷ [])) c.parent_and_name.ensures.parts
-    (subst (Avoids c.args.old.now) (c.parent_and_name-2.ensures.parts ∙ (λ i. other_parent ++ sym c.in_ok-copy.ensures.same i ∷ [])) off))
+    (subst (Avoids c.args.old.now.names) (c.parent_and_name-2.ensures.parts ∙ (λ i. other_parent ++ sym c.in_ok-copy.ensures.same i ∷ [])) off))
 
 pub replace_name_at-requires-clause-empty : goal.replace_name_at-requires-clause-empty
 replace_name_at-requires-clause-empty c =
     let t = c.args.self.now in
     let other_parent = c.parent_and_name-2.result.0.now in
-    empty-below t c.rows_law.ensures.table other_parent c.in_ok-copy.copy c.key_at-other_directory.result c.key_at-other_directory.ensures
+    empty-below t c.rows_law.ensures.table other_parent c.in_ok-copy.copy c.directory_at-other_directory.result (ap (at c.args.self.now) c.parent_and_name-2.ensures.parent ∙ c.directory_at-other_directory.ensures)
     (subst (λ x. IfSome (look_in t x) (λ (s : Seen). s.has_names ≡ false)) (c.parent_and_name-2.ensures.parts ∙ (λ i. other_parent ++ sym c.in_ok-copy.ensures.same i ∷ [])) c.requires.empty)
 
 -- the move is that of the whole paths
@@ -54,12 +54,12 @@ after-move mid w parent other_parent old new name other_name copy e f g h =
 
 pub returns-clause-world : goal.returns-clause-world
 returns-clause-world c w stands =
-    after-move c.replace_name_at.new.self w c.parent_and_name.result.0.now c.parent_and_name-2.result.0.now c.args.old.now c.args.new.now c.parent_and_name.result.1.now c.parent_and_name-2.result.1.now c.in_ok-copy.copy
+    after-move c.replace_name_at.new.self w c.parent_and_name.result.0.now c.parent_and_name-2.result.0.now c.args.old.now.names c.args.new.now.names c.parent_and_name.result.1.now c.parent_and_name-2.result.1.now c.in_ok-copy.copy
     c.parent_and_name.ensures.parts c.parent_and_name-2.ensures.parts c.in_ok-copy.ensures.same
-    (c.in_ok-replace_name_at.ensures.world w c.parent_and_name.result.0.now c.parent_and_name-2.result.0.now stands c.key_at-directory.ensures c.key_at-other_directory.ensures)
+    (c.in_ok-replace_name_at.ensures.world w c.parent_and_name.result.0.now c.parent_and_name-2.result.0.now stands (ap (at c.args.self.now) c.parent_and_name.ensures.parent ∙ c.directory_at-directory.ensures) (ap (at c.args.self.now) c.parent_and_name-2.ensures.parent ∙ c.directory_at-other_directory.ensures))
 
-led : (c : In_ok-replace_name_at) → c.ok-replaced.result ≡ at c.args.self.now c.args.new.now
-led c = c.ok-replaced.ensures.value ∙ ok-at c.args.self.now c.rows_law.ensures.table c.args.new.now c.walk.result c.walk.ensures.found c.walk.ensures.absent
+led : (c : In_ok-replace_name_at) → c.key_if-replaced.result ≡ at c.args.self.now c.args.new.now.names
+led c = c.key_if-replaced.ensures
 
 pub returns-clause-replaced : goal.returns-clause-replaced
 returns-clause-replaced c = led c
@@ -67,10 +67,10 @@ returns-clause-replaced c = led c
 pub returns-clause-there : goal.returns-clause-there
 returns-clause-there c =
     let t = c.args.self.now in
-    if-some (λ k. IsSome (what_at c.replace_name_at.new.self k)) c.ok-replaced.result
-    (λ k is. kept-there t c.replace_name_at.new.self _ c.in_ok-replace_name_at.ensures.links k (live-there t c.rows_law.ensures.table c.args.new.now k (sym (led c) ∙ is)))
+    if-some (λ k. IsSome (what_at c.replace_name_at.new.self k)) c.key_if-replaced.result
+    (λ k is. kept-there t c.replace_name_at.new.self _ c.in_ok-replace_name_at.ensures.links k (live-there t c.rows_law.ensures.table c.args.new.now.names k (sym (led c) ∙ is)))
 
 pub returns-clause-number : goal.returns-clause-number
 returns-clause-number c w stands =
-    stands.paths c.args.new.now ∙ ap (number_of c.args.self.now) (sym (led c))
-    ∙ sym (numbers-same (SameFiles-loses c.args.self.now c.replace_name_at.new.self _ c.in_ok-replace_name_at.ensures.links) c.ok-replaced.result)
+    stands.paths c.args.new.now.names ∙ ap (number_of c.args.self.now) (sym (led c))
+    ∙ sym (numbers-same (SameFiles-loses c.args.self.now c.replace_name_at.new.self _ c.in_ok-replace_name_at.ensures.links) c.key_if-replaced.result)

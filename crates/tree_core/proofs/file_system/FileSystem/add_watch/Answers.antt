@@ -35,7 +35,7 @@ pub returns-in-Err : goal.returns-in-Err
 returns-in-Err c =
     let m = c.args.self.now in
     let found = copied-some c.get.result (instance_of m.instances c.args.id) c.get.ensures (c.is_none.ensures ∙ ap not c.if-is_none.false) in
-    let missing = subst (λ p. find (look (world_of m.table)) p ≡ Some c.in-Err.refusal) c.names.ensures c.in-Err.ensures.missing in
+    let missing = subst (λ p. find (look (world_of m.table)) p ≡ Some c.in-Err.refusal) c.resolve.ensures.names c.in-Err.ensures.missing in
     refused-serves m (call.AddWatch c.args.id c.args.path.now c.args.mask) c.args.keeps c.requires c.in-Err.refusal c.refused-in-Err.result c.refused-in-Err.ensures
     (add-path-there (world_of m.table) m.instances c.args.id found.0 c.args.path.now c.args.mask c.of-mask.result.0 found.1 c.of-mask.ensures c.in-Err.refusal c.in_default.ensures missing)
 
@@ -47,8 +47,8 @@ returns-in-Ok-watch c =
     let i = found.0 in
     let n = c.of-mask.result.0 in
     let seen = c.in-Ok.seen in
-    let there = subst (λ p. find (look (world_of m.table)) p ≡ None) c.names.ensures c.in-Ok.ensures.none in
-    let at = subst (λ p. look (world_of m.table) p ≡ Some seen) c.names.ensures c.in-Ok.ensures.seen in
+    let there = subst (λ p. find (look (world_of m.table)) p ≡ None) c.resolve.ensures.names c.in-Ok.ensures.none in
+    let at = subst (λ p. look (world_of m.table) p ≡ Some seen) c.resolve.ensures.names c.in-Ok.ensures.seen in
     let free = at-instance (λ i. add_refusal i.watches seen.number n c.is_directory.result ≡ None) (instance_of m.instances c.args.id) i found.1 c.in-Ok-watch.ensures.accepted in
     let wd = at-instance (λ i. c.in-Ok-watch.wd ≡ wd_added i.watches seen.number) (instance_of m.instances c.args.id) i found.1 c.in-Ok-watch.ensures.wd in
     let fits : SFits w32 c.in-Ok-watch.wd = search rules in
@@ -69,8 +69,8 @@ returns-in-Err-watch c =
     let n = c.of-mask.result.0 in
     let seen = c.in-Ok.seen in
     let r = c.in-Err-watch.refusal in
-    let there = subst (λ p. find (look (world_of m.table)) p ≡ None) c.names.ensures c.in-Ok.ensures.none in
-    let at = subst (λ p. look (world_of m.table) p ≡ Some seen) c.names.ensures c.in-Ok.ensures.seen in
+    let there = subst (λ p. find (look (world_of m.table)) p ≡ None) c.resolve.ensures.names c.in-Ok.ensures.none in
+    let at = subst (λ p. look (world_of m.table) p ≡ Some seen) c.resolve.ensures.names c.in-Ok.ensures.seen in
     let either = at-instance (λ i. (add_refusal i.watches seen.number n c.is_directory.result ≡ Some r) ⊎ (r ≡ Enomem)) (instance_of m.instances c.args.id) i found.1 c.in-Err-watch.ensures.refusals in
     let apart : r ≡ Enomem → ⊥ = first_of (search rules, grind arith) in
     let why = first-of-two (add_refusal i.watches seen.number n c.is_directory.result ≡ Some r) r apart either in

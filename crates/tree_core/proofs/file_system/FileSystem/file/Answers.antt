@@ -75,6 +75,7 @@ notices-requires c =
     let w = world_of m.table in
     let now : c.counts-counts.result.next_cookie ≡ cookie_now m.next_cookie = ap (λ (x : Counts). x.next_cookie) c.counts-counts.ensures in
     record {
+      ready = c.in-Ok.ensures.ready;
       cookies =
           let room = cookies-there w m.limits c.counts-counts.result m.next_cookie now c.args.call.now c.in-Ok.ensures.accepted in
           let fits = cookies-fit m.limits m.next_cookie (cookies_of w c.args.call.now) room in

@@ -1,0 +1,93 @@
+-- What a walk along a path finds.
+use Rattle.std.proofs.Common.{◌≡◌, ℕ, zero, suc, ◌≤◌, List, [], ◌∷◌, ◌++◌, take, length, Option, Some, None, Result, Ok, Err, is_some, refl, sym, ap, ◌∙◌, arith, if◌then◌else◌}
+use Rattle.std.proofs.lemmas.List.{take-append-le}
+use Rattle.std.specs.Option.{option_and_then}
+use Rattle.tree_paths.specs.declared.refusal.Refusal.{Refusal}
+use Rattle.tree_paths.specs.declared.refusal.Refusal.TheVariants.{Enoent, Enotdir}
+use Rattle.inode_table.specs.declared.resolved.Found.{Found}
+use Rattle.inode_table.specs.Resolution.{IsFound, IsResolved, ResolvedPath}
+use Rattle.inode_table.specs.TableWorld.{world_of}
+use Rattle.inode_table.specs.World.{look}
+use Rattle.inode_table.specs.Refusals.{Look, find, is_directory_seen, longest_there, parent_of}
+use Rattle.inode_table.specs.Rows.{Label, child}
+use Rattle.inode_table.specs.Stands.{look_in, seen_at}
+use Rattle.inode_table.specs.Tree.{Tree, IsTable, at}
+use Rattle.inode_table.specs.Walk.{walk}
+use Rattle.inode_table.proofs.FindLemmas.{absent-seen, found-none, stops-absent, stops-missing, take-whole, there-seen}
+use Rattle.inode_table.proofs.TableLemmas.{StopsAt}
+use Rattle.inode_table.proofs.TableWorldLemmas.{look-world}
+use Rattle.inode_table.proofs.WalkLemmas.{walk-append}
+
+longest-more : (seen : Look) (q s : List Label) (n : ℕ) → n ≤ length q → longest_there seen (q ++ s) n ≡ longest_there seen q n
+longest-more seen q s zero within = refl
+longest-more seen q s (suc n) within =
+    ap (λ x. if is_some (seen x) then x else longest_there seen (q ++ s) n) (take-append-le (suc n) q s within)
+    ∙ ap (λ x. if is_some (seen (take (suc n) q)) then take (suc n) q else x) (longest-more seen q s n (omega arith))
+
+one-more : (q : List Label) (l : Label) → length (q ++ l ∷ []) ≡ suc (length q)
+one-more [] l = refl
+one-more (x ∷ q) l = ap suc (one-more q l)
+
+-- what is not there has nothing below it, for the same reason
+pub find-below : (seen : Look) (q : List Label) (l : Label) → seen q ≡ None → seen (q ++ l ∷ []) ≡ None → find seen (q ++ l ∷ []) ≡ find seen q
+unfolding find
+find-below seen q l none below =
+    let why : List Label → Option Refusal = (λ x. if is_directory_seen (seen x) then Some Enoent else Some Enotdir) in
+    let whole : take (length (q ++ l ∷ [])) (q ++ l ∷ []) ≡ q ++ l ∷ [] = take-whole (q ++ l ∷ []) (length (q ++ l ∷ [])) (omega arith) in
+    let step : longest_there seen (q ++ l ∷ []) (suc (length q)) ≡ longest_there seen (q ++ l ∷ []) (length q) =
+    ap (λ b. if b then take (suc (length q)) (q ++ l ∷ []) else longest_there seen (q ++ l ∷ []) (length q)) (ap (λ x. is_some (seen x)) (ap (λ n. take n (q ++ l ∷ [])) (sym (one-more q l)) ∙ whole) ∙ ap is_some below) in
+    ap (λ b. if b then None else why (longest_there seen (q ++ l ∷ []) (length (q ++ l ∷ [])))) (ap is_some below)
+    ∙ ap why (ap (longest_there seen (q ++ l ∷ [])) (one-more q l) ∙ step ∙ longest-more seen q (l ∷ []) (length q) (omega arith))
+    ∙ sym (ap (λ b. if b then None else why (longest_there seen q (length q))) (ap is_some none))
+
+module _ (t : Tree) (table : IsTable t.rows) where
+  pub found-at : (p : List Label) (k : ℕ) (f : Found) → at t p ≡ Some k → f.key ≡ k → seen_at t k ≡ Some f.seen → IsFound t p (Ok f)
+  found-at p k f there key seen =
+      record {
+        seen = ap (λ l. l p) (look-world t table) ∙ ap (option_and_then (seen_at t)) there ∙ seen;
+        none = ap (λ l. find l p) (look-world t table) ∙ found-none t table p k there;
+        key = there ∙ ap Some (sym key);
+        missing = tt;
+        absent = tt;
+      }
+
+  pub missing-at : (p : List Label) (e : Refusal) → find (look_in t) p ≡ Some e → look_in t p ≡ None → IsFound t p (Err e)
+  missing-at p e missing absent =
+      record {
+        seen = tt;
+        none = tt;
+        key = tt;
+        missing = ap (λ l. find l p) (look-world t table) ∙ missing;
+        absent = ap (λ l. l p) (look-world t table) ∙ absent;
+      }
+
+  pub missing-below : (q : List Label) (l : Label) (e : Refusal) → find (look_in t) q ≡ Some e → look_in t q ≡ None → IsFound t (q ++ l ∷ []) (Err e)
+  missing-below q l e missing absent =
+      let below : look_in t (q ++ l ∷ []) ≡ None = absent-seen t table (q ++ l ∷ []) (walk-append (child t.rows) 0 q (l ∷ []) ∙ ap (option_and_then (λ j. walk (child t.rows) j (l ∷ []))) (there-seen t table q absent)) in
+      missing-at (q ++ l ∷ []) e (find-below (look_in t) q l absent below ∙ missing) below
+
+  pub stops-at : (p : List Label) (e : Refusal) → StopsAt t p e → IsFound t p (Err e)
+  stops-at p e stops =
+      missing-at p e (stops-missing t table p e stops) (absent-seen t table p (stops-absent t table p e stops))
+
+-- what was found stays found where no path and no file is another one
+pub resolved-kept : (t u : Tree) → ((p : List Label) → at u p ≡ at t p) → world_of u ≡ world_of t → (path : ResolvedPath) → IsResolved t path → IsResolved u path
+resolved-kept t u paths same path is = record { here = kept path.names path.here is.here; directory = kept (parent_of path.names) path.directory is.directory }
+  where
+    kept : (p : List Label) (r : Result Found Refusal) → IsFound t p r → IsFound u p r
+    kept p (Ok f) is =
+        record {
+          seen = ap (λ w. look w p) same ∙ is.seen;
+          none = ap (λ w. find (look w) p) same ∙ is.none;
+          key = paths p ∙ is.key;
+          missing = tt;
+          absent = tt;
+        }
+    kept p (Err e) is =
+        record {
+          seen = tt;
+          none = tt;
+          key = tt;
+          missing = ap (λ w. find (look w) p) same ∙ is.missing;
+          absent = ap (λ w. look w p) same ∙ is.absent;
+        }

@@ -1,0 +1,28 @@
+use Rattle.std.proofs.Common.{◌++◌, ◌∷◌, [], cond, refl, sym, ap, ◌∙◌}
+use Rattle.tree_paths.specs.declared.refusal.Refusal.TheVariants.{Enoent, Enotdir}
+use Rattle.inode_table.specs.Rows.{child, is_directory}
+use Rattle.inode_table.specs.Tree.{Tree}
+use Rattle.inode_table.proofs.ChangeLemmas.{walk_end}
+use Rattle.inode_table.proofs.ResolutionLemmas.{found-at, stops-at}
+use Rattle.inode_table.proofs.table.Table.resolve_in.Goals as goal
+
+pub returns-in-Some : goal.returns-in-Some
+returns-in-Some c p there =
+    let t = c.args.self.now in
+    found-at t c.rows_law.ensures.table (p ++ c.args.name.now ∷ []) c.in-Some.key c.found.result
+    (walk_end (child t.rows) c.args.directory p c.args.name.now there ∙ ap (λ (s : Tree). child s.rows c.args.directory c.args.name.now) (sym c.self.view_is) ∙ sym c.in-Some.ensures) c.found.ensures.key c.found.ensures.seen
+
+pub returns-in-None : goal.returns-in-None
+returns-in-None c p there =
+    let t = c.args.self.now in
+    stops-at t c.rows_law.ensures.table (p ++ c.args.name.now ∷ []) c.refusal_at.result
+    record {
+      front = p;
+      label = c.args.name.now;
+      rest = [];
+      key = c.args.directory;
+      cut = refl;
+      there = there;
+      missing = walk_end (child t.rows) c.args.directory p c.args.name.now there ∙ ap (λ (s : Tree). child s.rows c.args.directory c.args.name.now) (sym c.self.view_is) ∙ sym c.in-None.ensures;
+      answer = c.refusal_at.ensures ∙ ap (λ (s : Tree). cond (is_directory s.rows c.args.directory) Enoent Enotdir) c.self.view_is;
+    }

@@ -1,0 +1,67 @@
+//! A path as it is resolved on a table.
+
+ghost use Rattle.std.specs.Prelude.{◌≡◌, ◌≢◌, ◌++◌, ◌∷◌, []};
+ghost use Rattle.inode_table.specs.Refusals.{parent_of};
+
+use crate::key::Key;
+use crate::seen::Seen;
+use record_codec::Name;
+use std::marker::Model;
+use tree_paths::{Path, Refusal};
+
+/// What stands at a path: its key, and what decides whether a call on it is refused.
+#[derive(Clone, Copy)]
+pub struct Found {
+    /// Its key.
+    pub(crate) key: Key,
+    /// Its number, kind and count of paths, and whether names are in it.
+    pub(crate) seen: Seen,
+}
+
+/// A path, and what [`crate::Table::resolve`] found along it, in the table as it was then.
+#[derive(Drop)]
+pub struct Resolved<'a> {
+    pub(crate) path: &'a Path,
+    pub(crate) directory: Result<Found, Refusal>,
+    pub(crate) here: Result<Found, Refusal>,
+}
+
+impl<'a> Model for Resolved<'a> {
+    ghost use Rattle.inode_table.specs.Resolution.{ResolvedPath};
+
+    ghost Value = { ResolvedPath };
+
+    ghost view = { λ resolved. record { names = resolved.path.now; directory = resolved.directory; here = resolved.here } };
+}
+
+impl<'a> Resolved<'a> {
+    /// The path.
+    pub fn as_path(&self) -> &'a Path
+        ensures { result.now ≡ self.now.names }
+    {
+        self.path
+    }
+
+    /// The names of the directory of the path's last name, and that name.
+    pub(crate) fn parent_and_name(&self) -> (&'a [Name], &'a Name)
+        requires { self.now.names ≢ [] }
+        ensures parts { self.now.names ≡ result.0.now ++ result.1.now ∷ [] }
+        ensures parent { result.0.now ≡ parent_of self.now.names }
+    {
+        match self.path.parent_and_name() {
+            Some(parts) => parts,
+            None => unreachable!(),
+        }
+    }
+
+    /// The same once more.
+    pub fn copy(&self) -> Resolved<'a>
+        ensures { result ≡ self.now }
+    {
+        Resolved {
+            path: self.path,
+            directory: self.directory,
+            here: self.here,
+        }
+    }
+}

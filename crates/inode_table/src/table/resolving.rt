@@ -1,0 +1,156 @@
+//! The resolution of a path: one walk for all that a call wants to know of it (POSIX.1-2017, 4.13).
+
+ghost use Rattle.std.specs.Prelude.{◌≡◌, ◌∷◌, ◌++◌, List, [], Some, None, IsSome, IfOk, IfErr};
+ghost use Rattle.std.specs.FinMap as finmap;
+ghost use Rattle.inode_table.specs.Rows.{Label};
+ghost use Rattle.inode_table.specs.Tree.{at, what_at};
+
+use super::{ROOT, Table, refusal_at};
+use crate::key::Key;
+use crate::node::child;
+use crate::resolved::{Found, Resolved};
+use crate::seen::Seen;
+use record_codec::Name;
+use tree_paths::{Path, Refusal};
+
+impl Table {
+    ghost use Rattle.inode_table.specs.World.{look};
+    ghost use Rattle.inode_table.specs.Refusals.{find, parent_of};
+    ghost use Rattle.inode_table.specs.Resolution.{IsFound, IsResolved};
+    ghost use Rattle.inode_table.specs.Stands.{look_in, number_of, seen_at};
+    ghost use Rattle.inode_table.specs.TableWorld.{world_of};
+
+    /// Finds what stands at a path and in the directory of its last name, by one walk.
+    pub fn resolve<'a>(&self, path: &'a Path) -> Resolved<'a>
+        ensures names { result.names ≡ path.now }
+        ensures resolved { IsResolved self.now result }
+    {
+        self.rows_law();
+        let Some((parent, name)) = path.parent_and_name() else {
+            return Resolved {
+                path,
+                directory: Ok(self.found(ROOT)),
+                here: Ok(self.found(ROOT)),
+            };
+        };
+        match self.walk(parent) {
+            Ok(directory) => Resolved {
+                path,
+                directory: Ok(self.found(directory)),
+                here: self.resolve_in(directory, name),
+            },
+            Err(refusal) => Resolved {
+                path,
+                directory: Err(refusal),
+                here: Err(refusal),
+            },
+        }
+    }
+
+    /// What stands at a resolved path, or why nothing does: `ENOENT` below a directory, `ENOTDIR` below a file.
+    pub fn look(&self, path: &Resolved) -> Result<Seen, Refusal>
+        requires resolved { IsResolved self.now path.now }
+        ensures seen { IfOk result (λ seen. look (world_of self.now) path.now.names ≡ Some seen) }
+        ensures none { IfOk result (λ _. find (look (world_of self.now)) path.now.names ≡ None) }
+        ensures missing { IfErr result (λ refusal. find (look (world_of self.now)) path.now.names ≡ Some refusal) }
+        ensures absent { IfErr result (λ _. look (world_of self.now) path.now.names ≡ None) }
+    {
+        path.here.map(|found| found.seen)
+    }
+
+    /// What stands at a resolved path, if anything does.
+    pub fn seen(&self, path: &Resolved) -> Option<Seen>
+        requires { IsResolved self.now path.now }
+        ensures { result ≡ look (world_of self.now) path.now.names }
+    {
+        self.look(path).ok()
+    }
+
+    /// What stands at the directory of a resolved path's last name, or why nothing does. Of the root it is the root itself.
+    pub fn look_parent(&self, path: &Resolved) -> Result<Seen, Refusal>
+        requires resolved { IsResolved self.now path.now }
+        ensures seen { IfOk result (λ seen. look (world_of self.now) (parent_of path.now.names) ≡ Some seen) }
+        ensures none { IfOk result (λ _. find (look (world_of self.now)) (parent_of path.now.names) ≡ None) }
+        ensures missing { IfErr result (λ refusal. find (look (world_of self.now)) (parent_of path.now.names) ≡ Some refusal) }
+        ensures absent { IfErr result (λ _. look (world_of self.now) (parent_of path.now.names) ≡ None) }
+    {
+        path.directory.map(|found| found.seen)
+    }
+
+    /// The key of what stands at a resolved path.
+    pub fn key(&self, path: &Resolved) -> Key
+        requires resolved { IsResolved self.now path.now }
+        requires there { IsSome (look (world_of self.now) path.now.names) }
+        ensures found { number_of self.now (Some result) ≡ finmap.get (world_of self.now).paths path.now.names }
+        ensures there { IsSome (number_of self.now (Some result)) }
+    {
+        self.rows_law();
+        match path.here {
+            Ok(found) => found.key,
+            Err(_) => unreachable!(),
+        }
+    }
+
+    // What stands under a name at a key.
+    fn resolve_in(&self, directory: usize, name: &Name) -> Result<Found, Refusal>
+        requires there { IsSome (what_at self.now directory) }
+        ensures { (p : List Label) → at self.now p ≡ Some directory → IsFound self.now (p ++ name.now ∷ []) result }
+    {
+        self.rows_law();
+        match child(&self.nodes, directory, name) {
+            Some(key) => Ok(self.found(key)),
+            None => Err(refusal_at(&self.nodes, directory)),
+        }
+    }
+
+    // What is found at a key.
+    fn found(&self, key: usize) -> Found
+        requires there { IsSome (what_at self.now key) }
+        ensures key { result.key ≡ key }
+        ensures seen { seen_at self.now key ≡ Some result.seen }
+    {
+        let key = Key::of(key);
+        Found {
+            key,
+            seen: self.seen_under(key),
+        }
+    }
+
+    // The key of what stands at a resolved path.
+    pub(super) fn key_at(&self, path: &Resolved) -> usize
+        requires resolved { IsResolved self.now path.now }
+        requires there { IsSome (look_in self.now path.now.names) }
+        ensures { at self.now path.now.names ≡ Some result }
+    {
+        self.rows_law();
+        match path.here {
+            Ok(found) => found.key.slot(),
+            Err(_) => unreachable!(),
+        }
+    }
+
+    // The key of the directory of a resolved path's last name.
+    pub(super) fn directory_at(&self, path: &Resolved) -> usize
+        requires resolved { IsResolved self.now path.now }
+        requires there { IsSome (look_in self.now (parent_of path.now.names)) }
+        ensures { at self.now (parent_of path.now.names) ≡ Some result }
+    {
+        self.rows_law();
+        match path.directory {
+            Ok(found) => found.key.slot(),
+            Err(_) => unreachable!(),
+        }
+    }
+
+    // The key of what stands at a resolved path, if anything does.
+    pub(super) fn key_if(&self, path: &Resolved) -> Option<usize>
+        requires resolved { IsResolved self.now path.now }
+        ensures { result ≡ at self.now path.now.names }
+    {
+        self.rows_law();
+        match path.here {
+            Ok(found) => Some(found.key.slot()),
+            Err(_) => None,
+        }
+    }
+}
