@@ -1,21 +1,20 @@
 -- What a walk along a path finds.
-use Rattle.std.proofs.Common.{◌≡◌, ℕ, zero, suc, ◌≤◌, List, [], ◌∷◌, ◌++◌, take, length, Option, Some, None, Result, Ok, Err, is_some, refl, sym, ap, ◌∙◌, arith, if◌then◌else◌}
+use Rattle.std.proofs.Common.{◌≡◌, ℕ, zero, suc, ◌≤◌, List, [], ◌∷◌, ◌++◌, take, length, Option, Some, None, Result, Ok, Err, true, is_some, refl, sym, ap, subst, ◌∙◌, arith, if◌then◌else◌}
 use Rattle.std.proofs.lemmas.List.{take-append-le}
 use Rattle.std.specs.Option.{option_and_then}
 use Rattle.tree_paths.specs.declared.refusal.Refusal.{Refusal}
 use Rattle.tree_paths.specs.declared.refusal.Refusal.TheVariants.{Enoent, Enotdir}
-use Rattle.inode_table.specs.declared.resolved.Found.{Found}
 use Rattle.inode_table.specs.Resolution.{IsFound, IsResolved, ResolvedPath}
 use Rattle.inode_table.specs.TableWorld.{world_of}
 use Rattle.inode_table.specs.World.{look}
 use Rattle.inode_table.specs.Refusals.{Look, find, is_directory_seen, longest_there, parent_of}
 use Rattle.inode_table.specs.Rows.{Label, child}
-use Rattle.inode_table.specs.Stands.{look_in, seen_at}
+use Rattle.inode_table.specs.Stands.{look_in, number_of, seen_at}
 use Rattle.inode_table.specs.Tree.{Tree, IsTable, at}
 use Rattle.inode_table.specs.Walk.{walk}
-use Rattle.inode_table.proofs.FindLemmas.{absent-seen, found-none, stops-absent, stops-missing, take-whole, there-seen}
+use Rattle.inode_table.proofs.FindLemmas.{absent-seen, found-none, live-there, stops-absent, stops-missing, take-whole, there-seen}
 use Rattle.inode_table.proofs.TableLemmas.{StopsAt}
-use Rattle.inode_table.proofs.TableWorldLemmas.{look-world}
+use Rattle.inode_table.proofs.TableWorldLemmas.{look-world, numbered}
 use Rattle.inode_table.proofs.WalkLemmas.{walk-append}
 
 longest-more : (seen : Look) (q s : List Label) (n : ℕ) → n ≤ length q → longest_there seen (q ++ s) n ≡ longest_there seen q n
@@ -41,22 +40,33 @@ find-below seen q l none below =
     ∙ sym (ap (λ b. if b then None else why (longest_there seen q (length q))) (ap is_some none))
 
 module _ (t : Tree) (table : IsTable t.rows) where
-  pub found-at : (p : List Label) (k : ℕ) (f : Found) → at t p ≡ Some k → f.key ≡ k → seen_at t k ≡ Some f.seen → IsFound t p (Ok f)
-  found-at p k f there key seen =
+  pub found-at : (p : List Label) (k j : ℕ) → at t p ≡ Some k → j ≡ k → IsFound t p (Ok j)
+  found-at p k j there same =
       record {
-        seen = ap (λ l. l p) (look-world t table) ∙ ap (option_and_then (seen_at t)) there ∙ seen;
+        key = there ∙ ap Some (sym same);
         none = ap (λ l. find l p) (look-world t table) ∙ found-none t table p k there;
-        key = there ∙ ap Some (sym key);
         missing = tt;
         absent = tt;
       }
 
+  -- what was found has a number, and it is what stands there
+  pub found-there : (p : List Label) (k : ℕ) → at t p ≡ Some k → is_some (number_of t (Some k)) ≡ true
+  found-there p k there = numbered t k (live-there t table p k there)
+
+  pub found-seen : (p : List Label) (k : ℕ) → at t p ≡ Some k → look (world_of t) p ≡ seen_at t k
+  found-seen p k there = ap (λ l. l p) (look-world t table) ∙ ap (option_and_then (seen_at t)) there
+
+  pub found-key : (p : List Label) (r : Result ℕ Refusal) (k : ℕ) → IsFound t p r → r ≡ Ok k → at t p ≡ Some k
+  found-key p r k is e = is-at (subst (IsFound t p) e is)
+    where
+      is-at : IsFound t p (Ok k) → at t p ≡ Some k
+      is-at found = found.key
+
   pub missing-at : (p : List Label) (e : Refusal) → find (look_in t) p ≡ Some e → look_in t p ≡ None → IsFound t p (Err e)
   missing-at p e missing absent =
       record {
-        seen = tt;
-        none = tt;
         key = tt;
+        none = tt;
         missing = ap (λ l. find l p) (look-world t table) ∙ missing;
         absent = ap (λ l. l p) (look-world t table) ∙ absent;
       }
@@ -74,20 +84,18 @@ module _ (t : Tree) (table : IsTable t.rows) where
 pub resolved-kept : (t u : Tree) → ((p : List Label) → at u p ≡ at t p) → world_of u ≡ world_of t → (path : ResolvedPath) → IsResolved t path → IsResolved u path
 resolved-kept t u paths same path is = record { here = kept path.names path.here is.here; directory = kept (parent_of path.names) path.directory is.directory }
   where
-    kept : (p : List Label) (r : Result Found Refusal) → IsFound t p r → IsFound u p r
+    kept : (p : List Label) (r : Result ℕ Refusal) → IsFound t p r → IsFound u p r
     kept p (Ok f) is =
         record {
-          seen = ap (λ w. look w p) same ∙ is.seen;
-          none = ap (λ w. find (look w) p) same ∙ is.none;
           key = paths p ∙ is.key;
+          none = ap (λ w. find (look w) p) same ∙ is.none;
           missing = tt;
           absent = tt;
         }
     kept p (Err e) is =
         record {
-          seen = tt;
-          none = tt;
           key = tt;
+          none = tt;
           missing = ap (λ w. find (look w) p) same ∙ is.missing;
           absent = ap (λ w. look w p) same ∙ is.absent;
         }

@@ -4,26 +4,16 @@ ghost use Rattle.std.specs.Prelude.{◌≡◌, ◌≢◌, ◌++◌, ◌∷◌, [
 ghost use Rattle.inode_table.specs.Refusals.{parent_of};
 
 use crate::key::Key;
-use crate::seen::Seen;
 use record_codec::Name;
 use std::marker::Model;
 use tree_paths::{Path, Refusal};
-
-/// What stands at a path: its key, and what decides whether a call on it is refused.
-#[derive(Clone, Copy)]
-pub struct Found {
-    /// Its key.
-    pub(crate) key: Key,
-    /// Its number, kind and count of paths, and whether names are in it.
-    pub(crate) seen: Seen,
-}
 
 /// A path, and what [`crate::Table::resolve`] found along it, in the table as it was then.
 #[derive(Drop)]
 pub struct Resolved<'a> {
     pub(crate) path: &'a Path,
-    pub(crate) directory: Result<Found, Refusal>,
-    pub(crate) here: Result<Found, Refusal>,
+    pub(crate) directory: Result<Key, Refusal>,
+    pub(crate) here: Result<Key, Refusal>,
 }
 
 impl<'a> Model for Resolved<'a> {

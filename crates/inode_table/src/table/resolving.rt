@@ -8,7 +8,7 @@ ghost use Rattle.inode_table.specs.Tree.{at, what_at};
 use super::{ROOT, Table, refusal_at};
 use crate::key::Key;
 use crate::node::child;
-use crate::resolved::{Found, Resolved};
+use crate::resolved::Resolved;
 use crate::seen::Seen;
 use record_codec::Name;
 use tree_paths::{Path, Refusal};
@@ -29,14 +29,14 @@ impl Table {
         let Some((parent, name)) = path.parent_and_name() else {
             return Resolved {
                 path,
-                directory: Ok(self.found(ROOT)),
-                here: Ok(self.found(ROOT)),
+                directory: Ok(Key::of(ROOT)),
+                here: Ok(Key::of(ROOT)),
             };
         };
         match self.walk(parent) {
             Ok(directory) => Resolved {
                 path,
-                directory: Ok(self.found(directory)),
+                directory: Ok(Key::of(directory)),
                 here: self.resolve_in(directory, name),
             },
             Err(refusal) => Resolved {
@@ -55,7 +55,11 @@ impl Table {
         ensures missing { IfErr result (λ refusal. find (look (world_of self.now)) path.now.names ≡ Some refusal) }
         ensures absent { IfErr result (λ _. look (world_of self.now) path.now.names ≡ None) }
     {
-        path.here.map(|found| found.seen)
+        self.rows_law();
+        match path.here {
+            Ok(key) => Ok(self.seen_under(key)),
+            Err(refusal) => Err(refusal),
+        }
     }
 
     /// What stands at a resolved path, if anything does.
@@ -74,7 +78,11 @@ impl Table {
         ensures missing { IfErr result (λ refusal. find (look (world_of self.now)) (parent_of path.now.names) ≡ Some refusal) }
         ensures absent { IfErr result (λ _. look (world_of self.now) (parent_of path.now.names) ≡ None) }
     {
-        path.directory.map(|found| found.seen)
+        self.rows_law();
+        match path.directory {
+            Ok(directory) => Ok(self.seen_under(directory)),
+            Err(refusal) => Err(refusal),
+        }
     }
 
     /// The key of what stands at a resolved path.
@@ -86,33 +94,20 @@ impl Table {
     {
         self.rows_law();
         match path.here {
-            Ok(found) => found.key,
+            Ok(key) => key,
             Err(_) => unreachable!(),
         }
     }
 
     // What stands under a name at a key.
-    fn resolve_in(&self, directory: usize, name: &Name) -> Result<Found, Refusal>
+    fn resolve_in(&self, directory: usize, name: &Name) -> Result<Key, Refusal>
         requires there { IsSome (what_at self.now directory) }
         ensures { (p : List Label) → at self.now p ≡ Some directory → IsFound self.now (p ++ name.now ∷ []) result }
     {
         self.rows_law();
         match child(&self.nodes, directory, name) {
-            Some(key) => Ok(self.found(key)),
+            Some(key) => Ok(Key::of(key)),
             None => Err(refusal_at(&self.nodes, directory)),
-        }
-    }
-
-    // What is found at a key.
-    fn found(&self, key: usize) -> Found
-        requires there { IsSome (what_at self.now key) }
-        ensures key { result.key ≡ key }
-        ensures seen { seen_at self.now key ≡ Some result.seen }
-    {
-        let key = Key::of(key);
-        Found {
-            key,
-            seen: self.seen_under(key),
         }
     }
 
@@ -124,7 +119,7 @@ impl Table {
     {
         self.rows_law();
         match path.here {
-            Ok(found) => found.key.slot(),
+            Ok(key) => key.slot(),
             Err(_) => unreachable!(),
         }
     }
@@ -137,7 +132,7 @@ impl Table {
     {
         self.rows_law();
         match path.directory {
-            Ok(found) => found.key.slot(),
+            Ok(key) => key.slot(),
             Err(_) => unreachable!(),
         }
     }
@@ -149,7 +144,7 @@ impl Table {
     {
         self.rows_law();
         match path.here {
-            Ok(found) => Some(found.key.slot()),
+            Ok(key) => Some(key.slot()),
             Err(_) => None,
         }
     }

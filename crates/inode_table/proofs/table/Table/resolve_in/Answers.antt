@@ -9,8 +9,8 @@ use Rattle.inode_table.proofs.table.Table.resolve_in.Goals as goal
 pub returns-in-Some : goal.returns-in-Some
 returns-in-Some c p there =
     let t = c.args.self.now in
-    found-at t c.rows_law.ensures.table (p ++ c.args.name.now ∷ []) c.in-Some.key c.found.result
-    (walk_end (child t.rows) c.args.directory p c.args.name.now there ∙ ap (λ (s : Tree). child s.rows c.args.directory c.args.name.now) (sym c.self.view_is) ∙ sym c.in-Some.ensures) c.found.ensures.key c.found.ensures.seen
+    found-at t c.rows_law.ensures.table (p ++ c.args.name.now ∷ []) c.in-Some.key c.of.result
+    (walk_end (child t.rows) c.args.directory p c.args.name.now there ∙ ap (λ (s : Tree). child s.rows c.args.directory c.args.name.now) (sym c.self.view_is) ∙ sym c.in-Some.ensures) c.of.ensures
 
 pub returns-in-None : goal.returns-in-None
 returns-in-None c p there =
