@@ -95,7 +95,7 @@ impl Calls {
         };
         let mut told = Notices::new(self.alloc);
         notices(&self.table, &ready, self.counts.next_cookie, &mut told)?;
-        carry_out(self.alloc, &mut self.table, ready)?;
+        carry_out(self.alloc, &mut self.table, &ready)?;
         self.counts.next_number = next_number;
         self.counts.next_cookie = next_cookie;
         Ok(told)

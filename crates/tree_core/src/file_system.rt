@@ -186,7 +186,7 @@ impl FileSystem {
         self.instances.stage(told, &mut self.staging)?;
         let numbers = ready.numbers();
         let cookies = ready.cookies();
-        let answer = carry_out(self.alloc, &mut self.table, ready)?;
+        let answer = carry_out(self.alloc, &mut self.table, &ready)?;
         let replies = Replies::of(Reply::File(answer), keeps)?;
         self.instances.tell(told, &mut self.staging);
         self.next_number += numbers;

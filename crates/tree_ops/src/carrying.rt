@@ -210,10 +210,10 @@ fn list(alloc: Global, table: &Table, path: &Resolved) -> Result<Names, AllocErr
 }
 
 // Does what the call says.
-fn perform(alloc: Global, table: &mut Table, ready: Ready) -> Result<Answer, Refusal>
-    requires ready { IsReady table.old ready }
-    ensures world { OnOk result (world_of table.new ≡ after (world_of table.old) ready.entry.counts ready.entry.call) }
-    ensures answer { IfOk result (λ answer. answer ≡ answer_of (world_of table.old) ready.entry.counts ready.entry.call) }
+fn perform(alloc: Global, table: &mut Table, ready: &Ready) -> Result<Answer, Refusal>
+    requires ready { IsReady table.old ready.now }
+    ensures world { OnOk result (world_of table.new ≡ after (world_of table.old) ready.now.counts ready.now.call) }
+    ensures answer { IfOk result (λ answer. answer ≡ answer_of (world_of table.old) ready.now.counts ready.now.call) }
     ensures err { OnErr result (table.new.rows ≡ table.old.rows) }
     ensures memory { IfErr result (λ refusal. refusal ≡ Refusal.Enomem) }
 {
@@ -283,14 +283,14 @@ fn perform(alloc: Global, table: &mut Table, ready: Ready) -> Result<Answer, Ref
 ///
 /// # Errors
 /// `ENOMEM` alone, and then the table is as before.
-pub fn carry_out(alloc: Global, table: &mut Table, ready: Ready) -> Result<Answer, Refusal>
-    requires ready { IsReady table.old ready }
-    ensures world { OnOk result (world_of table.new ≡ after (world_of table.old) ready.entry.counts ready.entry.call) }
-    ensures numbers { OnOk result (HasNumbersBelow (world_of table.new) (ready.entry.counts.next_number + numbers_of ready.entry.call)) }
-    ensures answer { IfOk result (λ answer. answer ≡ answer_of (world_of table.old) ready.entry.counts ready.entry.call) }
+pub fn carry_out(alloc: Global, table: &mut Table, ready: &Ready) -> Result<Answer, Refusal>
+    requires ready { IsReady table.old ready.now }
+    ensures world { OnOk result (world_of table.new ≡ after (world_of table.old) ready.now.counts ready.now.call) }
+    ensures numbers { OnOk result (HasNumbersBelow (world_of table.new) (ready.now.counts.next_number + numbers_of ready.now.call)) }
+    ensures answer { IfOk result (λ answer. answer ≡ answer_of (world_of table.old) ready.now.counts ready.now.call) }
     ensures err { OnErr result (table.new.rows ≡ table.old.rows) }
     ensures err_world { OnErr result (world_of table.new ≡ world_of table.old) }
-    ensures err_numbers { OnErr result (HasNumbersBelow (world_of table.new) ready.entry.counts.next_number) }
+    ensures err_numbers { OnErr result (HasNumbersBelow (world_of table.new) ready.now.counts.next_number) }
     ensures whole { IsWhole (world_of table.old) → IsWhole (world_of table.new) }
     ensures memory { IfErr result (λ refusal. refusal ≡ Refusal.Enomem) }
 {

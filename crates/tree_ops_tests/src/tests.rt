@@ -64,7 +64,7 @@ impl Calls {
             return Err(Refusal::NumbersSpent);
         };
         let next_cookie = self.counts.next_cookie.checked_add(ready.cookies());
-        let answer = carry_out(self.alloc, &mut self.table, ready)?;
+        let answer = carry_out(self.alloc, &mut self.table, &ready)?;
         self.counts.next_number = next_number;
         self.counts.next_cookie = next_cookie.unwrap_or(0);
         Ok(answer)
