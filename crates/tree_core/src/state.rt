@@ -95,18 +95,22 @@ impl State {
         ensures full { (result ≡ Err Refusal.JournalFull) ↔ IsSpent self.old }
         ensures errors { IfErr result (λ e. (e ≡ Refusal.JournalFull) ⊎ (e ≡ Refusal.Enomem)) }
     {
-        make_room(
+        if let Err(refusal) = make_room(
             &mut self.journal,
             &self.file_system.limits,
             self.snapshot.place,
-        )?;
+        ) {
+            return Err(give_up(call, refusal));
+        }
         self.file_system.instances.law();
-        let replies = self.file_system.answer(&call, false)?;
         let Replies {
             journaled,
             given,
             ..
-        } = replies;
+        } = match self.file_system.answer(&call, false) {
+            Ok(replies) => replies,
+            Err(refusal) => return Err(give_up(call, refusal)),
+        };
         self.journal.push_reserved(Entry {
             caller,
             call,
@@ -282,6 +286,15 @@ fn make_room(journal: &mut Vec<Entry>, limits: &Limits, place: u64) -> Result<()
     }
     journal.reserve(1)?;
     Ok(())
+}
+
+// Drops a call that was not answered, away from what calls mostly do.
+#[cold]
+#[inline(never)]
+fn give_up(_call: Call, refusal: Refusal) -> Refusal
+    ensures { result ≡ refusal }
+{
+    refusal
 }
 
 // The receipt, the journal's reply, and what is kept of a call.
