@@ -75,7 +75,7 @@ impl Notices {
     }
 
     /// Empties it.
-    pub(crate) fn clear(&mut self)
+    pub fn clear(&mut self)
         ensures { self.new ≡ [] }
     {
         self.notices.clear();

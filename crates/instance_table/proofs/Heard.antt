@@ -1,6 +1,6 @@
 -- Instances that hear what was staged for them, one after the other.
-use Rattle.std.proofs.Common.{◌≡◌, ℕ, true, false, cond, eqb, Option, Some, None, List, [], ◌∷◌, ◌++◌, map, append_assoc, refl, sym, ap, ◌∙◌}
-use Rattle.std.specs.Prelude.{fold, option_map}
+use Rattle.std.proofs.Common.{◌≡◌, ℕ, is_some, get_or, true, false, cond, eqb, Option, Some, None, List, [], ◌∷◌, ◌++◌, map, append_assoc, refl, sym, ap, ◌∙◌}
+use Rattle.std.specs.Prelude.{ℤ, All, fold, option_map}
 use Rattle.std.specs.FinMap as finmap
 use Rattle.std.specs.FinMap.{find, get-from_entries, get-entries, same_map, nat_cmp-IsAntisymmetric}
 use Rattle.std.specs.List.{filter}
@@ -13,10 +13,11 @@ use Rattle.event_rules.specs.Staging.{staged_event}
 use Rattle.event_rules.specs.declared.notice.Notice.{Notice}
 use Rattle.event_rules.specs.declared.staging.StagedEnd.{StagedEnd}
 use Rattle.event_rules.specs.declared.staging.StagedEvent.{StagedEvent}
-use Rattle.watch_table.specs.Watching.{removed}
+use Rattle.watch_table.specs.Watching.{Watching, removed, watch_of}
+use Rattle.event_rules.specs.Raised.{events_of, told_number, watches_after}
 use Rattle.instance_table.specs.declared.instance.Instance.{Instance}
 use Rattle.instance_table.specs.declared.staging.Staging.{Staging}
-use Rattle.instance_table.specs.Instances.{Instances, instance_of, changed, all_changed, told}
+use Rattle.instance_table.specs.Instances.{Instances, NobodyWatches, instance_of, changed, all_changed, told, watches_file}
 use Rattle.instance_table.specs.Staging.{IsStaged, ended_all, ends, heard_all, hears, wds_to}
 use Rattle.instance_table.proofs.Indexed.{changed-there, changed-none, changed-not, changed-twice, get-put, is-same}
 
@@ -102,6 +103,23 @@ heard-told s m ns staged =
         ap Some (fold-ends gone (fold (λ i h. hears h i) i mine)
         ∙ ap (λ (j : Instance). record j { watches = fold removed j.watches (wds_to q ds) }) (fold-hears mine i)
         ∙ (λ k. record i { watches = staged.drops q i e k; queue = fold after_offer i.queue (staged.events q i e k) }))
+
+-- ---- where nobody watches
+
+module _ (quiet : (w : Watching) (ns : List Notice) → All (λ n. watch_of w (told_number n) ≡ None) ns → events_of w ns ≡ []) (kept : (w : Watching) (ns : List Notice) → All (λ n. watch_of w (told_number n) ≡ None) ns → watches_after w ns ≡ w) where
+  pub unwatched-stay : (m : Instances) (ns : List Notice) → NobodyWatches m → all_changed m (told ns) ≡ m
+  unwatched-stay m ns nobody =
+      same_map nat_cmp_total nat_cmp-IsAntisymmetric (all_changed m (told ns)) m (λ q. get-all_changed m (told ns) q ∙ by q (instance_of m q) refl)
+    where
+      none-of : (o : Option (ℤ × ℕ)) → is_some o ≡ false → o ≡ None
+      none-of None h = refl
+      none-of (Some x) h = absurd (Rattle.std.proofs.lemmas.Bool.false≢true (sym h))
+
+      by : (q : ℕ) (o : Option Instance) → instance_of m q ≡ o → option_map (told ns) o ≡ o
+      by q None e = refl
+      by q (Some i) e =
+          let all : All (λ n. watch_of i.watches (told_number n) ≡ None) ns = (λ k d p. none-of (watch_of i.watches (told_number (get_or ns k d))) (ap (watches_file (told_number (get_or ns k d))) (sym e) ∙ nobody (told_number (get_or ns k d)) q)) in
+          ap Some (λ k. record i { watches = kept i.watches ns all k; queue = fold after_offer i.queue (quiet i.watches ns all k) })
 
 -- ---- a run of events that one instance hears
 

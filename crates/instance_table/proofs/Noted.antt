@@ -1,9 +1,9 @@
 -- What an index notes after its entry of a file has changed.
-use Rattle.std.proofs.Common.{◌≡◌, ◌≢◌, ℕ, Bool, true, false, not, cond, ◌||◌, ◌&&◌, eqb, Option, Some, None, is_some, refl, sym, ap, ◌∙◌}
+use Rattle.std.proofs.Common.{◌≡◌, ◌≢◌, ℕ, List, [], ◌∷◌, length, arith, Bool, true, false, not, cond, ◌||◌, ◌&&◌, eqb, Option, Some, None, is_some, refl, sym, ap, ◌∙◌}
 use Rattle.std.specs.Option.{unwrap_or}
 use Rattle.std.specs.BTreeMap as tree
 use Rattle.std.specs.FinMap as map
-use Rattle.std.specs.FinMap.{get-insert, get-remove, get-empty}
+use Rattle.std.specs.FinMap.{find, get-insert, get-remove, get-empty, same_map, nat_cmp-IsAntisymmetric}
 use Rattle.std.specs.Ordering.{nat_cmp, eq_by_cmp}
 use Rattle.std.specs.Cmp.{nat_cmp_total, unsigned_tied, eq_by_cmp_equiv}
 use Rattle.instance_table.specs.declared.index.Index.{Index}
@@ -99,3 +99,26 @@ no-row row e = absurd (Rattle.std.proofs.lemmas.Bool.false≢true (ap is_some e)
 pub row-added : {E : Type 0} (r : Rattle.std.specs.Prelude.Result (Unit {0}) E) (was now : IdSet) (id : ℕ) → Rattle.std.specs.Prelude.OnOk r (now ≡ map.insert was id tt) → Rattle.std.specs.Prelude.OnErr r (now ≡ was) → was ≢ map.empty → now ≢ map.empty
 row-added (Rattle.std.specs.Prelude.Ok x) was now id ok err full none = put-not-empty was id (sym ok ∙ none)
 row-added (Rattle.std.specs.Prelude.Err x) was now id ok err full none = full (sym err ∙ none)
+
+-- ---- an index of no rows
+
+pub nothing-noted : (index : Index) → length index.watchers.entries ≡ 0 → (n q : ℕ) → is_noted index n q ≡ false
+nothing-noted index none n q = none-noted index n q (ap (find nat_cmp n) (no-items index.watchers.entries none))
+  where
+    no-items : (es : List (ℕ × IdSet)) → length es ≡ 0 → es ≡ []
+    no-items [] h = refl
+    no-items (e ∷ es) h = absurd (omega arith)
+
+pub noted-nothing : (index : Index) → HasNoEmptyRow index → ((n q : ℕ) → is_noted index n q ≡ false) → length index.watchers.entries ≡ 0
+noted-nothing index rows none = by index.watchers.entries refl
+  where
+    none-in : (o : Option (Unit {0})) → is_some o ≡ false → o ≡ None
+    none-in None h = refl
+    none-in (Some x) h = absurd (Rattle.std.proofs.lemmas.Bool.false≢true (sym h))
+
+    by : (es : List (ℕ × IdSet)) → index.watchers.entries ≡ es → length index.watchers.entries ≡ 0
+    by [] e = ap length e
+    by (x ∷ es) e =
+        let there : tree.get nat_cmp index.watchers x.0 ≡ Some x.1 = ap (find nat_cmp x.0) e ∙ ap (λ b. cond b (Some x.1) (find nat_cmp x.0 es)) (unsigned_tied x.0 x.0 ∙ Rattle.std.proofs.lemmas.Bool.eq-eqb x.0 x.0 refl) in
+        let empty : x.1 ≡ map.empty = same_map nat_cmp_total nat_cmp-IsAntisymmetric x.1 map.empty (λ q. none-in (map.get x.1 q) (ap (λ ids. is_some (map.get ids q)) (sym (ids-some index x.0 x.1 there)) ∙ none x.0 q) ∙ sym (get-empty nat_cmp q)) in
+        absurd (rows x.0 x.1 there empty)

@@ -1,6 +1,6 @@
 -- Lists of numbers that rise, and the sets of their numbers.
-use Rattle.std.proofs.Common.{◌≡◌, ℕ, suc, zero, ◌<◌, ◌≤◌, ◌++◌, ◌∷◌, [], List, Bool, true, false, not, cond, T, ◌||◌, ◌&&◌, Option, Some, None, map, length, take, drop, get_or, refl, sym, ap, ◌∙◌, subst, arith, inl, inr}
-use Rattle.std.specs.Prelude.{Result, MatchResult}
+use Rattle.std.proofs.Common.{◌≡◌, ℕ, suc, zero, ◌<◌, ◌≤◌, ◌-◌, ◌++◌, ◌∷◌, [], List, Bool, true, false, not, cond, T, ◌||◌, ◌&&◌, Option, Some, None, map, length, take, drop, get_or, refl, sym, ap, ◌∙◌, subst, arith, inl, inr}
+use Rattle.std.specs.Prelude.{Err, Result, MatchResult}
 use Rattle.std.specs.List.{AllByRecursion, list_any}
 use Rattle.std.specs.List.Sorted.{IsStrictlySortedBy, IsBinarySearchResult}
 use Rattle.std.specs.Ordering.{nat_cmp, eq_by_cmp, is_lt, is_eq}
@@ -9,7 +9,7 @@ use Rattle.std.specs.Cmp.{nat_cmp_total, nat_cmp_is}
 use Rattle.std.specs.FinMap as finmap
 use Rattle.std.specs.FinMap.{find, is_sorted, get-from_entries, get-from_sorted, entries-from_sorted, get-insert, get-remove, same_map, nat_cmp-IsAntisymmetric}
 use Rattle.std.specs.FinMap.Entries.{below_all}
-use Rattle.instance_table.specs.Ids.{IdSet, marked, set_of}
+use Rattle.instance_table.specs.Ids.{IdSet, IsPlace, marked, set_of}
 use Rattle.std.proofs.lemmas.List.Folds.{list_any-append}
 use Rattle.std.proofs.lemmas.List.Sorted.{searched}
 use Rattle.std.proofs.lemmas.Map.Keys.{below_from_sorted}
@@ -234,3 +234,14 @@ set-absent xs i x below above =
     ap mark (and_off (eq_by_cmp nat_cmp q x) (list_any (eq_by_cmp nat_cmp q) xs) (λ t. ap (λ z. list_any (eq_by_cmp nat_cmp z) xs) (is-same q x t) ∙ none-passes xs i x below above))
     ∙ mark-and (eq_by_cmp nat_cmp q x) (list_any (eq_by_cmp nat_cmp q) xs)
     ∙ sym (get-remove nat_cmp_total (set_of xs) x q ∙ ap (cond (eq_by_cmp nat_cmp q x) None) (get-set xs q)))
+
+-- the place behind rising numbers of which the last one is smaller
+pub place-last : (xs : List ℕ) (x : ℕ) → IsStrictlySortedBy nat_cmp xs → (0 < length xs → get_or xs (length xs - 1) 0 < x) → IsPlace xs x (Err (length xs))
+place-last xs x h last = ((omega arith), (λ k p. below k p), (λ k p q. absurd (omega arith)))
+  where
+    below : (k : ℕ) → k < length xs → get_or xs k 0 < x
+    below k p = elim (Rattle.std.proofs.lemmas.Bool.cases_order k (length xs - 1)) [
+      | inl same ↦ let e : get_or xs k 0 ≡ get_or xs (length xs - 1) 0 = ap (λ j. get_or xs j 0) same in let l = last (omega arith) in omega (arith, e, l)
+      | inr (inl under) ↦ let e : get_or xs k 0 < get_or xs (length xs - 1) 0 = below_from_sorted xs k (length xs - 1) 0 h under (omega arith) in let l = last (omega arith) in omega (arith, e, l)
+      | inr (inr above) ↦ absurd (omega arith)
+    ]

@@ -1,5 +1,5 @@
 -- Sets of numbers of instances.
-use Rattle.std.specs.Prelude.{ℕ, List, map}
+use Rattle.std.specs.Prelude.{◌≡◌, ◌<◌, ◌≤◌, ℕ, List, MatchResult, Result, length, map, slice_index_or}
 use Rattle.std.specs.FinMap.{FinMap, from_entries}
 use Rattle.std.specs.Ordering.{nat_cmp}
 
@@ -12,3 +12,10 @@ marked ids = map (λ id. (id, tt)) ids
 
 abbrev pub set_of : List ℕ → IdSet
 set_of ids = from_entries (marked ids)
+
+-- where a number is among others, or else the place between those below it and those above
+abbrev pub IsPlace : List ℕ → ℕ → Result ℕ ℕ → Type 0
+IsPlace ids id place =
+    MatchResult place
+    (λ i. (i < length ids) × (slice_index_or ids i 0 ≡ id))
+    (λ i. (i ≤ length ids) × ((k : ℕ) → k < i → slice_index_or ids k 0 < id) × ((k : ℕ) → i ≤ k → k < length ids → id < slice_index_or ids k 0))

@@ -1,5 +1,5 @@
 -- The open instances of inotify(7): what each watches, and what waits in its queue.
-use Rattle.std.specs.Prelude.{ℕ, ℤ, Bool, false, List, [], Option, Some, None, map, fold, drop, is_some}
+use Rattle.std.specs.Prelude.{◌≡◌, ℕ, ℤ, Bool, false, List, [], Option, Some, None, map, fold, drop, is_some}
 use Rattle.std.specs.FinMap as finmap
 use Rattle.std.specs.List.{filter}
 use Rattle.std.specs.Ordering.{nat_cmp}
@@ -70,6 +70,10 @@ all_changed m change = finmap.from_entries (map (λ e. (e.0, change e.1)) (finma
 abbrev pub watches_file : ℕ → Option Instance → Bool
 watches_file number None = false
 watches_file number (Some i) = is_some (watch_of i.watches number)
+
+-- no instance watches a file
+abbrev pub NobodyWatches : Instances → Type 0
+NobodyWatches m = (number id : ℕ) → watches_file number (instance_of m id) ≡ false
 
 -- the numbers of the instances that watch a file, rising
 unfoldable pub watchers_of : Instances → ℕ → List ℕ

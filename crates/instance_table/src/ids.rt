@@ -1,6 +1,9 @@
 //! Numbers of instances, rising.
 ghost use Rattle.std.specs.Prelude.{◌≡◌, ◌↔◌, IsTrue, OnOk, OnErr};
 ghost use Rattle.std.specs.FinMap as map;
+ghost use Rattle.std.specs.List.Sorted.{IsStrictlySortedBy};
+ghost use Rattle.std.specs.Ordering.{nat_cmp};
+ghost use Rattle.instance_table.specs.Ids.{IsPlace};
 
 use std::alloc::{AllocError, Global};
 use std::marker::Model;
@@ -54,7 +57,7 @@ impl Ids {
         ensures ok { OnOk result (self.new ≡ map.insert self.old id tt) }
         ensures err { OnErr result (self.new ≡ self.old) }
     {
-        if let Err(place) = self.ids.binary_search(&id) {
+        if let Err(place) = place_of(self.ids.as_slice(), id) {
             self.ids.insert(place, id)?;
         }
         Ok(())
@@ -81,5 +84,16 @@ impl Ids {
         ensures { IsTrue result ↔ (self.now ≡ map.empty) }
     {
         self.ids.is_empty()
+    }
+}
+
+// Where a number is among rising ones, or else where it is put in. The last one is looked at first, as numbers mostly come rising.
+fn place_of(ids: &[u32], id: u32) -> Result<usize, usize>
+    requires { IsStrictlySortedBy nat_cmp ids.now }
+    ensures { IsPlace ids.now id result }
+{
+    match ids.last() {
+        Some(last) if id <= *last => ids.binary_search(&id),
+        _ => Err(ids.len()),
     }
 }

@@ -1,5 +1,5 @@
 //! Who watches each file.
-ghost use Rattle.std.specs.Prelude.{◌≡◌, ℕ, ◌==◌, ◌&&◌, ◌||◌, false, not, OnOk, OnErr};
+ghost use Rattle.std.specs.Prelude.{◌≡◌, ◌↔◌, IsTrue, ℕ, ◌==◌, ◌&&◌, ◌||◌, false, not, OnOk, OnErr};
 ghost use Rattle.std.specs.FinMap as map;
 ghost use Rattle.instance_table.specs.Index.{HasNoEmptyRow, ids_under, is_noted};
 
@@ -71,5 +71,12 @@ impl Index {
             Some(ids) => ids.as_slice(),
             None => &[],
         }
+    }
+
+    /// Whether no file is watched.
+    pub fn is_empty(&self) -> bool
+        ensures { HasNoEmptyRow self.now → IsTrue result ↔ ((n q : ℕ) → is_noted self.now n q ≡ false) }
+    {
+        self.watchers.is_empty()
     }
 }

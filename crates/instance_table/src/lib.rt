@@ -5,10 +5,12 @@ mod ids;
 mod index;
 mod instance;
 mod instances;
+mod laws;
 mod rows;
 mod staging;
 
 pub use instance::Instance;
 pub use instances::Instances;
+pub use laws::unwatched_instances_stay;
 pub use rows::InstanceRow;
 pub use staging::Staging;

@@ -1,5 +1,5 @@
 //! The files and the instances: what they answer to each call.
-ghost use Rattle.std.specs.Prelude.{◌≡◌, ◌≤◌, true, IfOk, IfErr, IfSome, OnOk, OnErr, IsSome, length, option_map, take};
+ghost use Rattle.std.specs.Prelude.{◌≡◌, ◌≤◌, ◌+◌, ◌^◌, true, IfOk, IfErr, IfSome, OnOk, OnErr, IsSome, length, option_map, take};
 ghost use Rattle.tree_core.specs.Snapshots.{IsSnapshotOf};
 ghost use Rattle.std.specs.Option.{option_copied};
 ghost use Rattle.record_codec.specs.Records.{AreEvents, spelling};
@@ -7,7 +7,11 @@ ghost use Rattle.tree_paths.specs.Rows.{first_row};
 ghost use Rattle.tree_paths.specs.declared.refusal.Refusal.TheVariants.{Enomem};
 ghost use Rattle.tree_core.specs.Calls.{takes_memory};
 ghost use Rattle.inode_table.specs.Refusals.{is_directory_kind};
-ghost use Rattle.instance_table.specs.Instances.{instance_of, changed};
+ghost use Rattle.inode_table.specs.TableWorld.{world_of};
+ghost use Rattle.tree_ops.specs.ReadyCall.{IsReady};
+ghost use Rattle.tree_ops.specs.Refused.{cookies_of};
+ghost use Rattle.event_rules.specs.Table.{notices_of};
+ghost use Rattle.instance_table.specs.Instances.{all_changed, changed, instance_of, told};
 ghost use Rattle.tree_core.specs.Histories.{oldest, pumped};
 ghost use Rattle.tree_core.specs.FileSystems.{tree_in, Executes, copies_of, replies_in};
 ghost use Rattle.tree_core.specs.Sound.{IsNumbered};
@@ -19,10 +23,10 @@ use crate::snapshot::Snapshot;
 use event_queue::{Fit, Queue};
 use event_rules::{Notices, notices};
 use inode_table::{Kind, Table};
-use instance_table::{Instance, Instances, Staging};
+use instance_table::{Instance, Instances, Staging, unwatched_instances_stay};
 use record_codec::{Bytes, Events, append};
 use std::alloc::{AllocError, Global};
-use tree_ops::{Counts, FileCall, carry_out, check};
+use tree_ops::{Counts, FileCall, Ready, carry_out, check};
 use tree_paths::{Limits, Path, Refusal};
 use watch_table::Mask;
 
@@ -181,7 +185,13 @@ impl FileSystem {
             Ok(ready) => ready,
             Err(refusal) => return Ok(Replies::refused(refusal, keeps)),
         };
-        notices(&self.table, &ready, counts.next_cookie, &mut self.notices)?;
+        note(
+            &self.table,
+            &self.instances,
+            &ready,
+            counts.next_cookie,
+            &mut self.notices,
+        )?;
         let told = self.notices.as_slice();
         self.instances.stage(told, &mut self.staging)?;
         let numbers = ready.numbers();
@@ -363,6 +373,27 @@ impl FileSystem {
         self.instances.close(id);
         Ok(replies)
     }
+}
+
+// Notes what an accepted call tells, where anybody watches a file; else nobody hears of it.
+fn note(
+    table: &Table,
+    instances: &Instances,
+    ready: &Ready,
+    cookie: u32,
+    noted: &mut Notices,
+) -> Result<(), Refusal>
+    requires ready { IsReady table.now ready.now }
+    requires cookies { cookie + cookies_of (world_of table.now) ready.now.call ≤ 2 ^ 32 }
+    ensures told { OnOk result (all_changed instances.now (told noted.new) ≡ all_changed instances.now (told (notices_of (world_of table.now) ready.now.call cookie))) }
+    ensures memory { IfErr result (λ refusal. refusal ≡ Enomem) }
+{
+    unwatched_instances_stay();
+    if !instances.is_watching() {
+        noted.clear();
+        return Ok(());
+    }
+    notices(table, ready, cookie, noted)
 }
 
 fn is_directory(kind: Kind) -> bool
