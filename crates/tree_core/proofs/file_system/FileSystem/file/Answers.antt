@@ -30,7 +30,7 @@ returns-in-Err c =
 pub returns-in_err-answer : goal.returns-in_err-answer
 returns-in_err-answer c =
     let m = c.args.self.now in
-    let s : FileSystem = record m { notices = c.notices.new.told; staging = c.stage.new.staging } in
+    let s : FileSystem = record m { notices = c.note.new.noted; staging = c.stage.new.staging } in
     let u = c.carry_out.new.table in
     Executes-err m (record s { table = u }) (call.File c.args.call.now) c.args.keeps c.from_residual-in_err-answer.result c.in_err-answer.field-0.0 c.from_residual-in_err-answer.ensures.1 c.in_err-answer.ensures.memory c.requires
     (tree_in-table s u c.in_err-answer.ensures.err_world)
@@ -38,7 +38,7 @@ returns-in_err-answer c =
 pub returns-in_err-replies : goal.returns-in_err-replies
 returns-in_err-replies c =
     let m = c.args.self.now in
-    let s : FileSystem = record m { notices = c.notices.new.told; staging = c.stage.new.staging } in
+    let s : FileSystem = record m { notices = c.note.new.noted; staging = c.stage.new.staging } in
     let u = c.carry_out.new.table in
     let f = c.args.call.now in
     let said = c.in_ok-answer.answer in
@@ -54,13 +54,13 @@ returns c =
     let f = c.args.call.now in
     let said = c.in_ok-answer.answer in
     let ready = c.in-Ok.ready in
-    let n : FileSystem = record { alloc = m.alloc; limits = m.limits; table = u; next_number = m.next_number + c.numbers-numbers.result; next_cookie = m.next_cookie + c.from.result; next_id = m.next_id; instances = c.tell.new.self; notices = c.notices.new.told; staging = c.tell.new.staging } in
+    let n : FileSystem = record { alloc = m.alloc; limits = m.limits; table = u; next_number = m.next_number + c.numbers-numbers.result; next_cookie = m.next_cookie + c.from.result; next_id = m.next_id; instances = c.tell.new.self; notices = c.note.new.noted; staging = c.tell.new.staging } in
     let counts : ready.counts ≡ counts_of (tree_in m) = c.in-Ok.ensures.counts ∙ c.counts-counts.ensures in
     let done : IsCarriedOut (tree_in m) f u said = IsCarriedOut-checked (tree_in m) f ready u said c.in-Ok.ensures.call counts c.in_ok-answer.ensures.world c.in_ok-answer.ensures.numbers c.in_ok-answer.ensures.answer in
     let passes : refused w m.limits (counts_of (tree_in m)) f ≡ None = ap (λ (x : Counts). refused w m.limits x f) (sym c.counts-counts.ensures) ∙ c.in-Ok.ensures.accepted in
-    let slice : c.as_slice-told.result.now ≡ notices_of w ready.call c.counts-counts.result.next_cookie = c.as_slice-told.ensures ∙ c.in_ok-notices.ensures.told in
     let heard : c.tell.new.self ≡ all_changed m.instances (told (notices_of w f (cookie_now m.next_cookie))) =
-    c.tell.ensures ∙ ap (λ ns. all_changed m.instances (told ns)) (slice ∙ (λ i. notices_of w (c.in-Ok.ensures.call i) (c.counts-counts.ensures i).next_cookie)) in
+    c.tell.ensures ∙ ap (λ ns. all_changed m.instances (told ns)) c.as_slice-told.ensures ∙ c.in_ok-note.ensures.told
+    ∙ (λ i. all_changed m.instances (told (notices_of w (c.in-Ok.ensures.call i) (c.counts-counts.ensures i).next_cookie))) in
     accepted-serves m (call.File f) c.args.keeps c.requires c.in_ok-replies.replies n (reply.File said) c.in_ok-replies.ensures.ok passes
     (ap (λ a. reply.File a) done.answer)
     (tree_in-filed m n f said done refl
@@ -69,8 +69,8 @@ returns c =
     refl heard)
     (IsNumbered-filed (tree_in m) f u said c.requires passes done)
 
-pub notices-requires : goal.notices-requires
-notices-requires c =
+pub note-requires : goal.note-requires
+note-requires c =
     let m = c.args.self.now in
     let w = world_of m.table in
     let now : c.counts-counts.result.next_cookie ≡ cookie_now m.next_cookie = ap (λ (x : Counts). x.next_cookie) c.counts-counts.ensures in
