@@ -73,6 +73,7 @@ impl Queue {
     /// - Else it is lost, and an overflow mark (wd -1, mask `IN_Q_OVERFLOW`, cookie 0, no name) waits, which joins now
     ///   unless one waits already.
     #[tactic(auto, using(crate::proofs::OfferLemmas::offers))]
+    #[inline(always)]
     pub fn offer(&mut self, event: Event) -> Offered
         ensures answer { result ≡ offered self.old.limit self.old.waiting event }
         ensures queue { self.new ≡ after_offer self.old event }
@@ -187,6 +188,7 @@ impl Queue {
 
     // Puts a record behind all others. The place beyond the limit is that of a mark.
     #[tactic(auto, using(crate::proofs::OfferLemmas::joins))]
+    #[inline(always)]
     fn join(&mut self, event: Event)
         requires room { length self.old.waiting ≤ self.old.limit }
         requires place { self.old.limit ≤ length self.old.waiting → is_mark event ≡ true }

@@ -82,6 +82,7 @@ impl Notices {
     }
 
     /// Puts one more behind the others.
+    #[inline(always)]
     pub(crate) fn push(&mut self, notice: Notice) -> Result<(), AllocError>
         ensures { OnOk result (self.new ≡ self.old ++ notice ∷ []) }
     {

@@ -139,6 +139,7 @@ fn fits(event: &Event)
 }
 
 // Raises an event. What waits stays events.
+#[inline(always)]
 pub(crate) fn offer_one(queue: &mut Queue, event: Event)
     ensures queue { queue.new ≡ after_offer queue.old event }
     ensures events { AreEvents queue.old.waiting → AreEvents queue.new.waiting }

@@ -71,6 +71,7 @@ impl Kept {
     }
 
     /// The same bytes once more. At most [`NAME_IN_PLACE`] take no memory.
+    #[inline(always)]
     pub(crate) fn copy(&self) -> Result<Kept, AllocError>
         requires { IsKept self.now }
         ensures short { length (kept_bytes self.now) ≤ NAME_IN_PLACE → IsOk result }
@@ -89,6 +90,8 @@ impl Kept {
 }
 
 /// These bytes in memory.
+#[cold]
+#[inline(never)]
 fn in_memory(alloc: Global, bytes: &[u8]) -> Result<Kept, AllocError>
     requires { NAME_IN_PLACE < length bytes.now }
     ensures kept { IfOk result (λ kept. kept_bytes kept ≡ bytes.now) }

@@ -79,6 +79,7 @@ pub struct Pumped {
 
 impl Replies {
     // A reply, and copies of it.
+    #[inline(always)]
     fn of(reply: Reply, keeps: bool) -> Result<Replies, Refusal>
         ensures ok { IfOk result (λ r. r ≡ copies_of keeps reply) }
         ensures err { IfErr result (λ refusal. refusal ≡ Enomem) }

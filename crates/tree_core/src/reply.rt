@@ -64,6 +64,7 @@ impl Reply {
     ///
     /// # Errors
     /// `ENOMEM`, where there is no memory for it.
+    #[inline(always)]
     pub fn copy(&self) -> Result<Reply, Refusal>
         ensures ok { IfOk result (λ reply. reply ≡ self.now) }
         ensures err { IfErr result (λ refusal. refusal ≡ Enomem) }
@@ -88,6 +89,7 @@ impl Reply {
 }
 
 // The same answer once more.
+#[inline(always)]
 fn copy_answer(answer: &Answer) -> Result<Answer, Refusal>
     ensures ok { IfOk result (λ copy. copy ≡ answer.now) }
     ensures err { IfErr result (λ refusal. refusal ≡ Refusal.Enomem) }

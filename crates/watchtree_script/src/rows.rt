@@ -254,6 +254,7 @@ impl<'a> Parser<'a> {
 
     /// PATH
     #[tactic(auto, unfolding(crate::specs::Commands::a_path))]
+    #[inline(always)]
     fn a_path(&self) -> Result<Path, LineError>
         ensures { Gives result (one self.now.words a_path) }
     {
@@ -263,6 +264,7 @@ impl<'a> Parser<'a> {
 
     /// PATH MODE
     #[tactic(auto, unfolding(crate::specs::Commands::path_and_mode))]
+    #[inline(always)]
     fn path_and_mode(&self) -> Result<(Path, u32), LineError>
         ensures { Gives result (two self.now.words path_and_mode) }
     {
@@ -275,6 +277,7 @@ impl<'a> Parser<'a> {
 
     /// OLD NEW
     #[tactic(auto, unfolding(crate::specs::Commands::old_and_new))]
+    #[inline(always)]
     fn old_and_new(&self) -> Result<(Path, Path), LineError>
         ensures { Gives result (two self.now.words old_and_new) }
     {
@@ -319,6 +322,7 @@ impl<'a> Parser<'a> {
 
 /// The path of a text.
 #[tactic(auto, unfolding(crate::specs::Commands::path_of))]
+#[inline(always)]
 fn path_of(alloc: Global, text: &[u8]) -> Result<Path, LineError>
     ensures { Gives result (path_of text.now) }
 {

@@ -60,6 +60,8 @@ fn first_byte(word: &[u8]) -> Option<(u8, &[u8])>
 }
 
 /// The bytes that a word stands for.
+#[cold]
+#[inline(never)]
 fn unescape(alloc: Global, word: &[u8]) -> Result<Option<Vec<u8>>, AllocError>
     ensures { IfOk result (λ bytes. option_map (λ v. v.items) bytes ≡ unescaped word.now) }
 {
@@ -108,6 +110,7 @@ impl<'a> PathText<'a> {
 
 /// PATH: the bytes that it stands for.
 #[tactic(auto, using(crate::proofs::WordLemmas::unescaped_plain), unfolding(crate::specs::Words::path_word))]
+#[inline(always)]
 pub(crate) fn path_word<'a>(alloc: Global, word: &'a [u8]) -> Result<PathText<'a>, LineError>
     ensures { Gives result (path_word word.entry.now) }
 {

@@ -21,6 +21,7 @@ impl Table {
     ghost use Rattle.inode_table.specs.TableWorld.{world_of};
 
     /// Finds what stands at a path and in the directory of its last name, by one walk.
+    #[inline(always)]
     pub fn resolve<'a>(&self, path: &'a Path) -> Resolved<'a>
         ensures names { result.names ≡ path.now }
         ensures resolved { IsResolved self.now result }
