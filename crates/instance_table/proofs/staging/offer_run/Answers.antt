@@ -1,4 +1,4 @@
-use Rattle.std.proofs.Common.{rules, ◌≡◌, ◌≤◌, ◌+◌, ◌++◌, ◌∷◌, [], true, eqb, map, refl, sym, ap, ◌∙◌, arith}
+use Rattle.std.proofs.Common.{rules, ◌≡◌, ◌++◌, ◌∷◌, [], true, eqb, map, refl, ap, ◌∙◌, arith}
 use Rattle.event_rules.specs.Staging.{staged_event}
 use Rattle.instance_table.proofs.Heard.{queue-more, run-more}
 use Rattle.instance_table.proofs.staging.offer_run.Goals as goal

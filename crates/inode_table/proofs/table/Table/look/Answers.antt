@@ -1,8 +1,7 @@
 use Rattle.std.proofs.Common.{◌≡◌, Some, sym, ap, ◌∙◌}
-use Rattle.inode_table.specs.Refusals.{parent_of}
 use Rattle.inode_table.specs.Resolution.{ResolvedPath}
 use Rattle.inode_table.specs.Tree.{at}
-use Rattle.inode_table.proofs.ResolutionLemmas.{found-key, found-seen, found-there}
+use Rattle.inode_table.proofs.ResolutionLemmas.{found-key, found-there}
 use Rattle.inode_table.proofs.table.Table.look.Goals as goal
 
 pub seen_under-requires : goal.seen_under-requires

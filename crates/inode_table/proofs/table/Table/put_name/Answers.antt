@@ -9,7 +9,7 @@ use Rattle.inode_table.specs.declared.seen.Seen.{Seen}
 use Rattle.inode_table.proofs.FindLemmas.{live-there}
 use Rattle.inode_table.proofs.SeenLemmas.{open-directory, avoids-seen, avoids-any, empty-below}
 use Rattle.inode_table.proofs.StandsLemmas.{SameFiles-loses, numbers-same}
-use Rattle.inode_table.proofs.CallLemmas.{parent-there, parent-open, child-some, ok-at, kept-there, if-some}
+use Rattle.inode_table.proofs.CallLemmas.{parent-there, parent-open, child-some, kept-there, if-some}
 use Rattle.inode_table.proofs.table.Table.put_name.Goals as goal
 use Rattle.inode_table.proofs.table.Table.put_name.Goals.{In_ok-replace_name_at}
 

@@ -1,12 +1,11 @@
-use Rattle.std.proofs.Common.{◌≡◌, ℕ, Bool, true, false, cond, ◌||◌, ◌+◌, ◌++◌, ◌∷◌, [], List, eqb, Some, None, map, refl, sym, ap, ◌∙◌, subst, take, get_or}
-use Rattle.std.specs.Prelude.{ℤ, fold}
+use Rattle.std.proofs.Common.{◌≡◌, ℕ, Bool, true, false, cond, ◌||◌, ◌+◌, [], eqb, Some, None, refl, sym, ap, ◌∙◌, subst, take, get_or}
+use Rattle.std.specs.Prelude.{fold}
 use Rattle.std.specs.FinMap.{entries, entries_sorted}
 use Rattle.std.specs.List.{list_any}
 use Rattle.std.specs.List.Sorted.{IsStrictlySortedBy}
 use Rattle.std.specs.Ordering.{nat_cmp}
 use Rattle.std.proofs.lemmas.Bool.{false≢true}
 use Rattle.std.proofs.lemmas.List.Folds.{list_any_more}
-use Rattle.record_codec.specs.declared.event.Event.{Event}
 use Rattle.watch_table.specs.Watching.{removed}
 use Rattle.event_rules.specs.declared.notice.Notice.{Notice}
 use Rattle.event_rules.specs.declared.staging.StagedEnd.{StagedEnd}
