@@ -147,6 +147,7 @@ impl FileSystem {
     }
 
     /// Carries out a call, which may be refused. What takes memory comes first: an error leaves all as it was.
+    #[inline(always)]
     pub fn answer(&mut self, call: &Call, keeps: bool) -> Result<Replies, Refusal>
         requires { IsNumbered (tree_in self.old) }
         ensures { Executes self.old call.now keeps result self.new }
