@@ -9,7 +9,7 @@ use std::fmt::Debug;
 use std::marker::Model;
 use std::process::Abort;
 use std::test::Fail;
-use tree_ops::{Counts, FileCall, carry_out, check, opening_table};
+use tree_ops::{Counts, FileCall, Paths, carry_out, check, opening_table};
 use tree_paths::{Limits, Path, Refusal};
 use watch_table::{Mask, Watches};
 
@@ -86,7 +86,8 @@ impl Calls {
 
     /// What the call tells.
     fn told(&mut self, call: &FileCall) -> Result<Notices, Refusal> {
-        let ready = check(&self.table, call, &self.counts, &Limits::full())?;
+        let paths = Paths::of(&self.table, call);
+        let ready = check(&self.table, call, &paths, &self.counts, &Limits::full())?;
         let Some(next_number) = self.counts.next_number.checked_add(ready.numbers()) else {
             return Err(Refusal::NumbersSpent);
         };

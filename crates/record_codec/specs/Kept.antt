@@ -1,5 +1,6 @@
 -- Where a name keeps its bytes. No public clause cites this module.
-use Rattle.std.specs.Prelude.{ℕ, ◌<◌, List, length, take}
+use Rattle.std.specs.Prelude.{◌≡◌, ℕ, ◌<◌, ◌≤◌, List, length, slice_index, take}
+use Rattle.byteorder.specs.Endian.{big_number}
 use Rattle.record_codec.specs.declared.name.TheConstants.{NAME_IN_PLACE}
 use Rattle.record_codec.specs.declared.kept.Kept.{Kept}
 use Rattle.record_codec.specs.declared.kept.Kept.TheVariants.{Full, Short, Long}
@@ -10,10 +11,14 @@ kept_bytes (Full bytes) = bytes
 kept_bytes (Short len bytes) = take len bytes
 kept_bytes (Long bytes) = bytes.value.items
 
--- memory is for what the value has no room for
+-- the first eight bytes as a number, the first one worth most, as if zero bytes stood behind fewer
+abbrev pub front_of : List ℕ → ℕ
+front_of bytes = big_number 8 bytes
+
+-- memory is for what the value has no room for, and zero bytes stand behind those of a name
 abbrev pub IsKept : Kept → Type 0
 IsKept (Full bytes) = Unit {0}
-IsKept (Short len bytes) = len < NAME_IN_PLACE
+IsKept (Short len bytes) = (len < NAME_IN_PLACE) × ((i : ℕ) → len ≤ i → slice_index bytes i ≡ 0)
 IsKept (Long bytes) = NAME_IN_PLACE < length bytes.value.items
 
 -- what every Name keeps

@@ -2,9 +2,10 @@
 
 ghost use Rattle.std.specs.Prelude.{◌≡◌, ◌≤◌, ◌<◌, IfOk, IsOk, length};
 ghost use Rattle.record_codec.specs.declared.name.TheConstants.{NAME_IN_PLACE};
-ghost use Rattle.record_codec.specs.Kept.{IsKept, kept_bytes};
+ghost use Rattle.record_codec.specs.Kept.{IsKept, front_of, kept_bytes};
 
 use crate::name::NAME_IN_PLACE;
+use byteorder::{BigEndian, ByteOrder};
 use std::alloc::{AllocError, Global};
 
 /// The bytes of a name: in the value itself where it has room for them, and else in memory.
@@ -67,6 +68,19 @@ impl Kept {
             Kept::Full(bytes) => bytes,
             Kept::Short { len, bytes } => &bytes[..*len as usize],
             Kept::Long(bytes) => bytes.as_slice(),
+        }
+    }
+
+    /// The first eight bytes as a number, the first one worth most, as if zero bytes stood behind fewer. Where those of two
+    /// names differ, the names are ordered as they are.
+    pub(crate) fn front(&self) -> u64
+        requires { IsKept self.now }
+        ensures { result ≡ front_of (kept_bytes self.now) }
+    {
+        match self {
+            Kept::Full(bytes) => BigEndian::read_u64(bytes),
+            Kept::Short { bytes, .. } => BigEndian::read_u64(bytes),
+            Kept::Long(bytes) => BigEndian::read_u64(bytes.as_slice()),
         }
     }
 

@@ -26,7 +26,7 @@ use inode_table::{Kind, Table};
 use instance_table::{Instance, Instances, Staging, unwatched_instances_stay};
 use record_codec::{Bytes, Events, append};
 use std::alloc::{AllocError, Global};
-use tree_ops::{Counts, FileCall, Ready, carry_out, check};
+use tree_ops::{Counts, FileCall, Paths, Ready, carry_out, check};
 use tree_paths::{Limits, Path, Refusal};
 use watch_table::Mask;
 
@@ -183,7 +183,8 @@ impl FileSystem {
         ensures { Executes self.old (Call.File call.now) keeps result self.new }
     {
         let counts = self.counts();
-        let ready = match check(&self.table, call, &counts, &self.limits) {
+        let paths = Paths::of(&self.table, call);
+        let ready = match check(&self.table, call, &paths, &counts, &self.limits) {
             Ok(ready) => ready,
             Err(refusal) => return Ok(Replies::refused(refusal, keeps)),
         };

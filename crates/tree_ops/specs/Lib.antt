@@ -1,4 +1,5 @@
 pub mod Refused
 pub mod Checked
+pub mod CallPaths
 pub mod ReadyCall
 pub mod After

@@ -219,8 +219,8 @@ fn perform(alloc: Global, table: &mut Table, ready: &Ready) -> Result<Answer, Re
 {
     let number = ready.counts.next_number;
     let call = ready.call;
-    let path = &ready.path;
-    let other_path = &ready.other_path;
+    let path = ready.path;
+    let other_path = ready.other_path;
     match call {
         FileCall::Create { mode, .. } => {
             make(table, path, number, *mode, Kind::Regular)?;

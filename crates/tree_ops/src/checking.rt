@@ -6,21 +6,23 @@ ghost use Rattle.inode_table.specs.TableWorld.{world_of, HasNumbersBelow};
 ghost use Rattle.tree_paths.specs.Rows.{first_row};
 ghost use Rattle.inode_table.specs.Refusals.{is_directory_seen, find, parent};
 ghost use Rattle.tree_ops.specs.Refused.{is_root, make_rows, write_rows, read_rows, truncate_rows, chmod_rows, link_rows, unlink_rows, rmdir_rows, move_rows, rename_rows, noreplace_rows, swap_rows, exchange_rows, rename2_rows, find_rows, list_rows, refusal_seen, cookies_seen, refused, cookies_of, has_names_seen, are_same_seen};
+ghost use Rattle.tree_ops.specs.CallPaths.{ArePathsOf};
 ghost use Rattle.tree_ops.specs.Checked.{path_of, other_path_of};
 ghost use Rattle.tree_ops.specs.ReadyCall.{IsReady};
 
 use crate::call::{Counts, FileCall, MAX_MODE, RENAME_EXCHANGE, RENAME_NOREPLACE};
+use crate::paths::Paths;
 use inode_table::{Kind, Resolved, Seen, Table};
 use std::marker::Model;
 use tree_paths::{Limits, Refusal};
 
-/// A call that no row refuses on the table that it was checked on, as [`check`] makes it. It borrows the call.
+/// A call that no row refuses on the table that it was checked on, as [`check`] makes it. It borrows the call and its paths.
 #[derive(Drop)]
 pub struct Ready<'a> {
     pub(crate) call: &'a FileCall,
     pub(crate) counts: Counts,
-    pub(crate) path: Resolved<'a>,
-    pub(crate) other_path: Resolved<'a>,
+    pub(crate) path: &'a Resolved<'a>,
+    pub(crate) other_path: &'a Resolved<'a>,
     cookies: u32,
 }
 
@@ -29,7 +31,7 @@ impl<'a> Model for Ready<'a> {
 
     ghost Value = { Checked };
 
-    ghost view = { λ ready. record { call = ready.call.now; counts = ready.counts; path = ready.path; other_path = ready.other_path; cookies = ready.cookies } };
+    ghost view = { λ ready. record { call = ready.call.now; counts = ready.counts; path = ready.path.now; other_path = ready.other_path.now; cookies = ready.cookies } };
 }
 
 impl<'a> Ready<'a> {
@@ -43,17 +45,17 @@ impl<'a> Ready<'a> {
     }
 
     /// The path of the call, and the old one where it has two.
-    pub fn path(&self) -> &Resolved<'a>
+    pub fn path(&self) -> &'a Resolved<'a>
         ensures { result.now ≡ self.now.path }
     {
-        &self.path
+        self.path
     }
 
     /// The new path of the call, and its path where it has but one.
-    pub fn other_path(&self) -> &Resolved<'a>
+    pub fn other_path(&self) -> &'a Resolved<'a>
         ensures { result.now ≡ self.now.other_path }
     {
-        &self.other_path
+        self.other_path
     }
 
     /// How many file numbers the call uses: 1 for one that makes a file or a directory, and else 0.
@@ -533,29 +535,18 @@ fn cookies(table: &Table, call: &FileCall, path: &Resolved, other_path: &Resolve
     }
 }
 
-// The other path of the call, of which the first one is resolved.
-fn resolve_other<'a>(table: &Table, call: &'a FileCall, path: &Resolved<'a>) -> Resolved<'a>
-    requires resolved { IsResolved table.now path.now }
-    requires names { path.now.names ≡ path_of call.now }
-    ensures resolved { IsResolved table.now result }
-    ensures names { result.names ≡ other_path_of call.now }
-{
-    match call.other_path() {
-        Some(other) => table.resolve(other),
-        None => path.copy(),
-    }
-}
-
-/// Finds the first row that refuses the call, or makes it ready to be carried out. It walks each path of the call once, and takes
-/// no memory.
+/// Finds the first row that refuses the call, or makes it ready to be carried out. It takes no memory.
 ///
+/// `paths` are those of the call as they are resolved on the table, by [`Paths::of`].
 /// `counts` says what the call gets where it makes a file or moves one. No number of the table has reached `next_number`.
 pub fn check<'a>(
     table: &Table,
     call: &'a FileCall,
+    paths: &'a Paths<'a>,
     counts: &Counts,
     limits: &Limits,
 ) -> Result<Ready<'a>, Refusal>
+    requires paths { ArePathsOf table.now call.now paths.now }
     requires numbers { HasNumbersBelow (world_of table.now) counts.now.next_number }
     ensures refused { IfErr result (λ refusal. refused (world_of table.now) limits.now counts.now call.now ≡ Some refusal) }
     ensures accepted { OnOk result (refused (world_of table.now) limits.now counts.now call.now ≡ None) }
@@ -564,14 +555,14 @@ pub fn check<'a>(
     ensures counts { IfOk result (λ ready. ready.counts ≡ counts.now) }
     ensures cookies { IfOk result (λ ready. ready.cookies ≡ cookies_of (world_of table.now) call.now) }
 {
-    let path = table.resolve(call.path());
-    let other_path = resolve_other(table, call, &path);
-    match fault(table, call, &path, &other_path, counts, limits) {
+    let path = paths.path();
+    let other_path = paths.other_path();
+    match fault(table, call, path, other_path, counts, limits) {
         Some(refusal) => Err(refusal),
         None => Ok(Ready {
             call,
             counts: *counts,
-            cookies: cookies(table, call, &path, &other_path),
+            cookies: cookies(table, call, path, other_path),
             path,
             other_path,
         }),

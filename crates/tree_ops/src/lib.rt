@@ -10,6 +10,7 @@ mod carrying;
 mod checking;
 mod laws;
 mod opening;
+mod paths;
 
 pub use answer::Answer;
 pub use call::{Counts, FileCall, MAX_MODE, RENAME_EXCHANGE, RENAME_NOREPLACE};
@@ -17,3 +18,4 @@ pub use carrying::carry_out;
 pub use checking::{Ready, are_same, check};
 pub use laws::{files_get_numbers, worlds_stay_worlds};
 pub use opening::opening_table;
+pub use paths::Paths;

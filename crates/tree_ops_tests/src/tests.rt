@@ -59,7 +59,8 @@ impl Calls {
     }
 
     fn made(&mut self, call: &FileCall) -> Result<Answer, Refusal> {
-        let ready = check(&self.table, call, &self.counts, &self.limits)?;
+        let paths = Paths::of(&self.table, call);
+        let ready = check(&self.table, call, &paths, &self.counts, &self.limits)?;
         let Some(next_number) = self.counts.next_number.checked_add(ready.numbers()) else {
             return Err(Refusal::NumbersSpent);
         };
@@ -230,7 +231,8 @@ fn ready_calls(rt: HostRuntime) -> Result<(), Fail> {
     let calls = Calls::new(rt.alloc(), Limits::full())?;
     let path = calls.path("/a")?;
     let call = FileCall::Mkdir { path, mode: 0o755 };
-    let ready = check(&calls.table, &call, &calls.counts, &calls.limits)?;
+    let paths = Paths::of(&calls.table, &call);
+    let ready = check(&calls.table, &call, &paths, &calls.counts, &calls.limits)?;
     equal(&rt, ready.cookies(), 0);
     equal(&rt, ready.numbers(), 1);
     holds(

@@ -73,7 +73,8 @@ fn call_of(calls: &Calls, which: u32) -> Result<FileCall, Refusal> {
 
 // What a call would tell.
 fn noticed(calls: &Calls, call: &FileCall) -> Result<Notices, Refusal> {
-    let ready = check(&calls.table, call, &calls.counts, &Limits::full())?;
+    let paths = Paths::of(&calls.table, call);
+    let ready = check(&calls.table, call, &paths, &calls.counts, &Limits::full())?;
     let next_cookie = calls.counts.next_cookie;
     if next_cookie.checked_add(ready.cookies()).is_none() {
         return Err(Refusal::CookiesSpent);

@@ -191,7 +191,8 @@ fn each_growth_of_the_rows(rt: HostRuntime) -> Result<(), Fail> {
 
 // Whether the call is let through, or refused as it should be.
 fn is_checked(calls: &Calls, call: &FileCall, wanted: Option<Refusal>) -> bool {
-    check(&calls.table, call, &calls.counts, &calls.limits).err() == wanted
+    let paths = Paths::of(&calls.table, call);
+    check(&calls.table, call, &paths, &calls.counts, &calls.limits).err() == wanted
 }
 
 #[test]

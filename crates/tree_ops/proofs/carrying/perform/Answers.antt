@@ -64,99 +64,99 @@ answer-at a w ready view shape view_is is e =
     e ∙ ap (answer_of w view.counts) (sym is) ∙ ap (λ (r : Checked). answer_of w r.counts r.call) view_is
 
 pub make-requires-clause-directory : goal.make-requires-clause-directory
-make-requires-clause-directory c = (make-known (look (world_of c.args.table.now)) c.requires.ready.limits c.args.ready.now.counts c.ready.inside.path.names c.in-Create.mode (known c.args.table.now c.args.ready.now _ _ c.requires.ready c.ready.view_is (one-path c.requires.ready c.ready.view_is (λ p. Create p c.in-Create.mode) refl c.in-Create.is))).directory
+make-requires-clause-directory c = (make-known (look (world_of c.args.table.now)) c.requires.ready.limits c.args.ready.now.counts c.ready.inside.path.now.names c.in-Create.mode (known c.args.table.now c.args.ready.now _ _ c.requires.ready c.ready.view_is (one-path c.requires.ready c.ready.view_is (λ p. Create p c.in-Create.mode) refl c.in-Create.is))).directory
 
 pub make-requires-clause-free : goal.make-requires-clause-free
-make-requires-clause-free c = (make-known (look (world_of c.args.table.now)) c.requires.ready.limits c.args.ready.now.counts c.ready.inside.path.names c.in-Create.mode (known c.args.table.now c.args.ready.now _ _ c.requires.ready c.ready.view_is (one-path c.requires.ready c.ready.view_is (λ p. Create p c.in-Create.mode) refl c.in-Create.is))).free
+make-requires-clause-free c = (make-known (look (world_of c.args.table.now)) c.requires.ready.limits c.args.ready.now.counts c.ready.inside.path.now.names c.in-Create.mode (known c.args.table.now c.args.ready.now _ _ c.requires.ready c.ready.view_is (one-path c.requires.ready c.ready.view_is (λ p. Create p c.in-Create.mode) refl c.in-Create.is))).free
 
 pub make-requires-clause-named : goal.make-requires-clause-named
-make-requires-clause-named c = (make-known (look (world_of c.args.table.now)) c.requires.ready.limits c.args.ready.now.counts c.ready.inside.path.names c.in-Create.mode (known c.args.table.now c.args.ready.now _ _ c.requires.ready c.ready.view_is (one-path c.requires.ready c.ready.view_is (λ p. Create p c.in-Create.mode) refl c.in-Create.is))).named
+make-requires-clause-named c = (make-known (look (world_of c.args.table.now)) c.requires.ready.limits c.args.ready.now.counts c.ready.inside.path.now.names c.in-Create.mode (known c.args.table.now c.args.ready.now _ _ c.requires.ready c.ready.view_is (one-path c.requires.ready c.ready.view_is (λ p. Create p c.in-Create.mode) refl c.in-Create.is))).named
 
 pub make-requires-in-Mkdir-clause-directory : goal.make-requires-in-Mkdir-clause-directory
-make-requires-in-Mkdir-clause-directory c = (make-known (look (world_of c.args.table.now)) c.requires.ready.limits c.args.ready.now.counts c.ready.inside.path.names c.in-Mkdir.mode (known c.args.table.now c.args.ready.now _ _ c.requires.ready c.ready.view_is (one-path c.requires.ready c.ready.view_is (λ p. Mkdir p c.in-Mkdir.mode) refl c.in-Mkdir.is))).directory
+make-requires-in-Mkdir-clause-directory c = (make-known (look (world_of c.args.table.now)) c.requires.ready.limits c.args.ready.now.counts c.ready.inside.path.now.names c.in-Mkdir.mode (known c.args.table.now c.args.ready.now _ _ c.requires.ready c.ready.view_is (one-path c.requires.ready c.ready.view_is (λ p. Mkdir p c.in-Mkdir.mode) refl c.in-Mkdir.is))).directory
 
 pub make-requires-in-Mkdir-clause-free : goal.make-requires-in-Mkdir-clause-free
-make-requires-in-Mkdir-clause-free c = (make-known (look (world_of c.args.table.now)) c.requires.ready.limits c.args.ready.now.counts c.ready.inside.path.names c.in-Mkdir.mode (known c.args.table.now c.args.ready.now _ _ c.requires.ready c.ready.view_is (one-path c.requires.ready c.ready.view_is (λ p. Mkdir p c.in-Mkdir.mode) refl c.in-Mkdir.is))).free
+make-requires-in-Mkdir-clause-free c = (make-known (look (world_of c.args.table.now)) c.requires.ready.limits c.args.ready.now.counts c.ready.inside.path.now.names c.in-Mkdir.mode (known c.args.table.now c.args.ready.now _ _ c.requires.ready c.ready.view_is (one-path c.requires.ready c.ready.view_is (λ p. Mkdir p c.in-Mkdir.mode) refl c.in-Mkdir.is))).free
 
 pub make-requires-in-Mkdir-clause-named : goal.make-requires-in-Mkdir-clause-named
-make-requires-in-Mkdir-clause-named c = (make-known (look (world_of c.args.table.now)) c.requires.ready.limits c.args.ready.now.counts c.ready.inside.path.names c.in-Mkdir.mode (known c.args.table.now c.args.ready.now _ _ c.requires.ready c.ready.view_is (one-path c.requires.ready c.ready.view_is (λ p. Mkdir p c.in-Mkdir.mode) refl c.in-Mkdir.is))).named
+make-requires-in-Mkdir-clause-named c = (make-known (look (world_of c.args.table.now)) c.requires.ready.limits c.args.ready.now.counts c.ready.inside.path.now.names c.in-Mkdir.mode (known c.args.table.now c.args.ready.now _ _ c.requires.ready c.ready.view_is (one-path c.requires.ready c.ready.view_is (λ p. Mkdir p c.in-Mkdir.mode) refl c.in-Mkdir.is))).named
 
 pub write-requires-clause-there : goal.write-requires-clause-there
-write-requires-clause-there c = (write-known (look (world_of c.args.table.now)) c.requires.ready.limits c.ready.inside.path.names c.in-Write.offset (length c.in-Write.bytes) (known c.args.table.now c.args.ready.now _ _ c.requires.ready c.ready.view_is (one-path c.requires.ready c.ready.view_is (λ p. Write p c.in-Write.offset c.in-Write.bytes) refl c.in-Write.is))).0.there
+write-requires-clause-there c = (write-known (look (world_of c.args.table.now)) c.requires.ready.limits c.ready.inside.path.now.names c.in-Write.offset (length c.in-Write.bytes) (known c.args.table.now c.args.ready.now _ _ c.requires.ready c.ready.view_is (one-path c.requires.ready c.ready.view_is (λ p. Write p c.in-Write.offset c.in-Write.bytes) refl c.in-Write.is))).0.there
 
 pub write-requires-clause-regular : goal.write-requires-clause-regular
-write-requires-clause-regular c = (write-known (look (world_of c.args.table.now)) c.requires.ready.limits c.ready.inside.path.names c.in-Write.offset (length c.in-Write.bytes) (known c.args.table.now c.args.ready.now _ _ c.requires.ready c.ready.view_is (one-path c.requires.ready c.ready.view_is (λ p. Write p c.in-Write.offset c.in-Write.bytes) refl c.in-Write.is))).0.regular
+write-requires-clause-regular c = (write-known (look (world_of c.args.table.now)) c.requires.ready.limits c.ready.inside.path.now.names c.in-Write.offset (length c.in-Write.bytes) (known c.args.table.now c.args.ready.now _ _ c.requires.ready c.ready.view_is (one-path c.requires.ready c.ready.view_is (λ p. Write p c.in-Write.offset c.in-Write.bytes) refl c.in-Write.is))).0.regular
 
 pub write-requires-clause-range : goal.write-requires-clause-range
 write-requires-clause-range c some =
     small c.in-Write.offset (length c.as_slice-new.result.now) c.requires.ready.limits.file_bytes
-    (ap (λ (b : List ℕ). nat_lt 0 (length b) && nat_lt c.requires.ready.limits.file_bytes (c.in-Write.offset + length b)) c.as_slice-new.ensures ∙ (write-known (look (world_of c.args.table.now)) c.requires.ready.limits c.ready.inside.path.names c.in-Write.offset (length c.in-Write.bytes) (known c.args.table.now c.args.ready.now _ _ c.requires.ready c.ready.view_is (one-path c.requires.ready c.ready.view_is (λ p. Write p c.in-Write.offset c.in-Write.bytes) refl c.in-Write.is))).1)
+    (ap (λ (b : List ℕ). nat_lt 0 (length b) && nat_lt c.requires.ready.limits.file_bytes (c.in-Write.offset + length b)) c.as_slice-new.ensures ∙ (write-known (look (world_of c.args.table.now)) c.requires.ready.limits c.ready.inside.path.now.names c.in-Write.offset (length c.in-Write.bytes) (known c.args.table.now c.args.ready.now _ _ c.requires.ready c.ready.view_is (one-path c.requires.ready c.ready.view_is (λ p. Write p c.in-Write.offset c.in-Write.bytes) refl c.in-Write.is))).1)
     some c.requires.ready.limits.file_bytes_in.1
 
 pub read-requires : goal.read-requires
-read-requires c = record { resolved = resolved c.requires.ready c.ready.view_is; there = (read-known (look (world_of c.args.table.now)) c.ready.inside.path.names (known c.args.table.now c.args.ready.now _ _ c.requires.ready c.ready.view_is (one-path c.requires.ready c.ready.view_is (λ p. ReadFile p c.in-ReadFile.offset c.in-ReadFile.count) refl c.in-ReadFile.is))).there }
+read-requires c = record { resolved = resolved c.requires.ready c.ready.view_is; there = (read-known (look (world_of c.args.table.now)) c.ready.inside.path.now.names (known c.args.table.now c.args.ready.now _ _ c.requires.ready c.ready.view_is (one-path c.requires.ready c.ready.view_is (λ p. ReadFile p c.in-ReadFile.offset c.in-ReadFile.count) refl c.in-ReadFile.is))).there }
 
 pub truncate-requires-clause-there : goal.truncate-requires-clause-there
-truncate-requires-clause-there c = (truncate-known (look (world_of c.args.table.now)) c.requires.ready.limits c.ready.inside.path.names c.in-Truncate.len (known c.args.table.now c.args.ready.now _ _ c.requires.ready c.ready.view_is (one-path c.requires.ready c.ready.view_is (λ p. Truncate p c.in-Truncate.len) refl c.in-Truncate.is))).there
+truncate-requires-clause-there c = (truncate-known (look (world_of c.args.table.now)) c.requires.ready.limits c.ready.inside.path.now.names c.in-Truncate.len (known c.args.table.now c.args.ready.now _ _ c.requires.ready c.ready.view_is (one-path c.requires.ready c.ready.view_is (λ p. Truncate p c.in-Truncate.len) refl c.in-Truncate.is))).there
 
 pub truncate-requires-clause-regular : goal.truncate-requires-clause-regular
-truncate-requires-clause-regular c = (truncate-known (look (world_of c.args.table.now)) c.requires.ready.limits c.ready.inside.path.names c.in-Truncate.len (known c.args.table.now c.args.ready.now _ _ c.requires.ready c.ready.view_is (one-path c.requires.ready c.ready.view_is (λ p. Truncate p c.in-Truncate.len) refl c.in-Truncate.is))).regular
+truncate-requires-clause-regular c = (truncate-known (look (world_of c.args.table.now)) c.requires.ready.limits c.ready.inside.path.now.names c.in-Truncate.len (known c.args.table.now c.args.ready.now _ _ c.requires.ready c.ready.view_is (one-path c.requires.ready c.ready.view_is (λ p. Truncate p c.in-Truncate.len) refl c.in-Truncate.is))).regular
 
 pub set_mode-requires : goal.set_mode-requires
-set_mode-requires c = record { resolved = resolved c.requires.ready c.ready.view_is; there = chmod-known (look (world_of c.args.table.now)) c.ready.inside.path.names c.in-Chmod.mode (known c.args.table.now c.args.ready.now _ _ c.requires.ready c.ready.view_is (one-path c.requires.ready c.ready.view_is (λ p. Chmod p c.in-Chmod.mode) refl c.in-Chmod.is)) }
+set_mode-requires c = record { resolved = resolved c.requires.ready c.ready.view_is; there = chmod-known (look (world_of c.args.table.now)) c.ready.inside.path.now.names c.in-Chmod.mode (known c.args.table.now c.args.ready.now _ _ c.requires.ready c.ready.view_is (one-path c.requires.ready c.ready.view_is (λ p. Chmod p c.in-Chmod.mode) refl c.in-Chmod.is)) }
 
 pub add_name-requires-clause-source : goal.add_name-requires-clause-source
-add_name-requires-clause-source c = (link-known (look (world_of c.args.table.now)) c.requires.ready.limits c.ready.inside.path.names c.ready.inside.other_path.names (known c.args.table.now c.args.ready.now _ _ c.requires.ready c.ready.view_is (two-paths c.requires.ready c.ready.view_is (λ p q. Link p q) refl refl c.in-Link.is))).file.there
+add_name-requires-clause-source c = (link-known (look (world_of c.args.table.now)) c.requires.ready.limits c.ready.inside.path.now.names c.ready.inside.other_path.now.names (known c.args.table.now c.args.ready.now _ _ c.requires.ready c.ready.view_is (two-paths c.requires.ready c.ready.view_is (λ p q. Link p q) refl refl c.in-Link.is))).file.there
 
 pub add_name-requires-clause-regular : goal.add_name-requires-clause-regular
-add_name-requires-clause-regular c = (link-known (look (world_of c.args.table.now)) c.requires.ready.limits c.ready.inside.path.names c.ready.inside.other_path.names (known c.args.table.now c.args.ready.now _ _ c.requires.ready c.ready.view_is (two-paths c.requires.ready c.ready.view_is (λ p q. Link p q) refl refl c.in-Link.is))).file.regular
+add_name-requires-clause-regular c = (link-known (look (world_of c.args.table.now)) c.requires.ready.limits c.ready.inside.path.now.names c.ready.inside.other_path.now.names (known c.args.table.now c.args.ready.now _ _ c.requires.ready c.ready.view_is (two-paths c.requires.ready c.ready.view_is (λ p q. Link p q) refl refl c.in-Link.is))).file.regular
 
 pub add_name-requires-clause-links : goal.add_name-requires-clause-links
-add_name-requires-clause-links c = few (look (world_of c.args.table.now) c.ready.inside.path.names) c.requires.ready.limits.links (link-known (look (world_of c.args.table.now)) c.requires.ready.limits c.ready.inside.path.names c.ready.inside.other_path.names (known c.args.table.now c.args.ready.now _ _ c.requires.ready c.ready.view_is (two-paths c.requires.ready c.ready.view_is (λ p q. Link p q) refl refl c.in-Link.is))).links c.requires.ready.limits.links_in.1
+add_name-requires-clause-links c = few (look (world_of c.args.table.now) c.ready.inside.path.now.names) c.requires.ready.limits.links (link-known (look (world_of c.args.table.now)) c.requires.ready.limits c.ready.inside.path.now.names c.ready.inside.other_path.now.names (known c.args.table.now c.args.ready.now _ _ c.requires.ready c.ready.view_is (two-paths c.requires.ready c.ready.view_is (λ p q. Link p q) refl refl c.in-Link.is))).links c.requires.ready.limits.links_in.1
 
 pub add_name-requires-clause-directory : goal.add_name-requires-clause-directory
-add_name-requires-clause-directory c = (link-known (look (world_of c.args.table.now)) c.requires.ready.limits c.ready.inside.path.names c.ready.inside.other_path.names (known c.args.table.now c.args.ready.now _ _ c.requires.ready c.ready.view_is (two-paths c.requires.ready c.ready.view_is (λ p q. Link p q) refl refl c.in-Link.is))).directory
+add_name-requires-clause-directory c = (link-known (look (world_of c.args.table.now)) c.requires.ready.limits c.ready.inside.path.now.names c.ready.inside.other_path.now.names (known c.args.table.now c.args.ready.now _ _ c.requires.ready c.ready.view_is (two-paths c.requires.ready c.ready.view_is (λ p q. Link p q) refl refl c.in-Link.is))).directory
 
 pub add_name-requires-clause-free : goal.add_name-requires-clause-free
-add_name-requires-clause-free c = (link-known (look (world_of c.args.table.now)) c.requires.ready.limits c.ready.inside.path.names c.ready.inside.other_path.names (known c.args.table.now c.args.ready.now _ _ c.requires.ready c.ready.view_is (two-paths c.requires.ready c.ready.view_is (λ p q. Link p q) refl refl c.in-Link.is))).free
+add_name-requires-clause-free c = (link-known (look (world_of c.args.table.now)) c.requires.ready.limits c.ready.inside.path.now.names c.ready.inside.other_path.now.names (known c.args.table.now c.args.ready.now _ _ c.requires.ready c.ready.view_is (two-paths c.requires.ready c.ready.view_is (λ p q. Link p q) refl refl c.in-Link.is))).free
 
 pub add_name-requires-clause-named : goal.add_name-requires-clause-named
-add_name-requires-clause-named c = (link-known (look (world_of c.args.table.now)) c.requires.ready.limits c.ready.inside.path.names c.ready.inside.other_path.names (known c.args.table.now c.args.ready.now _ _ c.requires.ready c.ready.view_is (two-paths c.requires.ready c.ready.view_is (λ p q. Link p q) refl refl c.in-Link.is))).named
+add_name-requires-clause-named c = (link-known (look (world_of c.args.table.now)) c.requires.ready.limits c.ready.inside.path.now.names c.ready.inside.other_path.now.names (known c.args.table.now c.args.ready.now _ _ c.requires.ready c.ready.view_is (two-paths c.requires.ready c.ready.view_is (λ p q. Link p q) refl refl c.in-Link.is))).named
 
 pub unlink-requires-clause-there : goal.unlink-requires-clause-there
-unlink-requires-clause-there c = (unlink-known (look (world_of c.args.table.now)) c.ready.inside.path.names (known c.args.table.now c.args.ready.now _ _ c.requires.ready c.ready.view_is (one-path c.requires.ready c.ready.view_is (λ p. Unlink p) refl c.in-Unlink.is))).there
+unlink-requires-clause-there c = (unlink-known (look (world_of c.args.table.now)) c.ready.inside.path.now.names (known c.args.table.now c.args.ready.now _ _ c.requires.ready c.ready.view_is (one-path c.requires.ready c.ready.view_is (λ p. Unlink p) refl c.in-Unlink.is))).there
 
 pub unlink-requires-clause-regular : goal.unlink-requires-clause-regular
-unlink-requires-clause-regular c = (unlink-known (look (world_of c.args.table.now)) c.ready.inside.path.names (known c.args.table.now c.args.ready.now _ _ c.requires.ready c.ready.view_is (one-path c.requires.ready c.ready.view_is (λ p. Unlink p) refl c.in-Unlink.is))).regular
+unlink-requires-clause-regular c = (unlink-known (look (world_of c.args.table.now)) c.ready.inside.path.now.names (known c.args.table.now c.args.ready.now _ _ c.requires.ready c.ready.view_is (one-path c.requires.ready c.ready.view_is (λ p. Unlink p) refl c.in-Unlink.is))).regular
 
 pub drop_name-requires-clause-there : goal.drop_name-requires-clause-there
 drop_name-requires-clause-there c =
-    let known = (rmdir-known (look (world_of c.args.table.now)) c.ready.inside.path.names (known c.args.table.now c.args.ready.now _ _ c.requires.ready c.ready.view_is (one-path c.requires.ready c.ready.view_is (λ p. Rmdir p) refl c.in-Rmdir.is))) in
-    empty-seen (look (world_of c.args.table.now) c.ready.inside.path.names) known.there known.empty
+    let known = (rmdir-known (look (world_of c.args.table.now)) c.ready.inside.path.now.names (known c.args.table.now c.args.ready.now _ _ c.requires.ready c.ready.view_is (one-path c.requires.ready c.ready.view_is (λ p. Rmdir p) refl c.in-Rmdir.is))) in
+    empty-seen (look (world_of c.args.table.now) c.ready.inside.path.now.names) known.there known.empty
 
 pub drop_name-requires-clause-named : goal.drop_name-requires-clause-named
-drop_name-requires-clause-named c = (rmdir-known (look (world_of c.args.table.now)) c.ready.inside.path.names (known c.args.table.now c.args.ready.now _ _ c.requires.ready c.ready.view_is (one-path c.requires.ready c.ready.view_is (λ p. Rmdir p) refl c.in-Rmdir.is))).named
+drop_name-requires-clause-named c = (rmdir-known (look (world_of c.args.table.now)) c.ready.inside.path.now.names (known c.args.table.now c.args.ready.now _ _ c.requires.ready c.ready.view_is (one-path c.requires.ready c.ready.view_is (λ p. Rmdir p) refl c.in-Rmdir.is))).named
 
 pub rename-requires-clause-source : goal.rename-requires-clause-source
-rename-requires-clause-source c = (rename-known (look (world_of c.args.table.now)) c.requires.ready.limits c.args.ready.now.counts c.ready.inside.path.names c.ready.inside.other_path.names (known c.args.table.now c.args.ready.now _ _ c.requires.ready c.ready.view_is (two-paths c.requires.ready c.ready.view_is (λ p q. Rename p q) refl refl c.in-Rename.is))).there
+rename-requires-clause-source c = (rename-known (look (world_of c.args.table.now)) c.requires.ready.limits c.args.ready.now.counts c.ready.inside.path.now.names c.ready.inside.other_path.now.names (known c.args.table.now c.args.ready.now _ _ c.requires.ready c.ready.view_is (two-paths c.requires.ready c.ready.view_is (λ p q. Rename p q) refl refl c.in-Rename.is))).there
 
 pub rename-requires-clause-directory : goal.rename-requires-clause-directory
-rename-requires-clause-directory c = (rename-known (look (world_of c.args.table.now)) c.requires.ready.limits c.args.ready.now.counts c.ready.inside.path.names c.ready.inside.other_path.names (known c.args.table.now c.args.ready.now _ _ c.requires.ready c.ready.view_is (two-paths c.requires.ready c.ready.view_is (λ p q. Rename p q) refl refl c.in-Rename.is))).directory
+rename-requires-clause-directory c = (rename-known (look (world_of c.args.table.now)) c.requires.ready.limits c.args.ready.now.counts c.ready.inside.path.now.names c.ready.inside.other_path.now.names (known c.args.table.now c.args.ready.now _ _ c.requires.ready c.ready.view_is (two-paths c.requires.ready c.ready.view_is (λ p q. Rename p q) refl refl c.in-Rename.is))).directory
 
 pub rename-requires-clause-named : goal.rename-requires-clause-named
-rename-requires-clause-named c = (rename-known (look (world_of c.args.table.now)) c.requires.ready.limits c.args.ready.now.counts c.ready.inside.path.names c.ready.inside.other_path.names (known c.args.table.now c.args.ready.now _ _ c.requires.ready c.ready.view_is (two-paths c.requires.ready c.ready.view_is (λ p q. Rename p q) refl refl c.in-Rename.is))).named
+rename-requires-clause-named c = (rename-known (look (world_of c.args.table.now)) c.requires.ready.limits c.args.ready.now.counts c.ready.inside.path.now.names c.ready.inside.other_path.now.names (known c.args.table.now c.args.ready.now _ _ c.requires.ready c.ready.view_is (two-paths c.requires.ready c.ready.view_is (λ p q. Rename p q) refl refl c.in-Rename.is))).named
 
 pub rename-requires-clause-other_named : goal.rename-requires-clause-other_named
-rename-requires-clause-other_named c = (rename-known (look (world_of c.args.table.now)) c.requires.ready.limits c.args.ready.now.counts c.ready.inside.path.names c.ready.inside.other_path.names (known c.args.table.now c.args.ready.now _ _ c.requires.ready c.ready.view_is (two-paths c.requires.ready c.ready.view_is (λ p q. Rename p q) refl refl c.in-Rename.is))).other_named
+rename-requires-clause-other_named c = (rename-known (look (world_of c.args.table.now)) c.requires.ready.limits c.args.ready.now.counts c.ready.inside.path.now.names c.ready.inside.other_path.now.names (known c.args.table.now c.args.ready.now _ _ c.requires.ready c.ready.view_is (two-paths c.requires.ready c.ready.view_is (λ p q. Rename p q) refl refl c.in-Rename.is))).other_named
 
 pub rename-requires-clause-below : goal.rename-requires-clause-below
-rename-requires-clause-below c = (rename-known (look (world_of c.args.table.now)) c.requires.ready.limits c.args.ready.now.counts c.ready.inside.path.names c.ready.inside.other_path.names (known c.args.table.now c.args.ready.now _ _ c.requires.ready c.ready.view_is (two-paths c.requires.ready c.ready.view_is (λ p q. Rename p q) refl refl c.in-Rename.is))).below
+rename-requires-clause-below c = (rename-known (look (world_of c.args.table.now)) c.requires.ready.limits c.args.ready.now.counts c.ready.inside.path.now.names c.ready.inside.other_path.now.names (known c.args.table.now c.args.ready.now _ _ c.requires.ready c.ready.view_is (two-paths c.requires.ready c.ready.view_is (λ p q. Rename p q) refl refl c.in-Rename.is))).below
 
 pub rename-requires-clause-empty : goal.rename-requires-clause-empty
-rename-requires-clause-empty c = (rename-known (look (world_of c.args.table.now)) c.requires.ready.limits c.args.ready.now.counts c.ready.inside.path.names c.ready.inside.other_path.names (known c.args.table.now c.args.ready.now _ _ c.requires.ready c.ready.view_is (two-paths c.requires.ready c.ready.view_is (λ p q. Rename p q) refl refl c.in-Rename.is))).empty
+rename-requires-clause-empty c = (rename-known (look (world_of c.args.table.now)) c.requires.ready.limits c.args.ready.now.counts c.ready.inside.path.now.names c.ready.inside.other_path.now.names (known c.args.table.now c.args.ready.now _ _ c.requires.ready c.ready.view_is (two-paths c.requires.ready c.ready.view_is (λ p q. Rename p q) refl refl c.in-Rename.is))).empty
 
 pub stat-requires : goal.stat-requires
-stat-requires c = record { resolved = resolved c.requires.ready c.ready.view_is; there = find-known (look (world_of c.args.table.now)) c.ready.inside.path.names (known c.args.table.now c.args.ready.now _ _ c.requires.ready c.ready.view_is (one-path c.requires.ready c.ready.view_is (λ p. Stat p) refl c.in-Stat.is)) }
+stat-requires c = record { resolved = resolved c.requires.ready c.ready.view_is; there = find-known (look (world_of c.args.table.now)) c.ready.inside.path.now.names (known c.args.table.now c.args.ready.now _ _ c.requires.ready c.ready.view_is (one-path c.requires.ready c.ready.view_is (λ p. Stat p) refl c.in-Stat.is)) }
 
 pub returns-in_ok-make-in-Create-clause-world : goal.returns-in_ok-make-in-Create-clause-world
 returns-in_ok-make-in-Create-clause-world c = after-at _ (world_of c.args.table.now) _ _ _ c.ready.view_is (one-path c.requires.ready c.ready.view_is (λ p. Create p c.in-Create.mode) refl c.in-Create.is) (c.in_ok-make-in-Create.ensures.world)
@@ -185,16 +185,16 @@ returns-in_ok-rename-in-Rename-clause-world c = after-at _ (world_of c.args.tabl
 pub returns-in_ok-write-in-Write-clause-world : goal.returns-in_ok-write-in-Write-clause-world
 returns-in_ok-write-in-Write-clause-world c =
     after-at _ (world_of c.args.table.now) _ _ _ c.ready.view_is (one-path c.requires.ready c.ready.view_is (λ p. Write p c.in-Write.offset c.in-Write.bytes) refl c.in-Write.is)
-    (c.in_ok-write-in-Write.ensures.world ∙ ap (λ x. changed_at (world_of c.args.table.now) c.ready.inside.path.names (λ f. record f { bytes = written c.in-Write.offset x f.bytes })) c.as_slice-new.ensures)
+    (c.in_ok-write-in-Write.ensures.world ∙ ap (λ x. changed_at (world_of c.args.table.now) c.ready.inside.path.now.names (λ f. record f { bytes = written c.in-Write.offset x f.bytes })) c.as_slice-new.ensures)
 
 pub returns-in_ok-bytes-in-ReadFile-clause-answer : goal.returns-in_ok-bytes-in-ReadFile-clause-answer
 returns-in_ok-bytes-in-ReadFile-clause-answer c = answer-at _ (world_of c.args.table.now) _ _ _ c.ready.view_is (one-path c.requires.ready c.ready.view_is (λ p. ReadFile p c.in-ReadFile.offset c.in-ReadFile.count) refl c.in-ReadFile.is) (ap Bytes (c.in_ok-bytes-in-ReadFile.ensures))
 
 pub list-requires-clause-there : goal.list-requires-clause-there
-list-requires-clause-there c = (list-known (look (world_of c.args.table.now)) c.ready.inside.path.names (known c.args.table.now c.args.ready.now _ _ c.requires.ready c.ready.view_is (one-path c.requires.ready c.ready.view_is (λ p. Listed p) refl c.in-List.is))).there
+list-requires-clause-there c = (list-known (look (world_of c.args.table.now)) c.ready.inside.path.now.names (known c.args.table.now c.args.ready.now _ _ c.requires.ready c.ready.view_is (one-path c.requires.ready c.ready.view_is (λ p. Listed p) refl c.in-List.is))).there
 
 pub list-requires-clause-directory : goal.list-requires-clause-directory
-list-requires-clause-directory c = (list-known (look (world_of c.args.table.now)) c.ready.inside.path.names (known c.args.table.now c.args.ready.now _ _ c.requires.ready c.ready.view_is (one-path c.requires.ready c.ready.view_is (λ p. Listed p) refl c.in-List.is))).directory
+list-requires-clause-directory c = (list-known (look (world_of c.args.table.now)) c.ready.inside.path.now.names (known c.args.table.now c.args.ready.now _ _ c.requires.ready c.ready.view_is (one-path c.requires.ready c.ready.view_is (λ p. Listed p) refl c.in-List.is))).directory
 
 pub returns-in_ok-list-in-List-clause-answer : goal.returns-in_ok-list-in-List-clause-answer
 returns-in_ok-list-in-List-clause-answer c = answer-at _ (world_of c.args.table.now) _ _ _ c.ready.view_is (one-path c.requires.ready c.ready.view_is (λ p. Listed p) refl c.in-List.is) (ap Names (c.in_ok-list-in-List.ensures))
@@ -208,15 +208,15 @@ same-flags call a b p q flags again e f = let both : Rename2 a b flags ≡ Renam
 other-flags : (flags again : ℕ) → flags ≡ again → flags ≢ RENAME_EXCHANGE → (again == RENAME_EXCHANGE) ≡ false
 other-flags flags again same off = ne_eqb again RENAME_EXCHANGE (λ e. off (same ∙ e))
 
-exchange-at : (c : goal.After-exchange-arg-1) → ExchangeKnown (look (world_of c.args.table.now)) c.ready.inside.path.names c.ready.inside.other_path.names
+exchange-at : (c : goal.After-exchange-arg-1) → ExchangeKnown (look (world_of c.args.table.now)) c.ready.inside.path.now.names c.ready.inside.other_path.now.names
 exchange-at c =
-    exchange-known (look (world_of c.args.table.now)) c.requires.ready.limits c.args.ready.now.counts c.ready.inside.path.names c.ready.inside.other_path.names c.in-Rename2.flags
+    exchange-known (look (world_of c.args.table.now)) c.requires.ready.limits c.args.ready.now.counts c.ready.inside.path.now.names c.ready.inside.other_path.now.names c.in-Rename2.flags
     (known c.args.table.now c.args.ready.now _ _ c.requires.ready c.ready.view_is (two-paths c.requires.ready c.ready.view_is (λ p q. Rename2 p q c.in-Rename2.flags) refl refl c.in-Rename2.is))
     (eq-eqb c.in-Rename2.flags RENAME_EXCHANGE c.if-flags-eq-RENAME_EXCHANGE.true)
 
-move-at : (c : goal.After-rename-arg-in-Rename2-2-1) → RenameKnown (look (world_of c.args.table.now)) c.ready.inside.path.names c.ready.inside.other_path.names
+move-at : (c : goal.After-rename-arg-in-Rename2-2-1) → RenameKnown (look (world_of c.args.table.now)) c.ready.inside.path.now.names c.ready.inside.other_path.now.names
 move-at c =
-    move-known (look (world_of c.args.table.now)) c.requires.ready.limits c.args.ready.now.counts c.ready.inside.path.names c.ready.inside.other_path.names c.in-Rename2-2.flags
+    move-known (look (world_of c.args.table.now)) c.requires.ready.limits c.args.ready.now.counts c.ready.inside.path.now.names c.ready.inside.other_path.now.names c.in-Rename2-2.flags
     (known c.args.table.now c.args.ready.now _ _ c.requires.ready c.ready.view_is (two-paths c.requires.ready c.ready.view_is (λ p q. Rename2 p q c.in-Rename2-2.flags) refl refl c.in-Rename2-2.is))
     (other-flags c.in-Rename2.flags c.in-Rename2-2.flags (same-flags _ _ _ _ _ _ _ (two-paths c.requires.ready c.ready.view_is (λ p q. Rename2 p q c.in-Rename2.flags) refl refl c.in-Rename2.is) (two-paths c.requires.ready c.ready.view_is (λ p q. Rename2 p q c.in-Rename2-2.flags) refl refl c.in-Rename2-2.is)) c.if-flags-eq-RENAME_EXCHANGE.false)
 
@@ -257,13 +257,13 @@ by-test new w old_path new_path flags b e h = h ∙ ap (λ x. if x then after_ex
 pub returns-in-Rename2-clause-world : goal.returns-in-Rename2-clause-world
 returns-in-Rename2-clause-world c =
     after-at _ (world_of c.args.table.now) _ _ _ c.ready.view_is (two-paths c.requires.ready c.ready.view_is (λ p q. Rename2 p q c.in-Rename2.flags) refl refl c.in-Rename2.is)
-    (by-test (world_of c.exchange.new.table) (world_of c.args.table.now) c.ready.inside.path.names c.ready.inside.other_path.names c.in-Rename2.flags true (eq-eqb c.in-Rename2.flags RENAME_EXCHANGE c.if-flags-eq-RENAME_EXCHANGE.true) (c.exchange.ensures.world))
+    (by-test (world_of c.exchange.new.table) (world_of c.args.table.now) c.ready.inside.path.now.names c.ready.inside.other_path.now.names c.in-Rename2.flags true (eq-eqb c.in-Rename2.flags RENAME_EXCHANGE c.if-flags-eq-RENAME_EXCHANGE.true) (c.exchange.ensures.world))
 
 pub returns-in_ok-rename-in-Rename2-2-clause-world : goal.returns-in_ok-rename-in-Rename2-2-clause-world
 returns-in_ok-rename-in-Rename2-2-clause-world c =
     let off = other-flags c.in-Rename2.flags c.in-Rename2-2.flags (same-flags _ _ _ _ _ _ _ (two-paths c.requires.ready c.ready.view_is (λ p q. Rename2 p q c.in-Rename2.flags) refl refl c.in-Rename2.is) (two-paths c.requires.ready c.ready.view_is (λ p q. Rename2 p q c.in-Rename2-2.flags) refl refl c.in-Rename2-2.is)) c.if-flags-eq-RENAME_EXCHANGE.false in
     after-at _ (world_of c.args.table.now) _ _ _ c.ready.view_is (two-paths c.requires.ready c.ready.view_is (λ p q. Rename2 p q c.in-Rename2-2.flags) refl refl c.in-Rename2-2.is)
-    (by-test (world_of c.rename-in-Rename2-2.new.table) (world_of c.args.table.now) c.ready.inside.path.names c.ready.inside.other_path.names c.in-Rename2-2.flags false off (c.in_ok-rename-in-Rename2-2.ensures.world))
+    (by-test (world_of c.rename-in-Rename2-2.new.table) (world_of c.args.table.now) c.ready.inside.path.now.names c.ready.inside.other_path.now.names c.in-Rename2-2.flags false off (c.in_ok-rename-in-Rename2-2.ensures.world))
 
 pub make-requires-clause-unused : goal.make-requires-clause-unused
 make-requires-clause-unused c = subst (λ n. finmap.get (world_of c.args.table.now).files n ≡ None) (sym (ap (λ (r : Checked). r.counts.next_number) c.ready.view_is)) (next-free (world_of c.args.table.now) c.args.ready.now.counts.next_number c.requires.ready.numbers)

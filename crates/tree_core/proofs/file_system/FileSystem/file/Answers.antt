@@ -18,7 +18,7 @@ use Rattle.tree_core.proofs.file_system.FileSystem.file.Goals as goal
 pub check-requires : goal.check-requires
 check-requires c =
     let w = world_of c.args.self.now.table in
-    record { numbers = subst (λ (x : Counts). HasNumbersBelow w x.next_number) (sym c.counts-counts.ensures) c.requires.given }
+    record { paths = c.of-paths.ensures; numbers = subst (λ (x : Counts). HasNumbersBelow w x.next_number) (sym c.counts-counts.ensures) c.requires.given }
 
 pub returns-in-Err : goal.returns-in-Err
 returns-in-Err c =

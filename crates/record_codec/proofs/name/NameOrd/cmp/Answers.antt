@@ -1,0 +1,7 @@
+use Rattle.std.proofs.Common.{◌∙◌}
+use Rattle.record_codec.proofs.FrontLemmas.{fronts_decide}
+use Rattle.record_codec.proofs.name.NameOrd.cmp.Goals as goal
+
+-- src/name.rt:136:5
+pub returns-else-front-other_front : goal.returns-else-front-other_front
+returns-else-front-other_front c = c.cmp-else-front-other_front.ensures ∙ fronts_decide _ _ _ _ _ _ c.self.view_is c.other.view_is c.self.invariant.name c.other.invariant.name c.front-front.ensures c.front-other_front.ensures c.if-front-other_front.false
