@@ -258,6 +258,42 @@ named_by (b ∷ bs) ps h =
 pub named_step : (w : List ℕ) (n : ℕ) → IsCut w n → list_all is_name (names_of w) ≡ true → list_all is_name (names_of (behind_front w n)) ≡ true
 named_step w n c h = named_by (take n w) (pieces 47 (behind_front w n)) (sym (ap (list_all is_name) (names_step w n c)) ∙ h)
 
+-- ---- a path of one name
+
+pub record IsOneName (w : List ℕ) : Type 0 where
+  pub one : length (names_of w) ≡ 1
+  pub named : list_all is_name (names_of w) ≡ true
+  pub no_null : list_any is_null w ≡ false
+
+none_left : (xs : List (List ℕ)) → length xs ≡ 0 → xs ≡ []
+none_left [] e = refl
+none_left (x ∷ xs) e = absurd (omega (arith, e))
+
+pub only_front : (w : List ℕ) (n : ℕ) → IsFront w n → 0 < n → length (names_of w) ≡ 1 → names_of w ≡ take n w ∷ []
+only_front w n f some one =
+    let split = front_by w n f (ltb n (length w)) refl in
+    let has : 0 < length (take n w) = omega (arith, length-take-le n w f.within, some) in
+    let e : names_of w ≡ take n w ∷ filter is_nonempty split.0 = split.1 ∙ name_front (take n w) split.0 has in
+    let len : 1 ≡ suc (length (filter is_nonempty split.0)) = sym one ∙ ap (λ (t : List (List ℕ)). length t) e in
+    e ∙ ap (λ (t : List (List ℕ)). take n w ∷ t) (none_left (filter is_nonempty split.0) (omega (arith, len)))
+
+-- the name that is made is the only one
+pub only_made : {E : Type 0} (r : Result (List ℕ) E) (names : List (List ℕ)) (x : List ℕ) → IfOk r (λ name. name ≡ x) → names ≡ x ∷ [] → IfOk r (λ name. names ≡ name ∷ [])
+only_made (Ok name) names x e h = h ∙ ap (λ (y : List ℕ). y ∷ []) (sym e)
+only_made (Err _) names x e h = tt
+
+-- no name stands in front of a slash that comes first
+pub only_step : (w : List ℕ) → IsFront w 0 → IsOneName w → (0 < length w) × IsOneName (behind_front w 0)
+only_step w f is =
+    let some : 0 ≢ length w = (λ e. let none = count_end w 0 (record { all = e; front = f.front }) in omega (arith, none, is.one)) in
+    let c = is_cut w 0 f some in
+    (c.inside,
+    record {
+      one = let count = count_step w 0 c in omega (arith, count, is.one);
+      named = named_step w 0 c is.named;
+      no_null = sym (null_step w 0 c) ∙ is.no_null;
+    })
+
 -- ---- names that are gathered
 
 pub pushed : (all names more : List (List ℕ)) (x : List ℕ) (ps : List (List ℕ)) → all ≡ names ++ filter is_nonempty (x ∷ ps) → 0 < length x → more ≡ names ++ x ∷ [] → all ≡ more ++ filter is_nonempty ps

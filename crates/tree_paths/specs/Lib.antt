@@ -1,5 +1,6 @@
 pub mod Bounds
 pub mod Greatest
+pub mod Kept
 pub mod Paths
 pub mod Pieces
 pub mod Refusals

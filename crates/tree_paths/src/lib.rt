@@ -1,6 +1,7 @@
 //! Paths, refusals and limits of a file tree.
 #![tactic(auto)]
 
+mod kept;
 mod laws;
 mod limits;
 mod names;

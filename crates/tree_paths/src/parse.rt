@@ -1,6 +1,6 @@
 //! Pathnames as texts.
 
-ghost use Rattle.std.specs.Prelude.{◌≡◌, ◌≤◌, ◌<◌, true, false, IfOk, MatchResult, if◌then◌else◌, length, take, slice_index};
+ghost use Rattle.std.specs.Prelude.{◌≡◌, ◌∷◌, [], ◌≤◌, ◌<◌, true, false, IfOk, MatchResult, if◌then◌else◌, length, take, slice_index};
 ghost use Rattle.std.specs.List.{list_any, list_all};
 ghost use Rattle.record_codec.specs.Names.{is_name_byte};
 ghost use Rattle.tree_paths.specs.declared.refusal.Refusal.TheVariants.{Einval, Enametoolong};
@@ -84,6 +84,22 @@ fn has_dots(name: &[u8]) -> bool
     ensures { result ≡ is_dots name.now }
 {
     name == b".".as_slice() || name == b"..".as_slice()
+}
+
+/// The name of a path's text that has one. It takes no memory for a list of it.
+pub(crate) fn only_name(alloc: Global, text: &[u8]) -> Result<Name, AllocError>
+    requires path { parsed text.now ≡ Ok (names_of text.now) }
+    requires one { length (names_of text.now) ≡ 1 }
+    ensures { IfOk result (λ name. names_of text.now ≡ name ∷ []) }
+{
+    let mut rest = &text[1..];
+    loop {
+        let len = front_len(rest);
+        if 0 < len {
+            return Name::of(alloc, &rest[..len]);
+        }
+        rest = &rest[len + 1..];
+    }
 }
 
 /// The names of a path's text, in memory for `count` of them.

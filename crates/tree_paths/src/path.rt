@@ -9,30 +9,32 @@ ghost use Rattle.std.specs.Cmp.Lexicographic.{pointwise, slice_cmp, lists_ties};
 ghost use Rattle.std.specs.Ordering.{as_partial_cmp, nat_cmp};
 
 use crate::Refusal;
-use crate::parse::{count_of_names, names_in};
+use crate::kept::Kept;
+use crate::parse::count_of_names;
 use record_codec::Name;
-use std::alloc::{AllocError, Global};
+use std::alloc::Global;
 use std::cmp::Ordering;
 use std::marker::Model;
 
-/// A path from the root: its names.
+/// A path from the root: its names. A path of one name takes no memory for a list of them.
 #[derive(Debug)]
 pub struct Path {
-    names: Vec<Name>,
+    kept: Kept,
 }
 
 impl Drop for Path {
     fn drop(self) {
-        let Path { names: _ } = self;
+        let Path { kept: _ } = self;
     }
 }
 
 impl Model for Path {
     ghost use Rattle.std.specs.Prelude.{ℕ, List};
+    ghost use Rattle.tree_paths.specs.Kept.{kept_names};
 
     ghost Value = { List (List ℕ) };
 
-    ghost view = { λ path. path.names.items };
+    ghost view = { λ path. kept_names path.kept };
 }
 
 impl PartialEq for Path {
@@ -90,7 +92,7 @@ impl Path {
     {
         let count = count_of_names(text)?;
         Ok(Path {
-            names: names_in(alloc, text, count)?,
+            kept: Kept::of(alloc, text, count)?,
         })
     }
 
@@ -98,14 +100,16 @@ impl Path {
     pub fn from_names(names: Vec<Name>) -> Path
         ensures { result ≡ names.items }
     {
-        Path { names }
+        Path {
+            kept: Kept::Many(names),
+        }
     }
 
     /// The names, from the root on. The root's own path has none.
     pub fn names(&self) -> &[Name]
         ensures { result.now ≡ self.now }
     {
-        &self.names
+        self.kept.names()
     }
 
     /// The names of the directory of the last name, and that name. `None` for the root.
@@ -131,18 +135,7 @@ impl Path {
         ensures err { IfErr result (λ refusal. refusal ≡ Enomem) }
     {
         Ok(Path {
-            names: copies(*self.names.allocator(), self.names())?,
+            kept: self.kept.copy()?,
         })
     }
-}
-
-/// The same names once more.
-pub(crate) fn copies(alloc: Global, names: &[Name]) -> Result<Vec<Name>, AllocError>
-    ensures { IfOk result (λ copied. copied.items ≡ names.now) }
-{
-    let mut copied = Vec::with_capacity(alloc, names.len())?;
-    for name in names {
-        copied.push(name.copy()?)?;
-    }
-    Ok(copied)
 }
