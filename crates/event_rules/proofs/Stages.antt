@@ -1,12 +1,12 @@
 -- One notice more.
 use Rattle.std.proofs.Common.{◌≡◌, ℕ, true, ◌+◌, ◌<◌, List, [], ◌∷◌, ◌++◌, Some, length, take, map, get_or, sym, ap, ◌∙◌, append_assoc}
-use Rattle.std.specs.Prelude.{ℤ, fold, if◌then◌else◌}
+use Rattle.std.specs.Prelude.{ℤ, Option, fold, if◌then◌else◌}
 use Rattle.std.proofs.lemmas.List.{append-nil, map-append, take_more}
 use Rattle.record_codec.specs.declared.event.Event.{Event}
 use Rattle.watch_table.specs.Watching.{Watch, Watching, removed, watch_of}
 use Rattle.event_rules.specs.declared.notice.Notice.{Notice}
 use Rattle.event_rules.specs.declared.staging.StagedEvent.{StagedEvent}
-use Rattle.event_rules.specs.Raised.{raised, raised_at, ended, ends_watch, event_told, ignored, left, told_number, events_of, wds_ended, watches_after}
+use Rattle.event_rules.specs.Raised.{raised, raised_at, ended, ended_by, ends_watch, event_told, ignored, left, told_number, events_of, wds_ended, watches_after}
 use Rattle.event_rules.specs.Staging.{staged_event}
 
 events_of-push : (w : Watching) (ns : List Notice) (n : Notice) → events_of w (ns ++ n ∷ []) ≡ events_of w ns ++ raised (watches_after w ns) n
@@ -34,11 +34,19 @@ module _ (w : Watching) (left_by_removals : (ns : List Notice) → fold removed 
   wds_more new is =
       is ∙ (λ j. was j ++ ended (there j) n) ∙ sym (ap (wds_ended w) more ∙ wds_ended-push w (take i ns) n)
 
--- the events of a notice that ends the watch
-pub heard_ended : (id : ℕ) (w : Watching) (n : Notice) (watch : Watch) (was told new : List StagedEvent) → watch_of w (told_number n) ≡ Some watch → ends_watch n watch ≡ true
-    → told ≡ was ++ map (staged_event id) (event_told n watch) → new ≡ told ++ staged_event id (ignored watch.0) ∷ [] → new ≡ was ++ map (staged_event id) (raised w n)
+-- what a notice raises, and the watch that it ends, by the watch of its file
+pub raised_by : (w : Watching) (n : Notice) (o : Option Watch) → o ≡ watch_of w (told_number n) → raised_at n o ≡ raised w n
 unfolding raised
-heard_ended id w n watch was told new there ends so_far is =
+raised_by w n o is = ap (raised_at n) is
+
+pub ended_with : (w : Watching) (n : Notice) (o : Option Watch) → o ≡ watch_of w (told_number n) → ended_by n o ≡ ended w n
+unfolding ended
+ended_with w n o is = ap (ended_by n) is
+
+-- the events of a notice that ends the watch
+pub heard_ended : (id : ℕ) (n : Notice) (watch : Watch) (was told new : List StagedEvent) → ends_watch n watch ≡ true
+    → told ≡ was ++ map (staged_event id) (event_told n watch) → new ≡ told ++ staged_event id (ignored watch.0) ∷ [] → new ≡ was ++ map (staged_event id) (raised_at n (Some watch))
+heard_ended id n watch was told new ends so_far is =
     is ∙ ap (λ hs. hs ++ staged_event id (ignored watch.0) ∷ []) so_far ∙ append_assoc was (map (staged_event id) (event_told n watch)) (staged_event id (ignored watch.0) ∷ [])
     ∙ ap (λ hs. was ++ hs) (sym (map-append (staged_event id) (event_told n watch) (ignored watch.0 ∷ []))
-    ∙ ap (λ b. map (staged_event id) (event_told n watch ++ (if b then ignored watch.0 ∷ [] else []))) (sym ends) ∙ ap (λ o. map (staged_event id) (raised_at n o)) (sym there))
+    ∙ ap (λ b. map (staged_event id) (event_told n watch ++ (if b then ignored watch.0 ∷ [] else []))) (sym ends))

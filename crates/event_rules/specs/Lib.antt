@@ -2,3 +2,4 @@ pub mod Table
 pub mod Raised
 pub mod Laws
 pub mod Staging
+pub mod Recent

@@ -3,6 +3,7 @@
 
 mod laws;
 mod notice;
+mod recent;
 mod staging;
 mod telling;
 

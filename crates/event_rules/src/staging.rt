@@ -5,10 +5,12 @@ ghost use Rattle.std.specs.Option.{option_to_list};
 ghost use Rattle.watch_table.specs.Masks.{has_any};
 ghost use Rattle.watch_table.specs.Watching.{removed, watch_of};
 ghost use Rattle.event_rules.specs.Staging.{staged_end, staged_event};
-ghost use Rattle.event_rules.specs.Raised.{asks_for, ended, ends_watch, event_told, events_of, ignored, raised, watches_after, wds_ended};
+ghost use Rattle.event_rules.specs.Raised.{asks_for, ended_by, ends_watch, event_told, events_of, ignored, raised_at, watches_after, wds_ended};
+ghost use Rattle.event_rules.specs.Recent.{AreFound};
 
 use crate::laws::{removals_leave_the_rest, removed_watches_are_left_out};
 use crate::notice::{NO_COOKIE, Notice};
+use crate::recent::Recent;
 use record_codec::{Event, bits};
 use std::alloc::{AllocError, Global};
 use std::collections::VecDeque;
@@ -116,8 +118,10 @@ fn raise(
 {
     removals_leave_the_rest();
     let _next_wd = watches.next_wd();
+    let mut recent = Recent::new();
     for notice in notices {
-        raise_one(id, watches, notice, events, wds)?;
+        let watch = watch_left(watches, wds, notice.number(), &mut recent);
+        raise_one(id, watch, notice, events, wds)?;
     }
     Ok(())
 }
@@ -132,19 +136,19 @@ fn end(id: u32, wds: &[i32], drops: &mut Vec<StagedEnd>) -> Result<(), AllocErro
     Ok(())
 }
 
-// Adds what a notice raises for the watches that are left without the descriptors, and the descriptor of the watch that it ends.
-#[tactic(auto, unfolding(crate::specs::Raised::raised, crate::specs::Raised::ended))]
+// Adds what a notice raises for the watch of its file, and the descriptor of the watch where it ends that.
+#[inline(always)]
 fn raise_one(
     id: u32,
-    watches: &Watches,
+    watch: Option<(i32, u32)>,
     notice: &Notice,
     events: &mut VecDeque<StagedEvent>,
     wds: &mut Vec<i32>,
 ) -> Result<(), AllocError>
-    ensures events { OnOk result (events.new.items ≡ events.old.items ++ map (staged_event id) (raised (fold removed watches.now wds.old.items) notice.now)) }
-    ensures ended { OnOk result (wds.new.items ≡ wds.old.items ++ ended (fold removed watches.now wds.old.items) notice.now) }
+    ensures events { OnOk result (events.new.items ≡ events.old.items ++ map (staged_event id) (raised_at notice.now watch)) }
+    ensures ended { OnOk result (wds.new.items ≡ wds.old.items ++ ended_by notice.now watch) }
 {
-    let Some(watch) = watch_left(watches, wds, notice.number()) else {
+    let Some(watch) = watch else {
         return Ok(());
     };
     raise_told(id, notice, watch, events)?;
@@ -172,12 +176,20 @@ fn raise_told(
 }
 
 // The watch of a file, where it is left without the descriptors.
-fn watch_left(watches: &Watches, wds: &[i32], number: u32) -> Option<(i32, u32)>
-    ensures { result ≡ watch_of (fold removed watches.now wds.now) number }
+#[inline(always)]
+fn watch_left(
+    watches: &Watches,
+    wds: &[i32],
+    number: u32,
+    recent: &mut Recent,
+) -> Option<(i32, u32)>
+    requires { AreFound watches.now recent.old }
+    ensures watch { result ≡ watch_of (fold removed watches.now wds.now) number }
+    ensures found { AreFound watches.now recent.new }
 {
     removed_watches_are_left_out();
     let _next_wd = watches.next_wd();
-    let watch = watches.of(number)?;
+    let watch = recent.watch_of(watches, number)?;
     if wds.contains(&watch.0) {
         return None;
     }

@@ -93,3 +93,41 @@ fn some_calls_take_no_memory(rt: HostRuntime) -> Result<(), Fail> {
     holds(&rt, "is_told && !is_refused", is_told && !is_refused);
     Ok(())
 }
+
+// Whether a path of these names is made and copied. `Err` is want of memory.
+fn is_made_and_copied(alloc: Global, text: &[u8], names: &[&[u8]]) -> Result<bool, Refusal> {
+    let path = Path::parse(alloc, text)?;
+    Ok(are(path.names(), names) && path.copy()? == path)
+}
+
+#[test]
+fn a_path_of_one_short_name_takes_no_memory(rt: HostRuntime) -> Result<(), Fail> {
+    let alloc = rt.alloc();
+    let has_refuser = refuse_from(alloc, 1);
+    let root = is_made_and_copied(alloc, b"/", &[]);
+    let one = is_made_and_copied(
+        alloc,
+        b"/a_name_of_just_23_bytes",
+        &[b"a_name_of_just_23_bytes"],
+    );
+    let with_slashes = is_made_and_copied(alloc, b"///a", &[b"a"]);
+    let is_refused = was_refused(alloc);
+    let are_made = matches!(root, Ok(true))
+        && matches!(one, Ok(true))
+        && matches!(with_slashes, Ok(true));
+    holds(&rt, "are_made && !is_refused", are_made && !is_refused);
+    let _ = refuse_from(alloc, 1);
+    let two = is_made_and_copied(alloc, b"/a/b", &[b"a", b"b"]);
+    let is_refused = was_refused(alloc);
+    holds(
+        &rt,
+        "two.is_err() == has_refuser && is_refused == has_refuser",
+        two.is_err() == has_refuser && is_refused == has_refuser,
+    );
+    holds(
+        &rt,
+        "two",
+        is_made_and_copied(alloc, b"/a/b", &[b"a", b"b"])?,
+    );
+    Ok(())
+}

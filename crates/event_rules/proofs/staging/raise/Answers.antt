@@ -7,12 +7,13 @@ use Rattle.event_rules.specs.declared.notice.Notice.{Notice}
 use Rattle.event_rules.specs.declared.staging.StagedEvent.{StagedEvent}
 use Rattle.event_rules.specs.Raised.{events_of, raised}
 use Rattle.event_rules.specs.Staging.{staged_event}
-use Rattle.event_rules.proofs.Stages.{events_more, wds_more}
+use Rattle.event_rules.proofs.Stages.{ended_with, events_more, raised_by, wds_more}
 use Rattle.event_rules.proofs.staging.raise.Goals as goal
 
 pub loop-notice-init : goal.loop-notice-init
 loop-notice-init c = record {
   events = sym (append-nil c.args.events.now.items);
+  found = c.new-recent.ensures c.args.watches.now;
   ended = c.requires;
 }
 
@@ -25,12 +26,17 @@ loop-notice-preserved c =
     let heard : Event → StagedEvent = staged_event c.args.id in
     let before = events_of w (take c.loop-notice.notice-index c.args.notices.now) in
     let more = raised (fold removed w c.loop-notice.wds.items) c.notice-item.result in
+    let left = fold removed w c.loop-notice.wds.items in
+    let n = c.notice-item.result.now in
+    let raises = raised_by left n c.watch_left-watch.result c.watch_left-watch.ensures.watch in
+    let ends = ended_with left n c.watch_left-watch.result c.watch_left-watch.ensures.watch in
     record {
       events =
-          c.in_ok-raise_one.ensures.events ∙ ap (λ es. es ++ map heard more) c.loop-notice.invariant.events ∙ append_assoc was (map heard before) (map heard more)
+          c.in_ok-raise_one.ensures.events ∙ ap (λ es. c.loop-notice.events.items ++ map heard es) raises ∙ ap (λ es. es ++ map heard more) c.loop-notice.invariant.events ∙ append_assoc was (map heard before) (map heard more)
           ∙ ap (λ es. was ++ es) (sym (map-append heard before more)
           ∙ ap (map heard) (events_more w left_by_removals c.args.notices.now c.loop-notice.notice-index c.notice-item.result c.notice-item.result c.loop-notice.wds.items within (sym c.notice-item.is)
           c.loop-notice.invariant.ended before (before ++ more) refl refl));
       ended = wds_more w left_by_removals c.args.notices.now c.loop-notice.notice-index c.notice-item.result c.notice-item.result c.loop-notice.wds.items within (sym c.notice-item.is)
-          c.loop-notice.invariant.ended c.raise_one.new.wds.items c.in_ok-raise_one.ensures.ended;
+          c.loop-notice.invariant.ended c.raise_one.new.wds.items (c.in_ok-raise_one.ensures.ended ∙ ap (λ ds. c.loop-notice.wds.items ++ ds) ends);
+      found = c.watch_left-watch.ensures.found;
     }

@@ -1,0 +1,13 @@
+-- The watches that were searched for last. No public clause cites this module.
+use Rattle.std.specs.Prelude.{◌≡◌, IfSome}
+use Rattle.watch_table.specs.Watching.{Watching, watch_of}
+use Rattle.event_rules.specs.declared.recent.Found.{Found}
+use Rattle.event_rules.specs.declared.recent.Recent.{Recent}
+
+-- it is the watch of the file
+abbrev pub IsFound : Watching → Found → Type 0
+IsFound w found = found.watch ≡ watch_of w found.number
+
+pub record AreFound (w : Watching) (r : Recent) : Type 0 where
+  pub last : IfSome r.last (λ found. IsFound w found)
+  pub before : IfSome r.before (λ found. IsFound w found)

@@ -1,0 +1,58 @@
+//! The watches that were searched for last.
+
+ghost use Rattle.std.specs.Prelude.{◌≡◌};
+ghost use Rattle.watch_table.specs.Watching.{Watching, watch_of};
+ghost use Rattle.event_rules.specs.Recent.{AreFound};
+
+use watch_table::Watches;
+
+/// A file, and its watch.
+#[derive(Clone, Copy)]
+pub(crate) struct Found {
+    number: u32,
+    watch: Option<(i32, u32)>,
+}
+
+/// What was found of the two files that were asked for last. The notices of a call are mostly of an object and of its
+/// directory in turn, so the watch of each is searched for once.
+#[derive(Clone, Copy)]
+pub(crate) struct Recent {
+    last: Option<Found>,
+    before: Option<Found>,
+}
+
+impl Recent {
+    /// Nothing was asked for.
+    #[inline(always)]
+    pub(crate) fn new() -> Recent
+        ensures { (w : Watching) → AreFound w result }
+    {
+        Recent {
+            last: None,
+            before: None,
+        }
+    }
+
+    /// The watch of a file.
+    #[inline(always)]
+    pub(crate) fn watch_of(&mut self, watches: &Watches, number: u32) -> Option<(i32, u32)>
+        requires { AreFound watches.now self.old }
+        ensures watch { result ≡ watch_of watches.now number }
+        ensures found { AreFound watches.now self.new }
+    {
+        if let Some(found) = self.last
+            && found.number == number
+        {
+            return found.watch;
+        }
+        if let Some(found) = self.before
+            && found.number == number
+        {
+            return found.watch;
+        }
+        let watch = watches.of(number);
+        self.before = self.last;
+        self.last = Some(Found { number, watch });
+        watch
+    }
+}
