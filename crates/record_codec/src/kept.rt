@@ -8,6 +8,9 @@ use crate::name::NAME_IN_PLACE;
 use byteorder::{BigEndian, ByteOrder};
 use std::alloc::{AllocError, Global};
 
+/// How many bytes [`Kept::front`] looks at.
+pub(crate) const FRONT_LEN: usize = 8;
+
 /// The bytes of a name: in the value itself where it has room for them, and else in memory.
 ///
 /// The byte that tells which it is stands before the others, so that with 23 bytes of a name the value takes 24, and

@@ -1,13 +1,15 @@
 -- How bytes are cut into pieces.
-use Rattle.std.proofs.Common.{◌≡◌, ◌==◌, ℕ, ◌+◌, ◌-◌, ◌≤◌, Bool, true, false, cond, ltb, List, [], ◌∷◌, Some, None, refl, length, take, drop, arith, length-drop}
-use Rattle.std.specs.List.{position, position_or_len}
+use Rattle.std.proofs.Common.{◌≡◌, ◌==◌, ℕ, zero, suc, ◌+◌, ◌-◌, ◌≤◌, ◌<◌, Bool, true, false, cond, ltb, List, [], ◌∷◌, ◌++◌, Some, None, refl, sym, ap, ◌∙◌, length, take, drop, get_or, arith, length-drop}
+use Rattle.std.specs.List.{list_all, position, position_or_len}
 use Rattle.std.proofs.lemmas.Bool.Decides.{nat_tests}
-use Rattle.std.proofs.lemmas.List.{take_all}
+use Rattle.std.proofs.lemmas.Bool.{and_parts, eqb-true}
+use Rattle.std.proofs.lemmas.List.{drop_more, take-append-drop, take_all}
 use Rattle.std.proofs.lemmas.List.Elements.{All-from_get_or}
 use Rattle.std.proofs.lemmas.List.Quantifiers.{position-Some}
-use Rattle.std.proofs.lemmas.List.Splits.{length-slice_split, slice_split_first, slice_split_none}
+use Rattle.std.proofs.lemmas.List.Splits.{length-slice_split, slice_split_at, slice_split_first, slice_split_none}
 use Rattle.std.proofs.lemmas.List.Sums.{count_by-le-length, fails_before_first, position_or_len_is}
 use Rattle.tree_paths.specs.Pieces.{pieces}
+use Rattle.watchtree_script.specs.Lines.{is_line_byte}
 
 -- what a slice from an index on is
 pub from-index : (k : ℕ) (bs : List ℕ) → take (length bs - k) (drop k bs) ≡ drop k bs
@@ -35,3 +37,29 @@ pieces-none s bs h =
     let p : ℕ → Bool = λ b. b == s in
     let past = absent (ltb (position_or_len p bs) (length bs)) (position_or_len p bs) h in
     slice_split_none p bs (All-from_get_or (λ x. p x ≡ false) bs 0 (λ k below. fails_before_first p bs k 0 (grind (arith, nat_tests))))
+
+-- ---- a line of printable bytes
+
+no_feed : (b : ℕ) → is_line_byte b ≡ true → (b == 10) ≡ false
+no_feed b h = not_feed (b == 10) refl
+  where
+    not_feed : (t : Bool) → (b == 10) ≡ t → t ≡ false
+    not_feed false e = refl
+    not_feed true e = let is : b ≡ 10 = eqb-true b 10 e in absurd (let off : is_line_byte 10 ≡ true = ap is_line_byte (sym is) ∙ h in cc)
+
+no_feeds : (bs : List ℕ) → list_all is_line_byte bs ≡ true → All (λ b. (b == 10) ≡ false) bs
+no_feeds [] h k d lt = absurd (omega (arith, lt))
+no_feeds (b ∷ bs) h zero d lt = no_feed b (and_parts (is_line_byte b) (list_all is_line_byte bs) h).0
+no_feeds (b ∷ bs) h (suc k) d lt = no_feeds bs (and_parts (is_line_byte b) (list_all is_line_byte bs) h).1 k d (omega (arith, lt))
+
+-- it ends at the line feed behind it
+pub line-cut : (bs : List ℕ) (n : ℕ) → n < length bs → list_all is_line_byte (take n bs) ≡ true → get_or bs n 0 ≡ 10 → pieces 10 bs ≡ take n bs ∷ pieces 10 (drop (n + 1) bs)
+line-cut bs n lt h e =
+    let parts : bs ≡ take n bs ++ 10 ∷ drop (n + 1) bs = sym (take-append-drop n bs) ∙ ap (λ (t : List ℕ). take n bs ++ t) (drop_more bs n 0 lt) ∙ ap (λ (b : ℕ). take n bs ++ b ∷ drop (n + 1) bs) e in
+    ap (pieces 10) parts ∙ slice_split_at (λ b. b == 10) (take n bs) 10 (drop (n + 1) bs) (no_feeds (take n bs) h) refl
+
+-- and where nothing stands behind it, it is all
+pub line-end : (bs : List ℕ) (n : ℕ) → n ≡ length bs → list_all is_line_byte (take n bs) ≡ true → pieces 10 bs ≡ bs ∷ []
+line-end bs n e h =
+    let whole : take n bs ≡ bs = take_all n bs (omega (arith, e)) in
+    slice_split_none (λ b. b == 10) bs (no_feeds bs (ap (list_all is_line_byte) (sym whole) ∙ h))

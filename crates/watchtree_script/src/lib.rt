@@ -6,6 +6,7 @@
 mod fault;
 mod laws;
 mod line;
+mod lines;
 mod numbers;
 mod page;
 mod pieces;

@@ -6,6 +6,7 @@ ghost use Rattle.watchtree_script.specs.Lines.{is_silent, is_line_byte};
 ghost use Rattle.watchtree_script.specs.Commands.{Gives, command_of, file_command_of, path_command_of, instance_command_of, words_line, line_of};
 
 use crate::fault::ScriptFault;
+use crate::lines::ScriptLine;
 use crate::pieces::Runs;
 use crate::rows::Parser;
 use std::alloc::Global;
@@ -92,16 +93,21 @@ pub enum LineError {
 
 /// What the line asks for, or the first reason why it asks for no call.
 #[tactic(auto, unfolding(crate::specs::Commands::line_of))]
-pub(crate) fn read_line(alloc: Global, queue: u32, line: &[u8]) -> Result<Line, LineError>
-    ensures { Gives result (line_of queue line.now) }
+pub(crate) fn read_line(
+    alloc: Global,
+    queue: u32,
+    line: ScriptLine<'_>,
+) -> Result<Line, LineError>
+    requires { line.is_printable ≡ list_all is_line_byte line.bytes.now }
+    ensures { Gives result (line_of queue line.bytes.now) }
 {
-    if is_silent(line) {
+    if is_silent(line.bytes) {
         return Ok(Line::Silent);
     }
-    if !are_line_bytes(line) {
+    if !line.is_printable {
         return Err(LineError::Fault(ScriptFault::BadByte));
     }
-    read_words(alloc, queue, Runs::new(b' ', line))
+    read_words(alloc, queue, Runs::new(b' ', line.bytes))
 }
 
 /// Whether a line is empty, of spaces alone, or a comment.
@@ -114,12 +120,6 @@ fn is_silent(line: &[u8]) -> bool
         }
     }
     true
-}
-
-fn are_line_bytes(line: &[u8]) -> bool
-    ensures { result ≡ list_all is_line_byte line.now }
-{
-    line.iter().all(|b| *b == b' ' || b.is_ascii_graphic())
 }
 
 /// What a command's word and the words behind it ask for.

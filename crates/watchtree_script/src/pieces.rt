@@ -126,7 +126,7 @@ impl<'a> Runs<'a> {
 }
 
 /// The first piece, and what stands behind its separator.
-fn cut<'a>(separator: u8, bytes: &'a [u8]) -> (&'a [u8], Option<&'a [u8]>)
+pub(crate) fn cut<'a>(separator: u8, bytes: &'a [u8]) -> (&'a [u8], Option<&'a [u8]>)
     ensures { pieces separator bytes.entry.now ≡ result.0.now ∷ pieces_in separator (option_copied result.1) }
 {
     match position_of(separator, bytes) {

@@ -1,16 +1,18 @@
 //! Runs of scripts.
 
 ghost use Rattle.std.specs.Prelude.{◌≡◌, ◌<◌, ◌≤◌, [], ℕ, List, Some, IfOk, OnOk, OnErr, IfErr, IfSome, Ok, length, take};
+ghost use Rattle.std.specs.List.{list_all};
 ghost use Rattle.record_codec.specs.Ports.{inner_of, faults_of};
 ghost use Rattle.tree_core.specs.Calls.{IsSpelled};
 ghost use Rattle.watchtree_script.specs.Commands.{line_of};
+ghost use Rattle.watchtree_script.specs.Lines.{is_line_byte};
 ghost use Rattle.watchtree_script.specs.Script.{PrintsLine, MayHaveRun, FaultTells, IsShort, Adds, IsText, Replies, write_faults, read_faults};
 ghost use Rattle.watchtree_script.specs.Running.{PrintsNothing, LeavesLine, LineTells, ReadTells, IsRunFault, Passes};
 
 use crate::fault::RunFault;
 use crate::line::{Line, LineError, read_line};
+use crate::lines::{Lines, ScriptLine};
 use crate::page::Page;
-use crate::pieces::Pieces;
 use crate::print::{push_ok, push_refusal, push_reply};
 use record_codec::Port;
 use std::alloc::{AllocError, Global};
@@ -87,11 +89,11 @@ fn run_lines<W: Write>(
     let Ok(mut state) = State::new(alloc, Limits::full()) else {
         return Err(RunFault::Memory);
     };
-    let mut lines = Pieces::new(b'\n', script);
+    let mut lines = Lines::new(script);
     let mut number = 0;
     let mut text = Vec::new(alloc);
     let mut page = Page::new(alloc)?;
-    while let Some(line) = lines.next_piece() {
+    while let Some(line) = lines.next_line() {
         number += 1;
         run_line(
             &mut state, queue, number, line, &mut text, &mut page, output,
@@ -107,16 +109,17 @@ fn run_line<W: Write>(
     state: &mut State,
     queue: u32,
     number: u64,
-    line: &[u8],
+    line: ScriptLine<'_>,
     text: &mut Vec<u8>,
     page: &mut Page,
     output: &mut Port<W>,
 ) -> Result<(), RunFault>
-    ensures ok { OnOk result ((printed : List ℕ) × PrintsLine state.old (line_of queue line.now) printed state.new × Passes page.old.text.items printed page.new.text.items (W.contents (inner_of output.old)) (W.contents (inner_of output.new))) }
-    ensures err { IfErr result (λ fault. LineTells queue number state.old line.now fault page.old.text.items (W.contents (inner_of output.old)) (W.contents (inner_of output.new))) }
+    requires { line.is_printable ≡ list_all is_line_byte line.bytes.now }
+    ensures ok { OnOk result ((printed : List ℕ) × PrintsLine state.old (line_of queue line.bytes.now) printed state.new × Passes page.old.text.items printed page.new.text.items (W.contents (inner_of output.old)) (W.contents (inner_of output.new))) }
+    ensures err { IfErr result (λ fault. LineTells queue number state.old line.bytes.now fault page.old.text.items (W.contents (inner_of output.old)) (W.contents (inner_of output.new))) }
     ensures faults { faults_of output.new ≡ write_faults result (faults_of output.old) }
 {
-    match print_line(text, state, queue, number, line) {
+    match print_script_line(text, state, queue, number, line) {
         Ok(()) => page.take(output, text.as_slice()),
         Err(fault) => {
             page.write(output)?;
@@ -140,6 +143,23 @@ pub fn print_line(
     ensures ok { OnOk result (PrintsLine state.old (line_of queue line.now) text.new.items state.new) }
     ensures err { IfErr result (PrintsNothing queue number line.now) }
     ensures left { IfErr result (λ fault. LeavesLine fault state.old (line_of queue line.now) state.new) }
+{
+    print_script_line(text, state, queue, number, ScriptLine::of(line))
+}
+
+/// Runs a line whose bytes were looked at, as [`print_line`] does.
+#[inline(always)]
+fn print_script_line(
+    text: &mut Vec<u8>,
+    state: &mut State,
+    queue: u32,
+    number: u64,
+    line: ScriptLine<'_>,
+) -> Result<(), RunFault>
+    requires { line.is_printable ≡ list_all is_line_byte line.bytes.now }
+    ensures ok { OnOk result (PrintsLine state.old (line_of queue line.bytes.now) text.new.items state.new) }
+    ensures err { IfErr result (PrintsNothing queue number line.bytes.now) }
+    ensures left { IfErr result (λ fault. LeavesLine fault state.old (line_of queue line.bytes.now) state.new) }
 {
     text.clear();
     match read_line(*text.allocator(), queue, line) {

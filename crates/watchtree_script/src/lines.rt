@@ -1,0 +1,115 @@
+//! The lines of a script.
+
+ghost use Rattle.std.specs.Prelude.{◌≡◌, ◌≤◌, ◌<◌, ◌∷◌, [], MatchOption, IfSome, length, slice_index, take, true, false};
+ghost use Rattle.std.specs.List.{list_all};
+ghost use Rattle.std.specs.Option.{option_copied};
+ghost use Rattle.std.specs.Str.{byte};
+ghost use Rattle.tree_paths.specs.Pieces.{pieces};
+ghost use Rattle.watchtree_script.specs.Lines.{is_line_byte, lines_of, pieces_in};
+
+use crate::pieces::cut;
+use std::marker::Model;
+
+const LINE_FEED: u8 = b'\n';
+
+/// A line of a script.
+#[derive(Clone, Copy)]
+pub(crate) struct ScriptLine<'a> {
+    pub bytes: &'a [u8],
+    /// Whether each of its bytes is a space or a byte of a word.
+    pub is_printable: bool,
+}
+
+impl<'a> ScriptLine<'a> {
+    /// The line of these bytes.
+    pub fn of(bytes: &'a [u8]) -> ScriptLine<'a>
+        ensures bytes { result.bytes.now ≡ bytes.entry.now }
+        ensures printable { result.is_printable ≡ list_all is_line_byte bytes.entry.now }
+    {
+        ScriptLine {
+            bytes,
+            is_printable: bytes.iter().all(|b| is_line_byte(*b)),
+        }
+    }
+}
+
+/// The lines of a script that are left.
+#[derive(Drop)]
+pub(crate) struct Lines<'a> {
+    rest: Option<&'a [u8]>,
+}
+
+impl<'a> Model for Lines<'a> {
+    ghost use Rattle.std.specs.Prelude.{ℕ, List};
+    ghost use Rattle.std.specs.Option.{option_copied};
+    ghost use Rattle.std.specs.Str.{byte};
+    ghost use Rattle.watchtree_script.specs.Lines.{pieces_in};
+
+    ghost Value = { List (List ℕ) };
+
+    ghost view = { λ lines. pieces_in (byte "\n") (option_copied lines.rest) };
+}
+
+impl<'a> Lines<'a> {
+    pub fn new(script: &'a [u8]) -> Lines<'a>
+        ensures { result ≡ lines_of script.entry.now }
+    {
+        Lines { rest: Some(script) }
+    }
+
+    /// The next line. Where all its bytes are printable, one look at each finds its end and tells so.
+    #[inline(always)]
+    pub fn next_line(&mut self) -> Option<ScriptLine<'a>>
+        ensures line { MatchOption result ((self.old ≡ []) × (self.new ≡ [])) (λ line. self.old ≡ line.bytes.now ∷ self.new) }
+        ensures printable { IfSome result (λ line. line.is_printable ≡ list_all is_line_byte line.bytes.now) }
+    {
+        let bytes = self.rest?;
+        let len = printable_len(bytes);
+        if len == bytes.len() || bytes[len] == LINE_FEED {
+            let (line, rest) = cut_printable(bytes, len);
+            self.rest = rest;
+            return Some(ScriptLine {
+                bytes: line,
+                is_printable: true,
+            });
+        }
+        let (line, rest) = cut(LINE_FEED, bytes);
+        self.rest = rest;
+        Some(ScriptLine::of(line))
+    }
+}
+
+/// Whether a byte is a space or a byte of a word.
+fn is_line_byte(byte: u8) -> bool
+    ensures { result ≡ is_line_byte byte }
+{
+    byte == b' ' || byte.is_ascii_graphic()
+}
+
+/// How many bytes stand before the first that is not printable.
+fn printable_len(bytes: &[u8]) -> usize
+    ensures within { result ≤ length bytes.now }
+    ensures front { list_all is_line_byte (take result bytes.now) ≡ true }
+{
+    for (i, b) in bytes.iter().enumerate() {
+        if !is_line_byte(*b) {
+            return i;
+        }
+    }
+    bytes.len()
+}
+
+/// A first line of so many printable bytes, and what stands behind its line feed.
+fn cut_printable<'a>(bytes: &'a [u8], len: usize) -> (&'a [u8], Option<&'a [u8]>)
+    requires within { len ≤ length bytes.entry.now }
+    requires front { list_all is_line_byte (take len bytes.entry.now) ≡ true }
+    requires end { len < length bytes.entry.now → slice_index bytes.entry.now len ≡ byte "\n" }
+    ensures line { result.0.now ≡ take len bytes.entry.now }
+    ensures pieces { pieces (byte "\n") bytes.entry.now ≡ result.0.now ∷ pieces_in (byte "\n") (option_copied result.1) }
+{
+    if len == bytes.len() {
+        return (bytes, None);
+    }
+    let (line, rest) = bytes.split_at(len);
+    (line, Some(&rest[1..]))
+}
