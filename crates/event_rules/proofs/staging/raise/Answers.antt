@@ -1,11 +1,11 @@
-use Rattle.std.proofs.Common.{◌<◌, ◌++◌, List, length, take, map, refl, sym, ap, ◌∙◌, append_assoc}
+use Rattle.std.proofs.Common.{◌≡◌, ◌<◌, ◌++◌, List, length, take, map, refl, sym, ap, ◌∙◌, append_assoc}
 use Rattle.std.specs.Prelude.{fold}
 use Rattle.std.proofs.lemmas.List.{append-nil, map-append}
 use Rattle.record_codec.specs.declared.event.Event.{Event}
-use Rattle.watch_table.specs.Watching.{removed}
+use Rattle.watch_table.specs.Watching.{removed, watch_of}
 use Rattle.event_rules.specs.declared.notice.Notice.{Notice}
 use Rattle.event_rules.specs.declared.staging.StagedEvent.{StagedEvent}
-use Rattle.event_rules.specs.Raised.{events_of, raised}
+use Rattle.event_rules.specs.Raised.{events_of, raised, told_number}
 use Rattle.event_rules.specs.Staging.{staged_event}
 use Rattle.event_rules.proofs.Stages.{ended_with, events_more, raised_by, wds_more}
 use Rattle.event_rules.proofs.staging.raise.Goals as goal
@@ -27,9 +27,10 @@ loop-notice-preserved c =
     let before = events_of w (take c.loop-notice.notice-index c.args.notices.now) in
     let more = raised (fold removed w c.loop-notice.wds.items) c.notice-item.result in
     let left = fold removed w c.loop-notice.wds.items in
-    let n = c.notice-item.result.now in
-    let raises = raised_by left n c.watch_left-watch.result c.watch_left-watch.ensures.watch in
-    let ends = ended_with left n c.watch_left-watch.result c.watch_left-watch.ensures.watch in
+    let n = c.notice-item.result in
+    let at : c.watch_left-watch.result ≡ watch_of left (told_number n) = c.watch_left-watch.ensures.watch ∙ (λ k. watch_of (fold removed w (c.deref.ensures.value k)) (c.number.ensures k)) in
+    let raises = raised_by left n c.watch_left-watch.result at in
+    let ends = ended_with left n c.watch_left-watch.result at in
     record {
       events =
           c.in_ok-raise_one.ensures.events ∙ ap (λ es. c.loop-notice.events.items ++ map heard es) raises ∙ ap (λ es. es ++ map heard more) c.loop-notice.invariant.events ∙ append_assoc was (map heard before) (map heard more)
