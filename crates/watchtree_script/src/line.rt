@@ -99,7 +99,7 @@ pub(crate) fn read_line(
     line: ScriptLine<'_>,
 ) -> Result<Line, LineError>
     requires { line.is_printable ≡ list_all is_line_byte line.bytes.now }
-    ensures { Gives result (line_of queue line.bytes.now) }
+    ensures { Gives result (line_of queue line.entry.bytes.now) }
 {
     if is_silent(line.bytes) {
         return Ok(Line::Silent);

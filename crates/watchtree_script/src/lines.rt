@@ -101,9 +101,9 @@ fn printable_len(bytes: &[u8]) -> usize
 
 /// A first line of so many printable bytes, and what stands behind its line feed.
 fn cut_printable<'a>(bytes: &'a [u8], len: usize) -> (&'a [u8], Option<&'a [u8]>)
-    requires within { len ≤ length bytes.entry.now }
-    requires front { list_all is_line_byte (take len bytes.entry.now) ≡ true }
-    requires end { len < length bytes.entry.now → slice_index bytes.entry.now len ≡ byte "\n" }
+    requires within { len ≤ length bytes.now }
+    requires front { list_all is_line_byte (take len bytes.now) ≡ true }
+    requires end { len < length bytes.now → slice_index bytes.now len ≡ byte "\n" }
     ensures line { result.0.now ≡ take len bytes.entry.now }
     ensures pieces { pieces (byte "\n") bytes.entry.now ≡ result.0.now ∷ pieces_in (byte "\n") (option_copied result.1) }
 {

@@ -115,8 +115,8 @@ fn run_line<W: Write>(
     output: &mut Port<W>,
 ) -> Result<(), RunFault>
     requires { line.is_printable ≡ list_all is_line_byte line.bytes.now }
-    ensures ok { OnOk result ((printed : List ℕ) × PrintsLine state.old (line_of queue line.bytes.now) printed state.new × Passes page.old.text.items printed page.new.text.items (W.contents (inner_of output.old)) (W.contents (inner_of output.new))) }
-    ensures err { IfErr result (λ fault. LineTells queue number state.old line.bytes.now fault page.old.text.items (W.contents (inner_of output.old)) (W.contents (inner_of output.new))) }
+    ensures ok { OnOk result ((printed : List ℕ) × PrintsLine state.old (line_of queue line.entry.bytes.now) printed state.new × Passes page.old.text.items printed page.new.text.items (W.contents (inner_of output.old)) (W.contents (inner_of output.new))) }
+    ensures err { IfErr result (λ fault. LineTells queue number state.old line.entry.bytes.now fault page.old.text.items (W.contents (inner_of output.old)) (W.contents (inner_of output.new))) }
     ensures faults { faults_of output.new ≡ write_faults result (faults_of output.old) }
 {
     match print_script_line(text, state, queue, number, line) {
@@ -157,9 +157,9 @@ fn print_script_line(
     line: ScriptLine<'_>,
 ) -> Result<(), RunFault>
     requires { line.is_printable ≡ list_all is_line_byte line.bytes.now }
-    ensures ok { OnOk result (PrintsLine state.old (line_of queue line.bytes.now) text.new.items state.new) }
-    ensures err { IfErr result (PrintsNothing queue number line.bytes.now) }
-    ensures left { IfErr result (λ fault. LeavesLine fault state.old (line_of queue line.bytes.now) state.new) }
+    ensures ok { OnOk result (PrintsLine state.old (line_of queue line.entry.bytes.now) text.new.items state.new) }
+    ensures err { IfErr result (PrintsNothing queue number line.entry.bytes.now) }
+    ensures left { IfErr result (λ fault. LeavesLine fault state.old (line_of queue line.entry.bytes.now) state.new) }
 {
     text.clear();
     match read_line(*text.allocator(), queue, line) {
