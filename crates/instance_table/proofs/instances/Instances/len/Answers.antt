@@ -1,7 +1,10 @@
-use Rattle.std.proofs.Common.{ap, sym, ◌∙◌}
-use Rattle.std.specs.FinMap as map
-use Rattle.watch_table.proofs.Maps.{len-from_map}
+use Rattle.std.proofs.Common.{◌≡◌, length, ap, sym, ◌∙◌}
+use Rattle.std.specs.FinMap as finmap
+use Rattle.std.specs.FinMap.{len-entries}
+use Rattle.std.specs.Vec.{vec_len}
+use Rattle.instance_table.specs.declared.opened.Opened.{Opened}
+use Rattle.instance_table.proofs.Indexed.{entries-opened}
 use Rattle.instance_table.proofs.instances.Instances.len.Goals as goal
 
 pub returns : goal.returns
-returns c = c.len.ensures.len ∙ sym (len-from_map c.self.inside.opened c.len.ensures.ordered) ∙ ap map.len c.self.view_is
+returns c = let e = c.len.ensures in ?
