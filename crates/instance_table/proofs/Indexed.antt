@@ -1,5 +1,5 @@
 -- The open instances and the index of watchers, changed together.
-use Rattle.std.proofs.Common.{◌≡◌, ℕ, Bool, true, false, not, cond, ◌||◌, ◌&&◌, ◌++◌, suc, List, take, drop, set, get_or, eqb, Option, Some, None, is_some, refl, sym, ap, ◌∙◌, subst, arith}
+use Rattle.std.proofs.Common.{◌≡◌, ℕ, Bool, true, false, not, cond, ◌||◌, ◌&&◌, ◌++◌, ◌∷◌, [], suc, List, take, drop, set, get_or, eqb, Option, Some, None, is_some, refl, sym, ap, ◌∙◌, subst, arith}
 use Rattle.std.specs.Prelude.{pos, ℤ, Result, Ok, Err, OnOk, OnErr}
 use Rattle.record_codec.specs.Records.{AreEvents}
 use Rattle.tree_paths.specs.declared.refusal.Refusal.{Refusal}
@@ -19,8 +19,9 @@ use Rattle.instance_table.specs.declared.opened.Opened.{Opened}
 use Rattle.instance_table.specs.Ids.{IsPlace}
 use Rattle.instance_table.specs.Opened.{by_number, numbers_of}
 use Rattle.instance_table.specs.Views.{instances_of, NotesEveryWatch}
-use Rattle.instance_table.proofs.Rising.{entries-rising, get-absent, get-at, length-keys, map-cut, map-set, rises-set}
+use Rattle.instance_table.proofs.Rising.{entries-rising, get-absent, get-at, length-keys, cut-absent, map-cut, map-put, map-set, rises-cut, rises-put, rises-set}
 use Rattle.std.proofs.lemmas.List.{get_or-map}
+use Rattle.std.proofs.lemmas.Bool.{false≢true}
 use Rattle.std.specs.List.Sorted.{IsStrictlySortedBy}
 
 -- ---- one instance changes
@@ -123,6 +124,12 @@ module _ (rows : List Opened) (id place : ℕ) (rising : IsStrictlySortedBy nat_
 
   pub rows-cut : by_number (take place rows ++ drop (suc place) rows) ≡ map.remove (by_number rows) id
   rows-cut = map-cut (λ (o : Opened). o.id) (λ (o : Opened). o.instance) rows place id rising at.0 at.1
+
+-- at the place of a number is an instance
+some-at : (rows : List Opened) (id place : ℕ) → IsStrictlySortedBy nat_cmp (numbers_of rows) → IsPlace (numbers_of rows) id (Ok place) → instance_of (by_number rows) id ≡ None → ⊥
+some-at [] id place rising at free = omega (arith, at.0)
+some-at (row ∷ rows) id place rising at free =
+    false≢true (ap is_some (sym free ∙ get-at (λ (o : Opened). o.id) (λ (o : Opened). o.instance) (row ∷ rows) place id row rising at.0 at.1))
 
 -- ---- what the index notes of one instance
 
@@ -265,7 +272,10 @@ module _ (a : Inside) (whole : NotesEveryWatch a) (id : ℕ) (seen : List Opened
   pub absent : (i : ℕ) → IsPlace (numbers_of seen) id (Err i) → instance_of (instances_of a) id ≡ None
   absent i place = subst (λ rows. instance_of (by_number rows) id ≡ None) is (get-absent (λ (o : Opened). o.id) (λ (o : Opened). o.instance) seen i id place)
 
-  -- so nothing changes
+  -- so nothing changes, and there is nothing to close
+  pub nothing-closed : (i : ℕ) → IsPlace (numbers_of seen) id (Err i) → (m : Instances) → instances_of a ≡ m → m ≡ map.remove m id
+  nothing-closed i place m view = sym (cut-absent m id (ap (λ x. instance_of x id) (sym view) ∙ absent i place))
+
   pub unchanged : (i : ℕ) → IsPlace (numbers_of seen) id (Err i) → (m : Instances) → instances_of a ≡ m → (change : Instance → Instance) → m ≡ changed m id change
   unchanged i place m view change = sym (changed-none m id change (ap (λ x. instance_of x id) (sym view) ∙ absent i place))
 
@@ -273,9 +283,8 @@ module _ (a : Inside) (whole : NotesEveryWatch a) (id : ℕ) (seen : List Opened
     at-rows : IsPlace (numbers_of a.opened.items) id (Ok place)
     at-rows = subst (λ rows. IsPlace (numbers_of rows) id (Ok place)) is at
 
-    -- what closes it
-    pub closed : by_number (take place a.opened.items ++ drop (suc place) a.opened.items) ≡ map.remove (instances_of a) id
-    closed = rows-cut a.opened.items id place whole.rising at-rows
+    pub taken : instance_of (instances_of a) id ≡ None → ⊥
+    taken = some-at a.opened.items id place whole.rising at-rows
 
     module _ (row : Opened) (e : row ≡ get_or a.opened.items place row) where
       pub there : instance_of (instances_of a) id ≡ Some row.instance
@@ -309,6 +318,42 @@ module _ (a : Inside) (whole : NotesEveryWatch a) (id : ℕ) (seen : List Opened
         NotesEveryWatch-changed index noted rows queue =
             IsIndexed-changed a (record with_instance { index = index }) whole still-rising rows id row.instance j there put
             (subst (λ (q : Backlog). AreEvents q.waiting) (sym queue) (events-at a whole id row.instance there)) noted
+
+  -- a new one, at its place
+  module _ (i : ℕ) (place : IsPlace (numbers_of seen) id (Err i)) (j : Instance) (b : Inside) (with : b.opened.items ≡ take i a.opened.items ++ record { id = id; instance = j } ∷ drop i a.opened.items) where
+    free-place : IsPlace (numbers_of a.opened.items) id (Err i)
+    free-place = subst (λ rows. IsPlace (numbers_of rows) id (Err i)) is place
+
+    pub instances_of-new : instances_of b ≡ map.insert (instances_of a) id j
+    instances_of-new = ap by_number with ∙ map-put (λ (o : Opened). o.id) (λ (o : Opened). o.instance) a.opened.items i (record { id = id; instance = j }) free-place
+
+    pub NotesEveryWatch-new : b.index ≡ a.index → ((n : ℕ) → watch_of j.watches n ≡ None) → AreEvents j.queue.waiting → NotesEveryWatch b
+    NotesEveryWatch-new index none events =
+        IsIndexed-new a b whole
+        (subst (λ rows. IsStrictlySortedBy nat_cmp (numbers_of rows)) (sym with)
+        (rises-put (λ (o : Opened). o.id) (λ (o : Opened). o.instance) a.opened.items i (record { id = id; instance = j }) whole.rising free-place))
+        (subst HasNoEmptyRow (sym index) whole.rows) id j instances_of-new (absent i place) none events index
+
+  -- one less
+  module _ (place : ℕ) (at : IsPlace (numbers_of seen) id (Ok place)) (b : Inside) (cut : b.opened.items ≡ take place a.opened.items ++ drop (suc place) a.opened.items) where
+    pub instances_of-closed : (m : Instances) → instances_of a ≡ m → instances_of b ≡ map.remove m id
+    instances_of-closed m view = ap by_number cut ∙ rows-cut a.opened.items id place whole.rising (at-rows place at) ∙ ap (λ x. map.remove x id) view
+
+    pub NotesEveryWatch-closed : (row : Opened) → row ≡ get_or a.opened.items place row
+        → ((n q : ℕ) → is_noted b.index n q ≡ (not (is_some (watch_of row.instance.watches n) && eqb q id) && is_noted a.index n q)) → HasNoEmptyRow b.index → NotesEveryWatch b
+    NotesEveryWatch-closed row e forgotten rows =
+        IsIndexed-closed a b whole
+        (subst (λ rows. IsStrictlySortedBy nat_cmp (numbers_of rows)) (sym cut) (rises-cut (λ (o : Opened). o.id) (λ (o : Opened). o.instance) a.opened.items place whole.rising))
+        rows id row.instance (instances_of-closed (instances_of a) refl) (there place at row e) forgotten
+
+-- the same rows
+pub NotesEveryWatch-same : (a b : Inside) → NotesEveryWatch a → b.opened.items ≡ a.opened.items → b.index ≡ a.index → NotesEveryWatch b
+NotesEveryWatch-same a b whole rows index = record {
+  noted = λ n q. ap (λ x. is_noted x n q) index ∙ whole.noted n q ∙ sym (ap (λ os. watches_file n (instance_of (by_number os) q)) rows);
+  rows = subst HasNoEmptyRow (sym index) whole.rows;
+  records = subst (λ os. WaitingAreEvents (by_number os)) (sym rows) whole.records;
+  rising = subst (λ os. IsStrictlySortedBy nat_cmp (numbers_of os)) (sym rows) whole.rising;
+}
 
 -- two changes of one instance, one after the other
 pub changed-twice : (m : Instances) (id : ℕ) (first second both : Instance → Instance) → ((i : Instance) → second (first i) ≡ both i) → changed (changed m id first) id second ≡ changed m id both

@@ -161,7 +161,9 @@ pub(crate) fn offer_run(
 {
     let id = first.id;
     offer_one(queue, first.event);
-    while events.front().is_some_and(|heard| heard.id == id) {
+    while let Some(heard) = events.front()
+        && heard.id == id
+    {
         let Some(heard) = events.pop_front() else {
             unreachable!()
         };
