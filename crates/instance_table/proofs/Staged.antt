@@ -30,7 +30,7 @@ pub nobody-hears : (ns : List Notice) → list_any (λ (n : Notice). watches_fil
 nobody-hears [] = refl
 nobody-hears (n ∷ ns) = nobody-hears ns
 
-pub take-all : (xs : List ℕ) (k : ℕ) → length xs ≤ k → take k xs ≡ xs
+pub take-all : {A : Type 0} (xs : List A) (k : ℕ) → length xs ≤ k → take k xs ≡ xs
 take-all [] zero h = refl
 take-all [] (suc k) h = refl
 take-all (x ∷ xs) zero h = absurd (omega arith)
