@@ -112,16 +112,16 @@ module _ {R : Type 0} (key : R → ℕ) where
   found-row [] x (Err i) h bound position = (omega arith, (λ k p. absurd (omega arith)), λ k p q. absurd (omega arith))
   found-row (y ∷ rs) x (Ok i) h bound position = found (map key (y ∷ rs)) x (Ok i) h (λ d. ap (λ k. nat_cmp k x) (get_or-map key (y ∷ rs) i y d bound) ∙ position y)
   found-row (y ∷ rs) x (Err i) h bound position = found (map key (y ∷ rs)) x (Err i) h (λ up.
-    let parted = position (λ a b d le lt.
-    let first : get_or (map key (y ∷ rs)) a 0 ≡ key (get_or (y ∷ rs) a d) = get_or-map key (y ∷ rs) a d 0 (omega arith) in
-    let second : get_or (map key (y ∷ rs)) b 0 ≡ key (get_or (y ∷ rs) b d) = get_or-map key (y ∷ rs) b d 0 lt in
-    subst (λ k. ordering_index (nat_cmp k x) ≤ ordering_index (nat_cmp (key (get_or (y ∷ rs) b d)) x)) first
-    (subst (λ k. ordering_index (nat_cmp (get_or (map key (y ∷ rs)) a 0) x) ≤ ordering_index (nat_cmp k x)) second (up a b 0 le (omega (arith, length-keys (y ∷ rs)))))) in (
-      (λ k d low under. ap (λ n. nat_cmp n x) (get_or-map key (y ∷ rs) k y d (omega arith)) ∙ parted.0 k y low under),
-      λ k d low under.
-        let within : k < length (y ∷ rs) = omega (arith, length-keys (y ∷ rs)) in
-        ap (λ n. nat_cmp n x) (get_or-map key (y ∷ rs) k y d within) ∙ parted.1 k y low within,
-    ))
+      let parted = position (λ a b d le lt.
+      let first : get_or (map key (y ∷ rs)) a 0 ≡ key (get_or (y ∷ rs) a d) = get_or-map key (y ∷ rs) a d 0 (omega arith) in
+      let second : get_or (map key (y ∷ rs)) b 0 ≡ key (get_or (y ∷ rs) b d) = get_or-map key (y ∷ rs) b d 0 lt in
+      subst (λ k. ordering_index (nat_cmp k x) ≤ ordering_index (nat_cmp (key (get_or (y ∷ rs) b d)) x)) first
+      (subst (λ k. ordering_index (nat_cmp (get_or (map key (y ∷ rs)) a 0) x) ≤ ordering_index (nat_cmp k x)) second (up a b 0 le (omega (arith, length-keys (y ∷ rs)))))) in (
+        (λ k d low under. ap (λ n. nat_cmp n x) (get_or-map key (y ∷ rs) k y d (omega arith)) ∙ parted.0 k y low under),
+        λ k d low under.
+            let within : k < length (y ∷ rs) = omega (arith, length-keys (y ∷ rs)) in
+            ap (λ n. nat_cmp n x) (get_or-map key (y ∷ rs) k y d within) ∙ parted.1 k y low within,
+      ))
 
 -- ---- maps
 

@@ -14,7 +14,8 @@ pub(crate) struct Opened {
 }
 
 // Where the instance of a number is among open ones, or else where it is put in. The place `first` is looked at before any
-// other, and then the last one, as numbers mostly come rising.
+// other.
+#[inline(always)]
 pub(crate) fn place_of(rows: &[Opened], id: u32, first: usize) -> Result<usize, usize>
     requires { IsStrictlySortedBy nat_cmp (numbers_of rows.now) }
     ensures { IsPlace (numbers_of rows.now) id result }
@@ -24,6 +25,15 @@ pub(crate) fn place_of(rows: &[Opened], id: u32, first: usize) -> Result<usize, 
     {
         return Ok(first);
     }
+    find_row(rows, id)
+}
+
+// Where the instance of a number is, or else where it is put in. The last one is looked at first, as numbers mostly come
+// rising.
+fn find_row(rows: &[Opened], id: u32) -> Result<usize, usize>
+    requires { IsStrictlySortedBy nat_cmp (numbers_of rows.now) }
+    ensures { IsPlace (numbers_of rows.now) id result }
+{
     match rows.last() {
         Some(last) if id <= last.id => rows.binary_search_by_key(&id, |row| row.id),
         _ => Err(rows.len()),

@@ -150,11 +150,7 @@ pub(crate) fn offer_one(queue: &mut Queue, event: Event)
 }
 
 // Raises an event, and those behind it of the same number.
-pub(crate) fn offer_run(
-    queue: &mut Queue,
-    first: StagedEvent,
-    events: &mut VecDeque<StagedEvent>,
-)
+pub(crate) fn offer_run(queue: &mut Queue, first: StagedEvent, events: &mut VecDeque<StagedEvent>)
     ensures queue { (es : List Event) × (first ∷ events.old.items ≡ map (staged_event first.id) es ++ events.new.items) × (queue.new ≡ fold after_offer queue.old es) }
     ensures events { AreEvents queue.old.waiting → AreEvents queue.new.waiting }
     ensures fewer { deque_len events.new ≤ deque_len events.old }

@@ -1,6 +1,5 @@
-use Rattle.std.proofs.Common.{◌≡◌, ap, sym, subst, refl}
+use Rattle.std.proofs.Common.{ap, sym, subst, refl}
 use Rattle.record_codec.specs.Records.{AreEvents}
-use Rattle.instance_table.specs.declared.instance.Instance.{Instance}
 use Rattle.instance_table.specs.Instances.{after_read}
 use Rattle.instance_table.proofs.Waiting.{events-drop}
 use Rattle.instance_table.proofs.Indexed.{NotesEveryWatch-kept, events-at, instances_of-changed, there, unchanged}

@@ -1,4 +1,4 @@
-use Rattle.std.proofs.Common.{◌≡◌, ap, sym, ◌∙◌}
+use Rattle.std.proofs.Common.{ap, sym, ◌∙◌}
 use Rattle.instance_table.specs.Instances.{instance_of}
 use Rattle.instance_table.proofs.Indexed.{absent, there}
 use Rattle.instance_table.proofs.instances.Instances.get_next.Goals as goal

@@ -1,4 +1,4 @@
-use Rattle.std.proofs.Common.{◌≡◌, map, take, sym, ap, ◌∙◌, arith}
+use Rattle.std.proofs.Common.{map, sym, ap, ◌∙◌}
 use Rattle.std.specs.FinMap as finmap
 use Rattle.std.proofs.lemmas.List.{take_all}
 use Rattle.instance_table.specs.declared.opened.Opened.{Opened}
