@@ -1,23 +1,28 @@
--- The map of instances and the index of watchers, changed together.
-use Rattle.std.proofs.Common.{◌≡◌, ℕ, Bool, true, false, not, cond, ◌||◌, ◌&&◌, eqb, Option, Some, None, is_some, refl, sym, ap, ◌∙◌, subst}
+-- The open instances and the index of watchers, changed together.
+use Rattle.std.proofs.Common.{◌≡◌, ℕ, Bool, true, false, not, cond, ◌||◌, ◌&&◌, ◌++◌, ◌∷◌, [], suc, List, take, drop, set, get_or, eqb, Option, Some, None, is_some, refl, sym, ap, ◌∙◌, subst, arith}
 use Rattle.std.specs.Prelude.{pos, ℤ, Result, Ok, Err, OnOk, OnErr}
 use Rattle.record_codec.specs.Records.{AreEvents}
 use Rattle.tree_paths.specs.declared.refusal.Refusal.{Refusal}
-use Rattle.std.specs.BTreeMap as tree
-use Rattle.std.specs.BTreeMap.{BTreeMap}
+use Rattle.std.specs.Vec.{with_item}
 use Rattle.std.specs.FinMap as map
 use Rattle.std.specs.FinMap.{get-insert, get-remove, same_map, nat_cmp-IsAntisymmetric}
 use Rattle.std.specs.Ordering.{nat_cmp, eq_by_cmp}
 use Rattle.std.specs.Cmp.{nat_cmp_total, unsigned_tied}
 use Rattle.event_queue.specs.Backlogs.{Backlog}
 use Rattle.watch_table.specs.Watching.{Watch, Watching, watch_of, added, dropped}
-use Rattle.watch_table.proofs.Maps.{get-from_map, from_map-insert, from_map-remove}
 use Rattle.instance_table.specs.declared.index.Index.{Index}
 use Rattle.instance_table.specs.declared.instance.Instance.{Instance}
 use Rattle.instance_table.specs.declared.instances.Instances.TheInside.{Inside}
 use Rattle.instance_table.specs.Index.{HasNoEmptyRow, is_noted}
 use Rattle.instance_table.specs.Instances.{Instances, WaitingAreEvents, instance_of, changed, waiting_of, watches_file}
+use Rattle.instance_table.specs.declared.opened.Opened.{Opened}
+use Rattle.instance_table.specs.Ids.{IsPlace}
+use Rattle.instance_table.specs.Opened.{by_number, numbers_of}
 use Rattle.instance_table.specs.Views.{instances_of, NotesEveryWatch}
+use Rattle.instance_table.proofs.Rising.{entries-rising, get-absent, get-at, length-keys, cut-absent, map-cut, map-put, map-set, rises-cut, rises-put, rises-set}
+use Rattle.std.proofs.lemmas.List.{get_or-map}
+use Rattle.std.proofs.lemmas.Bool.{false≢true}
+use Rattle.std.specs.List.Sorted.{IsStrictlySortedBy}
 
 -- ---- one instance changes
 
@@ -96,113 +101,54 @@ waiting-cut m id all q = subst (λ o. AreEvents (waiting_of o)) (sym (get-cut m 
     by true = tt
     by false = all q
 
--- ---- the fields
+-- ---- the rows
 
-module _ (a : Inside) (whole : NotesEveryWatch a) where
-  there : (id : ℕ) (i : Instance) → tree.get nat_cmp a.opened id ≡ Some i → instance_of (instances_of a) id ≡ Some i
-  there id i h = get-from_map a.opened id ∙ h
+module _ (rows : List Opened) (id place : ℕ) (rising : IsStrictlySortedBy nat_cmp (numbers_of rows)) (at : IsPlace (numbers_of rows) id (Ok place)) where
+  -- the instance at the place of a number
+  pub instance-at : (row : Opened) → row ≡ get_or rows place row → instance_of (by_number rows) id ≡ Some row.instance
+  instance-at row e = get-at (λ (o : Opened). o.id) (λ (o : Opened). o.instance) rows place id row rising at.0 at.1 ∙ ap (λ (o : Opened). Some o.instance) (sym e)
 
+  -- another instance at the place of a number
+  module _ (row : Opened) (same : row.id ≡ id) where
+    numbered : get_or (numbers_of rows) place 0 ≡ row.id
+    numbered = at.1 ∙ sym same
+
+    pub rows-set : by_number (set rows place row) ≡ map.insert (by_number rows) id row.instance
+    rows-set = map-set (λ (o : Opened). o.id) (λ (o : Opened). o.instance) rows place row rising at.0 numbered ∙ ap (λ n. map.insert (by_number rows) n row.instance) same
+
+    pub numbers-set : IsStrictlySortedBy nat_cmp (numbers_of (set rows place row))
+    numbers-set = rises-set (λ (o : Opened). o.id) (λ (o : Opened). o.instance) rows place row rising numbered
+
+  pub number-at : (row : Opened) → row ≡ get_or rows place row → row.id ≡ id
+  number-at row e = ap (λ (o : Opened). o.id) e ∙ sym (get_or-map (λ (o : Opened). o.id) rows place row 0 (omega (arith, at.0, length-keys (λ (o : Opened). o.id) rows))) ∙ at.1
+
+  pub rows-cut : by_number (take place rows ++ drop (suc place) rows) ≡ map.remove (by_number rows) id
+  rows-cut = map-cut (λ (o : Opened). o.id) (λ (o : Opened). o.instance) rows place id rising at.0 at.1
+
+-- at the place of a number is an instance
+some-at : (rows : List Opened) (id place : ℕ) → IsStrictlySortedBy nat_cmp (numbers_of rows) → IsPlace (numbers_of rows) id (Ok place) → instance_of (by_number rows) id ≡ None → ⊥
+some-at [] id place rising at free = omega (arith, at.0)
+some-at (row ∷ rows) id place rising at free =
+    false≢true (ap is_some (sym free ∙ get-at (λ (o : Opened). o.id) (λ (o : Opened). o.instance) (row ∷ rows) place id row rising at.0 at.1))
+
+-- ---- what the index notes of one instance
+
+module _ (a : Inside) (whole : NotesEveryWatch a) (id : ℕ) (i : Instance) (was : instance_of (instances_of a) id ≡ Some i) where
   -- what waits in an instance are events
-  pub events-at : (id : ℕ) (i : Instance) → tree.get nat_cmp a.opened id ≡ Some i → AreEvents i.queue.waiting
-  events-at id i h = subst (λ o. AreEvents (waiting_of o)) (there id i h) (whole.records id)
+  pub events-at : AreEvents i.queue.waiting
+  events-at = subst (λ o. AreEvents (waiting_of o)) was (whole.records id)
 
-  -- an instance where the same files are watched
-  module _ (m : BTreeMap ℕ Instance) (id : ℕ) (i j : Instance) (put : tree.Updates nat_cmp a.opened m id (Some j)) (was : tree.get nat_cmp a.opened id ≡ Some i) where
-    abbrev with_instance : Inside
-    with_instance = record a { opened = m }
+  here : (n q : ℕ) → eqb q id ≡ true → is_noted a.index n q ≡ is_some (watch_of i.watches n)
+  here n q t = whole.noted n q ∙ ap (λ x. watches_file n (instance_of (instances_of a) x)) (is-same q id t) ∙ ap (watches_file n) was
 
-    pub instances_of-put : instances_of with_instance ≡ map.insert (instances_of a) id j
-    instances_of-put = from_map-insert a.opened m id j put
-
-    -- the instances after the change that made it
-    pub instances_of-changed : (change : Instance → Instance) → change i ≡ j → instances_of with_instance ≡ changed (instances_of a) id change
-    instances_of-changed change is = instances_of-put ∙ ap (map.insert (instances_of a) id) (sym is) ∙ sym (changed-there (instances_of a) id change i (there id i was))
-
-    pub IsIndexed-kept : i.watches ≡ j.watches → AreEvents j.queue.waiting → NotesEveryWatch with_instance
-    IsIndexed-kept same events = record {
-      noted = λ n q.
-          whole.noted n q
-          ∙ sym (ap (λ x. watches_file n (instance_of x q)) instances_of-put ∙ watched-put (instances_of a) id j n q
-          ∙ elim (eqb q id) as (λ t. eqb q id ≡ t → cond t (is_some (watch_of j.watches n)) (watches_file n (instance_of (instances_of a) q)) ≡ watches_file n (instance_of (instances_of a) q)) [
-            | true ↦ λ t. ap (λ w. is_some (watch_of w n)) (sym same) ∙ ap (watches_file n) (sym (there id i was)) ∙ ap (λ x. watches_file n (instance_of (instances_of a) x)) (sym (is-same q id t))
-            | false ↦ λ t. refl
-          ] refl);
-      rows = whole.rows;
-      records = subst WaitingAreEvents (sym instances_of-put) (waiting-put (instances_of a) id j whole.records events);
-    }
-
-    -- an instance whose watches change as the index does
-    pub IsIndexed-changed : (index : Index) → ((n q : ℕ) → is_noted index n q ≡ cond (eqb q id) (is_some (watch_of j.watches n)) (is_noted a.index n q)) → HasNoEmptyRow index → j.queue ≡ i.queue → NotesEveryWatch (record a { opened = m; index = index })
-    IsIndexed-changed index same rows queue = record {
-      rows = rows;
-      noted = λ n q.
-          same n q ∙ ap (cond (eqb q id) (is_some (watch_of j.watches n))) (whole.noted n q)
-          ∙ sym (ap (λ x. watches_file n (instance_of x q)) instances_of-put ∙ watched-put (instances_of a) id j n q);
-      records =
-          subst WaitingAreEvents (sym instances_of-put)
-          (waiting-put (instances_of a) id j whole.records (subst (λ (q : Backlog). AreEvents q.waiting) (sym queue) (events-at id i was)));
-    }
-
-  -- a map with the same entries
-  pub IsIndexed-same : (m : BTreeMap ℕ Instance) → m ≡ a.opened → NotesEveryWatch (record a { opened = m })
-  IsIndexed-same m e = subst (λ x. NotesEveryWatch (record a { opened = x })) (sym e) whole
-
-  -- a new instance, which watches nothing
-  pub IsIndexed-new : (m : BTreeMap ℕ Instance) (id : ℕ) (i : Instance) → tree.Updates nat_cmp a.opened m id (Some i) → instance_of (instances_of a) id ≡ None
-      → ((n : ℕ) → watch_of i.watches n ≡ None) → AreEvents i.queue.waiting → NotesEveryWatch (record a { opened = m })
-  IsIndexed-new m id i put free none events = record {
-    rows = whole.rows;
-    noted = λ n q.
-        whole.noted n q
-        ∙ sym (ap (λ x. watches_file n (instance_of x q)) (from_map-insert a.opened m id i put) ∙ watched-put (instances_of a) id i n q
-        ∙ elim (eqb q id) as (λ t. eqb q id ≡ t → cond t (is_some (watch_of i.watches n)) (watches_file n (instance_of (instances_of a) q)) ≡ watches_file n (instance_of (instances_of a) q)) [
-          | true ↦ λ t. ap is_some (none n) ∙ ap (watches_file n) (sym free) ∙ ap (λ x. watches_file n (instance_of (instances_of a) x)) (sym (is-same q id t))
-          | false ↦ λ t. refl
-        ] refl);
-    records = subst WaitingAreEvents (sym (from_map-insert a.opened m id i put)) (waiting-put (instances_of a) id i whole.records events);
-  }
-
-  -- an instance less, which the index forgets
-  pub IsIndexed-closed : (m : BTreeMap ℕ Instance) (index : Index) (id : ℕ) (i : Instance) → tree.Updates nat_cmp a.opened m id None → tree.get nat_cmp a.opened id ≡ Some i
-      → ((n q : ℕ) → is_noted index n q ≡ (not (is_some (watch_of i.watches n) && eqb q id) && is_noted a.index n q)) → HasNoEmptyRow index → NotesEveryWatch (record a { opened = m; index = index })
-  IsIndexed-closed m index id i cut was forgotten rows = record {
-    rows = rows;
-    noted = λ n q.
-        forgotten n q
-        ∙ ap (λ b. not (is_some (watch_of i.watches n) && eqb q id) && b) (whole.noted n q)
-        ∙ elim (eqb q id) as (λ t. eqb q id ≡ t → (not (is_some (watch_of i.watches n) && t) && watches_file n (instance_of (instances_of a) q)) ≡ cond t false (watches_file n (instance_of (instances_of a) q))) [
-          | true ↦ λ t.
-              let here : watches_file n (instance_of (instances_of a) q) ≡ is_some (watch_of i.watches n) = ap (λ x. watches_file n (instance_of (instances_of a) x)) (is-same q id t) ∙ ap (watches_file n) (there id i was) in
-              ap (λ b. not (is_some (watch_of i.watches n) && true) && b) here ∙ off (is_some (watch_of i.watches n))
-          | false ↦ λ t. on (is_some (watch_of i.watches n)) (watches_file n (instance_of (instances_of a) q))
-        ] refl
-        ∙ sym (ap (λ x. watches_file n (instance_of x q)) (from_map-remove a.opened m id cut) ∙ watched-cut (instances_of a) id n q);
-    records = subst WaitingAreEvents (sym (from_map-remove a.opened m id cut)) (waiting-cut (instances_of a) id whole.records);
-  }
-    where
-      off : (b : Bool) → (not (b && true) && b) ≡ false
-      off true = refl
-      off false = refl
-
-      on : (b c : Bool) → (not (b && false) && c) ≡ c
-      on true c = refl
-      on false c = refl
-
-module _ (a : Inside) (whole : NotesEveryWatch a) where
-  pub instances_of-same : (m : BTreeMap ℕ Instance) → m ≡ a.opened → instances_of (record a { opened = m }) ≡ instances_of a
-  instances_of-same m e = ap (λ x. instances_of (record a { opened = x })) e
-
-  -- what the index notes where the watch of one file is dropped
-  pub noted-dropped : (id : ℕ) (i : Instance) → tree.get nat_cmp a.opened id ≡ Some i → (number : ℕ) (w : Watching) → w ≡ dropped i.watches number → (index : Index)
+  -- the watch of one file is dropped
+  pub noted-dropped : (number : ℕ) (w : Watching) → w ≡ dropped i.watches number → (index : Index)
       → ((n q : ℕ) → is_noted index n q ≡ (not (eqb n number && eqb q id) && is_noted a.index n q))
       → (n q : ℕ) → is_noted index n q ≡ cond (eqb q id) (is_some (watch_of w n)) (is_noted a.index n q)
-  noted-dropped id i was number w e index cut n q =
+  noted-dropped number w e index cut n q =
       cut n q
       ∙ elim (eqb q id) as (λ t. eqb q id ≡ t → (not (eqb n number && t) && is_noted a.index n q) ≡ cond t (is_some (watch_of w n)) (is_noted a.index n q)) [
-        | true ↦ λ t.
-            let here : is_noted a.index n q ≡ is_some (watch_of i.watches n) =
-            whole.noted n q ∙ ap (λ x. watches_file n (instance_of (instances_of a) x)) (is-same q id t) ∙ ap (watches_file n) (get-from_map a.opened id ∙ was) in
-            ap (λ b. not (eqb n number && true) && b) here ∙ both (eqb n number) (is_some (watch_of i.watches n)) ∙ sym (watched-dropped i.watches number n) ∙ ap (λ x. is_some (watch_of x n)) (sym e)
+        | true ↦ λ t. ap (λ b. not (eqb n number && true) && b) (here n q t) ∙ both (eqb n number) (is_some (watch_of i.watches n)) ∙ sym (watched-dropped i.watches number n) ∙ ap (λ x. is_some (watch_of x n)) (sym e)
         | false ↦ λ t. alone (eqb n number) (is_noted a.index n q)
       ] refl
     where
@@ -214,27 +160,24 @@ module _ (a : Inside) (whole : NotesEveryWatch a) where
       alone true c = refl
       alone false c = refl
 
-  -- what the index notes where nothing has changed
-  pub noted-same : (id : ℕ) (i : Instance) → tree.get nat_cmp a.opened id ≡ Some i → (w : Watching) → w ≡ i.watches → (index : Index)
+  -- nothing has changed
+  pub noted-same : (w : Watching) → w ≡ i.watches → (index : Index)
       → ((n q : ℕ) → is_noted index n q ≡ is_noted a.index n q) → (n q : ℕ) → is_noted index n q ≡ cond (eqb q id) (is_some (watch_of w n)) (is_noted a.index n q)
-  noted-same id i was w e index same n q =
+  noted-same w e index same n q =
       same n q
       ∙ elim (eqb q id) as (λ t. eqb q id ≡ t → is_noted a.index n q ≡ cond t (is_some (watch_of w n)) (is_noted a.index n q)) [
-        | true ↦ λ t. whole.noted n q ∙ ap (λ x. watches_file n (instance_of (instances_of a) x)) (is-same q id t) ∙ ap (watches_file n) (get-from_map a.opened id ∙ was) ∙ ap (λ x. is_some (watch_of x n)) (sym e)
+        | true ↦ λ t. here n q t ∙ ap (λ x. is_some (watch_of x n)) (sym e)
         | false ↦ λ t. refl
       ] refl
 
-  -- what the index notes where a file is watched
-  pub noted-added : (id : ℕ) (i : Instance) → tree.get nat_cmp a.opened id ≡ Some i → (number mask : ℕ) (w : Watching) → w ≡ added i.watches number mask → (index : Index)
+  -- a file is watched
+  noted-added : (number mask : ℕ) (w : Watching) → w ≡ added i.watches number mask → (index : Index)
       → ((n q : ℕ) → is_noted index n q ≡ ((eqb n number && eqb q id) || is_noted a.index n q))
       → (n q : ℕ) → is_noted index n q ≡ cond (eqb q id) (is_some (watch_of w n)) (is_noted a.index n q)
-  noted-added id i was number mask w e index put n q =
+  noted-added number mask w e index put n q =
       put n q
       ∙ elim (eqb q id) as (λ t. eqb q id ≡ t → ((eqb n number && t) || is_noted a.index n q) ≡ cond t (is_some (watch_of w n)) (is_noted a.index n q)) [
-        | true ↦ λ t.
-            let here : is_noted a.index n q ≡ is_some (watch_of i.watches n) =
-            whole.noted n q ∙ ap (λ x. watches_file n (instance_of (instances_of a) x)) (is-same q id t) ∙ ap (watches_file n) (get-from_map a.opened id ∙ was) in
-            ap (λ b. (eqb n number && true) || b) here ∙ both (eqb n number) (is_some (watch_of i.watches n)) ∙ sym (watched-added i.watches number mask n) ∙ ap (λ x. is_some (watch_of x n)) (sym e)
+        | true ↦ λ t. ap (λ b. (eqb n number && true) || b) (here n q t) ∙ both (eqb n number) (is_some (watch_of i.watches n)) ∙ sym (watched-added i.watches number mask n) ∙ ap (λ x. is_some (watch_of x n)) (sym e)
         | false ↦ λ t. alone (eqb n number) (is_noted a.index n q)
       ] refl
     where
@@ -246,12 +189,171 @@ module _ (a : Inside) (whole : NotesEveryWatch a) where
       alone true c = refl
       alone false c = refl
 
-  pub noted-after : (id : ℕ) (i : Instance) → tree.get nat_cmp a.opened id ≡ Some i → (number mask : ℕ) (w : Watching) (index : Index) (r : Result ℤ Refusal)
+  -- a file was to be watched
+  pub noted-after : (number mask : ℕ) (w : Watching) (index : Index) (r : Result ℤ Refusal)
       → OnOk r (w ≡ added i.watches number mask) → OnOk r ((n q : ℕ) → is_noted index n q ≡ ((eqb n number && eqb q id) || is_noted a.index n q))
       → OnErr r (w ≡ i.watches) → OnErr r ((n q : ℕ) → is_noted index n q ≡ is_noted a.index n q)
       → (n q : ℕ) → is_noted index n q ≡ cond (eqb q id) (is_some (watch_of w n)) (is_noted a.index n q)
-  noted-after id i was number mask w index (Ok wd) e put f same = noted-added id i was number mask w e index put
-  noted-after id i was number mask w index (Err r) e put f same = noted-same id i was w f index same
+  noted-after number mask w index (Ok wd) e put f same = noted-added number mask w e index put
+  noted-after number mask w index (Err r) e put f same = noted-same w f index same
+
+-- ---- the fields
+
+module _ (a b : Inside) (whole : NotesEveryWatch a) (rising : IsStrictlySortedBy nat_cmp (numbers_of b.opened.items)) (rows : HasNoEmptyRow b.index) where
+  -- one instance has changed
+  module _ (id : ℕ) (i j : Instance) (was : instance_of (instances_of a) id ≡ Some i) (put : instances_of b ≡ map.insert (instances_of a) id j) (events : AreEvents j.queue.waiting) where
+    -- its watches have changed as the index has
+    pub IsIndexed-changed : ((n q : ℕ) → is_noted b.index n q ≡ cond (eqb q id) (is_some (watch_of j.watches n)) (is_noted a.index n q)) → NotesEveryWatch b
+    IsIndexed-changed noted = record {
+      rows = rows;
+      rising = rising;
+      noted = λ n q.
+          noted n q ∙ ap (cond (eqb q id) (is_some (watch_of j.watches n))) (whole.noted n q)
+          ∙ sym (ap (λ x. watches_file n (instance_of x q)) put ∙ watched-put (instances_of a) id j n q);
+      records = subst WaitingAreEvents (sym put) (waiting-put (instances_of a) id j whole.records events);
+    }
+
+    -- it watches the same files
+    pub IsIndexed-kept : b.index ≡ a.index → j.watches ≡ i.watches → NotesEveryWatch b
+    IsIndexed-kept index same = IsIndexed-changed (noted-same a whole id i was j.watches same b.index (λ n q. ap (λ x. is_noted x n q) index))
+
+  -- a new instance, which watches nothing
+  pub IsIndexed-new : (id : ℕ) (i : Instance) → instances_of b ≡ map.insert (instances_of a) id i → instance_of (instances_of a) id ≡ None
+      → ((n : ℕ) → watch_of i.watches n ≡ None) → AreEvents i.queue.waiting → b.index ≡ a.index → NotesEveryWatch b
+  IsIndexed-new id i put free none events index = record {
+    rows = rows;
+    rising = rising;
+    noted = λ n q.
+        ap (λ x. is_noted x n q) index ∙ whole.noted n q
+        ∙ sym (ap (λ x. watches_file n (instance_of x q)) put ∙ watched-put (instances_of a) id i n q
+        ∙ elim (eqb q id) as (λ t. eqb q id ≡ t → cond t (is_some (watch_of i.watches n)) (watches_file n (instance_of (instances_of a) q)) ≡ watches_file n (instance_of (instances_of a) q)) [
+          | true ↦ λ t. ap is_some (none n) ∙ ap (watches_file n) (sym free) ∙ ap (λ x. watches_file n (instance_of (instances_of a) x)) (sym (is-same q id t))
+          | false ↦ λ t. refl
+        ] refl);
+    records = subst WaitingAreEvents (sym put) (waiting-put (instances_of a) id i whole.records events);
+  }
+
+  -- an instance less, which the index forgets
+  pub IsIndexed-closed : (id : ℕ) (i : Instance) → instances_of b ≡ map.remove (instances_of a) id → instance_of (instances_of a) id ≡ Some i
+      → ((n q : ℕ) → is_noted b.index n q ≡ (not (is_some (watch_of i.watches n) && eqb q id) && is_noted a.index n q)) → NotesEveryWatch b
+  IsIndexed-closed id i cut was forgotten = record {
+    rows = rows;
+    rising = rising;
+    noted = λ n q.
+        forgotten n q
+        ∙ ap (λ b. not (is_some (watch_of i.watches n) && eqb q id) && b) (whole.noted n q)
+        ∙ elim (eqb q id) as (λ t. eqb q id ≡ t → (not (is_some (watch_of i.watches n) && t) && watches_file n (instance_of (instances_of a) q)) ≡ cond t false (watches_file n (instance_of (instances_of a) q))) [
+          | true ↦ λ t.
+              let here : watches_file n (instance_of (instances_of a) q) ≡ is_some (watch_of i.watches n) = ap (λ x. watches_file n (instance_of (instances_of a) x)) (is-same q id t) ∙ ap (watches_file n) was in
+              ap (λ b. not (is_some (watch_of i.watches n) && true) && b) here ∙ off (is_some (watch_of i.watches n))
+          | false ↦ λ t. on (is_some (watch_of i.watches n)) (watches_file n (instance_of (instances_of a) q))
+        ] refl
+        ∙ sym (ap (λ x. watches_file n (instance_of x q)) cut ∙ watched-cut (instances_of a) id n q);
+    records = subst WaitingAreEvents (sym cut) (waiting-cut (instances_of a) id whole.records);
+  }
+    where
+      off : (b : Bool) → (not (b && true) && b) ≡ false
+      off true = refl
+      off false = refl
+
+      on : (b c : Bool) → (not (b && false) && c) ≡ c
+      on true c = refl
+      on false c = refl
+
+-- ---- the entries of the map are the rows
+
+pub entries-opened : (a : Inside) → NotesEveryWatch a → map.entries (instances_of a) ≡ Rattle.std.proofs.Common.map (λ (o : Opened). (o.id, o.instance)) a.opened.items
+entries-opened a whole = entries-rising (λ (o : Opened). o.id) (λ (o : Opened). o.instance) a.opened.items whole.rising
+
+-- ---- the instance of a number, at its place
+
+module _ (a : Inside) (whole : NotesEveryWatch a) (id : ℕ) (seen : List Opened) (is : seen ≡ a.opened.items) where
+  -- none is there
+  pub absent : (i : ℕ) → IsPlace (numbers_of seen) id (Err i) → instance_of (instances_of a) id ≡ None
+  absent i place = subst (λ rows. instance_of (by_number rows) id ≡ None) is (get-absent (λ (o : Opened). o.id) (λ (o : Opened). o.instance) seen i id place)
+
+  -- so nothing changes, and there is nothing to close
+  pub nothing-closed : (i : ℕ) → IsPlace (numbers_of seen) id (Err i) → (m : Instances) → instances_of a ≡ m → m ≡ map.remove m id
+  nothing-closed i place m view = sym (cut-absent m id (ap (λ x. instance_of x id) (sym view) ∙ absent i place))
+
+  pub unchanged : (i : ℕ) → IsPlace (numbers_of seen) id (Err i) → (m : Instances) → instances_of a ≡ m → (change : Instance → Instance) → m ≡ changed m id change
+  unchanged i place m view change = sym (changed-none m id change (ap (λ x. instance_of x id) (sym view) ∙ absent i place))
+
+  module _ (place : ℕ) (at : IsPlace (numbers_of seen) id (Ok place)) where
+    at-rows : IsPlace (numbers_of a.opened.items) id (Ok place)
+    at-rows = subst (λ rows. IsPlace (numbers_of rows) id (Ok place)) is at
+
+    pub taken : instance_of (instances_of a) id ≡ None → ⊥
+    taken = some-at a.opened.items id place whole.rising at-rows
+
+    module _ (row : Opened) (e : row ≡ get_or a.opened.items place row) where
+      pub there : instance_of (instances_of a) id ≡ Some row.instance
+      there = instance-at a.opened.items id place whole.rising at-rows row e
+
+      module _ (j : Instance) where
+        abbrev with_instance : Inside
+        with_instance = record a { opened = with_item a.opened place (record row { instance = j }) }
+
+        same-number : row.id ≡ id
+        same-number = number-at a.opened.items id place whole.rising at-rows row e
+
+        pub put : instances_of with_instance ≡ map.insert (instances_of a) id j
+        put = rows-set a.opened.items id place whole.rising at-rows (record row { instance = j }) same-number
+
+        still-rising : IsStrictlySortedBy nat_cmp (numbers_of with_instance.opened.items)
+        still-rising = numbers-set a.opened.items id place whole.rising at-rows (record row { instance = j }) same-number
+
+        -- the instances after a change of it
+        pub instances_of-changed : (m : Instances) → instances_of a ≡ m → (change : Instance → Instance) → change row.instance ≡ j → instances_of with_instance ≡ changed m id change
+        instances_of-changed m view change e =
+            put ∙ ap (map.insert (instances_of a) id) (sym e) ∙ sym (changed-there (instances_of a) id change row.instance there) ∙ ap (λ x. changed x id change) view
+
+        -- it watches the same files
+        pub NotesEveryWatch-kept : j.watches ≡ row.instance.watches → AreEvents j.queue.waiting → NotesEveryWatch with_instance
+        NotesEveryWatch-kept same events = IsIndexed-kept a with_instance whole still-rising whole.rows id row.instance j there put events refl same
+
+        -- its watches change as the index does
+        pub NotesEveryWatch-changed : (index : Index) → ((n q : ℕ) → is_noted index n q ≡ cond (eqb q id) (is_some (watch_of j.watches n)) (is_noted a.index n q)) → HasNoEmptyRow index → j.queue ≡ row.instance.queue
+            → NotesEveryWatch (record with_instance { index = index })
+        NotesEveryWatch-changed index noted rows queue =
+            IsIndexed-changed a (record with_instance { index = index }) whole still-rising rows id row.instance j there put
+            (subst (λ (q : Backlog). AreEvents q.waiting) (sym queue) (events-at a whole id row.instance there)) noted
+
+  -- a new one, at its place
+  module _ (i : ℕ) (place : IsPlace (numbers_of seen) id (Err i)) (j : Instance) (b : Inside) (with : b.opened.items ≡ take i a.opened.items ++ record { id = id; instance = j } ∷ drop i a.opened.items) where
+    free-place : IsPlace (numbers_of a.opened.items) id (Err i)
+    free-place = subst (λ rows. IsPlace (numbers_of rows) id (Err i)) is place
+
+    pub instances_of-new : instances_of b ≡ map.insert (instances_of a) id j
+    instances_of-new = ap by_number with ∙ map-put (λ (o : Opened). o.id) (λ (o : Opened). o.instance) a.opened.items i (record { id = id; instance = j }) free-place
+
+    pub NotesEveryWatch-new : b.index ≡ a.index → ((n : ℕ) → watch_of j.watches n ≡ None) → AreEvents j.queue.waiting → NotesEveryWatch b
+    NotesEveryWatch-new index none events =
+        IsIndexed-new a b whole
+        (subst (λ rows. IsStrictlySortedBy nat_cmp (numbers_of rows)) (sym with)
+        (rises-put (λ (o : Opened). o.id) (λ (o : Opened). o.instance) a.opened.items i (record { id = id; instance = j }) whole.rising free-place))
+        (subst HasNoEmptyRow (sym index) whole.rows) id j instances_of-new (absent i place) none events index
+
+  -- one less
+  module _ (place : ℕ) (at : IsPlace (numbers_of seen) id (Ok place)) (b : Inside) (cut : b.opened.items ≡ take place a.opened.items ++ drop (suc place) a.opened.items) where
+    pub instances_of-closed : (m : Instances) → instances_of a ≡ m → instances_of b ≡ map.remove m id
+    instances_of-closed m view = ap by_number cut ∙ rows-cut a.opened.items id place whole.rising (at-rows place at) ∙ ap (λ x. map.remove x id) view
+
+    pub NotesEveryWatch-closed : (row : Opened) → row ≡ get_or a.opened.items place row
+        → ((n q : ℕ) → is_noted b.index n q ≡ (not (is_some (watch_of row.instance.watches n) && eqb q id) && is_noted a.index n q)) → HasNoEmptyRow b.index → NotesEveryWatch b
+    NotesEveryWatch-closed row e forgotten rows =
+        IsIndexed-closed a b whole
+        (subst (λ rows. IsStrictlySortedBy nat_cmp (numbers_of rows)) (sym cut) (rises-cut (λ (o : Opened). o.id) (λ (o : Opened). o.instance) a.opened.items place whole.rising))
+        rows id row.instance (instances_of-closed (instances_of a) refl) (there place at row e) forgotten
+
+-- the same rows
+pub NotesEveryWatch-same : (a b : Inside) → NotesEveryWatch a → b.opened.items ≡ a.opened.items → b.index ≡ a.index → NotesEveryWatch b
+NotesEveryWatch-same a b whole rows index = record {
+  noted = λ n q. ap (λ x. is_noted x n q) index ∙ whole.noted n q ∙ sym (ap (λ os. watches_file n (instance_of (by_number os) q)) rows);
+  rows = subst HasNoEmptyRow (sym index) whole.rows;
+  records = subst (λ os. WaitingAreEvents (by_number os)) (sym rows) whole.records;
+  rising = subst (λ os. IsStrictlySortedBy nat_cmp (numbers_of os)) (sym rows) whole.rising;
+}
 
 -- two changes of one instance, one after the other
 pub changed-twice : (m : Instances) (id : ℕ) (first second both : Instance → Instance) → ((i : Instance) → second (first i) ≡ both i) → changed (changed m id first) id second ≡ changed m id both

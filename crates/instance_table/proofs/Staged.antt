@@ -8,7 +8,7 @@ use Rattle.std.specs.List.Sorted.{IsStrictlySortedBy}
 use Rattle.std.specs.Ordering.{nat_cmp, is_eq}
 use Rattle.std.specs.Cmp.{unsigned_tied}
 use Rattle.std.specs.declared.cmp.Ordering.TheVariants.{Less}
-use Rattle.std.proofs.lemmas.List.{append-nil}
+use Rattle.std.proofs.lemmas.List.{append-nil, take_all}
 use Rattle.std.proofs.lemmas.List.Folds.{list_any_at}
 use Rattle.event_rules.specs.declared.notice.Notice.{Notice}
 use Rattle.event_rules.specs.Raised.{told_number, watches_after}
@@ -29,12 +29,6 @@ number-in ids items k e h =
 pub nobody-hears : (ns : List Notice) → list_any (λ (n : Notice). watches_file (told_number n) None) ns ≡ false
 nobody-hears [] = refl
 nobody-hears (n ∷ ns) = nobody-hears ns
-
-pub take-all : (xs : List ℕ) (k : ℕ) → length xs ≤ k → take k xs ≡ xs
-take-all [] zero h = refl
-take-all [] (suc k) h = refl
-take-all (x ∷ xs) zero h = absurd (omega arith)
-take-all (x ∷ xs) (suc k) h = ap (λ ys. x ∷ ys) (take-all xs k (omega arith))
 
 none-of : (o : Option (Rattle.std.specs.Prelude.ℤ × ℕ)) → is_some o ≡ false → o ≡ None
 none-of None h = refl
@@ -116,7 +110,7 @@ module _ (m : Instances) (ns : List Notice) (ids : IdSet) (hear : (q : ℕ) → 
     (items : List ℕ) (k : ℕ) (is : items ≡ finmap.keys ids) (done : length items ≤ k) where
   hearing : (q : ℕ) (i : Instance) → instance_of m q ≡ Some i → list_any (λ id. eqb q id) (take k items) ≡ list_any (λ (n : Notice). is_some (watch_of i.watches (told_number n))) ns
   hearing q i e =
-      ap (list_any (λ id. eqb q id)) (take-all items k done ∙ is) ∙ same-tests q (finmap.keys ids) ∙ sym (contains_key-keys ids q) ∙ hear q
+      ap (list_any (λ id. eqb q id)) (take_all k items done ∙ is) ∙ same-tests q (finmap.keys ids) ∙ sym (contains_key-keys ids q) ∙ hear q
       ∙ ap (λ o. list_any (λ (n : Notice). watches_file (told_number n) o) ns) e
 
   -- what is there for those that hear is there for all, where there is nothing for the others

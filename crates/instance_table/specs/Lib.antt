@@ -1,6 +1,7 @@
 pub mod Ids
 pub mod Index
 pub mod Instances
+pub mod Opened
 pub mod Codes
 pub mod Views
 pub mod Staging

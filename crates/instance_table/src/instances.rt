@@ -1,6 +1,6 @@
 //! The open instances.
 ghost use Rattle.std.specs.Prelude.{◌≡◌, ◌↔◌, ◌≤◌, ◌+◌, ◌++◌, [], ◌∷◌, ◌⊎◌, ◌&&◌, ◌||◌, ◌==◌, ℕ, not, is_some, drop, false, fold, take, vec_len, vec_capacity, Some, None, Ok, Err, IfOk, IfErr, OnOk, OnErr, IsSome, IfSome, length, map};
-ghost use Rattle.std.specs.Option.{option_copied, option_to_list};
+ghost use Rattle.std.specs.Option.{option_copied};
 ghost use Rattle.std.specs.VecDeque.{deque_len};
 ghost use Rattle.std.specs.FinMap as finmap;
 ghost use Rattle.tree_paths.specs.declared.refusal.Refusal.{Refusal};
@@ -15,13 +15,14 @@ ghost use Rattle.instance_table.specs.Instances.{NobodyWatches, WaitingAreEvents
 
 use crate::index::Index;
 use crate::instance::Instance;
+use crate::opened::{Opened, place_of};
 use crate::rows::{InstanceRow, instance_row};
 use crate::staging::{offer_one, offer_run};
 use event_queue::Queue;
 use event_rules::{StagedEvent, ignored};
 use record_codec::Event;
 use std::alloc::Global;
-use std::collections::{BTreeMap, VecDeque};
+use std::collections::VecDeque;
 use std::marker::Model;
 use tree_paths::{Limits, Refusal};
 use watch_table::{Mask, Watches};
@@ -29,7 +30,7 @@ use watch_table::{Mask, Watches};
 /// The open instances of inotify(7) by their numbers, with an index of who watches each file.
 pub struct Instances {
     pub(crate) alloc: Global,
-    opened: BTreeMap<u32, Instance>,
+    opened: Vec<Opened>,
     index: Index,
 }
 
@@ -65,7 +66,7 @@ impl Instances {
     {
         Instances {
             alloc,
-            opened: BTreeMap::new(alloc),
+            opened: Vec::new(alloc),
             index: Index::new(alloc),
         }
     }
@@ -88,7 +89,7 @@ impl Instances {
     pub fn get(&self, id: u32) -> Option<&Instance>
         ensures { option_copied result ≡ instance_of self.now id }
     {
-        self.opened.get(&id)
+        self.get_next(id, &mut 0)
     }
 
     /// The numbers of the instances that watch a file, rising. It takes no memory.
@@ -111,8 +112,8 @@ impl Instances {
         ensures err { IfErr result (λ refusal. refusal ≡ Enomem) }
     {
         let mut rows = Vec::new(self.alloc);
-        for (id, instance) in &self.opened {
-            rows.push(instance_row(self.alloc, *id, instance)?)?;
+        for row in &self.opened {
+            rows.push(instance_row(self.alloc, row.id, &row.instance)?)?;
         }
         Ok(rows)
     }
@@ -131,13 +132,16 @@ impl Instances {
         ensures err { OnErr result (self.new ≡ self.old) }
         ensures memory { IfErr result (λ refusal. refusal ≡ Enomem) }
     {
+        let Err(place) = place_of(&self.opened, id, 0) else {
+            unreachable!()
+        };
         let instance = Instance {
             is_piped,
             watches: Watches::new(self.alloc, limits),
             queue: Queue::with_limit(self.alloc, limit)?,
         };
-        match self.opened.insert(id, instance) {
-            Ok(_) => Ok(()),
+        match self.opened.insert(place, Opened { id, instance }) {
+            Ok(()) => Ok(()),
             Err(_) => Err(Refusal::Enomem),
         }
     }
@@ -146,10 +150,11 @@ impl Instances {
     pub fn close(&mut self, id: u32)
         ensures { self.new ≡ finmap.remove self.old id }
     {
-        let Some(instance) = self.opened.remove(&id) else {
+        let Ok(place) = place_of(&self.opened, id, 0) else {
             return;
         };
-        forget(&mut self.index, &instance.watches, id);
+        let closed = self.opened.remove(place);
+        forget(&mut self.index, &closed.instance.watches, id);
     }
 
     /// Watches a file for an instance, and answers the descriptor of the watch.
@@ -170,12 +175,12 @@ impl Instances {
         ensures refusals { IfErr result (λ r. IfSome (instance_of self.old id) (λ i. (add_refusal i.watches number mask.0 is_directory ≡ Some r) ⊎ (r ≡ Enomem))) }
         ensures err { OnErr result (self.new ≡ self.old) }
     {
-        let Some(instance) = self.opened.get_mut(&id) else {
+        let Ok(place) = place_of(&self.opened, id, 0) else {
             unreachable!()
         };
         add_noted(
             &mut self.index,
-            &mut instance.watches,
+            &mut self.opened[place].instance.watches,
             id,
             number,
             mask,
@@ -187,7 +192,7 @@ impl Instances {
     pub fn unwatch(&mut self, id: u32, wd: i32)
         ensures { self.new ≡ changed self.old id (unwatching wd) }
     {
-        self.end_watch(id, wd);
+        self.end_watch(id, wd, &mut 0);
         self.offer(id, ignored(wd));
     }
 
@@ -195,10 +200,10 @@ impl Instances {
     pub fn drop_oldest(&mut self, id: u32, count: usize)
         ensures { self.new ≡ changed self.old id (after_read count) }
     {
-        let Some(instance) = self.opened.get_mut(&id) else {
+        let Ok(place) = place_of(&self.opened, id, 0) else {
             return;
         };
-        drop_oldest(&mut instance.queue, count);
+        drop_oldest(&mut self.opened[place].instance.queue, count);
     }
 
     /// Moves the oldest records out of an instance's queue, behind those of a vector that has room for them. It takes no
@@ -208,49 +213,65 @@ impl Instances {
         ensures instances { self.new ≡ changed self.old id (after_read count) }
         ensures records { records.new.items ≡ records.old.items ++ take count (waiting_of (instance_of self.old id)) }
     {
-        let Some(instance) = self.opened.get_mut(&id) else {
+        let Ok(place) = place_of(&self.opened, id, 0) else {
             return;
         };
-        move_oldest(&mut instance.queue, count, records);
+        move_oldest(&mut self.opened[place].instance.queue, count, records);
     }
 
-    // Raises an event, and those behind it that the same instance hears. The next one is of another.
+    // The open instance of a number. The place `next` is looked at first, and is then the one behind the instance.
+    pub(crate) fn get_next(&self, id: u32, next: &mut usize) -> Option<&Instance>
+        ensures { option_copied result ≡ instance_of self.now id }
+    {
+        let Ok(place) = place_of(&self.opened, id, *next) else {
+            return None;
+        };
+        *next = place + 1;
+        Some(&self.opened[place].instance)
+    }
+
+    // Raises an event, and those behind it that the same instance hears. The place `next` is looked at first, and is then the
+    // one behind the instance.
     pub(crate) fn hear(
         &mut self,
         first: StagedEvent,
         events: &mut VecDeque<StagedEvent>,
-    ) -> Option<StagedEvent>
-        ensures heard { heard_all self.new (option_to_list result ++ events.new.items) ≡ heard_all self.old (first ∷ events.old.items) }
-        ensures last { result ≡ None → events.new.items ≡ [] }
-        ensures fewer { deque_len events.new + length (option_to_list result) ≤ deque_len events.old }
+        next: &mut usize,
+    )
+        ensures heard { heard_all self.new events.new.items ≡ heard_all self.old (first ∷ events.old.items) }
+        ensures fewer { deque_len events.new ≤ deque_len events.old }
     {
-        let Some(instance) = self.opened.get_mut(&first.id) else {
-            return events.pop_front();
+        let Ok(place) = place_of(&self.opened, first.id, *next) else {
+            return;
         };
-        offer_run(&mut instance.queue, first, events)
+        *next = place + 1;
+        offer_run(&mut self.opened[place].instance.queue, first, events);
     }
 
     // Raises an event.
     pub(crate) fn offer(&mut self, id: u32, event: Event)
         ensures { self.new ≡ changed self.old id (λ i. record i { queue = after_offer i.queue event }) }
     {
-        let Some(instance) = self.opened.get_mut(&id) else {
+        let Ok(place) = place_of(&self.opened, id, 0) else {
             return;
         };
-        offer_one(&mut instance.queue, event);
+        offer_one(&mut self.opened[place].instance.queue, event);
     }
 
-    // Ends the watch of a descriptor, if there is one.
-    pub(crate) fn end_watch(&mut self, id: u32, wd: i32)
+    // Ends the watch of a descriptor, if there is one. The place `next` is looked at first, and is then the one behind the
+    // instance.
+    pub(crate) fn end_watch(&mut self, id: u32, wd: i32, next: &mut usize)
         ensures { self.new ≡ changed self.old id (λ i. record i { watches = removed i.watches wd }) }
     {
-        let Some(instance) = self.opened.get_mut(&id) else {
+        let Ok(place) = place_of(&self.opened, id, *next) else {
             return;
         };
-        let Some(number) = instance.watches.number_of(wd) else {
+        *next = place + 1;
+        let watches = &mut self.opened[place].instance.watches;
+        let Some(number) = watches.number_of(wd) else {
             return;
         };
-        instance.watches.drop_file(number);
+        watches.drop_file(number);
         self.index.remove(number, id);
     }
 }

@@ -6,6 +6,7 @@ mod index;
 mod instance;
 mod instances;
 mod laws;
+mod opened;
 mod rows;
 mod staging;
 

@@ -1,7 +1,6 @@
 //! What notices raise for all instances.
 ghost use Rattle.std.specs.Prelude.{◌≡◌, ℕ, ◌==◌, ◌||◌, ◌+◌, ◌≤◌, List, [], ◌∷◌, ◌++◌, None, Some, is_some, fold, length, map, IfErr, OnOk};
 ghost use Rattle.std.specs.FinMap as finmap;
-ghost use Rattle.std.specs.Option.{option_to_list};
 ghost use Rattle.std.specs.VecDeque.{deque_len};
 ghost use Rattle.std.specs.List.{list_any};
 ghost use Rattle.tree_paths.specs.declared.refusal.Refusal.TheVariants.{Enomem};
@@ -89,8 +88,9 @@ impl Instances {
     {
         unwatched_files_raise_nothing();
         staged.clear();
+        let mut next = 0;
         for id in hearers.as_slice() {
-            let Some(instance) = self.get(*id) else {
+            let Some(instance) = self.get_next(*id, &mut next) else {
                 unreachable!()
             };
             stage(*id, &instance.watches, notices, staged)?;
@@ -102,9 +102,9 @@ impl Instances {
     fn hear_each(&mut self, events: &mut VecDeque<StagedEvent>)
         ensures { self.new ≡ heard_all self.old events.old.items }
     {
-        let mut next = events.pop_front();
-        while let Some(heard) = next {
-            next = self.hear(heard, events);
+        let mut next = 0;
+        while let Some(first) = events.pop_front() {
+            self.hear(first, events, &mut next);
         }
     }
 
@@ -112,8 +112,9 @@ impl Instances {
     fn end_each(&mut self, drops: &[StagedEnd])
         ensures { self.new ≡ ended_all self.old drops.now }
     {
+        let mut next = 0;
         for ended in drops {
-            self.end_watch(ended.id, ended.wd);
+            self.end_watch(ended.id, ended.wd, &mut next);
         }
     }
 }
@@ -148,24 +149,20 @@ pub(crate) fn offer_one(queue: &mut Queue, event: Event)
     queue.offer(event);
 }
 
-// Raises an event, and those behind it of the same number. The next one has another.
-pub(crate) fn offer_run(
-    queue: &mut Queue,
-    first: StagedEvent,
-    events: &mut VecDeque<StagedEvent>,
-) -> Option<StagedEvent>
-    ensures queue { (es : List Event) × (first ∷ events.old.items ≡ map (staged_event first.id) es ++ (option_to_list result ++ events.new.items)) × (queue.new ≡ fold after_offer queue.old es) }
+// Raises an event, and those behind it of the same number.
+pub(crate) fn offer_run(queue: &mut Queue, first: StagedEvent, events: &mut VecDeque<StagedEvent>)
+    ensures queue { (es : List Event) × (first ∷ events.old.items ≡ map (staged_event first.id) es ++ events.new.items) × (queue.new ≡ fold after_offer queue.old es) }
     ensures events { AreEvents queue.old.waiting → AreEvents queue.new.waiting }
-    ensures last { result ≡ None → events.new.items ≡ [] }
-    ensures fewer { deque_len events.new + length (option_to_list result) ≤ deque_len events.old }
+    ensures fewer { deque_len events.new ≤ deque_len events.old }
 {
     let id = first.id;
     offer_one(queue, first.event);
-    while let Some(heard) = events.pop_front() {
-        if heard.id != id {
-            return Some(heard);
-        }
+    while let Some(heard) = events.front()
+        && heard.id == id
+    {
+        let Some(heard) = events.pop_front() else {
+            unreachable!()
+        };
         offer_one(queue, heard.event);
     }
-    None
 }

@@ -1,13 +1,9 @@
-use Rattle.std.proofs.Common.{◌≡◌, ◌+◌, ◌++◌, [], None, length, deque_len}
-use Rattle.std.specs.Option.{option_to_list}
+use Rattle.std.proofs.Common.{◌≡◌, deque_len}
 use Rattle.instance_table.specs.Staging.{heard_all}
 use Rattle.instance_table.proofs.instances.Instances.hear_each.Given as goal
 
-abbrev pub invariant-loop-next : goal.invariant-loop-next
-invariant-loop-next l = record {
-  heard : heard_all l.self (option_to_list l.next ++ l.events.items) ≡ heard_all l.fn.self l.fn.events.items;
-  last : l.next ≡ None → l.events.items ≡ [];
-}
+abbrev pub invariant-loop-first : goal.invariant-loop-first
+invariant-loop-first l = heard_all l.self l.events.items ≡ heard_all l.fn.self l.fn.events.items
 
-abbrev pub decreases-loop-next : goal.decreases-loop-next
-decreases-loop-next l = deque_len l.events + length (option_to_list l.next)
+abbrev pub decreases-loop-first : goal.decreases-loop-first
+decreases-loop-first l = deque_len l.events

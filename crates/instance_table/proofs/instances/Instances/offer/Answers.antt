@@ -1,36 +1,22 @@
-use Rattle.std.proofs.Common.{◌≡◌, ap, sym, ◌∙◌, subst, refl, Some, None, IsSome}
-use Rattle.std.specs.BTreeMap as tree
-use Rattle.std.specs.Ordering.{nat_cmp}
-use Rattle.watch_table.proofs.Maps.{get-from_map}
-use Rattle.instance_table.specs.declared.instance.Instance.{Instance}
-use Rattle.instance_table.specs.Instances.{changed, instance_of}
-use Rattle.instance_table.specs.Views.{instances_of}
-use Rattle.instance_table.proofs.Indexed.{IsIndexed-kept, events-at, instances_of-changed, instances_of-same, changed-none}
+use Rattle.std.proofs.Common.{ap, sym, refl}
 use Rattle.event_queue.specs.Backlogs.{after_offer}
+use Rattle.instance_table.proofs.Indexed.{NotesEveryWatch-kept, events-at, instances_of-changed, there, unchanged}
 use Rattle.instance_table.proofs.instances.Instances.offer.Goals as goal
 
 pub returns-in_default : goal.returns-in_default
 returns-in_default c =
-    let a = c.self.inside in
-    let none : instance_of (instances_of a) c.args.id ≡ None = get-from_map a.opened c.args.id ∙ sym c.in_default.ensures.value in
-    instances_of-same a c.self.invariant c.get_mut.follows.lender-at-none c.get_mut.follows.holds-at-none ∙ sym (changed-none (instances_of a) c.args.id (λ i. record i { queue = after_offer i.queue c.args.event }) none) ∙ ap (λ m. changed m c.args.id (λ i. record i { queue = after_offer i.queue c.args.event })) c.self.view_is
+    unchanged c.self.inside c.self.invariant c.args.id c.deref.result.now c.deref.ensures.value c.in_default.field-0 c.in_default.ensures c.args.self.now c.self.view_is (λ i. record i { queue = after_offer i.queue c.args.event })
 
-pub invariant_of-self-2 : goal.invariant_of-self-2
-invariant_of-self-2 c =
+pub invariant_of-self : goal.invariant_of-self
+invariant_of-self c =
     let a = c.self.inside in
-    let i : Instance = c.in-Some.instance.now in
-    let j : Instance = record i { queue = c.offer_one.new.queue } in
-    let was : tree.get nat_cmp a.opened c.args.id ≡ Some i = sym c.in-Some.ensures.value in
-    let put = (c.get_mut.follows.holds j).3 (subst (λ o. IsSome o) (sym was) refl) in
-    IsIndexed-kept a c.self.invariant (c.get_mut.follows.lender j) c.args.id i j put was refl
-    (c.offer_one.ensures.events (events-at a c.self.invariant c.args.id i was))
+    let row = c.index_mut.result.now in
+    let was = there a c.self.invariant c.args.id c.deref.result.now c.deref.ensures.value c.in-Ok.place c.in-Ok.ensures row c.index_mut.ensures.value in
+    NotesEveryWatch-kept a c.self.invariant c.args.id c.deref.result.now c.deref.ensures.value c.in-Ok.place c.in-Ok.ensures row c.index_mut.ensures.value (record row.instance { queue = c.offer_one.new.queue }) refl
+    (c.offer_one.ensures.events (events-at a c.self.invariant c.args.id row.instance was))
 
 pub returns : goal.returns
 returns c =
-    let a = c.self.inside in
-    let i : Instance = c.in-Some.instance.now in
-    let j : Instance = record i { queue = c.offer_one.new.queue } in
-    let change : Instance → Instance = (λ i. record i { queue = after_offer i.queue c.args.event }) in
-    let was : tree.get nat_cmp a.opened c.args.id ≡ Some i = sym c.in-Some.ensures.value in
-    let put = (c.get_mut.follows.holds j).3 (subst (λ o. IsSome o) (sym was) refl) in
-    instances_of-changed a c.self.invariant (c.get_mut.follows.lender j) c.args.id i j put was change (ap (λ q. record i { queue = q }) (sym c.offer_one.ensures.queue)) ∙ ap (λ m. changed m c.args.id change) c.self.view_is
+    let row = c.index_mut.result.now in
+    instances_of-changed c.self.inside c.self.invariant c.args.id c.deref.result.now c.deref.ensures.value c.in-Ok.place c.in-Ok.ensures row c.index_mut.ensures.value (record row.instance { queue = c.offer_one.new.queue }) c.args.self.now c.self.view_is
+    (λ i. record i { queue = after_offer i.queue c.args.event }) (ap (λ q. record row.instance { queue = q }) (sym c.offer_one.ensures.queue))

@@ -1,0 +1,13 @@
+-- Open instances in the order of their numbers.
+use Rattle.std.specs.Prelude.{ℕ, List, map}
+use Rattle.std.specs.FinMap as finmap
+use Rattle.instance_table.specs.declared.opened.Opened.{Opened}
+use Rattle.instance_table.specs.Instances.{Instances}
+
+-- the numbers of open instances
+abbrev pub numbers_of : List Opened → List ℕ
+numbers_of rows = map (λ o. o.id) rows
+
+-- the open instances by their numbers
+abbrev pub by_number : List Opened → Instances
+by_number rows = finmap.from_entries (map (λ o. (o.id, o.instance)) rows)

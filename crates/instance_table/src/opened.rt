@@ -1,0 +1,41 @@
+//! Open instances in the order of their numbers.
+ghost use Rattle.std.specs.List.Sorted.{IsStrictlySortedBy};
+ghost use Rattle.std.specs.Ordering.{nat_cmp};
+ghost use Rattle.instance_table.specs.Ids.{IsPlace};
+ghost use Rattle.instance_table.specs.Opened.{numbers_of};
+
+use crate::instance::Instance;
+
+// An open instance, and its number.
+#[derive(Drop)]
+pub(crate) struct Opened {
+    pub(crate) id: u32,
+    pub(crate) instance: Instance,
+}
+
+// Where the instance of a number is among open ones, or else where it is put in. The place `first` is looked at before any
+// other.
+#[inline(always)]
+pub(crate) fn place_of(rows: &[Opened], id: u32, first: usize) -> Result<usize, usize>
+    requires { IsStrictlySortedBy nat_cmp (numbers_of rows.now) }
+    ensures { IsPlace (numbers_of rows.now) id result }
+{
+    if let Some(row) = rows.get(first)
+        && row.id == id
+    {
+        return Ok(first);
+    }
+    find_row(rows, id)
+}
+
+// Where the instance of a number is, or else where it is put in. The last one is looked at first, as numbers mostly come
+// rising.
+fn find_row(rows: &[Opened], id: u32) -> Result<usize, usize>
+    requires { IsStrictlySortedBy nat_cmp (numbers_of rows.now) }
+    ensures { IsPlace (numbers_of rows.now) id result }
+{
+    match rows.last() {
+        Some(last) if id <= last.id => rows.binary_search_by_key(&id, |row| row.id),
+        _ => Err(rows.len()),
+    }
+}
