@@ -1,5 +1,5 @@
 -- The watches that were searched for last. No public clause cites this module.
-use Rattle.std.specs.Prelude.{◌≡◌, IfSome}
+use Rattle.std.specs.Prelude.{◌≡◌}
 use Rattle.watch_table.specs.Watching.{Watching, watch_of}
 use Rattle.event_rules.specs.declared.recent.Found.{Found}
 use Rattle.event_rules.specs.declared.recent.Recent.{Recent}
@@ -9,5 +9,5 @@ abbrev pub IsFound : Watching → Found → Type 0
 IsFound w found = found.watch ≡ watch_of w found.number
 
 pub record AreFound (w : Watching) (r : Recent) : Type 0 where
-  pub last : IfSome r.last (λ found. IsFound w found)
-  pub before : IfSome r.before (λ found. IsFound w found)
+  pub last : IsFound w r.last
+  pub before : IsFound w r.before

@@ -1,7 +1,7 @@
 //! The watches that were searched for last.
 
 ghost use Rattle.std.specs.Prelude.{◌≡◌};
-ghost use Rattle.watch_table.specs.Watching.{Watching, watch_of};
+ghost use Rattle.watch_table.specs.Watching.{watch_of};
 ghost use Rattle.event_rules.specs.Recent.{AreFound};
 
 use watch_table::Watches;
@@ -13,23 +13,27 @@ pub(crate) struct Found {
     watch: Option<(i32, u32)>,
 }
 
-/// What was found of the two files that were asked for last. The notices of a call are mostly of an object and of its
+/// What was found of the two files that were searched for last. The notices of a call are mostly of an object and of its
 /// directory in turn, so the watch of each is searched for once.
 #[derive(Clone, Copy)]
 pub(crate) struct Recent {
-    last: Option<Found>,
-    before: Option<Found>,
+    last: Found,
+    before: Found,
 }
 
 impl Recent {
-    /// Nothing was asked for.
+    /// What is found of one file.
     #[inline(always)]
-    pub(crate) fn new() -> Recent
-        ensures { (w : Watching) → AreFound w result }
+    pub(crate) fn of(watches: &Watches, number: u32) -> Recent
+        ensures { AreFound watches.now result }
     {
+        let found = Found {
+            number,
+            watch: watches.of(number),
+        };
         Recent {
-            last: None,
-            before: None,
+            last: found,
+            before: found,
         }
     }
 
@@ -40,19 +44,15 @@ impl Recent {
         ensures watch { result ≡ watch_of watches.now number }
         ensures found { AreFound watches.now self.new }
     {
-        if let Some(found) = self.last
-            && found.number == number
-        {
-            return found.watch;
+        if number == self.last.number {
+            return self.last.watch;
         }
-        if let Some(found) = self.before
-            && found.number == number
-        {
-            return found.watch;
+        if number == self.before.number {
+            return self.before.watch;
         }
         let watch = watches.of(number);
         self.before = self.last;
-        self.last = Some(Found { number, watch });
+        self.last = Found { number, watch };
         watch
     }
 }

@@ -286,13 +286,14 @@ only_made (Err _) names x e h = tt
 pub only_step : (w : List ℕ) → IsFront w 0 → IsOneName w → (0 < length w) × IsOneName (behind_front w 0)
 only_step w f is =
     let some : 0 ≢ length w = (λ e. let none = count_end w 0 (record { all = e; front = f.front }) in omega (arith, none, is.one)) in
-    let c = is_cut w 0 f some in
-    (c.inside,
-    record {
-      one = let count = count_step w 0 c in omega (arith, count, is.one);
-      named = named_step w 0 c is.named;
-      no_null = sym (null_step w 0 c) ∙ is.no_null;
-    })
+    let c = is_cut w 0 f some in (
+      c.inside,
+      record {
+        one = let count = count_step w 0 c in omega (arith, count, is.one);
+        named = named_step w 0 c is.named;
+        no_null = sym (null_step w 0 c) ∙ is.no_null;
+      },
+    )
 
 -- ---- names that are gathered
 

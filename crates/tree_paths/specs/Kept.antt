@@ -1,5 +1,5 @@
 -- Where a path keeps its names. No public clause cites this module.
-use Rattle.std.specs.Prelude.{ℕ, List, [], ◌∷◌}
+use Rattle.std.specs.Prelude.{ℕ, List, []}
 use Rattle.tree_paths.specs.declared.kept.Kept.{Kept}
 use Rattle.tree_paths.specs.declared.kept.Kept.TheVariants.{Empty, One, Many}
 

@@ -13,7 +13,7 @@ use Rattle.event_rules.proofs.staging.raise.Goals as goal
 pub loop-notice-init : goal.loop-notice-init
 loop-notice-init c = record {
   events = sym (append-nil c.args.events.now.items);
-  found = c.new-recent.ensures c.args.watches.now;
+  found = c.of-recent.ensures;
   ended = c.requires;
 }
 
