@@ -5,7 +5,7 @@ ghost use Rattle.std.specs.FinMap as finmap;
 ghost use Rattle.inode_table.specs.Bytes.{resized, written};
 ghost use Rattle.inode_table.specs.World.{IsWhole, look, with_file, changed_at};
 ghost use Rattle.inode_table.specs.Resolution.{ResolvedPath, IsResolved};
-ghost use Rattle.inode_table.specs.Stands.{reserved_at};
+ghost use Rattle.inode_table.specs.Tree.{reserved_at};
 ghost use Rattle.inode_table.specs.TableWorld.{world_of, HasNumbersBelow};
 ghost use Rattle.inode_table.specs.Refusals.{is_directory_seen, parent_of};
 ghost use Rattle.tree_paths.specs.Paths.{is_below};
