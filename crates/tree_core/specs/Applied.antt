@@ -8,7 +8,8 @@ use Rattle.tree_core.specs.Tree.{reply_of}
 use Rattle.tree_core.specs.Journal.{Journaled, IsLawfulFrom, IsSpent, last_place, now, with_entry}
 
 -- a call makes one entry more, with the reply of the tree before it, and the receipt in the answer tells the entry's place and that
--- reply; or it is refused, and the state is as before. It is refused for a full journal where no entry more is taken, and there alone
+-- reply; or it is refused, and the state is as before. Either way the journal is lawful. It is refused as full where no entry more is
+-- taken, and there alone, and otherwise for want of memory
 pub record Applies {X : Type 0} (receipt : X → Receipt) (old : Journaled) (caller : ℕ) (call : Call) (result : Result X Refusal) (new : Journaled) : Type 0 where
   pub entry : IfOk result (λ x. new ≡ with_entry old (record { caller = caller; call = call; reply = (receipt x).reply }))
   pub place : IfOk result (λ x. (receipt x).place ≡ last_place new)
