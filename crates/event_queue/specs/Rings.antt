@@ -1,4 +1,4 @@
--- How a ring of records shows as what waits.
+-- How a ring of records shows as what waits. No public clause cites this module.
 use Rattle.std.specs.Prelude.{◌≡◌, ◌+◌, ◌<◌, ◌≤◌, length}
 use Rattle.event_queue.specs.Backlogs.{Backlog, IsLimit, marks}
 use Rattle.event_queue.specs.declared.queue.Queue.TheInside.{Inside}

@@ -2,13 +2,15 @@
 use Rattle.std.proofs.Common.{◌≡◌, ◌≢◌, ℕ, true, false, List, [], ◌∷◌, ◌++◌, Option, Some, None, Result, Ok, Err, IsSome, IfSome, IfOk, IfErr, is_none, is_some, ◌&&◌, refl, sym, ap, ◌∙◌, subst}
 use Rattle.std.specs.Option.{option_and_then, option_map, unwrap_or}
 use Rattle.std.specs.Result.{result_ok}
-use Rattle.inode_table.specs.Walk.{Avoids}
-use Rattle.inode_table.specs.Rows.{Label, What, row_under, child, is_directory}
-use Rattle.inode_table.specs.Tree.{Tree, IsTable, IsOpen, LosesLink, at, what_at, with_bytes}
+use Rattle.inode_table.specs.Changes.{Avoids, IsOpen, LosesLink, with_bytes}
+use Rattle.inode_table.specs.Rows.{Label, What, row_under, child}
+use Rattle.inode_table.specs.Kept.{is_directory, IsTable}
+use Rattle.inode_table.specs.Tree.{Tree, at, what_at}
 use Rattle.tree_paths.specs.Paths.{is_below}
 use Rattle.inode_table.specs.World as world
 use Rattle.inode_table.specs.Refusals.{is_directory_seen}
-use Rattle.inode_table.specs.Stands.{kind_of, file_of, seen_row, look_in}
+use Rattle.inode_table.specs.TableWorld.{kind_of, file_of}
+use Rattle.inode_table.specs.Stands.{seen_row, look_in}
 use Rattle.inode_table.specs.declared.seen.Seen.{Seen}
 use Rattle.inode_table.proofs.PathLemmas.{is_below-rest}
 use Rattle.inode_table.proofs.ChangeLemmas.{live-what, loses-live, regular-what}

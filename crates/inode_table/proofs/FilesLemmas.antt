@@ -17,10 +17,13 @@ use Rattle.std.proofs.lemmas.Map.Keys.{sorted_head, sorted_tail}
 use Rattle.slab.specs.Slab.{Slab, get}
 use Rattle.inode_table.specs.declared.node.Node.{Node}
 use Rattle.inode_table.specs.declared.rows.FileRow.{FileRow}
-use Rattle.inode_table.specs.Files.{AreListed, file_row, row_shown}
-use Rattle.inode_table.specs.Rows.{Rows, What, row_of, rows_of, shown, what}
-use Rattle.inode_table.specs.Stands.{Stands, file_of}
-use Rattle.inode_table.specs.Tree.{IsTable, Tree}
+use Rattle.inode_table.specs.Listing.{AreListed, row_shown}
+use Rattle.inode_table.specs.Files.{file_row}
+use Rattle.inode_table.specs.Rows.{Rows, What, shown, what}
+use Rattle.inode_table.specs.Kept.{row_of, rows_of, IsTable}
+use Rattle.inode_table.specs.Stands.{Stands}
+use Rattle.inode_table.specs.TableWorld.{file_of}
+use Rattle.inode_table.specs.Tree.{Tree}
 use Rattle.inode_table.specs.World.{File, World}
 use Rattle.inode_table.proofs.RowsLemmas.{row-rows_of}
 use Rattle.inode_table.proofs.TreeLemmas.{same_some, some_none}

@@ -12,9 +12,11 @@ use Rattle.std.specs.Option.{option_and_then, option_map}
 use Rattle.std.specs.Ordering.{is_eq, is_lt, nat_cmp}
 use Rattle.std.specs.declared.cmp.Ordering.TheVariants.{Less}
 use Rattle.std.proofs.lemmas.Map.Keys.{sorted_head, sorted_tail}
-use Rattle.inode_table.specs.Flat.{Adds, Visits, longer, names_in, number_under}
+use Rattle.inode_table.specs.Listing.{Adds, Visits, longer}
+use Rattle.inode_table.specs.Flat.{names_in, number_under}
 use Rattle.inode_table.specs.Paths.{path_cmp}
-use Rattle.inode_table.specs.Rows.{Body, File, Names, Label, Row, Rows, What, child, key_in, row_under, row_of, rows_of, same_label, shown, what}
+use Rattle.inode_table.specs.Rows.{Body, File, Names, Label, Row, Rows, What, child, key_in, row_under, same_label, shown, what}
+use Rattle.inode_table.specs.Kept.{row_of, rows_of}
 use Rattle.inode_table.specs.Walk.{walk}
 use Rattle.inode_table.specs.declared.node.Node.{Node}
 use Rattle.slab.specs.Slab.{Slab, get}

@@ -3,11 +3,13 @@ use Rattle.std.proofs.Common.{◌≡◌, ℕ, true, false, List, [], ◌∷◌, 
 use Rattle.std.specs.Option.{option_and_then, option_map, option_map_or, IsSomeAnd}
 use Rattle.std.specs.FinMap as finmap
 use Rattle.inode_table.specs.Walk.{walk}
-use Rattle.inode_table.specs.Rows.{Label, Row, row_under, child, shown, bytes_in, is_directory, is_directory_row}
+use Rattle.inode_table.specs.Rows.{Label, Row, row_under, child, shown, bytes_in}
+use Rattle.inode_table.specs.Kept.{is_directory, is_directory_row}
 use Rattle.inode_table.specs.Tree.{Tree, at, what_at}
 use Rattle.inode_table.specs.World as world
 use Rattle.inode_table.specs.World.{World, IsWorld, IsDirectoryAt, file_at}
-use Rattle.inode_table.specs.Stands.{kind_of, file_of, Stands}
+use Rattle.inode_table.specs.TableWorld.{kind_of, file_of}
+use Rattle.inode_table.specs.Stands.{Stands}
 use Rattle.inode_table.specs.declared.seen.Kind.TheVariants.{Directory}
 use Rattle.inode_table.proofs.TreeLemmas.{some_none, same_some}
 use Rattle.inode_table.proofs.WalkLemmas.{walk-append}

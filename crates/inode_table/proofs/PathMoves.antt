@@ -2,7 +2,7 @@
 use Rattle.std.proofs.Common.{◌≡◌, ◌≢◌, ◌⊎◌, inl, inr, ℕ, List, [], ◌∷◌, ◌++◌, append-nil, None, IsSome, is_some, false, sym, ap, ◌∙◌}
 use Rattle.std.specs.FinMap as finmap
 use Rattle.std.specs.FinMap.{FinMap}
-use Rattle.inode_table.specs.Walk.{Avoids, MovesPath}
+use Rattle.inode_table.specs.Changes.{Avoids, MovesPath}
 use Rattle.inode_table.specs.Rows.{Label}
 use Rattle.inode_table.specs.Paths.{path_cmp, retargeted}
 use Rattle.inode_table.specs.World.{World, with_move}

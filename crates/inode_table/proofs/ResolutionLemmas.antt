@@ -5,12 +5,13 @@ use Rattle.std.specs.Option.{option_and_then}
 use Rattle.tree_paths.specs.declared.refusal.Refusal.{Refusal}
 use Rattle.tree_paths.specs.declared.refusal.Refusal.TheVariants.{Enoent, Enotdir}
 use Rattle.inode_table.specs.Resolution.{IsFound, IsResolved, ResolvedPath}
-use Rattle.inode_table.specs.TableWorld.{world_of}
+use Rattle.inode_table.specs.TableWorld.{world_of, number_of}
 use Rattle.inode_table.specs.World.{look}
 use Rattle.inode_table.specs.Refusals.{Look, find, is_directory_seen, longest_there, parent_of}
 use Rattle.inode_table.specs.Rows.{Label, child}
-use Rattle.inode_table.specs.Stands.{look_in, number_of, seen_at}
-use Rattle.inode_table.specs.Tree.{Tree, IsTable, at}
+use Rattle.inode_table.specs.Stands.{look_in, seen_at}
+use Rattle.inode_table.specs.Tree.{Tree, at}
+use Rattle.inode_table.specs.Kept.{IsTable}
 use Rattle.inode_table.specs.Walk.{walk}
 use Rattle.inode_table.proofs.FindLemmas.{absent-seen, found-none, live-there, stops-absent, stops-missing, take-whole, there-seen}
 use Rattle.inode_table.proofs.TableLemmas.{StopsAt}

@@ -11,14 +11,15 @@ use Rattle.std.specs.FinMap as map
 use Rattle.std.specs.FinMap.{nat_cmp-IsAntisymmetric, get-empty}
 use borrow.Author.Tests.{eqb-true}
 use Rattle.inode_table.specs.Walk.{walk}
-use Rattle.inode_table.specs.Rows.{Label, Body, File, Names, Row, Rows, What, row_under, child, what, shown, key_in, same_label, is_directory}
-use Rattle.inode_table.specs.Tree.{Tree, IsTable, at, what_at}
+use Rattle.inode_table.specs.Rows.{Label, Body, File, Names, Row, Rows, What, row_under, child, what, shown, key_in, same_label}
+use Rattle.inode_table.specs.Kept.{is_directory, IsTable}
+use Rattle.inode_table.specs.Tree.{Tree, at, what_at}
 use Rattle.inode_table.specs.Flat.{names_in}
 use Rattle.inode_table.specs.Paths.{path_cmp}
 use Rattle.inode_table.specs.World as world
 use Rattle.inode_table.specs.World.{World, look}
-use Rattle.inode_table.specs.Stands.{file_of, look_in, number_of, number_at, Stands}
-use Rattle.inode_table.specs.TableWorld.{names_of_row, names_of, paths_up_to, with_number, paths_among, with_node, files_below, world_in, world_of, file_under}
+use Rattle.inode_table.specs.TableWorld.{file_of, number_of, names_of_row, names_of, paths_up_to, with_number, paths_among, with_node, files_below, world_in, world_of, file_under}
+use Rattle.inode_table.specs.Stands.{look_in, number_at, Stands}
 use Rattle.inode_table.proofs.TreeLemmas.{some_none, same_some, IsTree-live}
 use Rattle.inode_table.proofs.WalkLemmas.{walk-append, longer}
 use Rattle.inode_table.proofs.ChangeLemmas.{live-what, same_label-true}

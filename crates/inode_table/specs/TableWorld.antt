@@ -1,15 +1,27 @@
 -- The world of a table: what contracts see of it.
-use Rattle.std.specs.Prelude.{ℕ, zero, suc, ◌<◌, IsSome, List, [], ◌∷◌, map, length, Option, Some, None}
+use Rattle.std.specs.Prelude.{ℕ, zero, suc, ◌<◌, IsSome, List, [], ◌∷◌, map, length, Option, Some, None, unwrap_or}
 use Rattle.std.specs.List.{flat_map}
-use Rattle.std.specs.Option.{option_and_then, option_map_or}
+use Rattle.std.specs.Option.{option_and_then, option_map_or, option_map}
 use Rattle.std.specs.Ordering.{nat_cmp}
 use Rattle.std.specs.FinMap as finmap
 use Rattle.inode_table.specs.Rows.{Label, Row, Rows, What, what}
 use Rattle.inode_table.specs.Flat.{names_in, number_under}
 use Rattle.inode_table.specs.Paths.{path_cmp}
-use Rattle.inode_table.specs.Stands.{file_of, number_of}
-use Rattle.inode_table.specs.Tree.{Tree}
+use Rattle.inode_table.specs.Tree.{Tree, what_at}
 use Rattle.inode_table.specs.World.{World, File}
+use Rattle.inode_table.specs.declared.seen.Kind.{Kind}
+use Rattle.inode_table.specs.declared.seen.Kind.TheVariants.{Regular, Directory}
+use Rattle.inode_table.specs.World as world
+
+abbrev pub kind_of : Option (List ℕ) → Kind
+kind_of None = Directory
+kind_of (Some bytes) = Regular
+
+abbrev pub file_of : What → world.File
+file_of v = record { kind = kind_of v.bytes; mode = v.mode; bytes = unwrap_or v.bytes [] }
+
+abbrev pub number_of : Tree → Option ℕ → Option ℕ
+number_of t o = option_and_then (λ k. option_map (λ (v : What). v.number) (what_at t k)) o
 
 abbrev pub names_of_row : Option Row → List Label
 names_of_row o = option_map_or (λ r. map (λ e. e.0) (names_in r.body)) o []

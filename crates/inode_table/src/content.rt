@@ -8,8 +8,11 @@ ghost use Rattle.std.specs.Cmp.Lexicographic.{slice_cmp};
 ghost use Rattle.std.specs.Set.{is_member};
 ghost use Rattle.std.specs.Map.Iter.{ShowsInOrder, deref};
 ghost use Rattle.inode_table.specs.Bytes.{resized, written};
-ghost use Rattle.inode_table.specs.Rows.{Label, SetsKey, body_of, bytes_in, key_in, reserved_in};
-ghost use Rattle.inode_table.specs.Stands.{kind_of, has_names_in};
+ghost use Rattle.inode_table.specs.Rows.{Label, bytes_in, key_in, reserved_in};
+ghost use Rattle.inode_table.specs.Changes.{SetsKey};
+ghost use Rattle.inode_table.specs.Kept.{body_of};
+ghost use Rattle.inode_table.specs.TableWorld.{kind_of};
+ghost use Rattle.inode_table.specs.Stands.{has_names_in};
 
 use crate::seen::Kind;
 use record_codec::Name;

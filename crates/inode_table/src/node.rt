@@ -2,8 +2,9 @@
 
 ghost use Rattle.std.specs.Prelude.{◌≡◌, ◌<◌, ◌≤◌, ◌+◌, OnOk, OnErr, IfSome, IsSome, true, false, None, Some, ℕ, length};
 ghost use Rattle.slab.specs.Slab.{slab_len, ContainsKey, HasRoomFor, Updates};
-ghost use Rattle.inode_table.specs.Rows.{rows_of, is_directory, child, SetsChild, what, is_live, reserved, Label};
-ghost use Rattle.inode_table.specs.Tree.{LosesLink, ChangesWhat, with_links, with_mode, with_bytes, with_written, with_len};
+ghost use Rattle.inode_table.specs.Kept.{rows_of, is_directory, is_live};
+ghost use Rattle.inode_table.specs.Rows.{child, what, reserved, Label};
+ghost use Rattle.inode_table.specs.Changes.{SetsChild, LosesLink, ChangesWhat, with_links, with_mode, with_bytes, with_written, with_len};
 ghost use Rattle.inode_table.specs.Room.{HasRoomAs};
 
 use crate::content::Content;

@@ -2,7 +2,8 @@
 
 ghost use Rattle.std.specs.Prelude.{◌≡◌, ◌≤◌, ℕ, List, None, Some, IfOk, IfErr, OnOk, OnErr, IsSome, if◌then◌else◌};
 ghost use Rattle.std.specs.FinMap as finmap;
-ghost use Rattle.inode_table.specs.Rows.{Label, rows_of, is_directory, row_under, row_of};
+ghost use Rattle.inode_table.specs.Rows.{Label, row_under};
+ghost use Rattle.inode_table.specs.Kept.{rows_of, is_directory, row_of};
 ghost use Rattle.inode_table.specs.Tree.{at, what_at};
 
 use crate::content::Content;
@@ -47,8 +48,8 @@ impl Drop for Table {
 impl Model for Table {
     ghost use Rattle.std.specs.Prelude.{◌-◌};
     ghost use Rattle.slab.specs.Slab.{slab_len};
-    ghost use Rattle.inode_table.specs.Rows.{rows_of};
-    ghost use Rattle.inode_table.specs.Tree.{Tree, IsTable};
+    ghost use Rattle.inode_table.specs.Kept.{rows_of, IsTable};
+    ghost use Rattle.inode_table.specs.Tree.{Tree};
 
     ghost Value = { Tree };
 
@@ -61,9 +62,9 @@ impl Table {
     ghost use Rattle.inode_table.specs.World.{IsWorld, look, opening_world};
     ghost use Rattle.inode_table.specs.Resolution.{ResolvedPath, IsResolved};
     ghost use Rattle.inode_table.specs.Refusals.{find};
-    ghost use Rattle.inode_table.specs.Stands.{Stands, look_in, number_of};
-    ghost use Rattle.inode_table.specs.TableWorld.{world_of};
-    ghost use Rattle.inode_table.specs.Tree.{IsTable};
+    ghost use Rattle.inode_table.specs.Stands.{Stands, look_in};
+    ghost use Rattle.inode_table.specs.TableWorld.{number_of, world_of};
+    ghost use Rattle.inode_table.specs.Kept.{IsTable};
 
     /// The root alone: number 1, mode 0755.
     pub fn new(alloc: Global) -> Result<Self, Refusal>

@@ -16,8 +16,7 @@ use Rattle.instance_table.specs.Instances.{all_changed, told}
 use Rattle.tree_core.specs.declared.file_system.FileSystem.{FileSystem}
 use Rattle.tree_core.specs.Calls.{has_list}
 use Rattle.tree_core.specs.Tree.{Tree, cookie_now, counts_of, after_file}
-use Rattle.tree_core.specs.FileSystems.{tree_in}
-use Rattle.tree_core.specs.Sound.{IsNumbered}
+use Rattle.tree_core.specs.FileSystems.{tree_in, IsNumbered}
 use Rattle.tree_core.proofs.Counted.{IsCounted-filed}
 
 -- a table on which a call was carried out, and what that answered

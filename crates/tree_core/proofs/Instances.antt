@@ -26,7 +26,7 @@ use Rattle.watch_table.specs.Watching.{add_refusal, wd_added}
 use Rattle.instance_table.specs.declared.instance.Instance.{Instance}
 use Rattle.instance_table.specs.Instances.{Instances, instance_of, changed, changed_by, watching}
 use Rattle.tree_core.specs.declared.reply.Reply.TheVariants as reply
-use Rattle.tree_core.specs.Sound.{IsNumbered}
+use Rattle.tree_core.specs.FileSystems.{IsNumbered}
 use Rattle.tree_core.specs.Tree.{Tree, init_rows, add_watch_rows, seen_fault, read_rows, watch_answer, number_seen}
 
 -- ---- which instances are open after a change

@@ -9,11 +9,10 @@ use Rattle.tree_core.specs.declared.snapshot.Snapshot.{Snapshot}
 use Rattle.tree_core.specs.declared.state.State.TheInside.{Inside}
 use Rattle.tree_core.specs.Tree.{Tree, opening, reply_of, after}
 use Rattle.tree_core.specs.Journal.{Journaled, HasPast, IsLawfulFrom, cut_off, last_place, now, opened, with_entry}
-use Rattle.tree_core.specs.FileSystems.{tree_in}
+use Rattle.tree_core.specs.FileSystems.{tree_in, IsNumbered}
 use Rattle.tree_core.specs.Histories.{read_in}
 use Rattle.tree_core.specs.Kept.{IsKept, journal_of, tree_of}
 use Rattle.tree_core.specs.Snapshots.{IsSnapshotOf}
-use Rattle.tree_core.specs.Sound.{IsNumbered}
 use Rattle.tree_core.specs.TurnLaws.{TreesAreSound}
 use Rattle.tree_core.proofs.Lawful.{HasPast-cut, HasPast-opening, lawful-entry, limits-now, now-cut, now-entry, now-opened, pasts-make-whole, sound-now}
 use Rattle.tree_core.proofs.Shown.{tree_of-snapshot}

@@ -1,15 +1,20 @@
--- The tree that contracts see of a file system, and what the file system does for a call.
+-- The tree of a file system, and what it does for a call. No public clause cites this module.
 use Rattle.std.specs.Prelude.{◌≡◌, Bool, true, false, Option, Some, None, Result, Ok, Err, IfOk, IfErr, OnOk, OnErr}
 use Rattle.tree_paths.specs.declared.refusal.Refusal.{Refusal}
 use Rattle.tree_paths.specs.declared.refusal.Refusal.TheVariants.{Enomem}
-use Rattle.inode_table.specs.TableWorld.{world_of}
+use Rattle.inode_table.specs.TableWorld.{world_of, HasNumbersBelow}
 use Rattle.tree_core.specs.declared.call.Call.{Call}
 use Rattle.tree_core.specs.declared.file_system.FileSystem.{FileSystem}
 use Rattle.tree_core.specs.declared.file_system.Pumped.{Pumped}
 use Rattle.tree_core.specs.declared.file_system.Replies.{Replies}
 use Rattle.tree_core.specs.declared.reply.Reply.{Reply}
-use Rattle.tree_core.specs.Sound.{IsNumbered}
+use Rattle.tree_core.specs.Sound.{IsCounted}
 use Rattle.tree_core.specs.Tree.{Tree, reply_of, after}
+
+-- the numbers that come next are counted, and the files have numbers below the next one
+pub record IsNumbered (t : Tree) : Type 0 where
+  pub counted : IsCounted t
+  pub given : HasNumbersBelow t.world t.next_number
 
 -- the tree of a file system: its files are the world of its table
 abbrev pub tree_in : FileSystem → Tree

@@ -20,11 +20,6 @@ pub record IsCounted (t : Tree) : Type 0 where
   pub ids : t.next_id ≤ t.limits.ids + 1
   pub opened : (id : ℕ) → IsSome (instance_of t.instances id) → id < t.next_id
 
--- the numbers that come next are counted, and the files have numbers below the next one
-pub record IsNumbered (t : Tree) : Type 0 where
-  pub counted : IsCounted t
-  pub given : HasNumbersBelow t.world t.next_number
-
 -- nothing of a watch follows its IN_IGNORED
 abbrev pub NothingFollowsIgnored : List Event → Type 0
 NothingFollowsIgnored es = (before after : List Event) (e : Event) → es ≡ before ++ e ∷ after → IsTrue (says_ended e) → TellsNothing e.wd after

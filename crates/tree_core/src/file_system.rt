@@ -13,8 +13,7 @@ ghost use Rattle.tree_ops.specs.Refused.{cookies_of};
 ghost use Rattle.event_rules.specs.Table.{notices_of};
 ghost use Rattle.instance_table.specs.Instances.{all_changed, changed, instance_of, told};
 ghost use Rattle.tree_core.specs.Histories.{oldest, pumped};
-ghost use Rattle.tree_core.specs.FileSystems.{tree_in, Executes, copies_of, replies_in};
-ghost use Rattle.tree_core.specs.Sound.{IsNumbered};
+ghost use Rattle.tree_core.specs.FileSystems.{tree_in, Executes, copies_of, replies_in, IsNumbered};
 ghost use Rattle.tree_core.specs.Tree.{opening, counts_of, init_rows, rm_watch_rows, read_rows, close_rows, read_answer, after_reading};
 
 use crate::call::Call;

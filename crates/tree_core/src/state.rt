@@ -4,11 +4,11 @@ ghost use Rattle.record_codec.specs.Records.{AreEvents, spelling};
 ghost use Rattle.instance_table.specs.Instances.{WaitingAreEvents, watchers_of};
 ghost use Rattle.tree_core.specs.Histories.{pumped};
 ghost use Rattle.tree_core.specs.FileSystems.{copies_of};
-ghost use Rattle.tree_core.specs.Tree.{reply_of};
+ghost use Rattle.tree_core.specs.Applied.{Applies};
 ghost use Rattle.tree_core.specs.Calls.{IsKeptAs, IsSpelled};
 ghost use Rattle.tree_core.specs.QueueLaws.{RecordsAreEvents};
 ghost use Rattle.tree_core.specs.declared.reply.Reply.{Reply as ReplyValue};
-ghost use Rattle.tree_core.specs.Journal.{HasPast, IsLawfulFrom, IsSpent, cut_off, last_place, now, opened, with_entry, waiting_in};
+ghost use Rattle.tree_core.specs.Journal.{HasPast, IsLawfulFrom, cut_off, last_place, now, opened, waiting_in};
 ghost use Rattle.tree_core.specs.Snapshots.{IsSnapshotOf};
 ghost use Rattle.tree_core.specs.Sound.{IsSoundTree};
 
@@ -86,14 +86,8 @@ impl State {
     /// - `JournalFull`, where the journal has as many entries since the last cut as its limit, or the last place is 2^64 - 1.
     /// - `ENOMEM`, where there is no memory for the call.
     pub fn apply(&mut self, caller: u32, call: Call) -> Result<Receipt, Refusal>
-        ensures entry { IfOk result (λ r. self.new ≡ with_entry self.old (record { caller = caller; call = call; reply = r.reply })) }
-        ensures place { IfOk result (λ r. r.place ≡ last_place self.new) }
-        ensures reply { IfOk result (λ r. r.reply ≡ reply_of (now self.old) call) }
+        ensures applied { Applies (λ r. r) self.old caller call result self.new }
         ensures spelled { IfOk result (λ r. IsSpelled r.reply) }
-        ensures lawful { IsLawfulFrom self.new.start self.new.entries }
-        ensures err { OnErr result (self.new ≡ self.old) }
-        ensures full { (result ≡ Err Refusal.JournalFull) ↔ IsSpent self.old }
-        ensures errors { IfErr result (λ e. (e ≡ Refusal.JournalFull) ⊎ (e ≡ Refusal.Enomem)) }
     {
         if let Err(refusal) = make_room(
             &mut self.journal,
@@ -128,15 +122,9 @@ impl State {
     /// # Errors
     /// Those of [`State::apply`].
     pub fn keep(&mut self, caller: u32, call: Call) -> Result<(Receipt, Kept), Refusal>
-        ensures kept { IfOk result (λ r. IsKeptAs r.0 r.1 call) }
-        ensures entry { IfOk result (λ r. self.new ≡ with_entry self.old (record { caller = caller; call = call; reply = r.0.reply })) }
-        ensures place { IfOk result (λ r. r.0.place ≡ last_place self.new) }
-        ensures reply { IfOk result (λ r. r.0.reply ≡ reply_of (now self.old) call) }
+        ensures applied { Applies (λ r. r.0) self.old caller call result self.new }
         ensures spelled { IfOk result (λ r. IsSpelled r.0.reply) }
-        ensures lawful { IsLawfulFrom self.new.start self.new.entries }
-        ensures err { OnErr result (self.new ≡ self.old) }
-        ensures full { (result ≡ Err Refusal.JournalFull) ↔ IsSpent self.old }
-        ensures errors { IfErr result (λ e. (e ≡ Refusal.JournalFull) ⊎ (e ≡ Refusal.Enomem)) }
+        ensures kept { IfOk result (λ r. IsKeptAs r.0 r.1 call) }
     {
         make_room(
             &mut self.journal,
@@ -167,16 +155,10 @@ impl State {
         instance: u32,
         bytes: u32,
     ) -> Result<(Receipt, Kept, Option<Events>), Refusal>
+        ensures applied { Applies (λ r. r.0) self.old caller (Call.Pump instance bytes) result self.new }
         ensures records { IfOk result (λ r. r.2 ≡ pumped (now self.old) instance bytes) }
         ensures spelled { IfOk result (λ r. IfSome r.2 (λ records. AreEvents records × (r.0.reply ≡ Reply.Records (spelling records)))) }
         ensures kept { IfOk result (λ r. IsKeptAs r.0 r.1 (Call.Pump instance bytes)) }
-        ensures entry { IfOk result (λ r. self.new ≡ with_entry self.old (record { caller = caller; call = Call.Pump instance bytes; reply = r.0.reply })) }
-        ensures place { IfOk result (λ r. r.0.place ≡ last_place self.new) }
-        ensures reply { IfOk result (λ r. r.0.reply ≡ reply_of (now self.old) (Call.Pump instance bytes)) }
-        ensures lawful { IsLawfulFrom self.new.start self.new.entries }
-        ensures err { OnErr result (self.new ≡ self.old) }
-        ensures full { (result ≡ Err Refusal.JournalFull) ↔ IsSpent self.old }
-        ensures errors { IfErr result (λ e. (e ≡ Refusal.JournalFull) ⊎ (e ≡ Refusal.Enomem)) }
     {
         make_room(
             &mut self.journal,

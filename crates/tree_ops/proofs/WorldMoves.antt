@@ -3,7 +3,7 @@ use Rattle.std.proofs.Common.{◌≡◌, ◌≢◌, ◌⊎◌, inl, inr, ℕ, Li
 use Rattle.std.specs.Option.{option_and_then, IsSomeAnd}
 use Rattle.std.specs.FinMap as finmap
 use Rattle.inode_table.specs.declared.seen.Kind.TheVariants.{Directory}
-use Rattle.inode_table.specs.Walk.{Avoids, MovesPath}
+use Rattle.inode_table.specs.Changes.{Avoids, MovesPath}
 use Rattle.inode_table.specs.Rows.{Label}
 use Rattle.inode_table.specs.World.{World, File, IsWorld, IsDirectoryAt, with_move}
 use Rattle.inode_table.proofs.TreeLemmas.{some_none, origin}

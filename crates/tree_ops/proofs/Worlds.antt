@@ -5,7 +5,7 @@ use Rattle.std.specs.FinMap as finmap
 use Rattle.inode_table.specs.declared.seen.Kind.{Kind}
 use Rattle.inode_table.specs.declared.seen.Kind.TheVariants.{Regular, Directory}
 use Rattle.inode_table.specs.declared.seen.Seen.{Seen}
-use Rattle.inode_table.specs.Walk.{Avoids}
+use Rattle.inode_table.specs.Changes.{Avoids}
 use Rattle.inode_table.specs.Rows.{Label}
 use Rattle.tree_paths.specs.Paths.{is_below}
 use Rattle.inode_table.specs.Refusals.{is_directory_kind, is_directory_seen, parent_of}

@@ -11,7 +11,7 @@ use Rattle.tree_paths.specs.declared.limits.Limits.{Limits}
 use Rattle.inode_table.specs.declared.seen.Kind.TheVariants.{Directory}
 use Rattle.inode_table.specs.declared.seen.Seen.{Seen}
 use Rattle.inode_table.specs.Bytes.{resized, written}
-use Rattle.inode_table.specs.Walk.{Avoids}
+use Rattle.inode_table.specs.Changes.{Avoids}
 use Rattle.inode_table.specs.Rows.{Label}
 use Rattle.tree_paths.specs.Paths.{is_below}
 use Rattle.inode_table.specs.Paths.{path_cmp}

@@ -97,58 +97,39 @@ impl FileCall {
         ensures ok { IfOk result (λ call. call ≡ self.now) }
         ensures err { IfErr result (λ refusal. refusal ≡ Enomem) }
     {
+        let path = self.path().copy()?;
         Ok(match self {
-            FileCall::Create { path, mode } => FileCall::Create {
-                path: path.copy()?,
-                mode: *mode,
-            },
-            FileCall::Mkdir { path, mode } => FileCall::Mkdir {
-                path: path.copy()?,
-                mode: *mode,
-            },
-            FileCall::Write {
+            &FileCall::Create { mode, .. } => FileCall::Create { path, mode },
+            &FileCall::Mkdir { mode, .. } => FileCall::Mkdir { path, mode },
+            FileCall::Write { offset, bytes, .. } => FileCall::Write {
                 path,
-                offset,
-                bytes,
-            } => FileCall::Write {
-                path: path.copy()?,
                 offset: *offset,
                 bytes: bytes.copy()?,
             },
-            FileCall::ReadFile {
+            &FileCall::ReadFile { offset, count, .. } => FileCall::ReadFile {
                 path,
                 offset,
                 count,
-            } => FileCall::ReadFile {
-                path: path.copy()?,
-                offset: *offset,
-                count: *count,
             },
-            FileCall::Truncate { path, len } => FileCall::Truncate {
-                path: path.copy()?,
-                len: *len,
-            },
-            FileCall::Chmod { path, mode } => FileCall::Chmod {
-                path: path.copy()?,
-                mode: *mode,
-            },
-            FileCall::Link { old, new } => FileCall::Link {
-                old: old.copy()?,
+            &FileCall::Truncate { len, .. } => FileCall::Truncate { path, len },
+            &FileCall::Chmod { mode, .. } => FileCall::Chmod { path, mode },
+            FileCall::Link { new, .. } => FileCall::Link {
+                old: path,
                 new: new.copy()?,
             },
-            FileCall::Unlink { path } => FileCall::Unlink { path: path.copy()? },
-            FileCall::Rmdir { path } => FileCall::Rmdir { path: path.copy()? },
-            FileCall::Rename { old, new } => FileCall::Rename {
-                old: old.copy()?,
+            FileCall::Unlink { .. } => FileCall::Unlink { path },
+            FileCall::Rmdir { .. } => FileCall::Rmdir { path },
+            FileCall::Rename { new, .. } => FileCall::Rename {
+                old: path,
                 new: new.copy()?,
             },
-            FileCall::Rename2 { old, new, flags } => FileCall::Rename2 {
-                old: old.copy()?,
+            FileCall::Rename2 { new, flags, .. } => FileCall::Rename2 {
+                old: path,
                 new: new.copy()?,
                 flags: *flags,
             },
-            FileCall::Stat { path } => FileCall::Stat { path: path.copy()? },
-            FileCall::List { path } => FileCall::List { path: path.copy()? },
+            FileCall::Stat { .. } => FileCall::Stat { path },
+            FileCall::List { .. } => FileCall::List { path },
         })
     }
 

@@ -5,7 +5,7 @@ ghost use Rattle.std.specs.FinMap as finmap;
 ghost use Rattle.inode_table.specs.Bytes.{resized, written};
 ghost use Rattle.inode_table.specs.World.{IsWhole, look, with_file, changed_at};
 ghost use Rattle.inode_table.specs.Resolution.{ResolvedPath, IsResolved};
-ghost use Rattle.inode_table.specs.Stands.{reserved_at};
+ghost use Rattle.inode_table.specs.Tree.{reserved_at};
 ghost use Rattle.inode_table.specs.TableWorld.{world_of, HasNumbersBelow};
 ghost use Rattle.inode_table.specs.Refusals.{is_directory_seen, parent_of};
 ghost use Rattle.tree_paths.specs.Paths.{is_below};
@@ -28,18 +28,20 @@ fn make(
     number: u32,
     mode: u32,
     kind: Kind,
-) -> Result<(), Refusal>
+) -> Result<Answer, Refusal>
     requires resolved { IsResolved table.old path.now }
     requires directory { is_directory_seen (look (world_of table.old) (parent_of path.now.names)) ≡ true }
     requires free { look (world_of table.old) path.now.names ≡ None }
     requires named { path.now.names ≢ [] }
     requires unused { finmap.get (world_of table.old).files number ≡ None }
     ensures world { OnOk result (world_of table.new ≡ with_file (world_of table.old) path.now.names number (record { kind = kind; mode = mode; bytes = [] })) }
+    ensures answer { IfOk result (λ answer. answer ≡ Answer.Number number) }
     ensures err { OnErr result (table.new.rows ≡ table.old.rows) }
     ensures memory { IfErr result (λ refusal. refusal ≡ Refusal.Enomem) }
 {
     table.reserve_node()?;
-    table.add_node(path, number, mode, kind)
+    table.add_node(path, number, mode, kind)?;
+    Ok(Answer::Number(number))
 }
 
 // Makes room for bytes in a file, from an offset on. No bytes need none.
@@ -61,47 +63,51 @@ fn reserve(table: &mut Table, path: &Resolved, offset: usize, bytes: &[u8]) -> R
 }
 
 // Writes over the bytes of a file from an offset on.
-fn write(table: &mut Table, path: &Resolved, offset: usize, bytes: &[u8]) -> Result<(), Refusal>
+fn write(table: &mut Table, path: &Resolved, offset: usize, bytes: &[u8]) -> Result<Answer, Refusal>
     requires resolved { IsResolved table.old path.now }
     requires there { IsSome (look (world_of table.old) path.now.names) }
     requires regular { is_directory_seen (look (world_of table.old) path.now.names) ≡ false }
     requires range { 0 < length bytes.now → offset + length bytes.now < 2 ^ 64 }
     ensures world { OnOk result (world_of table.new ≡ changed_at (world_of table.old) path.now.names (λ f. record f { bytes = written offset bytes.now f.bytes })) }
+    ensures answer { IfOk result (λ answer. answer ≡ Answer.Count (length bytes.now)) }
     ensures err { OnErr result (table.new.rows ≡ table.old.rows) }
     ensures memory { IfErr result (λ refusal. refusal ≡ Refusal.Enomem) }
 {
     reserve(table, path, offset, bytes)?;
     table.write(path, offset, bytes);
-    Ok(())
+    Ok(Answer::Count(bytes.len() as u64))
 }
 
 // Cuts a file, or fills it up with zero bytes.
-fn truncate(table: &mut Table, path: &Resolved, len: usize) -> Result<(), Refusal>
+fn truncate(table: &mut Table, path: &Resolved, len: usize) -> Result<Answer, Refusal>
     requires resolved { IsResolved table.old path.now }
     requires there { IsSome (look (world_of table.old) path.now.names) }
     requires regular { is_directory_seen (look (world_of table.old) path.now.names) ≡ false }
     ensures world { OnOk result (world_of table.new ≡ changed_at (world_of table.old) path.now.names (λ f. record f { bytes = resized len f.bytes })) }
+    ensures answer { IfOk result (λ answer. answer ≡ Answer.Done) }
     ensures err { OnErr result (table.new.rows ≡ table.old.rows) }
     ensures memory { IfErr result (λ refusal. refusal ≡ Refusal.Enomem) }
 {
     table.reserve_content(path, len)?;
     table.set_len(path, len);
-    Ok(())
+    Ok(Answer::Done)
 }
 
 // Takes out a path of a regular file.
-fn unlink(table: &mut Table, path: &Resolved)
+fn unlink(table: &mut Table, path: &Resolved) -> Answer
     requires resolved { IsResolved table.old path.now }
     requires there { IsSome (look (world_of table.old) path.now.names) }
     requires regular { is_directory_seen (look (world_of table.old) path.now.names) ≡ false }
     ensures world { world_of table.new ≡ after_unlink (world_of table.old) path.now.names }
+    ensures answer { result ≡ Answer.Done }
 {
     table.law();
     table.drop_name(path);
+    Answer::Done
 }
 
 // Moves what stands at a path, in the place of what stands at the other one.
-fn rename(table: &mut Table, old: &Resolved, new: &Resolved) -> Result<(), Refusal>
+fn rename(table: &mut Table, old: &Resolved, new: &Resolved) -> Result<Answer, Refusal>
     requires resolved { IsResolved table.old old.now }
     requires other_resolved { IsResolved table.old new.now }
     requires source { IsSome (look (world_of table.old) old.now.names) }
@@ -111,19 +117,21 @@ fn rename(table: &mut Table, old: &Resolved, new: &Resolved) -> Result<(), Refus
     requires below { (is_directory_seen (look (world_of table.old) old.now.names) && is_below new.now.names old.now.names) ≡ false }
     requires empty { are_same_seen (look (world_of table.old) old.now.names) (look (world_of table.old) new.now.names) ≡ false → has_names_seen (look (world_of table.old) new.now.names) ≡ false }
     ensures world { OnOk result (world_of table.new ≡ after_rename (world_of table.old) old.now.names new.now.names) }
+    ensures answer { IfOk result (λ answer. answer ≡ Answer.Done) }
     ensures err { OnErr result (table.new.rows ≡ table.old.rows) }
     ensures memory { IfErr result (λ refusal. refusal ≡ Refusal.Enomem) }
 {
     table.law();
     let is_same = are_same(table.seen(old), table.seen(new));
     if is_same {
-        return Ok(());
+        return Ok(Answer::Done);
     }
-    table.replace_name(old, new)
+    table.replace_name(old, new)?;
+    Ok(Answer::Done)
 }
 
 // Exchanges what stands at two paths. It takes no memory.
-fn exchange(table: &mut Table, old: &Resolved, new: &Resolved)
+fn exchange(table: &mut Table, old: &Resolved, new: &Resolved) -> Answer
     requires resolved { IsResolved table.old old.now }
     requires other_resolved { IsResolved table.old new.now }
     requires source { IsSome (look (world_of table.old) old.now.names) }
@@ -131,13 +139,15 @@ fn exchange(table: &mut Table, old: &Resolved, new: &Resolved)
     requires below { are_same_seen (look (world_of table.old) old.now.names) (look (world_of table.old) new.now.names) ≡ false → (is_directory_seen (look (world_of table.old) old.now.names) && is_below new.now.names old.now.names) ≡ false }
     requires above { are_same_seen (look (world_of table.old) old.now.names) (look (world_of table.old) new.now.names) ≡ false → (is_directory_seen (look (world_of table.old) new.now.names) && is_below old.now.names new.now.names) ≡ false }
     ensures world { world_of table.new ≡ after_exchange (world_of table.old) old.now.names new.now.names }
+    ensures answer { result ≡ Answer.Done }
 {
     table.law();
     let is_one = are_same(table.seen(old), table.seen(new));
     if is_one {
-        return;
+        return Answer::Done;
     }
     table.swap_names(old, new);
+    Answer::Done
 }
 
 // What is told of a file.
@@ -218,31 +228,19 @@ fn perform(alloc: Global, table: &mut Table, ready: &Ready) -> Result<Answer, Re
     ensures memory { IfErr result (λ refusal. refusal ≡ Refusal.Enomem) }
 {
     let number = ready.counts.next_number;
-    let call = ready.call;
     let path = ready.path;
     let other_path = ready.other_path;
-    match call {
-        FileCall::Create { mode, .. } => {
-            make(table, path, number, *mode, Kind::Regular)?;
-            Ok(Answer::Number(number))
-        }
-        FileCall::Mkdir { mode, .. } => {
-            make(table, path, number, *mode, Kind::Directory)?;
-            Ok(Answer::Number(number))
-        }
+    match ready.call {
+        FileCall::Create { mode, .. } => make(table, path, number, *mode, Kind::Regular),
+        FileCall::Mkdir { mode, .. } => make(table, path, number, *mode, Kind::Directory),
         FileCall::Write { offset, bytes, .. } => {
-            let new = bytes.as_slice();
-            write(table, path, *offset as usize, new)?;
-            Ok(Answer::Count(new.len() as u64))
+            write(table, path, *offset as usize, bytes.as_slice())
         }
         FileCall::ReadFile { offset, count, .. } => {
             let bytes = read(alloc, table, path, *offset as usize, *count as usize)?;
             Ok(Answer::Bytes(bytes))
         }
-        FileCall::Truncate { len, .. } => {
-            truncate(table, path, *len as usize)?;
-            Ok(Answer::Done)
-        }
+        FileCall::Truncate { len, .. } => truncate(table, path, *len as usize),
         FileCall::Chmod { mode, .. } => {
             table.set_mode(path, *mode);
             Ok(Answer::Done)
@@ -251,26 +249,16 @@ fn perform(alloc: Global, table: &mut Table, ready: &Ready) -> Result<Answer, Re
             table.add_name(path, other_path)?;
             Ok(Answer::Done)
         }
-        FileCall::Unlink { .. } => {
-            unlink(table, path);
-            Ok(Answer::Done)
-        }
+        FileCall::Unlink { .. } => Ok(unlink(table, path)),
         FileCall::Rmdir { .. } => {
             table.drop_name(path);
             Ok(Answer::Done)
         }
-        FileCall::Rename { .. } => {
-            rename(table, path, other_path)?;
-            Ok(Answer::Done)
-        }
+        FileCall::Rename { .. } => rename(table, path, other_path),
         FileCall::Rename2 { flags, .. } if *flags == RENAME_EXCHANGE => {
-            exchange(table, path, other_path);
-            Ok(Answer::Done)
+            Ok(exchange(table, path, other_path))
         }
-        FileCall::Rename2 { .. } => {
-            rename(table, path, other_path)?;
-            Ok(Answer::Done)
-        }
+        FileCall::Rename2 { .. } => rename(table, path, other_path),
         FileCall::Stat { .. } => Ok(stat(table, path)),
         FileCall::List { .. } => Ok(Answer::Names(list(alloc, table, path)?)),
     }

@@ -13,8 +13,8 @@ use Rattle.std.specs.Ordering.{int_cmp, is_eq, is_lt}
 use Rattle.std.specs.declared.cmp.Ordering.{Ordering}
 use Rattle.std.specs.declared.cmp.Ordering.TheVariants.{Less}
 use Rattle.std.proofs.lemmas.Map.Keys.{sorted_head, sorted_tail}
-use Rattle.watch_table.specs.Index.{IsIndexed, watching_of}
-use Rattle.watch_table.specs.Rows.{bits_in, by_wd, watch_rows}
+use Rattle.watch_table.specs.Index.{IsIndexed, watching_of, bits_in}
+use Rattle.watch_table.specs.Rows.{by_wd, watch_rows}
 use Rattle.watch_table.specs.Watching.{Watch, Watching, watch_of}
 use Rattle.watch_table.specs.declared.watches.Watches.TheInside.{Inside}
 use Rattle.watch_table.proofs.Turned.{map-map, turned-back, turned-there}

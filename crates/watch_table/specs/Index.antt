@@ -1,10 +1,14 @@
--- The watches that two maps stand for.
-use Rattle.std.specs.Prelude.{◌≡◌, ℕ, ℤ, Some}
+-- The watches that two maps stand for. No public clause cites this module.
+use Rattle.std.specs.Prelude.{◌≡◌, ℕ, ℤ, Some, Option, None}
 use Rattle.std.specs.BTreeMap as tree
 use Rattle.std.specs.FinMap.{from_entries}
 use Rattle.std.specs.Ordering.{int_cmp}
 use Rattle.watch_table.specs.declared.watches.Watches.TheInside.{Inside}
-use Rattle.watch_table.specs.Watching.{Watching, IsSound, wd_of}
+use Rattle.watch_table.specs.Watching.{Watching, IsSound, wd_of, Watch}
+
+abbrev pub bits_in : Option Watch → ℕ
+bits_in None = 0
+bits_in (Some watch) = watch.1
 
 abbrev pub watching_of : Inside → Watching
 watching_of a = record {

@@ -1,12 +1,8 @@
 -- The watches of an instance in a row for each.
-use Rattle.std.specs.Prelude.{ℕ, ℤ, List, map, Option, Some, None}
+use Rattle.std.specs.Prelude.{ℕ, ℤ, List, map}
 use Rattle.std.specs.FinMap as finmap
 use Rattle.std.specs.Ordering.{int_cmp}
-use Rattle.watch_table.specs.Watching.{Watch, Watching}
-
-abbrev pub bits_in : Option Watch → ℕ
-bits_in None = 0
-bits_in (Some watch) = watch.1
+use Rattle.watch_table.specs.Watching.{Watching}
 
 -- the watches by their descriptors, each with the number of its file and its bits
 abbrev pub by_wd : Watching → finmap.FinMap int_cmp (ℕ × ℕ)

@@ -5,7 +5,8 @@ ghost use Rattle.std.specs.Map.Iter.{ShowsInOrder, deref};
 ghost use Rattle.tree_paths.specs.declared.refusal.Refusal.{Refusal};
 ghost use Rattle.tree_paths.specs.declared.refusal.Refusal.TheVariants.{Einval, Enomem};
 ghost use Rattle.watch_table.specs.Masks.{mask_fault};
-ghost use Rattle.watch_table.specs.Rows.{bits_in, watch_rows};
+ghost use Rattle.watch_table.specs.Index.{bits_in};
+ghost use Rattle.watch_table.specs.Rows.{watch_rows};
 ghost use Rattle.watch_table.specs.Watching.{IsSound, added, add_refusal, dropped, is_barred, is_full, is_taken, next_bits, no_watches, number_of, removed, watch_of, wd_added, wd_of, with_new_watch};
 
 use crate::{Mask, WatchRows};

@@ -146,7 +146,8 @@ impl Table {
 impl Table {
     ghost use Rattle.inode_table.specs.World.{World, with_move, without_path, without_lost};
     ghost use Rattle.inode_table.specs.Refusals.{is_directory_seen};
-    ghost use Rattle.inode_table.specs.Stands.{Stands, look_in, number_of};
+    ghost use Rattle.inode_table.specs.Stands.{Stands, look_in};
+    ghost use Rattle.inode_table.specs.TableWorld.{number_of};
     ghost use Rattle.inode_table.specs.Resolution.{IsResolved};
 
     // Moves a path to another one, which may be taken, and tells the key of what was there, which has one path less.

@@ -2,9 +2,10 @@
 
 ghost use Rattle.std.specs.Prelude.{◌≡◌, map, IfOk, IfErr};
 ghost use Rattle.std.specs.FinMap as finmap;
-ghost use Rattle.inode_table.specs.Rows.{row_of, rows_of, shown};
-ghost use Rattle.inode_table.specs.Tree.{IsTable};
-ghost use Rattle.inode_table.specs.Files.{AreListed, file_row, row_shown};
+ghost use Rattle.inode_table.specs.Kept.{row_of, rows_of, IsTable};
+ghost use Rattle.inode_table.specs.Rows.{shown};
+ghost use Rattle.inode_table.specs.Listing.{AreListed, row_shown};
+ghost use Rattle.inode_table.specs.Files.{file_row};
 
 use super::Table;
 use crate::node::Node;

@@ -4,8 +4,10 @@ ghost use Rattle.std.specs.Prelude.{◌≡◌, ◌++◌, ◌∷◌, [], List, �
 ghost use Rattle.std.specs.BTreeMap as tree;
 ghost use Rattle.std.specs.FinMap as finmap;
 ghost use Rattle.inode_table.specs.Paths.{path_cmp};
-ghost use Rattle.inode_table.specs.Rows.{Label, rows_of};
-ghost use Rattle.inode_table.specs.Flat.{Visits, number_under};
+ghost use Rattle.inode_table.specs.Rows.{Label};
+ghost use Rattle.inode_table.specs.Kept.{rows_of};
+ghost use Rattle.inode_table.specs.Listing.{Visits};
+ghost use Rattle.inode_table.specs.Flat.{number_under};
 
 use super::{ROOT, Table};
 use crate::content::Content;

@@ -15,10 +15,11 @@ use std::alloc::AllocError;
 
 impl Table {
     ghost use Rattle.inode_table.specs.World.{World, with_file, with_path, without_path, with_move, with_swap, with_content, without_file};
-    ghost use Rattle.inode_table.specs.Stands.{Stands, file_of, look_in};
-    ghost use Rattle.inode_table.specs.Walk.{AddsPath, DropsPath, MovesPath, SwapsPaths, Avoids};
-    ghost use Rattle.inode_table.specs.Rows.{child, key_in, bytes_in, body_of, is_directory, reserved};
-    ghost use Rattle.inode_table.specs.Tree.{IsOpen, LosesLink, ChangesWhat, one_link_more, with_mode, with_bytes, with_written, with_len};
+    ghost use Rattle.inode_table.specs.Stands.{Stands, look_in};
+    ghost use Rattle.inode_table.specs.TableWorld.{file_of};
+    ghost use Rattle.inode_table.specs.Changes.{AddsPath, DropsPath, MovesPath, SwapsPaths, Avoids, IsOpen, LosesLink, ChangesWhat, one_link_more, with_mode, with_bytes, with_written, with_len};
+    ghost use Rattle.inode_table.specs.Rows.{child, key_in, bytes_in, reserved};
+    ghost use Rattle.inode_table.specs.Kept.{body_of, is_directory};
 
     /// Gives a name to a new node, for which there is room.
     pub(crate) fn add_node_at(

@@ -19,8 +19,8 @@ use tree_paths::Refusal;
 impl Table {
     ghost use Rattle.inode_table.specs.World.{AreNamesOf, links, look};
     ghost use Rattle.inode_table.specs.Refusals.{find};
-    ghost use Rattle.inode_table.specs.Stands.{number_of, seen_at};
-    ghost use Rattle.inode_table.specs.TableWorld.{world_of, file_under};
+    ghost use Rattle.inode_table.specs.TableWorld.{number_of, world_of, file_under};
+    ghost use Rattle.inode_table.specs.Stands.{seen_at};
 
     /// The number of a node.
     pub fn number(&self, key: Key) -> u32

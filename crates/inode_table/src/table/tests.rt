@@ -5,8 +5,7 @@ ghost use Rattle.slab.specs.Slab.{get};
 ghost use Rattle.tree_paths.specs.Paths.{is_below};
 ghost use Rattle.inode_table.specs.Refusals.{is_directory_seen, parent_of};
 ghost use Rattle.inode_table.specs.Resolution.{IsResolved};
-ghost use Rattle.inode_table.specs.Stands.{number_of};
-ghost use Rattle.inode_table.specs.TableWorld.{world_of, HasNumbersBelow};
+ghost use Rattle.inode_table.specs.TableWorld.{number_of, world_of, HasNumbersBelow};
 ghost use Rattle.inode_table.specs.World.{look};
 ghost use Rattle.inode_table.specs.declared.node.Node.{Node};
 

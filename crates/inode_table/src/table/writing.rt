@@ -13,8 +13,8 @@ use tree_paths::Refusal;
 impl Table {
     ghost use Rattle.inode_table.specs.World.{changed_at, look};
     ghost use Rattle.inode_table.specs.Refusals.{is_directory_seen};
-    ghost use Rattle.inode_table.specs.Stands.{number_of, reserved_at};
-    ghost use Rattle.inode_table.specs.TableWorld.{world_of};
+    ghost use Rattle.inode_table.specs.TableWorld.{number_of, world_of};
+    ghost use Rattle.inode_table.specs.Tree.{reserved_at};
     ghost use Rattle.inode_table.specs.Resolution.{ResolvedPath, IsResolved};
 
     /// Gives other bytes to the file at a path. It takes no memory.

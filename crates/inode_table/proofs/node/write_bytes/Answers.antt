@@ -1,4 +1,4 @@
-use Rattle.inode_table.specs.Tree.{with_written}
+use Rattle.inode_table.specs.Changes.{with_written}
 use Rattle.inode_table.proofs.RowsLemmas.{child-with_value_same, ChangesWhat-with_value}
 use Rattle.inode_table.proofs.node.write_bytes.Goals as goal
 

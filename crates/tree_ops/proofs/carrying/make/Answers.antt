@@ -1,10 +1,10 @@
 use Rattle.std.proofs.Common.{[], ap, ◌∙◌}
 use Rattle.std.specs.FinMap as finmap
+use Rattle.std.proofs.lemmas.Result.{err_from_is_err_and}
 use Rattle.inode_table.specs.Tree.{Tree}
 use Rattle.inode_table.specs.Refusals.{is_directory_seen, parent_of}
 use Rattle.inode_table.specs.TableWorld.{world_in}
 use Rattle.inode_table.specs.World.{look, with_file}
-use Rattle.std.proofs.lemmas.Result.{on_ok_weaker, on_err_weaker}
 use Rattle.tree_ops.proofs.carrying.make.Goals as goal
 
 pub add_node-requires-clause-resolved : goal.add_node-requires-clause-resolved
@@ -21,8 +21,10 @@ add_node-requires-clause-unused c = ap (λ rs. finmap.get (world_in rs).files c.
 
 pub returns-clause-world : goal.returns-clause-world
 returns-clause-world c =
-    on_ok_weaker c.add_node.result
-    (λ e. e ∙ ap (λ rs. with_file (world_in rs) c.args.path.now.names c.args.number (record { kind = c.args.kind; mode = c.args.mode; bytes = [] })) c.reserve_node.ensures.rows) c.add_node.ensures.world
+    c.in_ok-add_node.ensures.world
+    ∙ ap (λ rs. with_file (world_in rs) c.args.path.now.names c.args.number (record { kind = c.args.kind; mode = c.args.mode; bytes = [] })) c.reserve_node.ensures.rows
 
-pub returns-clause-err : goal.returns-clause-err
-returns-clause-err c = on_err_weaker c.add_node.result (λ e. ap (λ (t : Tree). t.rows) e ∙ c.reserve_node.ensures.rows) c.add_node.ensures.err
+pub returns-in_err-add_node-clause-err : goal.returns-in_err-add_node-clause-err
+returns-in_err-add_node-clause-err c =
+    let failed = err_from_is_err_and c.from_residual-in_err-add_node.result c.from_residual-in_err-add_node.ensures.1 in
+    rw failed.1 (ap (λ (t : Tree). t.rows) c.in_err-add_node.ensures.err ∙ c.reserve_node.ensures.rows)

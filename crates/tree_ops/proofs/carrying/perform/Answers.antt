@@ -1,4 +1,5 @@
 use Rattle.std.proofs.Common.{◌≡◌, ◌≢◌, ◌==◌, if◌then◌else◌, Bool, ℕ, ◌+◌, ◌<◌, ◌^◌, Option, Some, None, IfSome, true, false, nat_lt, length, ◌&&◌, ◌≤◌, List, refl, sym, ap, subst, ◌∙◌, arith}
+use Rattle.std.proofs.lemmas.Result.{on_ok_weaker}
 use borrow.Author.Tests.{ltb-true, ltb-false, eq-eqb, ne_eqb}
 use Rattle.inode_table.specs.declared.seen.Seen.{Seen}
 use Rattle.std.specs.FinMap as finmap
@@ -89,8 +90,8 @@ write-requires-clause-regular c = (write-known (look (world_of c.args.table.now)
 
 pub write-requires-clause-range : goal.write-requires-clause-range
 write-requires-clause-range c some =
-    small c.in-Write.offset (length c.as_slice-new.result.now) c.requires.ready.limits.file_bytes
-    (ap (λ (b : List ℕ). nat_lt 0 (length b) && nat_lt c.requires.ready.limits.file_bytes (c.in-Write.offset + length b)) c.as_slice-new.ensures ∙ (write-known (look (world_of c.args.table.now)) c.requires.ready.limits c.ready.inside.path.now.names c.in-Write.offset (length c.in-Write.bytes) (known c.args.table.now c.args.ready.now _ _ c.requires.ready c.ready.view_is (one-path c.requires.ready c.ready.view_is (λ p. Write p c.in-Write.offset c.in-Write.bytes) refl c.in-Write.is))).1)
+    small c.in-Write.offset (length c.as_slice.result.now) c.requires.ready.limits.file_bytes
+    (ap (λ (b : List ℕ). nat_lt 0 (length b) && nat_lt c.requires.ready.limits.file_bytes (c.in-Write.offset + length b)) c.as_slice.ensures ∙ (write-known (look (world_of c.args.table.now)) c.requires.ready.limits c.ready.inside.path.now.names c.in-Write.offset (length c.in-Write.bytes) (known c.args.table.now c.args.ready.now _ _ c.requires.ready c.ready.view_is (one-path c.requires.ready c.ready.view_is (λ p. Write p c.in-Write.offset c.in-Write.bytes) refl c.in-Write.is))).1)
     some c.requires.ready.limits.file_bytes_in.1
 
 pub read-requires : goal.read-requires
@@ -158,14 +159,14 @@ rename-requires-clause-empty c = (rename-known (look (world_of c.args.table.now)
 pub stat-requires : goal.stat-requires
 stat-requires c = record { resolved = resolved c.requires.ready c.ready.view_is; there = find-known (look (world_of c.args.table.now)) c.ready.inside.path.now.names (known c.args.table.now c.args.ready.now _ _ c.requires.ready c.ready.view_is (one-path c.requires.ready c.ready.view_is (λ p. Stat p) refl c.in-Stat.is)) }
 
-pub returns-in_ok-make-in-Create-clause-world : goal.returns-in_ok-make-in-Create-clause-world
-returns-in_ok-make-in-Create-clause-world c = after-at _ (world_of c.args.table.now) _ _ _ c.ready.view_is (one-path c.requires.ready c.ready.view_is (λ p. Create p c.in-Create.mode) refl c.in-Create.is) (c.in_ok-make-in-Create.ensures.world)
+pub returns-in-Create-clause-world : goal.returns-in-Create-clause-world
+returns-in-Create-clause-world c = on_ok_weaker c.make.result (after-at _ (world_of c.args.table.now) _ _ _ c.ready.view_is (one-path c.requires.ready c.ready.view_is (λ p. Create p c.in-Create.mode) refl c.in-Create.is)) c.make.ensures.world
 
-pub returns-in_ok-make-in-Mkdir-clause-world : goal.returns-in_ok-make-in-Mkdir-clause-world
-returns-in_ok-make-in-Mkdir-clause-world c = after-at _ (world_of c.args.table.now) _ _ _ c.ready.view_is (one-path c.requires.ready c.ready.view_is (λ p. Mkdir p c.in-Mkdir.mode) refl c.in-Mkdir.is) (c.in_ok-make-in-Mkdir.ensures.world)
+pub returns-in-Mkdir-clause-world : goal.returns-in-Mkdir-clause-world
+returns-in-Mkdir-clause-world c = on_ok_weaker c.make-in-Mkdir.result (after-at _ (world_of c.args.table.now) _ _ _ c.ready.view_is (one-path c.requires.ready c.ready.view_is (λ p. Mkdir p c.in-Mkdir.mode) refl c.in-Mkdir.is)) c.make-in-Mkdir.ensures.world
 
-pub returns-in_ok-truncate-in-Truncate-clause-world : goal.returns-in_ok-truncate-in-Truncate-clause-world
-returns-in_ok-truncate-in-Truncate-clause-world c = after-at _ (world_of c.args.table.now) _ _ _ c.ready.view_is (one-path c.requires.ready c.ready.view_is (λ p. Truncate p c.in-Truncate.len) refl c.in-Truncate.is) (c.in_ok-truncate-in-Truncate.ensures.world)
+pub returns-in-Truncate-clause-world : goal.returns-in-Truncate-clause-world
+returns-in-Truncate-clause-world c = on_ok_weaker c.truncate.result (after-at _ (world_of c.args.table.now) _ _ _ c.ready.view_is (one-path c.requires.ready c.ready.view_is (λ p. Truncate p c.in-Truncate.len) refl c.in-Truncate.is)) c.truncate.ensures.world
 
 pub returns-in-Chmod-clause-world : goal.returns-in-Chmod-clause-world
 returns-in-Chmod-clause-world c = after-at _ (world_of c.args.table.now) _ _ _ c.ready.view_is (one-path c.requires.ready c.ready.view_is (λ p. Chmod p c.in-Chmod.mode) refl c.in-Chmod.is) (c.set_mode.ensures.world)
@@ -179,13 +180,14 @@ returns-in-Unlink-clause-world c = after-at _ (world_of c.args.table.now) _ _ _ 
 pub returns-in-Rmdir-clause-world : goal.returns-in-Rmdir-clause-world
 returns-in-Rmdir-clause-world c = after-at _ (world_of c.args.table.now) _ _ _ c.ready.view_is (one-path c.requires.ready c.ready.view_is (λ p. Rmdir p) refl c.in-Rmdir.is) (c.drop_name.ensures.world)
 
-pub returns-in_ok-rename-in-Rename-clause-world : goal.returns-in_ok-rename-in-Rename-clause-world
-returns-in_ok-rename-in-Rename-clause-world c = after-at _ (world_of c.args.table.now) _ _ _ c.ready.view_is (two-paths c.requires.ready c.ready.view_is (λ p q. Rename p q) refl refl c.in-Rename.is) (c.in_ok-rename-in-Rename.ensures.world)
+pub returns-in-Rename-clause-world : goal.returns-in-Rename-clause-world
+returns-in-Rename-clause-world c = on_ok_weaker c.rename.result (after-at _ (world_of c.args.table.now) _ _ _ c.ready.view_is (two-paths c.requires.ready c.ready.view_is (λ p q. Rename p q) refl refl c.in-Rename.is)) c.rename.ensures.world
 
-pub returns-in_ok-write-in-Write-clause-world : goal.returns-in_ok-write-in-Write-clause-world
-returns-in_ok-write-in-Write-clause-world c =
-    after-at _ (world_of c.args.table.now) _ _ _ c.ready.view_is (one-path c.requires.ready c.ready.view_is (λ p. Write p c.in-Write.offset c.in-Write.bytes) refl c.in-Write.is)
-    (c.in_ok-write-in-Write.ensures.world ∙ ap (λ x. changed_at (world_of c.args.table.now) c.ready.inside.path.now.names (λ f. record f { bytes = written c.in-Write.offset x f.bytes })) c.as_slice-new.ensures)
+pub returns-in-Write-clause-world : goal.returns-in-Write-clause-world
+returns-in-Write-clause-world c =
+    on_ok_weaker c.write.result
+    (λ e. after-at _ (world_of c.args.table.now) _ _ _ c.ready.view_is (one-path c.requires.ready c.ready.view_is (λ p. Write p c.in-Write.offset c.in-Write.bytes) refl c.in-Write.is)
+    (e ∙ ap (λ x. changed_at (world_of c.args.table.now) c.ready.inside.path.now.names (λ f. record f { bytes = written c.in-Write.offset x f.bytes })) c.as_slice.ensures)) c.write.ensures.world
 
 pub returns-in_ok-bytes-in-ReadFile-clause-answer : goal.returns-in_ok-bytes-in-ReadFile-clause-answer
 returns-in_ok-bytes-in-ReadFile-clause-answer c = answer-at _ (world_of c.args.table.now) _ _ _ c.ready.view_is (one-path c.requires.ready c.ready.view_is (λ p. ReadFile p c.in-ReadFile.offset c.in-ReadFile.count) refl c.in-ReadFile.is) (ap Bytes (c.in_ok-bytes-in-ReadFile.ensures))
@@ -259,11 +261,12 @@ returns-in-Rename2-clause-world c =
     after-at _ (world_of c.args.table.now) _ _ _ c.ready.view_is (two-paths c.requires.ready c.ready.view_is (λ p q. Rename2 p q c.in-Rename2.flags) refl refl c.in-Rename2.is)
     (by-test (world_of c.exchange.new.table) (world_of c.args.table.now) c.ready.inside.path.now.names c.ready.inside.other_path.now.names c.in-Rename2.flags true (eq-eqb c.in-Rename2.flags RENAME_EXCHANGE c.if-flags-eq-RENAME_EXCHANGE.true) (c.exchange.ensures.world))
 
-pub returns-in_ok-rename-in-Rename2-2-clause-world : goal.returns-in_ok-rename-in-Rename2-2-clause-world
-returns-in_ok-rename-in-Rename2-2-clause-world c =
+pub returns-in-Rename2-2-clause-world : goal.returns-in-Rename2-2-clause-world
+returns-in-Rename2-2-clause-world c =
     let off = other-flags c.in-Rename2.flags c.in-Rename2-2.flags (same-flags _ _ _ _ _ _ _ (two-paths c.requires.ready c.ready.view_is (λ p q. Rename2 p q c.in-Rename2.flags) refl refl c.in-Rename2.is) (two-paths c.requires.ready c.ready.view_is (λ p q. Rename2 p q c.in-Rename2-2.flags) refl refl c.in-Rename2-2.is)) c.if-flags-eq-RENAME_EXCHANGE.false in
-    after-at _ (world_of c.args.table.now) _ _ _ c.ready.view_is (two-paths c.requires.ready c.ready.view_is (λ p q. Rename2 p q c.in-Rename2-2.flags) refl refl c.in-Rename2-2.is)
-    (by-test (world_of c.rename-in-Rename2-2.new.table) (world_of c.args.table.now) c.ready.inside.path.now.names c.ready.inside.other_path.now.names c.in-Rename2-2.flags false off (c.in_ok-rename-in-Rename2-2.ensures.world))
+    on_ok_weaker c.rename-in-Rename2-2.result
+    (λ e. after-at _ (world_of c.args.table.now) _ _ _ c.ready.view_is (two-paths c.requires.ready c.ready.view_is (λ p q. Rename2 p q c.in-Rename2-2.flags) refl refl c.in-Rename2-2.is)
+    (by-test (world_of c.rename-in-Rename2-2.new.table) (world_of c.args.table.now) c.ready.inside.path.now.names c.ready.inside.other_path.now.names c.in-Rename2-2.flags false off e)) c.rename-in-Rename2-2.ensures.world
 
 pub make-requires-clause-unused : goal.make-requires-clause-unused
 make-requires-clause-unused c = subst (λ n. finmap.get (world_of c.args.table.now).files n ≡ None) (sym (ap (λ (r : Checked). r.counts.next_number) c.ready.view_is)) (next-free (world_of c.args.table.now) c.args.ready.now.counts.next_number c.requires.ready.numbers)

@@ -1,9 +1,9 @@
 use Rattle.std.proofs.Common.{◌≡◌, false, Option, Some, None, IfSome, sym, ap, ◌∙◌}
+use Rattle.std.proofs.lemmas.Result.{err_from_is_err_and}
 use Rattle.inode_table.specs.declared.seen.Seen.{Seen}
 use Rattle.inode_table.specs.World.{look}
 use Rattle.inode_table.specs.TableWorld.{world_of}
 use Rattle.inode_table.specs.Tree.{Tree}
-use Rattle.std.proofs.lemmas.Result.{on_ok_weaker, on_err_weaker}
 use Rattle.tree_ops.specs.Refused.{are_same_seen, has_names_seen}
 use Rattle.tree_ops.proofs.Changed.{renamed-nothing, renamed-moved, other-paths}
 use Rattle.tree_ops.proofs.carrying.rename.Goals as goal
@@ -26,9 +26,9 @@ pub returns-clause-world : goal.returns-clause-world
 returns-clause-world c =
     let w = world_of c.args.table.now in
     let other : are_same_seen (look w c.args.old.now.names) (look w c.args.new.now.names) ≡ false = (λ i. are_same_seen (sym c.seen.ensures i) (sym c.seen-2.ensures i)) ∙ sym c.are_same-is_same.ensures ∙ c.if-is_same.false in
-    on_ok_weaker c.replace_name.result
-    (λ e. e ∙ sym (renamed-moved w c.law.ensures c.args.old.now.names c.args.new.now.names other))
-    c.replace_name.ensures.world
+    c.in_ok-replace_name.ensures.world ∙ sym (renamed-moved w c.law.ensures c.args.old.now.names c.args.new.now.names other)
 
-pub returns-clause-err : goal.returns-clause-err
-returns-clause-err c = on_err_weaker c.replace_name.result (λ e. ap (λ (t : Tree). t.rows) e) c.replace_name.ensures.err
+pub returns-in_err-replace_name-clause-err : goal.returns-in_err-replace_name-clause-err
+returns-in_err-replace_name-clause-err c =
+    let failed = err_from_is_err_and c.from_residual.result c.from_residual.ensures.1 in
+    rw failed.1 (ap (λ (t : Tree). t.rows) c.in_err-replace_name.ensures.err)

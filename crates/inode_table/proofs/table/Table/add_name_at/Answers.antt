@@ -1,7 +1,8 @@
 use Rattle.std.proofs.Common.{◌≡◌, Some, sym, ap, subst, ◌∙◌}
 use Rattle.std.specs.Option.{option_map}
-use Rattle.inode_table.specs.Rows.{rows_of, row_of, child, what, shown, SetsChild}
-use Rattle.inode_table.specs.Tree.{IsTable}
+use Rattle.inode_table.specs.Kept.{rows_of, row_of, IsTable}
+use Rattle.inode_table.specs.Rows.{child, what, shown}
+use Rattle.inode_table.specs.Changes.{SetsChild}
 use Rattle.inode_table.proofs.RowsLemmas.{row-rows_of}
 use Rattle.inode_table.proofs.ChangeLemmas.{LinksRow, IsTable-link, link-AddsPath, one_more_link, SetsEdge-child, SetsEdge-same, live-what}
 use Rattle.inode_table.proofs.StandsLemmas.{SameFiles-more, Stands-with_path}

@@ -1,7 +1,9 @@
 use Rattle.std.proofs.Common.{◌≡◌, Some, None, refl, sym, ap, subst, ◌∙◌}
 use Rattle.std.specs.Option.{option_map}
-use Rattle.inode_table.specs.Rows.{rows_of, row_of, row_under, shown, SetsChild}
-use Rattle.inode_table.specs.Tree.{IsTable, what_at}
+use Rattle.inode_table.specs.Kept.{rows_of, row_of, IsTable}
+use Rattle.inode_table.specs.Rows.{row_under, shown}
+use Rattle.inode_table.specs.Changes.{SetsChild}
+use Rattle.inode_table.specs.Tree.{what_at}
 use Rattle.inode_table.proofs.RowsLemmas.{SetsRow-at, row-rows_of}
 use Rattle.inode_table.proofs.ChangeLemmas.{AddsRow, IsTable-add, add-AddsPath, add-what_here, add-what_others}
 use Rattle.inode_table.proofs.StandsLemmas.{Stands-with_file}

@@ -1,6 +1,7 @@
 use Rattle.std.proofs.Common.{◌≡◌, ◌++◌, ◌∷◌, [], is_some, sym, ap, ◌∙◌, subst}
 use Rattle.std.specs.Option.{option_and_then, option_map, IsSomeAnd}
-use Rattle.inode_table.specs.Rows.{Row, What, child, key_in, shown, row_of}
+use Rattle.inode_table.specs.Rows.{Row, What, child, key_in, shown}
+use Rattle.inode_table.specs.Kept.{row_of}
 use Rattle.inode_table.specs.World as world
 use Rattle.inode_table.specs.declared.seen.Kind.TheVariants.{Directory}
 use Rattle.inode_table.proofs.ChangeLemmas.{walk_end}

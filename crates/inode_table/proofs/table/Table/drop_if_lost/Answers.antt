@@ -1,10 +1,12 @@
 use Rattle.std.proofs.Common.{◌≡◌, Some, IsSome, sym, ap, ◌∙◌, subst}
 use Rattle.std.specs.Option.{option_map}
 use Rattle.inode_table.specs.Count.{IsCount}
-use Rattle.inode_table.specs.Rows.{What, row_under, row_of, shown}
+use Rattle.inode_table.specs.Rows.{What, row_under, shown}
+use Rattle.inode_table.specs.Kept.{row_of}
 use Rattle.inode_table.specs.Tree.{at, what_at}
 use Rattle.inode_table.specs.World.{without_lost}
-use Rattle.inode_table.specs.Stands.{Stands, number_of}
+use Rattle.inode_table.specs.Stands.{Stands}
+use Rattle.inode_table.specs.TableWorld.{number_of}
 use Rattle.inode_table.proofs.SeenLemmas.{is_value, keep-linked, drop-lost}
 use Rattle.inode_table.proofs.TableWorldLemmas.{numbered}
 use Rattle.inode_table.proofs.table.Table.drop_if_lost.Goals as goal

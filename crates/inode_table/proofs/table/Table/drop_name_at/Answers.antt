@@ -1,6 +1,7 @@
 use Rattle.std.proofs.Common.{◌≡◌, Some, None, sym, ap, subst, ◌∙◌}
-use Rattle.inode_table.specs.Rows.{rows_of, child, SetsChild}
-use Rattle.inode_table.specs.Tree.{IsTable}
+use Rattle.inode_table.specs.Kept.{rows_of, IsTable}
+use Rattle.inode_table.specs.Rows.{child}
+use Rattle.inode_table.specs.Changes.{SetsChild}
 use Rattle.inode_table.proofs.ChangeLemmas.{DropsRow, IsTable-drop, drop-DropsPath, SetsEdge-child, SetsEdge-same, LosesLink-after, positive_target}
 use Rattle.inode_table.proofs.StandsLemmas.{SameFiles-loses, Stands-without_path}
 use Rattle.inode_table.proofs.table.Table.drop_name_at.Goals as goal

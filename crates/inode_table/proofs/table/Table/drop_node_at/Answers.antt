@@ -1,7 +1,7 @@
 use Rattle.std.proofs.Common.{◌≡◌, None, ap, subst}
 use Rattle.std.specs.Option.{option_map}
-use Rattle.inode_table.specs.Rows.{rows_of, shown}
-use Rattle.inode_table.specs.Tree.{IsTable}
+use Rattle.inode_table.specs.Kept.{rows_of, IsTable}
+use Rattle.inode_table.specs.Rows.{shown}
 use Rattle.inode_table.proofs.RowsLemmas.{SetsRow, SetsRow-from_updates}
 use Rattle.inode_table.proofs.ChangeLemmas.{RemovesRow, IsTable-remove, remove-paths, remove-others}
 use Rattle.inode_table.proofs.StandsLemmas.{Stands-without_file}

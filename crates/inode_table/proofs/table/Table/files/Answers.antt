@@ -1,6 +1,6 @@
 use Rattle.std.proofs.Common.{◌≡◌, ℕ, map, ap, ◌∙◌, subst}
 use Rattle.std.proofs.lemmas.Map.Iter.{iter_end}
-use Rattle.inode_table.specs.Files.{AreListed}
+use Rattle.inode_table.specs.Listing.{AreListed}
 use Rattle.inode_table.specs.Tree.{Tree}
 use Rattle.inode_table.specs.declared.rows.FileRow.{FileRow}
 use Rattle.inode_table.proofs.FilesLemmas.{files-rows}

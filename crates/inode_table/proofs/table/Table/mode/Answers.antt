@@ -1,6 +1,6 @@
 use Rattle.std.proofs.Common.{◌≡◌, refl, sym, subst}
 use Rattle.std.specs.Option.{IsSomeAnd}
-use Rattle.inode_table.specs.Rows.{row_of}
+use Rattle.inode_table.specs.Kept.{row_of}
 use Rattle.inode_table.specs.World as world
 use Rattle.inode_table.proofs.TableWorldLemmas.{file-under}
 use Rattle.inode_table.proofs.table.Table.mode.Goals as goal

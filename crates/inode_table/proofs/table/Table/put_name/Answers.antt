@@ -1,10 +1,11 @@
 use Rattle.std.proofs.Common.{◌≡◌, ◌++◌, ◌∷◌, [], List, IsSome, IfSome, true, false, sym, ap, subst, ◌∙◌}
-use Rattle.inode_table.specs.Walk.{Avoids}
+use Rattle.inode_table.specs.Changes.{Avoids}
 use Rattle.inode_table.specs.Rows.{Label}
 use Rattle.inode_table.specs.Tree.{Tree, at, what_at}
 use Rattle.inode_table.specs.World.{World, with_move}
 use Rattle.inode_table.specs.Refusals.{is_directory_seen}
-use Rattle.inode_table.specs.Stands.{Stands, look_in, number_of}
+use Rattle.inode_table.specs.Stands.{Stands, look_in}
+use Rattle.inode_table.specs.TableWorld.{number_of}
 use Rattle.inode_table.specs.declared.seen.Seen.{Seen}
 use Rattle.inode_table.proofs.FindLemmas.{live-there}
 use Rattle.inode_table.proofs.SeenLemmas.{open-directory, avoids-seen, avoids-any, empty-below}

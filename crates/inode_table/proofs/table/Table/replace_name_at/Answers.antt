@@ -1,6 +1,7 @@
 use Rattle.std.proofs.Common.{◌≡◌, Some, sym, ap, subst, ◌∙◌}
-use Rattle.inode_table.specs.Rows.{rows_of, child, SetsChild}
-use Rattle.inode_table.specs.Tree.{IsTable}
+use Rattle.inode_table.specs.Kept.{rows_of, IsTable}
+use Rattle.inode_table.specs.Rows.{child}
+use Rattle.inode_table.specs.Changes.{SetsChild}
 use Rattle.inode_table.proofs.ChangeLemmas.{MovesRow, MovesRow-from, IsTable-move, move-empty, move-MovesPath, positive_target}
 use Rattle.inode_table.proofs.StandsLemmas.{SameFiles-loses, Stands-with_move}
 use Rattle.inode_table.proofs.table.Table.replace_name_at.Goals as goal

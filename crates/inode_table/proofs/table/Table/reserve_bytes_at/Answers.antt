@@ -1,7 +1,7 @@
 use Rattle.std.proofs.Common.{◌≡◌, ◌∙◌, ℕ, sym, ap, subst}
 use Rattle.inode_table.specs.Walk.{walk}
-use Rattle.inode_table.specs.Rows.{Label, rows_of, child, what}
-use Rattle.inode_table.specs.Tree.{IsTable}
+use Rattle.inode_table.specs.Rows.{Label, child, what}
+use Rattle.inode_table.specs.Kept.{rows_of, IsTable}
 use Rattle.inode_table.proofs.ChangeLemmas.{IsTable-same}
 use Rattle.inode_table.proofs.StandsLemmas.{Stands-same, look-same}
 use Rattle.inode_table.specs.TableWorld.{world_of}

@@ -1,6 +1,7 @@
 use Rattle.std.proofs.Common.{◌++◌, ◌∷◌, [], cond, refl, sym, ap, ◌∙◌}
 use Rattle.tree_paths.specs.declared.refusal.Refusal.TheVariants.{Enoent, Enotdir}
-use Rattle.inode_table.specs.Rows.{child, is_directory}
+use Rattle.inode_table.specs.Rows.{child}
+use Rattle.inode_table.specs.Kept.{is_directory}
 use Rattle.inode_table.specs.Tree.{Tree}
 use Rattle.inode_table.proofs.ChangeLemmas.{walk_end}
 use Rattle.inode_table.proofs.ResolutionLemmas.{found-at, stops-at}

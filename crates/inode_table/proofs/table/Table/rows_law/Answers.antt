@@ -1,5 +1,5 @@
 use Rattle.std.proofs.Common.{subst}
-use Rattle.inode_table.specs.Tree.{IsTable}
+use Rattle.inode_table.specs.Kept.{IsTable}
 use Rattle.inode_table.proofs.TableWorldLemmas.{Stands-world_of, look-world}
 use Rattle.inode_table.proofs.table.Table.rows_law.Goals as goal
 

@@ -1,6 +1,7 @@
 use Rattle.std.proofs.Common.{◌≡◌, ℕ, subst, refl, ap, ◌∙◌}
-use Rattle.inode_table.specs.Rows.{rows_of, Label, child}
-use Rattle.inode_table.specs.Tree.{with_mode, ChangesWhat}
+use Rattle.inode_table.specs.Kept.{rows_of}
+use Rattle.inode_table.specs.Rows.{Label, child}
+use Rattle.inode_table.specs.Changes.{with_mode, ChangesWhat}
 use Rattle.std.specs.Option.{option_map}
 use Rattle.inode_table.specs.Walk.{walk}
 use Rattle.inode_table.proofs.StandsLemmas.{Stands-with_content}

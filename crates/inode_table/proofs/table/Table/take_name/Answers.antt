@@ -2,7 +2,8 @@ use Rattle.std.proofs.Common.{◌≡◌, ◌++◌, ◌∷◌, [], Some, None, fa
 use Rattle.inode_table.specs.Rows.{child}
 use Rattle.inode_table.specs.Tree.{at}
 use Rattle.inode_table.specs.World.{without_path}
-use Rattle.inode_table.specs.Stands.{Stands, look_in, number_of}
+use Rattle.inode_table.specs.Stands.{Stands, look_in}
+use Rattle.inode_table.specs.TableWorld.{number_of}
 use Rattle.inode_table.specs.declared.seen.Seen.{Seen}
 use Rattle.inode_table.proofs.TreeLemmas.{same_some}
 use Rattle.inode_table.proofs.ChangeLemmas.{walk_end}

@@ -1,7 +1,8 @@
 use Rattle.std.proofs.Common.{◌≡◌, sym, ap, subst, ◌∙◌, Some}
 use Rattle.inode_table.specs.Walk.{walk}
-use Rattle.inode_table.specs.Rows.{rows_of, child}
-use Rattle.inode_table.specs.Tree.{IsTable, at}
+use Rattle.inode_table.specs.Kept.{rows_of, IsTable}
+use Rattle.inode_table.specs.Rows.{child}
+use Rattle.inode_table.specs.Tree.{at}
 use Rattle.inode_table.proofs.TableLemmas.{StopsAt, walk_step, StopsAt-walk}
 use Rattle.inode_table.proofs.FindLemmas.{take-whole, live-there, found-none, stops-missing, stops-absent, absent-seen}
 use Rattle.inode_table.proofs.table.Table.walk.Goals as goal

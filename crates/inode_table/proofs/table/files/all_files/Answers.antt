@@ -1,5 +1,6 @@
 use Rattle.std.proofs.Common.{◌+◌, arith, sym, subst}
-use Rattle.inode_table.specs.Rows.{row_of, rows_of, shown}
+use Rattle.inode_table.specs.Kept.{row_of, rows_of}
+use Rattle.inode_table.specs.Rows.{shown}
 use Rattle.inode_table.proofs.FilesLemmas.{AreListedTo, listed-all, listed-more, listed-skip, what-node, what-none}
 use Rattle.inode_table.proofs.table.files.all_files.Goals.{in-Some+in_ok-file+in_ok-insert+in-Some-1, in-Some+in_ok-file+in_ok-insert+in-None-1, in_default}
 use Rattle.inode_table.proofs.table.files.all_files.Goals as goal

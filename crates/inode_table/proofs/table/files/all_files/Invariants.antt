@@ -1,4 +1,4 @@
-use Rattle.inode_table.specs.Rows.{rows_of}
+use Rattle.inode_table.specs.Kept.{rows_of}
 use Rattle.inode_table.proofs.FilesLemmas.{AreListedTo}
 use Rattle.inode_table.proofs.table.files.all_files.Given as goal
 

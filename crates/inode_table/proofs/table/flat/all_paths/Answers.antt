@@ -1,5 +1,5 @@
 use Rattle.std.proofs.Common.{subst, vec_len}
-use Rattle.inode_table.specs.Rows.{rows_of}
+use Rattle.inode_table.specs.Kept.{rows_of}
 use Rattle.inode_table.proofs.FlatLemmas.{IsSearched, end-of, search-end, search-next, visits-fits}
 use Rattle.inode_table.proofs.table.flat.all_paths.Goals as goal
 

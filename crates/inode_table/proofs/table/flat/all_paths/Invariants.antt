@@ -1,6 +1,6 @@
 use Rattle.std.proofs.Common.{◌+◌, ◌-◌, ◌*◌, ◌^◌, ◌<◌, vec_len}
 use Rattle.std.specs.BTreeMap as tree
-use Rattle.inode_table.specs.Rows.{rows_of}
+use Rattle.inode_table.specs.Kept.{rows_of}
 use Rattle.inode_table.proofs.FlatLemmas.{IsSearched}
 use Rattle.inode_table.proofs.table.flat.all_paths.Given as goal
 

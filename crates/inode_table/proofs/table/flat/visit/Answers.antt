@@ -1,7 +1,7 @@
 use Rattle.std.proofs.Common.{◌≡◌, map, ap, sym, ◌∙◌, rules, inr, arith}
 use Rattle.std.specs.Map.Iter.{deref_pair}
 use Rattle.std.proofs.lemmas.Map.Iter.{iter_end}
-use Rattle.inode_table.specs.Rows.{body_of, row_of}
+use Rattle.inode_table.specs.Kept.{body_of, row_of}
 use Rattle.inode_table.specs.Flat.{names_in}
 use Rattle.inode_table.proofs.FlatLemmas.{more-of, named-directory, named-file, none-of, put-directory, put-file, row-node}
 use Rattle.inode_table.proofs.table.flat.visit.Goals.{in-Directory+in-None, in_default-content}

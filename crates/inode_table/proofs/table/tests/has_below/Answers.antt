@@ -2,9 +2,10 @@ use Rattle.std.proofs.Common.{◌≡◌, ◌<◌, ℕ, Option, Some, None, refl,
 use Rattle.std.specs.Option.{option_map}
 use Rattle.std.specs.FinMap as finmap
 use Rattle.slab.specs.Slab.{Slab, get}
-use Rattle.inode_table.specs.Rows.{What, row_of, rows_of, shown, what}
+use Rattle.inode_table.specs.Rows.{What, shown, what}
+use Rattle.inode_table.specs.Kept.{row_of, rows_of, IsTable}
 use Rattle.inode_table.specs.TableWorld.{world_of}
-use Rattle.inode_table.specs.Tree.{IsTable, what_at}
+use Rattle.inode_table.specs.Tree.{what_at}
 use Rattle.inode_table.specs.declared.node.Node.{Node}
 use Rattle.inode_table.proofs.RowsLemmas.{row-rows_of}
 use Rattle.inode_table.proofs.TreeLemmas.{same_some}

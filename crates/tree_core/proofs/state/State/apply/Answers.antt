@@ -1,4 +1,4 @@
-use Rattle.std.proofs.Common.{refl, ◌≡◌, [], ◌∷◌, ◌++◌, false, Ok, Err, sym, ap, subst, ◌∙◌}
+use Rattle.std.proofs.Common.{refl, ◌≡◌, [], ◌∷◌, ◌++◌, false, Ok, Err, sym, ap, subst, ◌∙◌, rules}
 use Rattle.tree_core.specs.declared.reply.Entry.{Entry}
 use Rattle.tree_core.specs.declared.file_system.Replies.{Replies}
 use Rattle.tree_core.specs.Journal.{now, with_entry}
@@ -27,25 +27,27 @@ invariant_of-self-2 c =
     (c.push_reserved.ensures.items ∙ ap (λ es. es ++ entry ∷ []) c.make_room.ensures.items) c.in_default.ensures.free c.in_default.ensures.small
     (ap (λ (r : Replies). r.journaled) served.replies) served.tree served.numbered c.law.ensures
 
-pub returns-clause-entry : goal.returns-clause-entry
-returns-clause-entry c =
-    let a = c.self.inside in
-    let replies = c.in-Ok.replies in
-    let served : Executes a.file_system c.args.call false (Ok replies) c.answer.new.self = c.in-Ok.ensures in
-    let entry : Entry = record { caller = c.args.caller; call = c.args.call; reply = replies.journaled } in
-    let items : c.push_reserved.new.self.items ≡ a.journal.items ++ entry ∷ [] = c.push_reserved.ensures.items ∙ ap (λ es. es ++ entry ∷ []) c.make_room.ensures.items in
-    let same : replies.journaled ≡ replies.given = ap (λ (r : Replies). r.journaled) served.replies ∙ sym (ap (λ (r : Replies). r.given) served.replies) in
-    (λ i. record { start = tree_of (limits-executed a.file_system c.answer.new.self c.args.call served.tree i) a.snapshot; place = a.snapshot.place; entries = items i })
-    ∙ (λ i. with_entry (c.self.view_is i) (record { caller = c.args.caller; call = c.args.call; reply = same i }))
-
-pub returns-clause-lawful : goal.returns-clause-lawful
-returns-clause-lawful c = (invariant_of-self-2 c).lawful
-
-pub returns-clause-reply : goal.returns-clause-reply
-returns-clause-reply c =
-    let a = c.self.inside in
-    let served : Executes a.file_system c.args.call false (Ok c.in-Ok.replies) c.answer.new.self = c.in-Ok.ensures in
-    ap (λ (r : Replies). r.given) served.replies ∙ ap (λ (t : Tree). reply_of t c.args.call) c.self.invariant.stands ∙ ap (λ s. reply_of (now s) c.args.call) c.self.view_is
+pub returns-clause-applied : goal.returns-clause-applied
+returns-clause-applied c = record {
+  entry =
+      let a = c.self.inside in
+      let replies = c.in-Ok.replies in
+      let served : Executes a.file_system c.args.call false (Ok replies) c.answer.new.self = c.in-Ok.ensures in
+      let entry : Entry = record { caller = c.args.caller; call = c.args.call; reply = replies.journaled } in
+      let items : c.push_reserved.new.self.items ≡ a.journal.items ++ entry ∷ [] = c.push_reserved.ensures.items ∙ ap (λ es. es ++ entry ∷ []) c.make_room.ensures.items in
+      let same : replies.journaled ≡ replies.given = ap (λ (r : Replies). r.journaled) served.replies ∙ sym (ap (λ (r : Replies). r.given) served.replies) in
+      (λ i. record { start = tree_of (limits-executed a.file_system c.answer.new.self c.args.call served.tree i) a.snapshot; place = a.snapshot.place; entries = items i })
+      ∙ (λ i. with_entry (c.self.view_is i) (record { caller = c.args.caller; call = c.args.call; reply = same i }));
+  place = search rules;
+  reply =
+      let a = c.self.inside in
+      let served : Executes a.file_system c.args.call false (Ok c.in-Ok.replies) c.answer.new.self = c.in-Ok.ensures in
+      ap (λ (r : Replies). r.given) served.replies ∙ ap (λ (t : Tree). reply_of t c.args.call) c.self.invariant.stands ∙ ap (λ s. reply_of (now s) c.args.call) c.self.view_is;
+  lawful = (invariant_of-self-2 c).lawful;
+  err = search rules;
+  full = search rules;
+  errors = search rules;
+}
 
 pub returns-clause-spelled : goal.returns-clause-spelled
 returns-clause-spelled c =

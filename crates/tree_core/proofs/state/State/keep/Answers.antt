@@ -1,4 +1,4 @@
-use Rattle.std.proofs.Common.{refl, ◌≡◌, [], ◌∷◌, ◌++◌, true, Ok, Err, sym, ap, subst, ◌∙◌}
+use Rattle.std.proofs.Common.{refl, ◌≡◌, [], ◌∷◌, ◌++◌, true, Ok, Err, sym, ap, subst, ◌∙◌, rules}
 use Rattle.tree_core.specs.declared.reply.Entry.{Entry}
 use Rattle.tree_core.specs.declared.reply.Receipt.{Receipt}
 use Rattle.tree_core.specs.declared.file_system.Replies.{Replies}
@@ -34,28 +34,30 @@ invariant_of-self-2 c =
     (c.push_reserved.ensures.items ∙ ap (λ es. es ++ entry ∷ []) c.make_room.ensures.items) c.in_ok-make_room.ensures.free c.in_ok-make_room.ensures.small
     (c.split_replies-receipt.ensures.journaled ∙ ap (λ (r : Replies). r.journaled) served.replies) served.tree served.numbered c.law.ensures
 
-pub returns-clause-entry : goal.returns-clause-entry
-returns-clause-entry c =
-    let a = c.self.inside in
-    let served : Executes a.file_system c.args.call true (Ok c.in_ok-replies.replies) c.answer.new.self = c.in_ok-replies.ensures in
-    let said = c.split_replies-receipt.ensures in
-    let entry : Entry = record { caller = c.args.caller; call = c.args.call; reply = c.split_replies-receipt.result.1 } in
-    let items : c.push_reserved.new.self.items ≡ a.journal.items ++ entry ∷ [] = c.push_reserved.ensures.items ∙ ap (λ es. es ++ entry ∷ []) c.make_room.ensures.items in
-    let same : c.split_replies-receipt.result.1 ≡ c.split_replies-receipt.result.0.reply =
-    said.journaled ∙ ap (λ (r : Replies). r.journaled) served.replies
-    ∙ sym (ap (λ (r : Receipt). r.reply) said.receipt ∙ ap (λ (r : Replies). r.given) served.replies) in
-    (λ i. record { start = tree_of (limits-executed a.file_system c.answer.new.self c.args.call served.tree i) a.snapshot; place = a.snapshot.place; entries = items i })
-    ∙ (λ i. with_entry (c.self.view_is i) (record { caller = c.args.caller; call = c.args.call; reply = same i }))
-
-pub returns-clause-reply : goal.returns-clause-reply
-returns-clause-reply c =
-    let a = c.self.inside in
-    let served : Executes a.file_system c.args.call true (Ok c.in_ok-replies.replies) c.answer.new.self = c.in_ok-replies.ensures in
-    ap (λ (r : Receipt). r.reply) c.split_replies-receipt.ensures.receipt
-    ∙ ap (λ (r : Replies). r.given) served.replies ∙ ap (λ (t : Tree). reply_of t c.args.call) c.self.invariant.stands ∙ ap (λ s. reply_of (now s) (c.args.call)) c.self.view_is
-
-pub returns-clause-lawful : goal.returns-clause-lawful
-returns-clause-lawful c = (invariant_of-self-2 c).lawful
+pub returns-clause-applied : goal.returns-clause-applied
+returns-clause-applied c = record {
+  entry =
+      let a = c.self.inside in
+      let served : Executes a.file_system c.args.call true (Ok c.in_ok-replies.replies) c.answer.new.self = c.in_ok-replies.ensures in
+      let said = c.split_replies-receipt.ensures in
+      let entry : Entry = record { caller = c.args.caller; call = c.args.call; reply = c.split_replies-receipt.result.1 } in
+      let items : c.push_reserved.new.self.items ≡ a.journal.items ++ entry ∷ [] = c.push_reserved.ensures.items ∙ ap (λ es. es ++ entry ∷ []) c.make_room.ensures.items in
+      let same : c.split_replies-receipt.result.1 ≡ c.split_replies-receipt.result.0.reply =
+      said.journaled ∙ ap (λ (r : Replies). r.journaled) served.replies
+      ∙ sym (ap (λ (r : Receipt). r.reply) said.receipt ∙ ap (λ (r : Replies). r.given) served.replies) in
+      (λ i. record { start = tree_of (limits-executed a.file_system c.answer.new.self c.args.call served.tree i) a.snapshot; place = a.snapshot.place; entries = items i })
+      ∙ (λ i. with_entry (c.self.view_is i) (record { caller = c.args.caller; call = c.args.call; reply = same i }));
+  place = search rules;
+  reply =
+      let a = c.self.inside in
+      let served : Executes a.file_system c.args.call true (Ok c.in_ok-replies.replies) c.answer.new.self = c.in_ok-replies.ensures in
+      ap (λ (r : Receipt). r.reply) c.split_replies-receipt.ensures.receipt
+      ∙ ap (λ (r : Replies). r.given) served.replies ∙ ap (λ (t : Tree). reply_of t c.args.call) c.self.invariant.stands ∙ ap (λ s. reply_of (now s) (c.args.call)) c.self.view_is;
+  lawful = (invariant_of-self-2 c).lawful;
+  err = search rules;
+  full = search rules;
+  errors = search rules;
+}
 
 pub returns-clause-spelled : goal.returns-clause-spelled
 returns-clause-spelled c =

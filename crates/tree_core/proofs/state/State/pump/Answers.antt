@@ -1,4 +1,4 @@
-use Rattle.std.proofs.Common.{refl, ◌≡◌, [], ◌∷◌, ◌++◌, true, Ok, Err, sym, ap, ◌∙◌}
+use Rattle.std.proofs.Common.{refl, ◌≡◌, [], ◌∷◌, ◌++◌, true, Ok, Err, sym, ap, ◌∙◌, rules}
 use Rattle.tree_core.specs.declared.call.Call.TheVariants as call
 use Rattle.tree_core.specs.declared.reply.Entry.{Entry}
 use Rattle.tree_core.specs.declared.reply.Receipt.{Receipt}
@@ -35,33 +35,35 @@ invariant_of-self-2 c =
     (c.push_reserved.ensures.items ∙ ap (λ es. es ++ entry ∷ []) c.make_room.ensures.items) c.in_ok-make_room.ensures.free c.in_ok-make_room.ensures.small
     (c.split_replies-receipt.ensures.journaled ∙ ap (λ (r : Replies). r.journaled) served.replies) served.tree served.numbered c.law.ensures
 
-pub returns-clause-entry : goal.returns-clause-entry
-returns-clause-entry c =
-    let a = c.self.inside in
-    let served : Executes a.file_system (call.Pump c.args.instance c.args.bytes) true (Ok c.in_ok-replies.field-0.replies) c.pump_out.new.self = c.in_ok-replies.ensures.served in
-    let said = c.split_replies-receipt.ensures in
-    let entry : Entry = record { caller = c.args.caller; call = (call.Pump c.args.instance c.args.bytes); reply = c.split_replies-receipt.result.1 } in
-    let items : c.push_reserved.new.self.items ≡ a.journal.items ++ entry ∷ [] = c.push_reserved.ensures.items ∙ ap (λ es. es ++ entry ∷ []) c.make_room.ensures.items in
-    let same : c.split_replies-receipt.result.1 ≡ c.split_replies-receipt.result.0.reply =
-    said.journaled ∙ ap (λ (r : Replies). r.journaled) served.replies
-    ∙ sym (ap (λ (r : Receipt). r.reply) said.receipt ∙ ap (λ (r : Replies). r.given) served.replies) in
-    (λ i. record { start = tree_of (limits-executed a.file_system c.pump_out.new.self (call.Pump c.args.instance c.args.bytes) served.tree i) a.snapshot; place = a.snapshot.place; entries = items i })
-    ∙ (λ i. with_entry (c.self.view_is i) (record { caller = c.args.caller; call = (call.Pump c.args.instance c.args.bytes); reply = same i }))
-
-pub returns-clause-reply : goal.returns-clause-reply
-returns-clause-reply c =
-    let a = c.self.inside in
-    let served : Executes a.file_system (call.Pump c.args.instance c.args.bytes) true (Ok c.in_ok-replies.field-0.replies) c.pump_out.new.self = c.in_ok-replies.ensures.served in
-    ap (λ (r : Receipt). r.reply) c.split_replies-receipt.ensures.receipt
-    ∙ ap (λ (r : Replies). r.given) served.replies ∙ ap (λ (t : Tree). reply_of t (call.Pump c.args.instance c.args.bytes)) c.self.invariant.stands ∙ ap (λ s. reply_of (now s) (call.Pump c.args.instance c.args.bytes)) c.self.view_is
-
-pub returns-clause-lawful : goal.returns-clause-lawful
-returns-clause-lawful c = (invariant_of-self-2 c).lawful
-
 pub returns-clause-records : goal.returns-clause-records
 returns-clause-records c =
     let a = c.self.inside in
     c.in_ok-replies.ensures.records ∙ ap (λ (t : Tree). pumped t c.args.instance c.args.bytes) c.self.invariant.stands ∙ ap (λ s. pumped (now s) c.args.instance c.args.bytes) c.self.view_is
+
+pub returns-clause-applied : goal.returns-clause-applied
+returns-clause-applied c = record {
+  entry =
+      let a = c.self.inside in
+      let served : Executes a.file_system (call.Pump c.args.instance c.args.bytes) true (Ok c.in_ok-replies.field-0.replies) c.pump_out.new.self = c.in_ok-replies.ensures.served in
+      let said = c.split_replies-receipt.ensures in
+      let entry : Entry = record { caller = c.args.caller; call = (call.Pump c.args.instance c.args.bytes); reply = c.split_replies-receipt.result.1 } in
+      let items : c.push_reserved.new.self.items ≡ a.journal.items ++ entry ∷ [] = c.push_reserved.ensures.items ∙ ap (λ es. es ++ entry ∷ []) c.make_room.ensures.items in
+      let same : c.split_replies-receipt.result.1 ≡ c.split_replies-receipt.result.0.reply =
+      said.journaled ∙ ap (λ (r : Replies). r.journaled) served.replies
+      ∙ sym (ap (λ (r : Receipt). r.reply) said.receipt ∙ ap (λ (r : Replies). r.given) served.replies) in
+      (λ i. record { start = tree_of (limits-executed a.file_system c.pump_out.new.self (call.Pump c.args.instance c.args.bytes) served.tree i) a.snapshot; place = a.snapshot.place; entries = items i })
+      ∙ (λ i. with_entry (c.self.view_is i) (record { caller = c.args.caller; call = (call.Pump c.args.instance c.args.bytes); reply = same i }));
+  place = search rules;
+  reply =
+      let a = c.self.inside in
+      let served : Executes a.file_system (call.Pump c.args.instance c.args.bytes) true (Ok c.in_ok-replies.field-0.replies) c.pump_out.new.self = c.in_ok-replies.ensures.served in
+      ap (λ (r : Receipt). r.reply) c.split_replies-receipt.ensures.receipt
+      ∙ ap (λ (r : Replies). r.given) served.replies ∙ ap (λ (t : Tree). reply_of t (call.Pump c.args.instance c.args.bytes)) c.self.invariant.stands ∙ ap (λ s. reply_of (now s) (call.Pump c.args.instance c.args.bytes)) c.self.view_is;
+  lawful = (invariant_of-self-2 c).lawful;
+  err = search rules;
+  full = search rules;
+  errors = search rules;
+}
 
 pub returns-clause-spelled : goal.returns-clause-spelled
 returns-clause-spelled c =
