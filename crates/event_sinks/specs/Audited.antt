@@ -52,7 +52,7 @@ pub record Outcome : Type 0 where
   pub handed : List Batch
 
 abbrev pub outcome_of : {S : Type 0} → Ended S → Outcome
-outcome_of e = record { instance = e.feed.instance; cause = e.cause; handed = e.handed.items }
+outcome_of e = record { instance = e.intake.feed.instance; cause = e.cause; handed = e.intake.handed.items }
 
 abbrev pub outcomes : {S : Type 0} → List (Ended S) → List Outcome
 outcomes es = map outcome_of es

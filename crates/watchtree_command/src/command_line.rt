@@ -1,6 +1,6 @@
 //! The command line: `watchtree run [--queue N]`, `watchtree storm [--calls N]`.
 
-ghost use Rattle.std.specs.Prelude.{◌≡◌, ◌≢◌, ◌⊎◌, ◌<◌, ◌≤◌, ◌^◌, IfErr, IfOk, IfSome, None, Some, drop, false, length, map, option_and_then, option_map, true};
+ghost use Rattle.std.specs.Prelude.{◌≡◌, ◌≢◌, ◌<◌, ◌≤◌, ◌^◌, IfErr, IfOk, IfSome, None, Some, drop, false, length, map, option_and_then, option_map, true};
 ghost use Rattle.std.specs.Char.{is_ascii_digit};
 ghost use Rattle.std.specs.List.{list_all, list_any};
 ghost use Rattle.std.specs.Option.{SomeIff};
@@ -78,18 +78,13 @@ fn ends_options(words: &[String]) -> bool
 fn has_dashes(words: &[String]) -> bool
     ensures { result ≡ list_any is_dashes (map string_bytes words.now) }
 {
-    let mut found = false;
-    for word in words {
-        found = found || word.as_str() == "--";
-    }
-    found
+    words.iter().any(|word| word.as_str() == "--")
 }
 
 // The fault of words that clap does not take.
 fn fault_by(kind: ErrorKind) -> Fault
     ensures memory { kind ≡ ErrorKind.OutOfMemory → result ≡ Fault.Memory }
     ensures words { kind ≢ ErrorKind.OutOfMemory → result ≡ Fault.CommandLine }
-    ensures either { (result ≡ Fault.Memory) ⊎ (result ≡ Fault.CommandLine) }
 {
     match kind {
         ErrorKind::OutOfMemory => Fault::Memory,

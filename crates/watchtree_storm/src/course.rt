@@ -3,8 +3,9 @@
 ghost use Rattle.std.specs.Prelude.{◌≡◌, ◌+◌, ◌≤◌, ◌∷◌, [], true, IfOk};
 ghost use Rattle.event_sinks.specs.Audited.{Settles, calls_of, outcome_of};
 ghost use Rattle.event_sinks.specs.Listeners.{IsSoundListener, state_of_ended, state_of_listener};
+ghost use Rattle.event_sinks.specs.Pages.{WritesBatches};
 ghost use Rattle.shared_tree.specs.Seats.{seated};
-ghost use Rattle.watchtree_storm.specs.Storm.{AreStormLogs, AreTurns, CountsAgree, HasBegun, IsWhole, first_part, second_part, told_of};
+ghost use Rattle.watchtree_storm.specs.Storm.{AreStormLogs, AreTurns, CountsAgree, HasBegun, IsWhole, WritesHanded, first_part, second_part, told_of};
 
 use crate::beginning::{ReadyStorm, begin};
 use crate::fault::StormFault;
@@ -102,6 +103,7 @@ pub fn run<L: Ledger + Send + Sync, S: Sink, G: Gate, R: Threads + Wait + Sync>(
     ensures counts { IfOk result (λ r. r.book.entries ≡ calls_of r.logs.items) }
     ensures logs { IfOk result (λ r. AreStormLogs calls r.logs.items) }
     ensures sinks { IfOk result (λ r. IsSoundListener (state_of_ended S.record_list S.is_open r.ended.0) × IsSoundListener (state_of_ended S.record_list S.is_open r.ended.1)) }
+    ensures written { IfOk result (λ r. WritesHanded S.record_list S.page one r.ended.0 × WritesHanded S.record_list S.page other r.ended.1) }
 {
     let mut logs = Vec::with_capacity(alloc, 3)?;
     let ReadyStorm {
@@ -119,17 +121,21 @@ pub fn run<L: Ledger + Send + Sync, S: Sink, G: Gate, R: Threads + Wait + Sync>(
         rt,
         move || -> (Ended<S>, Ended<S>)
             requires { IsSoundListener (state_of_listener S.record_list S.is_open one) × IsSoundListener (state_of_listener S.record_list S.is_open other) }
-            ensures { IsSoundListener (state_of_ended S.record_list S.is_open result.0) × IsSoundListener (state_of_ended S.record_list S.is_open result.1) }
+            ensures sound { IsSoundListener (state_of_ended S.record_list S.is_open result.0) × IsSoundListener (state_of_ended S.record_list S.is_open result.1) }
+            ensures one { one.cause ≡ None → WritesBatches S.record_list S.page one.intake result.0.intake (Some result.0.cause) }
+            ensures other { other.cause ≡ None → WritesBatches S.record_list S.page other.intake result.1.intake (Some result.1.cause) }
         {
             thread::join(
                 rt,
                 move || -> Ended<S>
                     requires { IsSoundListener (state_of_listener S.record_list S.is_open one) }
-                    ensures { IsSoundListener (state_of_ended S.record_list S.is_open result) }
+                    ensures sound { IsSoundListener (state_of_ended S.record_list S.is_open result) }
+                    ensures writes { one.cause ≡ None → WritesBatches S.record_list S.page one.intake result.intake (Some result.cause) }
                 { one.run(gate, gate.turns()) },
                 move || -> Ended<S>
                     requires { IsSoundListener (state_of_listener S.record_list S.is_open other) }
-                    ensures { IsSoundListener (state_of_ended S.record_list S.is_open result) }
+                    ensures sound { IsSoundListener (state_of_ended S.record_list S.is_open result) }
+                    ensures writes { other.cause ≡ None → WritesBatches S.record_list S.page other.intake result.intake (Some result.cause) }
                 { other.run(gate, gate.turns()) },
             )
         },
