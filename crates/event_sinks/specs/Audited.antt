@@ -9,7 +9,7 @@ use Rattle.shared_tree.specs.declared.seat.SeatLog.{SeatLog}
 use Rattle.tree_core.specs.Journal.{last_place}
 use Rattle.shared_tree.specs.Calls.{BookContents, IsSent}
 use Rattle.shared_tree.specs.Handed.{handed_since}
-use Rattle.shared_tree.specs.Held.{IsIn, Lacks}
+use Rattle.shared_tree.specs.Pipes.{IsIn, Lacks}
 use Rattle.event_sinks.specs.declared.audit.Settled.{Settled}
 use Rattle.event_sinks.specs.declared.audit.SettleFault.{SettleFault}
 use Rattle.event_sinks.specs.declared.audit.SettleFault.TheVariants.{CountDiffers, Stray, NotEnded, HandedDiffers, Memory}

@@ -105,12 +105,6 @@ cause_or (Some first) other = first
 abbrev pub ended_by : ListenerState → Cause → ListenerState
 ended_by h given = record h { is_open = false; cause = Some (cause_or h.cause given) }
 
--- a cause that comes from outside
-abbrev pub IsFromOutside : Cause → Type 0
-IsFromOutside cause.Turns = ⊤
-IsFromOutside cause.Given = ⊤
-IsFromOutside _ = ⊥
-
 -- what becomes of records that are put into a sink one by one: it takes them all, or those before the one that it refuses
 -- with this fault, which it may answer to that one after them
 abbrev pub Answers : {S : Type 0} → (S → List Event) → (S → MayAnswer) → S → List Event → S → Option Cause → Type 0

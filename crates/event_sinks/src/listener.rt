@@ -2,7 +2,8 @@
 
 ghost use Rattle.std.specs.Prelude.{◌≡◌, ◌≢◌, [], true, length, None};
 ghost use Rattle.event_sinks.specs.declared.listener.Cause.TheVariants.{Given, Turns};
-ghost use Rattle.event_sinks.specs.Listeners.{Answers, AnswersBatches, ListenerState, IsSoundListener, IsFromOutside, IsTurn, Puts, Reaches, Steps, ended_by, state_of_ended, listener_state, state_of_listener};
+ghost use Rattle.event_sinks.specs.Listeners.{Answers, AnswersBatches, ListenerState, IsSoundListener, IsTurn, Puts, Reaches, Steps, ended_by, state_of_ended, listener_state, state_of_listener};
+ghost use Rattle.event_sinks.specs.Ending.{IsFromOutside};
 ghost use Rattle.event_sinks.specs.Pages.{WritesBatches, WritesClose, WritesRecords};
 
 use crate::fault::SinkFault;

@@ -16,20 +16,24 @@ use std::alloc::{AllocError, Global};
 
 /// The limit of an instance that names none, unless the command line gives another.
 const QUEUE: u32 = 16_384;
-/// The least and the greatest limit, and how many digits it may have.
+
+/// The least limit.
 const QUEUE_MIN: u32 = 1;
 
+/// The greatest limit.
 const QUEUE_MAX: u32 = 65_535;
-
-/// How many digits a number may have.
-const DIGITS: usize = 5;
 
 /// How many calls each writer of a storm makes, unless the command line gives another number.
 const CALLS: u32 = 100;
 
+/// The least number of calls.
 const CALLS_MIN: u32 = 1;
 
+/// The greatest number of calls.
 const CALLS_MAX: u32 = 1_000;
+
+/// How many digits a number may have.
+const DIGITS: usize = 5;
 
 /// What the command line asks for.
 #[derive(Clone, Copy, Debug, PartialEq, Eq)]
