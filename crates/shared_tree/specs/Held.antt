@@ -1,5 +1,5 @@
 -- What the value behind the lock keeps, and what its own functions say. No public clause cites this module.
-use Rattle.std.specs.Prelude.{◌≡◌, ◌≢◌, ◌<◌, ◌≤◌, ◌+◌, ◌↔◌, ◌⊎◌, ⊤, ℕ, zero, suc, List, [], ◌∷◌, ◌++◌, Option, Some, None, IsSome, IsTrue, map, slice_get}
+use Rattle.std.specs.Prelude.{◌≡◌, ◌<◌, ◌≤◌, ◌+◌, ◌↔◌, ◌⊎◌, ⊤, ℕ, zero, suc, List, [], ◌∷◌, ◌++◌, Option, Some, None, IsSome, IsTrue, map, slice_get}
 use Rattle.tree_paths.specs.declared.refusal.Refusal.{Refusal}
 use Rattle.tree_paths.specs.declared.refusal.Refusal.TheVariants.{Enomem, JournalFull}
 use Rattle.instance_table.specs.declared.instance.Instance.{Instance}
@@ -13,7 +13,7 @@ use Rattle.tree_core.specs.Journal.{IsPast, IsSpent, Journaled, last_place, now}
 use Rattle.shared_tree.specs.declared.pipe.Batch.{Batch}
 use Rattle.shared_tree.specs.PipeEnds.{Piped}
 use Rattle.shared_tree.specs.Pipes.{IsIn, Lacks}
-use Rattle.shared_tree.specs.Handed.{AreOfEvents, batch, handed_since, hands, piped_of, where_done}
+use Rattle.shared_tree.specs.Handed.{AreOfEvents, batch, handed_since, piped_of, where_done}
 
 -- ---- what is wanting
 
