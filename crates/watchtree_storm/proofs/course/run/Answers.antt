@@ -25,6 +25,6 @@ returns-clause-written g c =
     let ended = c.join-one.result.0 in
     let begun = c.in_ok-held.ensures.sinks in
     let ran = c.join-one.ensures.first in (
-      writes-handed list g.S.Sink.is_open g.S.Sink.page 1 c.args.one c.in_ok-held.field-0.one ended.0 begun.0 ran.1,
-      writes-handed list g.S.Sink.is_open g.S.Sink.page 2 c.args.other c.in_ok-held.field-0.other ended.1 begun.1 ran.2,
+      writes-handed list g.S.Sink.is_open g.S.Sink.page 1 c.args.one c.in_ok-held.field-0.one ended.0 begun.0 ran.1.0,
+      writes-handed list g.S.Sink.is_open g.S.Sink.page 2 c.args.other c.in_ok-held.field-0.other ended.1 begun.1 ran.1.1,
     )
