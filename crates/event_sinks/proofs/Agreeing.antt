@@ -15,7 +15,7 @@ use Rattle.shared_tree.specs.declared.seat.SeatLog.{SeatLog}
 use Rattle.shared_tree.specs.Calls.{BookContents, IsSent}
 use Rattle.tree_core.specs.Journal.{last_place}
 use Rattle.shared_tree.specs.Handed.{CutsPartBatches, EndBatchesComeLast, handed, handed_since, piped_of}
-use Rattle.shared_tree.specs.Held.{IsIn, Lacks}
+use Rattle.shared_tree.specs.Pipes.{IsIn, Lacks}
 use Rattle.shared_tree.proofs.Ends.{front-is-all}
 use Rattle.event_sinks.specs.declared.audit.SettleFault.{SettleFault}
 use Rattle.event_sinks.specs.declared.audit.SettleFault.TheVariants.{CountDiffers, Stray, NotEnded, HandedDiffers, Memory}

@@ -9,7 +9,7 @@ use Rattle.event_sinks.specs.declared.listener.Cause.{Cause}
 use Rattle.event_sinks.specs.declared.listener.Cause.TheVariants as cause
 use Rattle.event_sinks.specs.declared.listener.Step.{Step}
 use Rattle.event_sinks.specs.declared.listener.Step.TheVariants as step
-use Rattle.event_sinks.specs.Listeners.{Answers, AnswersBatches, ListenerState, IsTurn, Steps, cause_or}
+use Rattle.event_sinks.specs.Listeners.{Answers, ListenerState, IsTurn, Steps, cause_or}
 use Rattle.event_sinks.specs.Sinks.{Foretells, MayAnswer}
 
 pub foretells_on : (a b c : MayAnswer) (xs ys : List Event) → Foretells a xs b → Foretells b ys c → Foretells a (xs ++ ys) c
@@ -62,7 +62,11 @@ module _ {S : Type 0} (record_list : S → List Event) (may_answer : S → MayAn
   answers_on old mid new xs ys (Some cause.Given) f g = tt
   answers_on old mid new xs ys (Some cause.Memory) f g = tt
 
-  batches_on : (old mid new : S) (handed handed' handed'' : List Batch) (why : Option Cause) → AnswersBatches record_list may_answer old handed mid handed' None → AnswersBatches record_list may_answer mid handed' new handed'' why → AnswersBatches record_list may_answer old handed new handed'' why
+  -- AnswersBatches of an intake, by its sink and its batches
+  abbrev AnswersMore : S → List Batch → S → List Batch → Option Cause → Type 0
+  AnswersMore old handed new handed' why = (batches : List Batch) × (handed' ≡ handed ++ batches) × Answers record_list may_answer old (records_of batches) new why
+
+  batches_on : (old mid new : S) (handed handed' handed'' : List Batch) (why : Option Cause) → AnswersMore old handed mid handed' None → AnswersMore mid handed' new handed'' why → AnswersMore old handed new handed'' why
   batches_on old mid new handed handed' handed'' why f g = (
     f.0 ++ g.0,
     g.1 ∙ (ap (λ (bs : List Batch). bs ++ g.0) f.1 ∙ append_assoc handed f.0 g.0),
@@ -72,18 +76,18 @@ module _ {S : Type 0} (record_list : S → List Event) (may_answer : S → MayAn
   -- the sink, what was handed and the cause of a listener that goes on, and of what it was
   module _ (first : S) (handed : List Batch) (old new : S) (before after : List Batch) where
     pub turn_answers : (passes : ℕ → ℕ → Bool → Type 0) (turn : ℕ) (was is : Option Cause) (h h' : ListenerState) → h.cause ≡ was → h.handed ≡ before → h.list ≡ record_list old → h'.cause ≡ is → h'.handed ≡ after → h'.list ≡ record_list new
-        → IsTurn passes turn h h' → AnswersBatches record_list may_answer first handed old before was → (was ≡ None → AnswersBatches record_list may_answer old before new after is) → AnswersBatches record_list may_answer first handed new after is
+        → IsTurn passes turn h h' → AnswersMore first handed old before was → (was ≡ None → AnswersMore old before new after is) → AnswersMore first handed new after is
     turn_answers passes turn None is h h' w0 w1 w2 i0 i1 i2 goes f g = batches_on first old new handed before after is f (g refl)
     turn_answers passes turn (Some c) is h h' w0 w1 w2 i0 i1 i2 goes f g =
         let same : h' ≡ h = still_ended passes turn h h' c w0 goes in
         let why : is ≡ Some c = sym i0 ∙ (ap (λ (x : ListenerState). x.cause) same ∙ w0) in
         let all : after ≡ before = sym i1 ∙ (ap (λ (x : ListenerState). x.handed) same ∙ w1) in
         let list : record_list new ≡ record_list old = sym i2 ∙ (ap (λ (x : ListenerState). x.list) same ∙ w2) in
-        subst (λ (o : Option Cause). AnswersBatches record_list may_answer first handed new after o) (sym why) (f.0, all ∙ f.1, closed_after first old new (records_of f.0) c list f.2)
+        subst (λ (o : Option Cause). AnswersMore first handed new after o) (sym why) (f.0, all ∙ f.1, closed_after first old new (records_of f.0) c list f.2)
 
     -- and of one that has ended
     pub end_answers : (was : Option Cause) (is other : Cause) → after ≡ before → record_list new ≡ record_list old → Some is ≡ Some (cause_or was other) → ((records : List Event) → Answers record_list may_answer first records new (Some other))
-        → AnswersBatches record_list may_answer first handed old before was → AnswersBatches record_list may_answer first handed new after (Some is)
-    end_answers None is other all list why outside f = subst (λ (o : Option Cause). AnswersBatches record_list may_answer first handed new after o) (sym why) (f.0, all ∙ f.1, outside (records_of f.0))
+        → AnswersMore first handed old before was → AnswersMore first handed new after (Some is)
+    end_answers None is other all list why outside f = subst (λ (o : Option Cause). AnswersMore first handed new after o) (sym why) (f.0, all ∙ f.1, outside (records_of f.0))
     end_answers (Some c) is other all list why outside f =
-        subst (λ (o : Option Cause). AnswersBatches record_list may_answer first handed new after o) (sym why) (f.0, all ∙ f.1, closed_after first old new (records_of f.0) c list f.2)
+        subst (λ (o : Option Cause). AnswersMore first handed new after o) (sym why) (f.0, all ∙ f.1, closed_after first old new (records_of f.0) c list f.2)

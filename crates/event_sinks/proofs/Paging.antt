@@ -13,7 +13,7 @@ use Rattle.event_sinks.specs.declared.listener.Cause.{Cause}
 use Rattle.event_sinks.specs.declared.listener.Cause.TheVariants as cause
 use Rattle.event_sinks.specs.declared.listener.Listening.{Listening}
 use Rattle.event_sinks.specs.Listeners.{cause_or}
-use Rattle.event_sinks.specs.Pages.{ClosesText, UnfailingTextsAreWhole, Gains, Page, Writes, WritesBatches, WritesClose, WritesRecords}
+use Rattle.event_sinks.specs.Pages.{ClosesText, UnfailingTextsAreWhole, Gains, Page, Writes, WritesClose, WritesRecords}
 use Rattle.event_sinks.proofs.Answering.{records_of-append}
 
 pub gains_nothing : (p : Page) → Gains p [] p
@@ -79,7 +79,11 @@ module _ {S : Type 0} (record_list : S → List Event) (page : S → Page) where
   writes_on old mid new xs ys None f g = took_on old mid new xs ys f g
   writes_on old mid new xs ys (Some why) f g = (g.0, records_on old mid g.0 xs ys (Some why) f g.1, g.2)
 
-  batches_on : (old mid new : S) (handed handed' handed'' : List Batch) (why : Option Cause) → WritesBatches record_list page old handed mid handed' None → WritesBatches record_list page mid handed' new handed'' why → WritesBatches record_list page old handed new handed'' why
+  -- WritesBatches of an intake, by its sink and its batches
+  abbrev WritesMore : S → List Batch → S → List Batch → Option Cause → Type 0
+  WritesMore old handed new handed' why = (batches : List Batch) × (handed' ≡ handed ++ batches) × Writes record_list page old (records_of batches) new why
+
+  batches_on : (old mid new : S) (handed handed' handed'' : List Batch) (why : Option Cause) → WritesMore old handed mid handed' None → WritesMore mid handed' new handed'' why → WritesMore old handed new handed'' why
   batches_on old mid new handed handed' handed'' why f g = (
     f.0 ++ g.0,
     g.1 ∙ (ap (λ (bs : List Batch). bs ++ g.0) f.1 ∙ append_assoc handed f.0 g.0),
@@ -98,24 +102,24 @@ module _ {S : Type 0} (record_list : S → List Event) (page : S → Page) where
   -- what a listener's sink wrote since it was `first`
   module _ (first : S) (handed : List Batch) where
     abbrev pub Since : Listening S → Type 0
-    Since l = WritesBatches record_list page first handed l.sink l.handed.items l.cause
+    Since l = WritesMore first handed l.intake.sink l.intake.handed.items l.cause
 
     -- where the listener goes on
-    pub turn_writes : (old new : Listening S) (was : Option Cause) → old.cause ≡ was → Since old → (old.cause ≡ None → WritesBatches record_list page old.sink old.handed.items new.sink new.handed.items new.cause) → (old.cause ≢ None → new ≡ old) → Since new
-    turn_writes old new None is f g rests = batches_on first old.sink new.sink handed old.handed.items new.handed.items new.cause (subst (λ (o : Option Cause). WritesBatches record_list page first handed old.sink old.handed.items o) is f) (g is)
+    pub turn_writes : (old new : Listening S) (was : Option Cause) → old.cause ≡ was → Since old → (old.cause ≡ None → WritesMore old.intake.sink old.intake.handed.items new.intake.sink new.intake.handed.items new.cause) → (old.cause ≢ None → new ≡ old) → Since new
+    turn_writes old new None is f g rests = batches_on first old.intake.sink new.intake.sink handed old.intake.handed.items new.intake.handed.items new.cause (subst (λ (o : Option Cause). WritesMore first handed old.intake.sink old.intake.handed.items o) is f) (g is)
     turn_writes old new (Some why) is f g rests = subst Since (sym (rests (λ none. absurd (cc)))) f
 
     -- where it was ended from outside, by a cause that is not its sink's
-    pub end_writes : (old : Listening S) (new : S) (after : List Batch) (was : Option Cause) (is other : Cause) → old.cause ≡ was → after ≡ old.handed.items → Some is ≡ Some (cause_or was other) → WritesRecords record_list page old.sink [] old.sink (Some other)
-        → Since old → (old.cause ≡ None → WritesClose record_list page old.sink new) → (old.cause ≢ None → new ≡ old.sink) → WritesBatches record_list page first handed new after (Some is)
+    pub end_writes : (old : Listening S) (new : S) (after : List Batch) (was : Option Cause) (is other : Cause) → old.cause ≡ was → after ≡ old.intake.handed.items → Some is ≡ Some (cause_or was other) → WritesRecords record_list page old.intake.sink [] old.intake.sink (Some other)
+        → Since old → (old.cause ≡ None → WritesClose record_list page old.intake.sink new) → (old.cause ≢ None → new ≡ old.intake.sink) → WritesMore first handed new after (Some is)
     end_writes old new after None is other same all why outside f closes rests =
-        let on : WritesBatches record_list page first handed old.sink old.handed.items None = subst (λ (o : Option Cause). WritesBatches record_list page first handed old.sink old.handed.items o) same f in
-        let close : WritesBatches record_list page old.sink old.handed.items new after (Some other) = ([], all ∙ sym (append-nil old.handed.items), (old.sink, outside, closes same)) in
-        subst (λ (o : Option Cause). WritesBatches record_list page first handed new after o) (sym why) (batches_on first old.sink new handed old.handed.items after (Some other) on close)
+        let on : WritesMore first handed old.intake.sink old.intake.handed.items None = subst (λ (o : Option Cause). WritesMore first handed old.intake.sink old.intake.handed.items o) same f in
+        let close : WritesMore old.intake.sink old.intake.handed.items new after (Some other) = ([], all ∙ sym (append-nil old.intake.handed.items), (old.intake.sink, outside, closes same)) in
+        subst (λ (o : Option Cause). WritesMore first handed new after o) (sym why) (batches_on first old.intake.sink new handed old.intake.handed.items after (Some other) on close)
     end_writes old new after (Some c) is other same all why outside f closes rests =
-        let sink : new ≡ old.sink = rests (λ none. absurd (cc)) in
-        let on : WritesBatches record_list page first handed old.sink old.handed.items (Some is) = subst (λ (o : Option Cause). WritesBatches record_list page first handed old.sink old.handed.items o) (same ∙ sym why) f in
-        subst (λ (bs : List Batch). WritesBatches record_list page first handed new bs (Some is)) (sym all) (subst (λ (s : S). WritesBatches record_list page first handed s old.handed.items (Some is)) (sym sink) on)
+        let sink : new ≡ old.intake.sink = rests (λ none. absurd (cc)) in
+        let on : WritesMore first handed old.intake.sink old.intake.handed.items (Some is) = subst (λ (o : Option Cause). WritesMore first handed old.intake.sink old.intake.handed.items o) (same ∙ sym why) f in
+        subst (λ (bs : List Batch). WritesMore first handed new bs (Some is)) (sym all) (subst (λ (s : S). WritesMore first handed s old.intake.handed.items (Some is)) (sym sink) on)
 
 -- a listener that had ended stays as it was
 module _ {S : Type 0} (first : Listening S) where
@@ -125,5 +129,5 @@ module _ {S : Type 0} (first : Listening S) where
   pub stays_over : (old new : Listening S) → old ≡ first → (old.cause ≢ None → new ≡ old) → first.cause ≢ None → new ≡ first
   stays_over old new same rests over = rests (still_over old same over) ∙ same
 
-  pub over_still : (l : Listening S) (new : S) → l ≡ first → (l.cause ≢ None → new ≡ l.sink) → first.cause ≢ None → new ≡ first.sink
-  over_still l new same rests over = rests (still_over l same over) ∙ ap (λ (x : Listening S). x.sink) same
+  pub over_still : (l : Listening S) (new : S) → l ≡ first → (l.cause ≢ None → new ≡ l.intake.sink) → first.cause ≢ None → new ≡ first.intake.sink
+  over_still l new same rests over = rests (still_over l same over) ∙ ap (λ (x : Listening S). x.intake.sink) same

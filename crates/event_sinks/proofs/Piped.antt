@@ -3,7 +3,7 @@ use Rattle.std.proofs.Common.{◌≡◌, ◌≢◌, ℕ, ◌+◌, ◌<◌, Bool,
 use Rattle.std.specs.Prelude.{MatchOption}
 use Rattle.std.proofs.lemmas.Bool.{cases_eq, eq-eqb, ne_eqb}
 use Rattle.std.proofs.lemmas.List.{take_more}
-use Rattle.shared_tree.specs.Held.{IsIn, Lacks}
+use Rattle.shared_tree.specs.Pipes.{IsIn, Lacks}
 use Rattle.event_sinks.specs.declared.served.Track.{Track}
 use Rattle.event_sinks.specs.Tracks.{blank}
 

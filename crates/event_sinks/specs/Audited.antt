@@ -9,7 +9,7 @@ use Rattle.shared_tree.specs.declared.seat.SeatLog.{SeatLog}
 use Rattle.tree_core.specs.Journal.{last_place}
 use Rattle.shared_tree.specs.Calls.{BookContents, IsSent}
 use Rattle.shared_tree.specs.Handed.{handed_since}
-use Rattle.shared_tree.specs.Held.{IsIn, Lacks}
+use Rattle.shared_tree.specs.Pipes.{IsIn, Lacks}
 use Rattle.event_sinks.specs.declared.audit.Settled.{Settled}
 use Rattle.event_sinks.specs.declared.audit.SettleFault.{SettleFault}
 use Rattle.event_sinks.specs.declared.audit.SettleFault.TheVariants.{CountDiffers, Stray, NotEnded, HandedDiffers, Memory}
@@ -52,7 +52,7 @@ pub record Outcome : Type 0 where
   pub handed : List Batch
 
 abbrev pub outcome_of : {S : Type 0} → Ended S → Outcome
-outcome_of e = record { instance = e.feed.instance; cause = e.cause; handed = e.handed.items }
+outcome_of e = record { instance = e.intake.feed.instance; cause = e.cause; handed = e.intake.handed.items }
 
 abbrev pub outcomes : {S : Type 0} → List (Ended S) → List Outcome
 outcomes es = map outcome_of es

@@ -4,6 +4,7 @@ pub mod Writing
 pub mod Pages
 pub mod Stopping
 pub mod Listeners
+pub mod Ending
 pub mod Audited
 pub mod Marked
 pub mod Tracks

@@ -7,6 +7,7 @@ use Rattle.shared_tree.specs.Pipes.{Fed}
 use Rattle.event_sinks.specs.Sinks.{Foretells, MayAnswer}
 use Rattle.event_sinks.specs.declared.listener.Cause.{Cause}
 use Rattle.event_sinks.specs.declared.listener.Cause.TheVariants as cause
+use Rattle.event_sinks.specs.declared.listener.Intake.{Intake}
 use Rattle.event_sinks.specs.declared.listener.Listening.{Listening}
 use Rattle.event_sinks.specs.declared.listener.Ended.{Ended}
 use Rattle.event_sinks.specs.declared.listener.Step.{Step}
@@ -26,12 +27,16 @@ pub record ListenerState : Type 0 where
 abbrev pub listener_state : ℕ → Fed → List Batch → ℕ → List Event → Bool → Option Cause → ListenerState
 listener_state number feed handed started list is_open cause = record { number = number; feed = feed; handed = handed; started = started; list = list; is_open = is_open; cause = cause }
 
--- the meaning of a listener, and of one that has ended, by what its sink took and whether that is open
+-- the meaning of what a listener has, by what its sink took and whether that is open, and by its cause to end
+abbrev pub state_of : {S : Type 0} → (S → List Event) → (S → Bool) → Intake S → Option Cause → ListenerState
+state_of record_list is_open i cause = listener_state i.number i.feed i.handed.items i.started (record_list i.sink) (is_open i.sink) cause
+
+-- of one that listens, and of one that has ended
 abbrev pub state_of_listener : {S : Type 0} → (S → List Event) → (S → Bool) → Listening S → ListenerState
-state_of_listener record_list is_open l = listener_state l.number l.feed l.handed.items l.started (record_list l.sink) (is_open l.sink) l.cause
+state_of_listener record_list is_open l = state_of record_list is_open l.intake l.cause
 
 abbrev pub state_of_ended : {S : Type 0} → (S → List Event) → (S → Bool) → Ended S → ListenerState
-state_of_ended record_list is_open e = listener_state e.number e.feed e.handed.items e.started (record_list e.sink) (is_open e.sink) (Some e.cause)
+state_of_ended record_list is_open e = state_of record_list is_open e.intake (Some e.cause)
 
 -- the first of some records, and not all
 abbrev pub IsCutOf : List Event → List Event → Type 0
@@ -100,12 +105,6 @@ cause_or (Some first) other = first
 abbrev pub ended_by : ListenerState → Cause → ListenerState
 ended_by h given = record h { is_open = false; cause = Some (cause_or h.cause given) }
 
--- a cause that comes from outside
-abbrev pub IsFromOutside : Cause → Type 0
-IsFromOutside cause.Turns = ⊤
-IsFromOutside cause.Given = ⊤
-IsFromOutside _ = ⊥
-
 -- what becomes of records that are put into a sink one by one: it takes them all, or those before the one that it refuses
 -- with this fault, which it may answer to that one after them
 abbrev pub Answers : {S : Type 0} → (S → List Event) → (S → MayAnswer) → S → List Event → S → Option Cause → Type 0
@@ -114,5 +113,5 @@ Answers record_list may_answer old records new (Some (cause.Sink fault)) = (take
 Answers record_list may_answer old records new (Some _) = ⊤
 
 -- the same of the records of the batches that a listener was handed meanwhile
-abbrev pub AnswersBatches : {S : Type 0} → (S → List Event) → (S → MayAnswer) → S → List Batch → S → List Batch → Option Cause → Type 0
-AnswersBatches record_list may_answer old handed new handed' why = (batches : List Batch) × (handed' ≡ handed ++ batches) × Answers record_list may_answer old (records_of batches) new why
+abbrev pub AnswersBatches : {S : Type 0} → (S → List Event) → (S → MayAnswer) → Intake S → Intake S → Option Cause → Type 0
+AnswersBatches record_list may_answer old new why = (batches : List Batch) × (new.handed.items ≡ old.handed.items ++ batches) × Answers record_list may_answer old.sink (records_of batches) new.sink why

@@ -1,4 +1,4 @@
--- What the functions that look for a stray say to one another: which places of the journal they have marked.
+-- Which places of the journal the functions that look for a stray have marked. No public clause cites this module.
 use Rattle.std.specs.Prelude.{◌≡◌, ◌<◌, ◌-◌, ⊤, ℕ, Bool, true, false, List, [], ◌∷◌, slice_get, slice_set, Some}
 use Rattle.tree_core.specs.declared.reply.Entry.{Entry}
 use Rattle.tree_core.specs.declared.reply.Kept.{Kept}

@@ -9,6 +9,7 @@ use Rattle.event_sinks.specs.declared.fault.SinkFault.{SinkFault}
 use Rattle.event_sinks.specs.declared.fault.SinkFault.TheVariants as fault
 use Rattle.event_sinks.specs.declared.listener.Cause.{Cause}
 use Rattle.event_sinks.specs.declared.listener.Cause.TheVariants as cause
+use Rattle.event_sinks.specs.declared.listener.Intake.{Intake}
 
 -- what a sink wrote, where that can be known, and how many of its writes failed; and what it writes for a record, and at its
 -- close once it took so many
@@ -58,8 +59,8 @@ Writes {S} record_list page old records new None = WritesRecords record_list pag
 Writes {S} record_list page old records new (Some why) = (last : S) × WritesRecords record_list page old records last (Some why) × WritesClose record_list page last new
 
 -- the same of the records of the batches that a listener was handed meanwhile
-abbrev pub WritesBatches : {S : Type 0} → (S → List Event) → (S → Page) → S → List Batch → S → List Batch → Option Cause → Type 0
-WritesBatches record_list page old handed new handed' why = (batches : List Batch) × (handed' ≡ handed ++ batches) × Writes record_list page old (records_of batches) new why
+abbrev pub WritesBatches : {S : Type 0} → (S → List Event) → (S → Page) → Intake S → Intake S → Option Cause → Type 0
+WritesBatches record_list page old new why = (batches : List Batch) × (new.handed.items ≡ old.handed.items ++ batches) × Writes record_list page old.sink (records_of batches) new.sink why
 
 -- ---- a law
 

@@ -1,4 +1,4 @@
--- What is known of each instance while the batches of the listeners are compared with the journal.
+-- What is known of each instance while batches are compared with the journal. No public clause cites this module.
 use Rattle.std.specs.Prelude.{◌≡◌, ◌≢◌, ⊤, ℕ, Bool, true, false, List, [], ◌∷◌, ◌++◌, Option, Some, None, drop, slice_get}
 use Rattle.std.specs.BTreeMap as tree
 use Rattle.std.specs.BTreeMap.{BTreeMap}
@@ -12,7 +12,7 @@ use Rattle.tree_core.specs.declared.reply.Reply.TheVariants as reply
 use Rattle.shared_tree.specs.declared.pipe.Batch.{Batch}
 use Rattle.shared_tree.specs.Calls.{BookContents}
 use Rattle.shared_tree.specs.Handed.{hands}
-use Rattle.shared_tree.specs.Held.{IsIn, Lacks}
+use Rattle.shared_tree.specs.Pipes.{IsIn, Lacks}
 use Rattle.event_sinks.specs.declared.listener.Cause.TheVariants.{Last}
 use Rattle.event_sinks.specs.declared.served.Progress.{Progress}
 use Rattle.event_sinks.specs.declared.served.Track.{Track}

@@ -2,7 +2,8 @@
 
 ghost use Rattle.std.specs.Prelude.{◌≡◌, ◌≢◌, [], true, length, None};
 ghost use Rattle.event_sinks.specs.declared.listener.Cause.TheVariants.{Given, Turns};
-ghost use Rattle.event_sinks.specs.Listeners.{Answers, AnswersBatches, ListenerState, IsSoundListener, IsFromOutside, IsTurn, Puts, Reaches, Steps, ended_by, state_of_ended, listener_state, state_of_listener};
+ghost use Rattle.event_sinks.specs.Listeners.{Answers, AnswersBatches, ListenerState, IsSoundListener, IsTurn, Puts, Reaches, Steps, ended_by, state_of_ended, listener_state, state_of_listener};
+ghost use Rattle.event_sinks.specs.Ending.{IsFromOutside};
 ghost use Rattle.event_sinks.specs.Pages.{WritesBatches, WritesClose, WritesRecords};
 
 use crate::fault::SinkFault;
@@ -38,56 +39,35 @@ pub enum Cause {
     Memory,
 }
 
-/// Takes the batches of a feed, one at a step, and puts their records into a sink.
-///
-/// The sink is closed after the end batch, after a record that it refused, and where memory is wanting. A listener that
-/// is dropped drops its sink, which closes where it is open.
-pub struct Listening<S> {
+// What a listener has, while it listens and once it has ended: how many records its sink had taken before it is
+// `started`.
+#[derive(Drop)]
+struct Intake<S> {
     number: u32,
     feed: Feed,
     sink: S,
     started: u64,
     handed: Vec<Batch>,
-    cause: Option<Cause>,
 }
 
-impl<S: Drop> Drop for Listening<S> {
-    fn drop(self) {
-        let Listening {
-            number: _,
-            feed: _,
-            sink: _,
-            started: _,
-            handed: _,
-            cause: _,
-        } = self;
-    }
+/// Takes the batches of a feed, one at a step, and puts their records into a sink.
+///
+/// The sink is closed after the end batch, after a record that it refused, and where memory is wanting. A listener that
+/// is dropped drops its sink, which closes where it is open.
+#[derive(Drop)]
+pub struct Listening<S> {
+    intake: Intake<S>,
+    cause: Option<Cause>,
 }
 
 /// A listener with any sink, in a box.
 pub type Listener = Listening<Box<dyn Sink>>;
 
 /// A listener that has ended. Its sink is closed. It keeps its feed, and the batches that it was handed.
+#[derive(Drop)]
 pub struct Ended<S> {
-    number: u32,
-    feed: Feed,
-    sink: S,
-    started: u64,
-    handed: Vec<Batch>,
+    intake: Intake<S>,
     cause: Cause,
-}
-
-impl<S: Drop> Drop for Ended<S> {
-    fn drop(self) {
-        let Ended {
-            number: _,
-            feed: _,
-            sink: _,
-            started: _,
-            handed: _,
-            cause: _,
-        } = self;
-    }
 }
 
 // Puts the records of a batch one by one, until one is refused. Why the listener ends with this batch, if it does.
@@ -111,16 +91,18 @@ impl<S: Sink> Listening<S> {
     pub fn new(alloc: Global, number: u32, feed: Feed, sink: S) -> Listening<S>
         requires is_open { S.is_open sink ≡ true }
         ensures state { state_of_listener S.record_list S.is_open result ≡ listener_state number feed [] (length (S.record_list sink)) (S.record_list sink) true None }
-        ensures sink { result.sink ≡ sink }
+        ensures sink { result.intake.sink ≡ sink }
         ensures sound { IsSoundListener (state_of_listener S.record_list S.is_open result) }
     {
         let started = sink.taken();
         Listening {
-            number,
-            feed,
-            sink,
-            started,
-            handed: Vec::new(alloc),
+            intake: Intake {
+                number,
+                feed,
+                sink,
+                started,
+                handed: Vec::new(alloc),
+            },
             cause: None,
         }
     }
@@ -130,25 +112,25 @@ impl<S: Sink> Listening<S> {
         requires { IsSoundListener (state_of_listener S.record_list S.is_open self.old) }
         ensures sound { IsSoundListener (state_of_listener S.record_list S.is_open self.new) }
         ensures steps { Steps (state_of_listener S.record_list S.is_open self.old) (state_of_listener S.record_list S.is_open self.new) result }
-        ensures answers { self.old.cause ≡ None → AnswersBatches S.record_list S.may_answer self.old.sink self.old.handed.items self.new.sink self.new.handed.items self.new.cause }
-        ensures writes { self.old.cause ≡ None → WritesBatches S.record_list S.page self.old.sink self.old.handed.items self.new.sink self.new.handed.items self.new.cause }
+        ensures answers { self.old.cause ≡ None → AnswersBatches S.record_list S.may_answer self.old.intake self.new.intake self.new.cause }
+        ensures writes { self.old.cause ≡ None → WritesBatches S.record_list S.page self.old.intake self.new.intake self.new.cause }
         ensures rests { self.old.cause ≢ None → self.new ≡ self.old }
     {
         if self.cause.is_some() {
             return Step::Over;
         }
-        let Ok(()) = self.handed.reserve(1) else {
-            self.sink.close();
+        let Ok(()) = self.intake.handed.reserve(1) else {
+            self.intake.sink.close();
             self.cause = Some(Cause::Memory);
             return Step::Over;
         };
-        let Some(batch) = self.feed.take() else {
+        let Some(batch) = self.intake.feed.take() else {
             return Step::Idle;
         };
-        self.cause = put_batch(&mut self.sink, &batch);
-        self.handed.push_reserved(batch);
+        self.cause = put_batch(&mut self.intake.sink, &batch);
+        self.intake.handed.push_reserved(batch);
         if self.cause.is_some() {
-            self.sink.close();
+            self.intake.sink.close();
         }
         Step::Took
     }
@@ -159,11 +141,11 @@ impl<S: Sink> Listening<S> {
         ensures sound { IsSoundListener (state_of_listener S.record_list S.is_open self.new) }
         ensures turn { IsTurn (G.may_pass gate.now) turn (state_of_listener S.record_list S.is_open self.old) (state_of_listener S.record_list S.is_open self.new) }
         ensures over { result ≡ true → self.new.cause ≢ None }
-        ensures answers { self.old.cause ≡ None → AnswersBatches S.record_list S.may_answer self.old.sink self.old.handed.items self.new.sink self.new.handed.items self.new.cause }
-        ensures writes { self.old.cause ≡ None → WritesBatches S.record_list S.page self.old.sink self.old.handed.items self.new.sink self.new.handed.items self.new.cause }
+        ensures answers { self.old.cause ≡ None → AnswersBatches S.record_list S.may_answer self.old.intake self.new.intake self.new.cause }
+        ensures writes { self.old.cause ≡ None → WritesBatches S.record_list S.page self.old.intake self.new.intake self.new.cause }
         ensures rests { self.old.cause ≢ None → self.new ≡ self.old }
     {
-        gate.pass(self.number, turn) && self.step() == Step::Over
+        gate.pass(self.intake.number, turn) && self.step() == Step::Over
     }
 
     // Ends it for this cause, where none came before.
@@ -172,32 +154,18 @@ impl<S: Sink> Listening<S> {
         requires given { IsFromOutside given }
         ensures sound { IsSoundListener (state_of_ended S.record_list S.is_open result) }
         ensures ended { state_of_ended S.record_list S.is_open result ≡ ended_by (state_of_listener S.record_list S.is_open self) given }
-        ensures writes { self.cause ≡ None → WritesClose S.record_list S.page self.sink result.sink }
-        ensures rests { self.cause ≢ None → result.sink ≡ self.sink }
+        ensures writes { self.cause ≡ None → WritesClose S.record_list S.page self.intake.sink result.intake.sink }
+        ensures rests { self.cause ≢ None → result.intake.sink ≡ self.intake.sink }
     {
-        let Listening {
-            number,
-            feed,
-            mut sink,
-            started,
-            handed,
-            cause,
-        } = self;
+        let Listening { mut intake, cause } = self;
         let cause = match cause {
             Some(cause) => cause,
             None => {
-                sink.close();
+                intake.sink.close();
                 given
             }
         };
-        Ended {
-            number,
-            feed,
-            sink,
-            started,
-            handed,
-            cause,
-        }
+        Ended { intake, cause }
     }
 
     /// Steps in each of so many turns that the gate lets through, and ends. It ends before its turns are over where
@@ -206,9 +174,9 @@ impl<S: Sink> Listening<S> {
         requires { IsSoundListener (state_of_listener S.record_list S.is_open self) }
         ensures sound { IsSoundListener (state_of_ended S.record_list S.is_open result) }
         ensures turns { (h : ListenerState) × Reaches (G.may_pass gate.now) turns (state_of_listener S.record_list S.is_open self) h × (state_of_ended S.record_list S.is_open result ≡ ended_by h Turns) }
-        ensures answers { self.cause ≡ None → AnswersBatches S.record_list S.may_answer self.sink self.handed.items result.sink result.handed.items (Some result.cause) }
-        ensures writes { self.cause ≡ None → WritesBatches S.record_list S.page self.sink self.handed.items result.sink result.handed.items (Some result.cause) }
-        ensures rests { self.cause ≢ None → result.sink ≡ self.sink }
+        ensures answers { self.cause ≡ None → AnswersBatches S.record_list S.may_answer self.intake result.intake (Some result.cause) }
+        ensures writes { self.cause ≡ None → WritesBatches S.record_list S.page self.intake result.intake (Some result.cause) }
+        ensures rests { self.cause ≢ None → result.intake.sink ≡ self.intake.sink }
     {
         let mut listener = self;
         for turn in 0..turns {
@@ -224,8 +192,8 @@ impl<S: Sink> Listening<S> {
         requires { IsSoundListener (state_of_listener S.record_list S.is_open self) }
         ensures sound { IsSoundListener (state_of_ended S.record_list S.is_open result) }
         ensures ended { state_of_ended S.record_list S.is_open result ≡ ended_by (state_of_listener S.record_list S.is_open self) Given }
-        ensures writes { self.cause ≡ None → WritesClose S.record_list S.page self.sink result.sink }
-        ensures rests { self.cause ≢ None → result.sink ≡ self.sink }
+        ensures writes { self.cause ≡ None → WritesClose S.record_list S.page self.intake.sink result.intake.sink }
+        ensures rests { self.cause ≢ None → result.intake.sink ≡ self.intake.sink }
     {
         self.end(Cause::Given)
     }
@@ -234,16 +202,16 @@ impl<S: Sink> Listening<S> {
 impl<S> Ended<S> {
     /// The number of the listener.
     pub fn number(&self) -> u32
-        ensures { result ≡ self.now.number }
+        ensures { result ≡ self.now.intake.number }
     {
-        self.number
+        self.intake.number
     }
 
     /// The number of the instance whose batches it took.
     pub fn instance(&self) -> u32
-        ensures { result ≡ self.now.feed.instance }
+        ensures { result ≡ self.now.intake.feed.instance }
     {
-        self.feed.instance()
+        self.intake.feed.instance()
     }
 
     /// Why it ended: what came first.
@@ -255,17 +223,17 @@ impl<S> Ended<S> {
 
     /// The batches that it was handed, in order, with the end batch where that came.
     pub fn handed(&self) -> &[Batch]
-        ensures { result.now ≡ self.now.handed.items }
+        ensures { result.now ≡ self.now.intake.handed.items }
     {
-        self.handed.as_slice()
+        self.intake.handed.as_slice()
     }
 }
 
 impl<S: Sink> Ended<S> {
     /// Its sink, which is closed.
     pub fn sink(&self) -> &S
-        ensures { result.now ≡ self.now.sink }
+        ensures { result.now ≡ self.now.intake.sink }
     {
-        &self.sink
+        &self.intake.sink
     }
 }

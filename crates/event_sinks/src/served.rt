@@ -3,7 +3,7 @@
 ghost use Rattle.std.specs.Prelude.{◌≡◌, ◌↔◌, ◌==◌, ℕ, true, [], ◌∷◌, Option, Some, IfOk, IsTrue, MatchOption, OnOk, if◌then◌else◌, option_map};
 ghost use Rattle.shared_tree.specs.declared.pipe.Batch.{Batch};
 ghost use Rattle.shared_tree.specs.Calls.{BookContents};
-ghost use Rattle.shared_tree.specs.Held.{IsIn, Lacks};
+ghost use Rattle.shared_tree.specs.Pipes.{IsIn, Lacks};
 ghost use Rattle.std.specs.Prelude.{◌<◌, drop, get_or, length};
 ghost use Rattle.shared_tree.specs.Handed.{batch};
 ghost use Rattle.event_sinks.specs.Audited.{IsFaultAt, IsFirstFault, IsServedAt, batches_of, outcomes, since};

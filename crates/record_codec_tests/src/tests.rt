@@ -1,4 +1,5 @@
 ghost use Rattle.std.specs.Prelude.{◌≡◌, ◌≤◌, IfOk};
+ghost use Rattle.record_codec.specs.Views.{AreRecords};
 
 mod refused;
 
@@ -204,6 +205,36 @@ fn prints(rt: HostRuntime) -> Result<(), Fail> {
     }
     let lines =
         b"1 00000100 0 f|-1 00004000 0|2 40000080 4294967295 %20!%25~%7F%0A%FF|%20!%25~%7F%0A%FF";
+    equal(&rt, text.as_slice(), lines.as_slice());
+    Ok(())
+}
+
+/// The records of the events, as bytes that are records.
+fn spelled(alloc: Global, events: &[Event]) -> Result<Vec<u8>, Fail>
+    ensures { IfOk result (λ bytes. AreRecords bytes.items) }
+{
+    Ok(encode(alloc, events)?)
+}
+
+#[test]
+fn prints_records_where_they_lie(rt: HostRuntime) -> Result<(), Fail> {
+    let events = two_events(rt.alloc())?;
+    let bytes = spelled(rt.alloc(), &events)?;
+    let mut text = Vec::new(rt.alloc());
+    if let Some((first, rest)) = next_record(&bytes) {
+        append_view_line(&first, &mut text)?;
+        text.push(b'|')?;
+        if let Some((second, end)) = next_record(rest) {
+            append_view_line(&second, &mut text)?;
+            holds(&rt, "end.is_empty()", end.is_empty());
+            holds(
+                &rt,
+                "next_record(end).is_none()",
+                next_record(end).is_none(),
+            );
+        }
+    }
+    let lines = b"1 00000100 0 f|-1 00004000 0";
     equal(&rt, text.as_slice(), lines.as_slice());
     Ok(())
 }

@@ -21,11 +21,12 @@ use Rattle.tree_core.proofs.Lawful.{now-entry}
 use Rattle.shared_tree.specs.declared.pipe.Batch.{Batch}
 use Rattle.tree_core.specs.Calls.{is_plain}
 use Rattle.tree_core.specs.Histories.{pumped, read_by, where_records}
-use Rattle.shared_tree.specs.Pipes.{Piped}
+use Rattle.shared_tree.specs.Pipes.{IsIn}
+use Rattle.shared_tree.specs.PipeEnds.{Piped}
 use Rattle.shared_tree.specs.Seats.{Seated}
-use Rattle.shared_tree.specs.Handed.{AreOfEvents, batch, handed_by, handed_from, handed_since, hands, piped_by, piped_of, where_done}
+use Rattle.shared_tree.specs.Handed.{AreOfEvents, batch, handed_by, handed_from, handed_since, hands, piped_by, piped_of, where_done, deliver}
 use Rattle.shared_tree.specs.Calls.{JoinsJournal, HasPipe, IsForPipe}
-use Rattle.shared_tree.specs.Held.{closed_of, deliver, end_of, IsFilled, IsHeldWhole, IsIn, IsLooked, IsReady, Rises}
+use Rattle.shared_tree.specs.Held.{closed_of, end_of, IsFilled, IsHeldWhole, IsLooked, IsReady, Rises}
 use Rattle.shared_tree.proofs.Steps.{Told, end_of-handed, hands-none, next-init, plain-makes-none, opened-by, piped_by-cases, IsMade, WasOpen}
 
 -- ---- lists of numbers

@@ -8,9 +8,10 @@ use Rattle.std.specs.Ordering.{nat_cmp}
 use Rattle.std.specs.Result.{result_ok}
 use Rattle.std.specs.Prelude.{Some, None, Option, Result, Ok, Err, slice_get, unwrap_or}
 use Rattle.shared_tree.specs.declared.pipe.Batch.{Batch}
-use Rattle.shared_tree.specs.Pipes.{Piped}
-use Rattle.shared_tree.specs.Handed.{hands}
-use Rattle.shared_tree.specs.Held.{sents, pushed_at, deliver, Rises, Lacks, FreeAt, IsReady, IsPlaceOf}
+use Rattle.shared_tree.specs.Pipes.{Lacks}
+use Rattle.shared_tree.specs.PipeEnds.{Piped}
+use Rattle.shared_tree.specs.Handed.{hands, deliver}
+use Rattle.shared_tree.specs.Held.{sents, pushed_at, Rises, FreeAt, IsReady, IsPlaceOf}
 
 -- ---- one pipe changed
 

@@ -20,7 +20,7 @@ use Rattle.tree_core.specs.Histories.{oldest, pumped, read_by, read_in, records_
 use Rattle.tree_core.specs.Journal.{IsLawful, IsLawfulFrom}
 use Rattle.shared_tree.specs.declared.pipe.Batch.{Batch}
 use Rattle.shared_tree.specs.Handed.{batch, handed, handed_by, handed_from, hands, piped_by, piped_of, records_of, where_done, SentIsRead}
-use Rattle.shared_tree.specs.Held.{IsIn}
+use Rattle.shared_tree.specs.Pipes.{IsIn}
 use Rattle.tree_core.proofs.Untouched.{none-opening}
 use Rattle.shared_tree.proofs.Steps.{next-init, opened-by, piped_by-cases, IsMade, Told, WasOpen}
 

@@ -21,8 +21,8 @@ use Rattle.tree_core.specs.Tree.{Tree, opening, reply_of, after}
 use Rattle.tree_core.proofs.Lawful.{limits-now, tree_after-append}
 use Rattle.shared_tree.specs.declared.pipe.Batch.{Batch}
 use Rattle.shared_tree.specs.Calls.{JoinsJournal, HandsOver, TreeWithPipes, IsForPipe, IsSent, IsWhyNot, tree_with_pipes}
-use Rattle.shared_tree.specs.Handed.{AreOfEvents, batch, handed, handed_by, handed_from, handed_since, hands, piped_by, CutsPartBatches}
-use Rattle.shared_tree.specs.Held.{IsFilled, IsHeld, IsHeldWhole, Rises, closed_of, deliver, end_of, whole}
+use Rattle.shared_tree.specs.Handed.{AreOfEvents, batch, handed, handed_by, handed_from, handed_since, hands, piped_by, CutsPartBatches, deliver}
+use Rattle.shared_tree.specs.Held.{IsFilled, IsHeld, IsHeldWhole, Rises, closed_of, end_of, whole}
 use Rattle.shared_tree.specs.Law.{HasPipesOfPiped}
 use Rattle.shared_tree.specs.Seats.{Seated}
 use Rattle.shared_tree.proofs.Unable.{why-full}

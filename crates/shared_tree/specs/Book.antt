@@ -1,4 +1,4 @@
--- What a book keeps.
+-- What a book keeps. No public clause cites this module.
 use Rattle.std.specs.Prelude.{◌≡◌, ℕ, List}
 use Rattle.tree_core.specs.Journal.{IsLawfulFrom, Journaled, last_place}
 use Rattle.shared_tree.specs.declared.pipe.Batch.{Batch}

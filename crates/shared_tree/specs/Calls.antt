@@ -13,8 +13,7 @@ use Rattle.tree_core.specs.declared.reply.Entry.{Entry}
 use Rattle.tree_core.specs.Journal.{Journaled, IsPast, last_place, now, with_entry}
 use Rattle.shared_tree.specs.declared.pipe.Batch.{Batch}
 use Rattle.shared_tree.specs.Seats.{Seated, seated}
-use Rattle.shared_tree.specs.Handed.{handed_all, handed_by, piped_by, piped_of}
-use Rattle.shared_tree.specs.Held.{deliver}
+use Rattle.shared_tree.specs.Handed.{handed_all, handed_by, piped_by, piped_of, deliver}
 
 -- the tree with its journal, the instances that were made with a pipe, what each pipe was sent in the order in which the pipes
 -- were made, and the ledger's total

@@ -34,6 +34,12 @@ abbrev pub hands : Option Batch → ℕ → List Batch
 hands None id = []
 hands (Some b) id = if_same b.instance id (b ∷ [])
 
+-- a batch more in the pipe of its instance, where it has one
+abbrev pub deliver : Option Batch → List ℕ → List (List Batch) → List (List Batch)
+deliver o [] xss = []
+deliver o (n ∷ ns) [] = []
+deliver o (n ∷ ns) (xs ∷ xss) = (xs ++ hands o n) ∷ deliver o ns xss
+
 abbrev pub handed_from : Tree → ℕ → List Entry → ℕ → List Batch
 handed_from t place [] id = []
 handed_from t place (e ∷ es) id = hands (handed_by t place e.call) id ++ handed_from (after t e.call) (place + 1) es id

@@ -1,5 +1,5 @@
--- What the value behind the lock keeps, and what its own functions say to one another.
-use Rattle.std.specs.Prelude.{◌≡◌, ◌≢◌, ◌<◌, ◌≤◌, ◌+◌, ◌↔◌, ◌⊎◌, ⊤, ℕ, zero, suc, List, [], ◌∷◌, ◌++◌, Option, Some, None, IsSome, IsTrue, map, slice_get}
+-- What the value behind the lock keeps, and what its own functions say. No public clause cites this module.
+use Rattle.std.specs.Prelude.{◌≡◌, ◌<◌, ◌≤◌, ◌+◌, ◌↔◌, ◌⊎◌, ⊤, ℕ, zero, suc, List, [], ◌∷◌, ◌++◌, Option, Some, None, IsSome, IsTrue, map, slice_get}
 use Rattle.tree_paths.specs.declared.refusal.Refusal.{Refusal}
 use Rattle.tree_paths.specs.declared.refusal.Refusal.TheVariants.{Enomem, JournalFull}
 use Rattle.instance_table.specs.declared.instance.Instance.{Instance}
@@ -11,8 +11,9 @@ use Rattle.tree_core.specs.declared.reply.Entry.{Entry}
 use Rattle.tree_core.specs.Tree.{Tree, opening}
 use Rattle.tree_core.specs.Journal.{IsPast, IsSpent, Journaled, last_place, now}
 use Rattle.shared_tree.specs.declared.pipe.Batch.{Batch}
-use Rattle.shared_tree.specs.Pipes.{Piped}
-use Rattle.shared_tree.specs.Handed.{AreOfEvents, batch, handed_since, hands, piped_of, where_done}
+use Rattle.shared_tree.specs.PipeEnds.{Piped}
+use Rattle.shared_tree.specs.Pipes.{IsIn, Lacks}
+use Rattle.shared_tree.specs.Handed.{AreOfEvents, batch, handed_since, piped_of, where_done}
 
 -- ---- what is wanting
 
@@ -30,15 +31,6 @@ Rises least (x ∷ xs) next = (least ≤ x) × Rises (x + 1) xs next
 abbrev pub IsRising : List ℕ → Type 0
 IsRising ns = (next : ℕ) × Rises 1 ns next
 
-abbrev pub IsIn : List ℕ → ℕ → Type 0
-IsIn [] id = ⊥
-IsIn (n ∷ ns) id = (n ≡ id) ⊎ IsIn ns id
-
--- no number is this one
-abbrev pub Lacks : List ℕ → ℕ → Type 0
-Lacks [] id = ⊤
-Lacks (n ∷ ns) id = (n ≢ id) × Lacks ns id
-
 -- where the number stands, if it does
 abbrev pub IsPlaceOf : List ℕ → ℕ → Option ℕ → Type 0
 IsPlaceOf ns id None = Lacks ns id
@@ -54,12 +46,6 @@ abbrev pub pushed_at : List (List Batch) → ℕ → Batch → List (List Batch)
 pushed_at [] k b = []
 pushed_at (xs ∷ xss) zero b = (xs ++ b ∷ []) ∷ xss
 pushed_at (xs ∷ xss) (suc k) b = xs ∷ pushed_at xss k b
-
--- a batch more in the pipe of its instance, where it has one
-abbrev pub deliver : Option Batch → List ℕ → List (List Batch) → List (List Batch)
-deliver o [] xss = []
-deliver o (n ∷ ns) [] = []
-deliver o (n ∷ ns) (xs ∷ xss) = (xs ++ hands o n) ∷ deliver o ns xss
 
 abbrev pub FreeAt : List Piped → ℕ → Type 0
 FreeAt ps k = (p : Piped) × (slice_get ps k ≡ Some p) × (0 < p.free)

@@ -14,7 +14,7 @@ use Rattle.tree_core.specs.Histories.{events, joined, raised_by, raised_in, read
 use Rattle.tree_core.specs.QueueLaws.{AreAccountedFor, FindsTheUnread, IsInOrder, bytes_read}
 use Rattle.tree_core.specs.TurnLaws.{AddsNothing, AreInTurn, cookies_in, cookies_used}
 use Rattle.shared_tree.specs.Calls.{TreeWithPipes}
-use Rattle.shared_tree.specs.Held.{IsIn}
+use Rattle.shared_tree.specs.Pipes.{IsIn}
 
 -- at each entry of a journal this is true of the tree before it and of its call
 abbrev pub AtEach : (Tree → Call → Type 0) → Tree → List Entry → Type 0

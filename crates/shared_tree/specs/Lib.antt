@@ -1,4 +1,5 @@
 pub mod Pipes
+pub mod PipeEnds
 pub mod Seats
 pub mod Handed
 pub mod Calls

@@ -1,7 +1,8 @@
 //! The two ends of a pipe, and what goes through it.
 
 ghost use Rattle.std.specs.Prelude.{◌≡◌, ◌<◌, ◌≤◌, ◌↔◌, [], ◌∷◌, ◌++◌, IsTrue, IfOk, IfSome, IfNone, true, false};
-ghost use Rattle.shared_tree.specs.Pipes.{piped, fed};
+ghost use Rattle.shared_tree.specs.Pipes.{fed};
+ghost use Rattle.shared_tree.specs.PipeEnds.{piped};
 
 use record_codec::Events;
 use rtrb::{Consumer, Producer, RingBuffer};
@@ -41,7 +42,7 @@ impl Drop for Pipe {
 
 impl Model for Pipe {
     ghost use Rattle.rtrb.specs.Ring.{sent, known_free};
-    ghost use Rattle.shared_tree.specs.Pipes.{Piped, piped};
+    ghost use Rattle.shared_tree.specs.PipeEnds.{Piped, piped};
 
     ghost Value = { Piped };
 

@@ -5,8 +5,8 @@ ghost use Rattle.tree_paths.specs.declared.refusal.Refusal.TheVariants.{PipeFull
 ghost use Rattle.tree_core.specs.declared.call.Call.TheVariants.{Init};
 ghost use Rattle.tree_core.specs.Journal.{now};
 ghost use Rattle.shared_tree.specs.Pipes.{feed_of};
-ghost use Rattle.shared_tree.specs.Handed.{piped_by};
-ghost use Rattle.shared_tree.specs.Held.{sents, pushed_at, deliver, FreeAt, IsFilled, IsLooked, IsPlaceOf, IsReady, IsRising, Rises};
+ghost use Rattle.shared_tree.specs.Handed.{piped_by, deliver};
+ghost use Rattle.shared_tree.specs.Held.{sents, pushed_at, FreeAt, IsFilled, IsLooked, IsPlaceOf, IsReady, IsRising, Rises};
 
 use crate::pipe::{Batch, Feed, Pipe};
 use std::alloc::{AllocError, Global};
@@ -24,7 +24,7 @@ pub(crate) struct Pipes {
 
 impl Model for Pipes {
     ghost use Rattle.std.specs.Prelude.{◌≡◌, ◌&&◌, ◌+◌, length, nat_le, vec_len, vec_capacity};
-    ghost use Rattle.shared_tree.specs.Pipes.{PipesState, pipes_state};
+    ghost use Rattle.shared_tree.specs.PipeEnds.{PipesState, pipes_state};
     ghost use Rattle.shared_tree.specs.Held.{IsRising};
 
     ghost Value = { PipesState };

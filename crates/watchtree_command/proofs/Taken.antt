@@ -1,5 +1,5 @@
 -- What clap's answer says of what the words ask for.
-use Rattle.std.proofs.Common.{◌≡◌, ◌⊎◌, ◌∙◌, Bool, true, false, List, [], ◌∷◌, Option, None, Result, Err, drop, ap, refl, sym, subst, inl, inr, option_and_then, if◌then◌else◌}
+use Rattle.std.proofs.Common.{◌≡◌, ◌≢◌, ◌⊎◌, ◌∙◌, Bool, true, false, List, [], ◌∷◌, Option, None, Result, Err, drop, ap, refl, sym, subst, inl, inr, option_and_then, if◌then◌else◌}
 use Rattle.std.specs.List.{list_any}
 use Rattle.clap.specs.Words.{App, HasMatchesOf, IsAmong, Kinds, Text, fault_of, is_simple, is_simple_and_free, subcommand_of, subcommand_rows_of}
 use Rattle.clap.specs.declared.parser.matches.ArgMatches.{ArgMatches}
@@ -39,12 +39,13 @@ no_more false k (x ∷ xs) asked h = refl
 
 pub refused : (words : List Text) (a : App) (k oom : ErrorKind) (f : Fault) → a ≡ program
     → (is_simple_and_free a ≡ true → (k ≡ oom) ⊎ IsAmong k (fault_of a words))
-    → (k ≡ oom → f ≡ fault.Memory) → (f ≡ fault.Memory) ⊎ (f ≡ fault.CommandLine) → Invokes (invocation_of words) (Err f)
-refused words a k oom f is faults memory either =
-    go either (faults (ap is_simple_and_free is ∙ free))
+    → (k ≡ oom → f ≡ fault.Memory) → (k ≢ oom → f ≡ fault.CommandLine) → Invokes (invocation_of words) (Err f)
+refused words a k oom f is faults memory other =
+    go f memory other (faults (ap is_simple_and_free is ∙ free))
   where
-    go : (f ≡ fault.Memory) ⊎ (f ≡ fault.CommandLine) → (k ≡ oom) ⊎ IsAmong k (fault_of a words) → Invokes (invocation_of words) (Err f)
-    go (inl e) _ = rw e tt
-    go (inr _) (inl o) = rw (memory o) tt
-    go (inr e) (inr h) =
-        rw e (no_more (list_any is_dashes (drop 1 words)) k (fault_of program words) _ (subst (λ a. IsAmong k (fault_of a words)) is h))
+    go : (f : Fault) → (k ≡ oom → f ≡ fault.Memory) → (k ≢ oom → f ≡ fault.CommandLine) → (k ≡ oom) ⊎ IsAmong k (fault_of a words) → Invokes (invocation_of words) (Err f)
+    go fault.Memory m o _ = tt
+    go fault.CommandLine m o (inl e) = absurd (let is_memory = m e in cc)
+    go fault.CommandLine m o (inr h) = no_more (list_any is_dashes (drop 1 words)) k (fault_of program words) _ (subst (λ a. IsAmong k (fault_of a words)) is h)
+    go (fault.Run r) m o _ = absurd (let is_other = o (λ e. let is_memory = m e in cc) in cc)
+    go (fault.Settle s) m o _ = absurd (let is_other = o (λ e. let is_memory = m e in cc) in cc)

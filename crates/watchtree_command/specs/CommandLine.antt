@@ -14,16 +14,28 @@ use Rattle.watchtree_command.specs.declared.fault.Fault.TheVariants as fault
 use Rattle.watchtree_command.specs.declared.command_line.Invocation.{Invocation}
 use Rattle.watchtree_command.specs.declared.command_line.Invocation.TheVariants.{Run, Storm}
 
--- the least limit of a queue. The greatest is that of every queue
+-- the least limit of a queue, and the usual one. The greatest is that of every queue
 abbrev pub least_queue : ℕ
 least_queue = 1
+
+abbrev pub usual_queue : ℕ
+usual_queue = 16384
 
 abbrev pub IsQueueLimit : ℕ → Type 0
 IsQueueLimit limit = (least_queue ≤ limit) × (limit ≤ most_queue)
 
--- how many calls each writer of a storm makes
+-- how many calls each writer of a storm makes, at least, usually and at most
+abbrev pub least_calls : ℕ
+least_calls = 1
+
+abbrev pub usual_calls : ℕ
+usual_calls = 100
+
+abbrev pub most_calls : ℕ
+most_calls = 1000
+
 abbrev pub IsStormCalls : ℕ → Type 0
-IsStormCalls calls = (1 ≤ calls) × (calls ≤ 1000)
+IsStormCalls calls = (least_calls ≤ calls) × (calls ≤ most_calls)
 
 -- what the words ask for is within its range
 abbrev pub IsInvocation : Invocation → Type 0
@@ -64,12 +76,11 @@ program =
     with_subcommand (with_subcommand (on_top needs_subcommand (new_app (codes "watchtree")))
     (with_option (codes "run") (codes "queue"))) (with_option (codes "storm") (codes "calls"))
 
--- what a subcommand asks for, with the values of its options: a queue of 16,384 or a limit of 1 to 65,535, and 100 calls or 1
--- to 1,000
+-- what a subcommand asks for, with the values of its options: a limit of a queue, or a number of calls
 abbrev pub invocation_in : Text × List Row → Option Invocation
 invocation_in s =
-    if bytes_eq s.0 (codes "run") then option_map Run (number_or 16384 1 65535 (first_of (codes "queue") s.1))
-    else if bytes_eq s.0 (codes "storm") then option_map Storm (number_or 100 1 1000 (first_of (codes "calls") s.1))
+    if bytes_eq s.0 (codes "run") then option_map Run (number_or usual_queue least_queue most_queue (first_of (codes "queue") s.1))
+    else if bytes_eq s.0 (codes "storm") then option_map Storm (number_or usual_calls least_calls most_calls (first_of (codes "calls") s.1))
     else None
 
 abbrev pub is_dashes : Text → Bool

@@ -1,6 +1,6 @@
 //! The command line: `watchtree run [--queue N]`, `watchtree storm [--calls N]`.
 
-ghost use Rattle.std.specs.Prelude.{◌≡◌, ◌≢◌, ◌⊎◌, ◌<◌, ◌≤◌, ◌^◌, IfErr, IfOk, IfSome, None, Some, drop, false, length, map, option_and_then, option_map, true};
+ghost use Rattle.std.specs.Prelude.{◌≡◌, ◌≢◌, ◌<◌, ◌≤◌, ◌^◌, IfErr, IfOk, IfSome, None, Some, drop, false, length, map, option_and_then, option_map, true};
 ghost use Rattle.std.specs.Char.{is_ascii_digit};
 ghost use Rattle.std.specs.List.{list_all, list_any};
 ghost use Rattle.std.specs.Option.{SomeIff};
@@ -16,20 +16,24 @@ use std::alloc::{AllocError, Global};
 
 /// The limit of an instance that names none, unless the command line gives another.
 const QUEUE: u32 = 16_384;
-/// The least and the greatest limit, and how many digits it may have.
+
+/// The least limit.
 const QUEUE_MIN: u32 = 1;
 
+/// The greatest limit.
 const QUEUE_MAX: u32 = 65_535;
-
-/// How many digits a number may have.
-const DIGITS: usize = 5;
 
 /// How many calls each writer of a storm makes, unless the command line gives another number.
 const CALLS: u32 = 100;
 
+/// The least number of calls.
 const CALLS_MIN: u32 = 1;
 
+/// The greatest number of calls.
 const CALLS_MAX: u32 = 1_000;
+
+/// How many digits a number may have.
+const DIGITS: usize = 5;
 
 /// What the command line asks for.
 #[derive(Clone, Copy, Debug, PartialEq, Eq)]
@@ -78,18 +82,13 @@ fn ends_options(words: &[String]) -> bool
 fn has_dashes(words: &[String]) -> bool
     ensures { result ≡ list_any is_dashes (map string_bytes words.now) }
 {
-    let mut found = false;
-    for word in words {
-        found = found || word.as_str() == "--";
-    }
-    found
+    words.iter().any(|word| word.as_str() == "--")
 }
 
 // The fault of words that clap does not take.
 fn fault_by(kind: ErrorKind) -> Fault
     ensures memory { kind ≡ ErrorKind.OutOfMemory → result ≡ Fault.Memory }
     ensures words { kind ≢ ErrorKind.OutOfMemory → result ≡ Fault.CommandLine }
-    ensures either { (result ≡ Fault.Memory) ⊎ (result ≡ Fault.CommandLine) }
 {
     match kind {
         ErrorKind::OutOfMemory => Fault::Memory,

@@ -220,10 +220,3 @@ line_of queue line =
     if is_silent line then Ok Silent
     else if not (list_all is_line_byte line) then Err (Fault BadByte)
     else words_line queue (words_of line)
-
--- what the code gives for a word or a line is this, unless memory ran out
-abbrev pub Gives : {A : Type 0} → Result A LineError → Result A LineError → Type 0
-Gives (Err Memory) wanted = Unit {0}
-Gives (Err (Fault fault)) wanted = wanted ≡ Err (Fault fault)
-Gives (Err (Refused refusal)) wanted = wanted ≡ Err (Refused refusal)
-Gives (Ok x) wanted = wanted ≡ Ok x

@@ -20,8 +20,3 @@ is_line_byte b = (b == byte " ") || is_ascii_graphic b
 abbrev pub is_silent : List ℕ → Bool
 is_silent [] = true
 is_silent (b ∷ bs) = if b == byte " " then is_silent bs else b == byte "#"
-
--- the pieces of what stands behind a separator, of which there may be none
-abbrev pub pieces_in : ℕ → Option (List ℕ) → List (List ℕ)
-pieces_in separator None = []
-pieces_in separator (Some bytes) = pieces separator bytes

@@ -1,4 +1,4 @@
--- What the functions that run a part of a script answer.
+-- What the functions that run a part of a script answer. No public clause cites this module.
 use Rattle.std.specs.Prelude.{◌≡◌, ◌⊎◌, ⊤, ℕ, List, ◌++◌, Option, Result, Err, IfSome}
 use Rattle.std.specs.Io.KnownBytes.{Appends}
 use Rattle.tree_core.specs.Journal.{Journaled}
@@ -17,22 +17,6 @@ ReadTells faults.TooLong read = IfSome read IsTooLong
 ReadTells faults.Read read = ⊤
 ReadTells faults.Write read = ⊥
 ReadTells faults.Memory read = ⊤
-
--- why a line prints nothing
-abbrev pub PrintsNothing : ℕ → ℕ → List ℕ → RunFault → Type 0
-PrintsNothing queue number line (faults.Script n f) = (n ≡ number) × (line_of queue line ≡ Err (Fault f))
-PrintsNothing queue number line faults.TooLong = ⊥
-PrintsNothing queue number line faults.Read = ⊥
-PrintsNothing queue number line faults.Write = ⊥
-PrintsNothing queue number line faults.Memory = ⊤
-
--- what a line that prints nothing leaves: a fault nothing, and want of memory nothing or all that the line asks for
-abbrev pub LeavesLine : RunFault → Journaled → Result Line LineError → Journaled → Type 0
-LeavesLine (faults.Script n f) old line new = new ≡ old
-LeavesLine faults.TooLong old line new = ⊥
-LeavesLine faults.Read old line new = ⊥
-LeavesLine faults.Write old line new = ⊥
-LeavesLine faults.Memory old line new = MayHaveRun old line new
 
 -- what waited and the text behind it are what was written, with what waits now behind it
 pub record Passes (waiting text left : List ℕ) (old new : Option (List ℕ)) : Type 0 where

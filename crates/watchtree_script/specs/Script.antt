@@ -1,5 +1,5 @@
 -- What a script prints.
-use Rattle.std.specs.Prelude.{◌≡◌, ◌<◌, ◌≤◌, ◌⊎◌, ℕ, ◌+◌, List, [], ◌∷◌, ◌++◌, length, decimal, Option, Result, Ok, Err, IfSome}
+use Rattle.std.specs.Prelude.{◌≡◌, ◌<◌, ◌≤◌, ◌⊎◌, ⊤, ℕ, ◌+◌, List, [], ◌∷◌, ◌++◌, length, decimal, Option, Result, Ok, Err, IfSome}
 use Rattle.std.specs.Io.KnownBytes.{Appends, Keeps}
 use Rattle.record_codec.specs.Ports.{one_more}
 use Rattle.tree_paths.specs.Bounds.{full}
@@ -163,3 +163,19 @@ write_faults (Err (faults.Script line f)) n = n
 write_faults (Err faults.TooLong) n = n
 write_faults (Err faults.Read) n = n
 write_faults (Err faults.Memory) n = n
+
+-- why a line prints nothing
+abbrev pub PrintsNothing : ℕ → ℕ → List ℕ → RunFault → Type 0
+PrintsNothing queue number line (faults.Script n f) = (n ≡ number) × (line_of queue line ≡ Err (Fault f))
+PrintsNothing queue number line faults.TooLong = ⊥
+PrintsNothing queue number line faults.Read = ⊥
+PrintsNothing queue number line faults.Write = ⊥
+PrintsNothing queue number line faults.Memory = ⊤
+
+-- what a line that prints nothing leaves: a fault nothing, and want of memory nothing or all that the line asks for
+abbrev pub LeavesLine : RunFault → Journaled → Result Line LineError → Journaled → Type 0
+LeavesLine (faults.Script n f) old line new = new ≡ old
+LeavesLine faults.TooLong old line new = ⊥
+LeavesLine faults.Read old line new = ⊥
+LeavesLine faults.Write old line new = ⊥
+LeavesLine faults.Memory old line new = MayHaveRun old line new

@@ -5,7 +5,8 @@ ghost use Rattle.std.specs.List.{list_all};
 ghost use Rattle.std.specs.Option.{option_copied};
 ghost use Rattle.std.specs.Str.{byte};
 ghost use Rattle.tree_paths.specs.Pieces.{pieces};
-ghost use Rattle.watchtree_script.specs.Lines.{is_line_byte, lines_of, pieces_in};
+ghost use Rattle.watchtree_script.specs.Lines.{is_line_byte, lines_of};
+ghost use Rattle.watchtree_script.specs.Reading.{pieces_in};
 
 use crate::pieces::cut;
 use std::marker::Model;
@@ -43,7 +44,7 @@ impl<'a> Model for Lines<'a> {
     ghost use Rattle.std.specs.Prelude.{ℕ, List};
     ghost use Rattle.std.specs.Option.{option_copied};
     ghost use Rattle.std.specs.Str.{byte};
-    ghost use Rattle.watchtree_script.specs.Lines.{pieces_in};
+    ghost use Rattle.watchtree_script.specs.Reading.{pieces_in};
 
     ghost Value = { List (List ℕ) };
 

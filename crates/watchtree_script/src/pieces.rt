@@ -3,7 +3,7 @@
 ghost use Rattle.std.specs.Prelude.{◌≡◌, ◌∷◌, [], MatchOption, false, length, position, ◌==◌};
 ghost use Rattle.std.specs.Option.{option_copied};
 ghost use Rattle.tree_paths.specs.Pieces.{pieces, runs};
-ghost use Rattle.watchtree_script.specs.Lines.{pieces_in};
+ghost use Rattle.watchtree_script.specs.Reading.{pieces_in};
 
 use std::marker::Model;
 
@@ -17,7 +17,7 @@ pub(crate) struct Pieces<'a> {
 impl<'a> Model for Pieces<'a> {
     ghost use Rattle.std.specs.Prelude.{ℕ, List};
     ghost use Rattle.std.specs.Option.{option_copied};
-    ghost use Rattle.watchtree_script.specs.Lines.{pieces_in};
+    ghost use Rattle.watchtree_script.specs.Reading.{pieces_in};
 
     ghost Value = { List (List ℕ) };
 

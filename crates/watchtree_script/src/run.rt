@@ -6,8 +6,8 @@ ghost use Rattle.record_codec.specs.Ports.{inner_of, faults_of};
 ghost use Rattle.tree_core.specs.Calls.{IsSpelled};
 ghost use Rattle.watchtree_script.specs.Commands.{line_of};
 ghost use Rattle.watchtree_script.specs.Lines.{is_line_byte};
-ghost use Rattle.watchtree_script.specs.Script.{PrintsLine, MayHaveRun, FaultTells, IsShort, Adds, IsText, Replies, write_faults, read_faults};
-ghost use Rattle.watchtree_script.specs.Running.{PrintsNothing, LeavesLine, LineTells, ReadTells, IsRunFault, Passes};
+ghost use Rattle.watchtree_script.specs.Script.{PrintsLine, MayHaveRun, FaultTells, IsShort, Adds, IsText, Replies, write_faults, read_faults, PrintsNothing, LeavesLine};
+ghost use Rattle.watchtree_script.specs.Running.{LineTells, ReadTells, IsRunFault, Passes};
 
 use crate::fault::RunFault;
 use crate::line::{Line, LineError, read_line};

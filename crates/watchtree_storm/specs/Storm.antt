@@ -1,5 +1,5 @@
 -- What the seats of a storm do, and what is told of it.
-use Rattle.std.specs.Prelude.{◌≡◌, ◌⊎◌, ◌%◌, ◌++◌, ⊤, ℕ, zero, suc, true, codes, if◌then◌else◌, nat_eq, List, [], ◌∷◌, length, Result, Ok, Err}
+use Rattle.std.specs.Prelude.{◌≡◌, ◌⊎◌, ◌%◌, ◌++◌, ⊤, ℕ, zero, suc, Bool, true, codes, if◌then◌else◌, nat_eq, List, [], ◌∷◌, length, Some, None, Result, Ok, Err}
 use Rattle.record_codec.specs.declared.event.Event.{Event}
 use Rattle.tree_paths.specs.Paths.{parsed}
 use Rattle.tree_ops.specs.declared.call.FileCall.{FileCall}
@@ -9,12 +9,17 @@ use Rattle.tree_core.specs.declared.call.Call.TheVariants as call
 use Rattle.tree_core.specs.declared.reply.Kept.{Kept}
 use Rattle.tree_core.specs.declared.reply.Reply.TheVariants as reply
 use Rattle.shared_tree.specs.declared.seat.SeatLog.{SeatLog}
+use Rattle.shared_tree.specs.Handed.{records_of}
+use Rattle.shared_tree.specs.Pipes.{Fed}
 use Rattle.shared_tree.specs.Seats.{Seated, seated}
 use Rattle.event_sinks.specs.declared.audit.Settled.{Settled}
 use Rattle.event_sinks.specs.declared.audit.SettleFault.{SettleFault}
 use Rattle.event_sinks.specs.declared.audit.SettleFault.TheVariants.{CountDiffers}
 use Rattle.event_sinks.specs.declared.listener.Cause.{Cause}
 use Rattle.event_sinks.specs.declared.listener.Ended.{Ended}
+use Rattle.event_sinks.specs.declared.listener.Listening.{Listening}
+use Rattle.event_sinks.specs.Listeners.{listener_state, state_of_listener}
+use Rattle.event_sinks.specs.Pages.{Page, Writes}
 use Rattle.watchtree_storm.specs.declared.writer.Writer.{Writer}
 
 -- ---- the writers
@@ -101,11 +106,22 @@ AreStormLogs calls logs = (main : SeatLog) × (first : SeatLog) × (second : Sea
     × (main.number ≡ 1) × IsWhole (seat_of main)
     × AreTurns first_part calls (seated 2 []) (seat_of first) × AreTurns second_part calls (seated 3 []) (seat_of second)
 
+-- ---- the listeners
+
+-- a listener under this number that has yet taken nothing, with this sink
+abbrev pub Begins : {S : Type 0} → (S → List Event) → (S → Bool) → ℕ → S → Listening S → Type 0
+Begins record_list is_open number sink l = (feed : Fed) × (l.intake.sink ≡ sink) × (state_of_listener record_list is_open l ≡ listener_state number feed [] (length (record_list sink)) (record_list sink) true None)
+
+-- the sink of a listener that has ended is what became of this one: the records that the listener was handed were put into it,
+-- and it was closed
+abbrev pub WritesHanded : {S : Type 0} → (S → List Event) → (S → Page) → S → Ended S → Type 0
+WritesHanded record_list page sink e = Writes record_list page sink (records_of e.intake.handed.items) e.intake.sink (Some e.cause)
+
 -- ---- what is told
 
 -- of a listener: its number, why it ended, and how many records its sink took
 abbrev pub told_of : {S : Type 0} → (S → List Event) → Ended S → ℕ × Cause × ℕ
-told_of record_list e = (e.number, e.cause, length (record_list e.sink))
+told_of record_list e = (e.intake.number, e.cause, length (record_list e.intake.sink))
 
 -- it did not find that the journal has another number of entries than the seats kept calls
 abbrev pub CountsAgree : Result Settled SettleFault → Type 0

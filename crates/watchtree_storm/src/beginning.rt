@@ -3,7 +3,7 @@
 ghost use Rattle.std.specs.Prelude.{◌≡◌, ◌+◌, ◌≤◌, [], true, IfOk, OnOk};
 ghost use Rattle.shared_tree.specs.Seats.{seated};
 ghost use Rattle.event_sinks.specs.Listeners.{IsSoundListener, state_of_listener};
-ghost use Rattle.watchtree_storm.specs.Storm.{HasBegun, IsListening};
+ghost use Rattle.watchtree_storm.specs.Storm.{Begins, HasBegun, IsListening};
 
 use crate::fault::StormFault;
 use event_sinks::{Listening, Sink};
@@ -53,6 +53,7 @@ fn listen<L: Ledger, S: Sink>(
     requires is_open { S.is_open sink ≡ true }
     ensures number { OnOk result (seat.new.number ≡ seat.old.number) }
     ensures kept { OnOk result (IsListening seat.old seat.new) }
+    ensures begins { IfOk result (λ l. Begins S.record_list S.is_open number sink l) }
     ensures sound { IfOk result (λ l. IsSoundListener (state_of_listener S.record_list S.is_open l)) }
 {
     let (_, feed) = held.open_piped(seat, QUEUE, slots)?;
@@ -89,6 +90,7 @@ pub fn begin<L: Ledger, S: Sink>(
     ensures shares { IfOk result (λ b. (b.pass.parts + 3 ≡ L.parts) × (b.pass.amount ≡ 0)) }
     ensures seats { IfOk result (λ b. (b.main.number ≡ 1) × (b.first ≡ seated 2 []) × (b.second ≡ seated 3 [])) }
     ensures begun { IfOk result (λ b. HasBegun b.main) }
+    ensures sinks { IfOk result (λ b. Begins S.record_list S.is_open 1 one b.one × Begins S.record_list S.is_open 2 other b.other) }
     ensures sound { IfOk result (λ b. IsSoundListener (state_of_listener S.record_list S.is_open b.one) × IsSoundListener (state_of_listener S.record_list S.is_open b.other)) }
 {
     let (mut held, mut pass) = Held::<L>::new(alloc, blank, Limits::full())?;

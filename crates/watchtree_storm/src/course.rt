@@ -1,15 +1,16 @@
 //! A storm from its beginning to the settled book.
 
-ghost use Rattle.std.specs.Prelude.{◌≡◌, ◌+◌, ◌≤◌, ◌∷◌, [], true, IfOk};
+ghost use Rattle.std.specs.Prelude.{◌≡◌, ◌+◌, ◌≤◌, ◌∷◌, [], true, IfOk, None, Some};
 ghost use Rattle.event_sinks.specs.Audited.{Settles, calls_of, outcome_of};
 ghost use Rattle.event_sinks.specs.Listeners.{IsSoundListener, state_of_ended, state_of_listener};
+ghost use Rattle.event_sinks.specs.Pages.{WritesBatches};
 ghost use Rattle.shared_tree.specs.Seats.{seated};
-ghost use Rattle.watchtree_storm.specs.Storm.{AreStormLogs, AreTurns, CountsAgree, HasBegun, IsWhole, first_part, second_part, told_of};
+ghost use Rattle.watchtree_storm.specs.Storm.{AreStormLogs, AreTurns, CountsAgree, HasBegun, IsWhole, WritesHanded, first_part, second_part, told_of};
 
 use crate::beginning::{ReadyStorm, begin};
 use crate::fault::StormFault;
 use crate::writer::{Writer, close_both};
-use event_sinks::{Cause, Ended, Gate, SettleFault, Settled, Sink, settle};
+use event_sinks::{Cause, Ended, Gate, Listening, SettleFault, Settled, Sink, settle};
 use shared_tree::{Book, Seat, SeatLog, Tree};
 use std::alloc::Global;
 use std::marker::Brand;
@@ -79,6 +80,60 @@ fn told_of<S: Sink>(ended: &Ended<S>) -> (u32, Cause, u64)
     (ended.number(), ended.cause(), ended.sink().taken())
 }
 
+// Both listeners, each in a thread of its own.
+fn listen_both<S: Sink, G: Gate, R: Threads + Sync>(
+    rt: &R,
+    gate: &G,
+    one: Listening<S>,
+    other: Listening<S>,
+) -> (Ended<S>, Ended<S>)
+    requires one { IsSoundListener (state_of_listener S.record_list S.is_open one) }
+    requires other { IsSoundListener (state_of_listener S.record_list S.is_open other) }
+    ensures sound { IsSoundListener (state_of_ended S.record_list S.is_open result.0) × IsSoundListener (state_of_ended S.record_list S.is_open result.1) }
+    ensures one { one.cause ≡ None → WritesBatches S.record_list S.page one.intake result.0.intake (Some result.0.cause) }
+    ensures other { other.cause ≡ None → WritesBatches S.record_list S.page other.intake result.1.intake (Some result.1.cause) }
+{
+    thread::join(
+        rt,
+        move || -> Ended<S>
+            requires { IsSoundListener (state_of_listener S.record_list S.is_open one) }
+            ensures sound { IsSoundListener (state_of_ended S.record_list S.is_open result) }
+            ensures writes { one.cause ≡ None → WritesBatches S.record_list S.page one.intake result.intake (Some result.cause) }
+        { one.run(gate, gate.turns()) },
+        move || -> Ended<S>
+            requires { IsSoundListener (state_of_listener S.record_list S.is_open other) }
+            ensures sound { IsSoundListener (state_of_ended S.record_list S.is_open result) }
+            ensures writes { other.cause ≡ None → WritesBatches S.record_list S.page other.intake result.intake (Some result.cause) }
+        { other.run(gate, gate.turns()) },
+    )
+}
+
+// Both writers, each in a thread of its own.
+fn write_both<L: Ledger + Send + Sync, G: Gate, R: Threads + Wait + Sync>(
+    rt: &R,
+    alloc: Global,
+    tree: &Tree<L>,
+    gate: &G,
+    calls: u32,
+    first: Seat<L>,
+    second: Seat<L>,
+) -> (Seat<L>, Seat<L>)
+    requires { (first ≡ seated 2 []) × (second ≡ seated 3 []) }
+    ensures { AreTurns first_part calls (seated 2 []) result.0 × AreTurns second_part calls (seated 3 []) result.1 }
+{
+    thread::join(
+        rt,
+        move || -> Seat<L>
+            requires { first ≡ seated 2 [] }
+            ensures { AreTurns first_part calls (seated 2 []) result }
+        { Writer::first().write(rt, alloc, tree, first, gate, calls) },
+        move || -> Seat<L>
+            requires { second ≡ seated 3 [] }
+            ensures { AreTurns second_part calls (seated 3 []) result }
+        { Writer::second().write(rt, alloc, tree, second, gate, calls) },
+    )
+}
+
 /// A storm, up to the book: two writers make so many calls each and pump after each, while two listeners take what comes,
 /// each in a thread of its own. Then both instances are pumped once more and closed. It waits for the writers and for the
 /// listeners, who end at the last by the turns of the gate. Where no thread can be made, the writers run one after the
@@ -102,6 +157,7 @@ pub fn run<L: Ledger + Send + Sync, S: Sink, G: Gate, R: Threads + Wait + Sync>(
     ensures counts { IfOk result (λ r. r.book.entries ≡ calls_of r.logs.items) }
     ensures logs { IfOk result (λ r. AreStormLogs calls r.logs.items) }
     ensures sinks { IfOk result (λ r. IsSoundListener (state_of_ended S.record_list S.is_open r.ended.0) × IsSoundListener (state_of_ended S.record_list S.is_open r.ended.1)) }
+    ensures written { IfOk result (λ r. WritesHanded S.record_list S.page one r.ended.0 × WritesHanded S.record_list S.page other r.ended.1) }
 {
     let mut logs = Vec::with_capacity(alloc, 3)?;
     let ReadyStorm {
@@ -119,36 +175,16 @@ pub fn run<L: Ledger + Send + Sync, S: Sink, G: Gate, R: Threads + Wait + Sync>(
         rt,
         move || -> (Ended<S>, Ended<S>)
             requires { IsSoundListener (state_of_listener S.record_list S.is_open one) × IsSoundListener (state_of_listener S.record_list S.is_open other) }
-            ensures { IsSoundListener (state_of_ended S.record_list S.is_open result.0) × IsSoundListener (state_of_ended S.record_list S.is_open result.1) }
-        {
-            thread::join(
-                rt,
-                move || -> Ended<S>
-                    requires { IsSoundListener (state_of_listener S.record_list S.is_open one) }
-                    ensures { IsSoundListener (state_of_ended S.record_list S.is_open result) }
-                { one.run(gate, gate.turns()) },
-                move || -> Ended<S>
-                    requires { IsSoundListener (state_of_listener S.record_list S.is_open other) }
-                    ensures { IsSoundListener (state_of_ended S.record_list S.is_open result) }
-                { other.run(gate, gate.turns()) },
-            )
-        },
+            ensures sound { IsSoundListener (state_of_ended S.record_list S.is_open result.0) × IsSoundListener (state_of_ended S.record_list S.is_open result.1) }
+            ensures one { one.cause ≡ None → WritesBatches S.record_list S.page one.intake result.0.intake (Some result.0.cause) }
+            ensures other { other.cause ≡ None → WritesBatches S.record_list S.page other.intake result.1.intake (Some result.1.cause) }
+        { listen_both(rt, gate, one, other) },
         move || -> (Seat<L>, (Seat<L>, Seat<L>))
             requires { (main.number ≡ 1) × HasBegun main × (first ≡ seated 2 []) × (second ≡ seated 3 []) }
             ensures main { (result.0.number ≡ 1) × IsWhole result.0 }
             ensures writers { AreTurns first_part calls (seated 2 []) result.1.0 × AreTurns second_part calls (seated 3 []) result.1.1 }
         {
-            let both = thread::join(
-                rt,
-                move || -> Seat<L>
-                    requires { first ≡ seated 2 [] }
-                    ensures { AreTurns first_part calls (seated 2 []) result }
-                { Writer::first().write(rt, alloc, shared, first, gate, calls) },
-                move || -> Seat<L>
-                    requires { second ≡ seated 3 [] }
-                    ensures { AreTurns second_part calls (seated 3 []) result }
-                { Writer::second().write(rt, alloc, shared, second, gate, calls) },
-            );
+            let both = write_both(rt, alloc, shared, gate, calls, first, second);
             (close_both(rt, shared, main), both)
         },
     );

@@ -241,7 +241,7 @@ fn writes_lines<W: Write + Send + Drop>(
     writer: W,
     gate: &Lets,
 ) -> Ended<LineSink<W>>
-    ensures { result.cause ≡ Last → faults_of (port_of result.sink) ≡ 0 → Appends (W.contents writer) (W.contents (inner_of (port_of result.sink))) (flat_map line_of (records_of result.handed.items) ++ closing_line (length (records_of result.handed.items))) }
+    ensures { let made = result.intake in result.cause ≡ Last → faults_of (port_of made.sink) ≡ 0 → Appends (W.contents writer) (W.contents (inner_of (port_of made.sink))) (flat_map line_of (records_of made.handed.items) ++ closing_line (length (records_of made.handed.items))) }
 {
     unfailing_texts_are_whole();
     Listening::new(alloc, 7, feed, LineSink::new(alloc, writer)).run(gate, 9)

@@ -1,4 +1,4 @@
-use Rattle.std.proofs.Common.{rules, ◌≡◌}
+use Rattle.std.proofs.Common.{rules, ◌≡◌, ◌≢◌}
 use Rattle.clap.specs.Words.{kind_of}
 use Rattle.clap.specs.declared.error.kind.ErrorKind.TheVariants as kind
 use Rattle.watchtree_command.specs.declared.fault.Fault.TheVariants as fault
@@ -12,4 +12,5 @@ returns-in-Ok-clause-asks c =
 pub returns-in-Err-clause-asks : goal.returns-in-Err-clause-asks
 returns-in-Err-clause-asks c =
     let memory : kind_of c.in-Err.error ≡ kind.OutOfMemory → c.fault_by.result ≡ fault.Memory = search rules in
-    refused _ _ (kind_of c.in-Err.error) kind.OutOfMemory c.fault_by.result c.in_ok-command.ensures c.in-Err.ensures.kinds memory c.fault_by.ensures.either
+    let other : kind_of c.in-Err.error ≢ kind.OutOfMemory → c.fault_by.result ≡ fault.CommandLine = search rules in
+    refused _ _ (kind_of c.in-Err.error) kind.OutOfMemory c.fault_by.result c.in_ok-command.ensures c.in-Err.ensures.kinds memory other

@@ -1,6 +1,7 @@
 use Rattle.std.proofs.Common.{sym, subst, ◌∙◌}
 use Rattle.shared_tree.specs.Calls.{HandsOver, TreeWithPipes, tree_with_pipes}
-use Rattle.shared_tree.specs.Held.{deliver, sents}
+use Rattle.shared_tree.specs.Held.{sents}
+use Rattle.shared_tree.specs.Handed.{deliver}
 use Rattle.std.proofs.Common.{Result}
 use Rattle.std.specs.Prelude.{IfErr}
 use Rattle.std.proofs.lemmas.Result.{err_from_is_err_and}

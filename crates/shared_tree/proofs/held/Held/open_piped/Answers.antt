@@ -8,7 +8,8 @@ use Rattle.tree_core.specs.declared.reply.Receipt.{Receipt}
 use Rattle.shared_tree.specs.Calls.{HandsOver, TreeWithPipes, IsUnable, tree_with_pipes}
 use Rattle.shared_tree.specs.Handed.{piped_by}
 use Rattle.shared_tree.specs.Held.{sents}
-use Rattle.shared_tree.specs.Pipes.{Fed, Piped}
+use Rattle.shared_tree.specs.Pipes.{Fed}
+use Rattle.shared_tree.specs.PipeEnds.{Piped}
 use Rattle.shared_tree.proofs.Unable.{unable}
 use Rattle.shared_tree.proofs.Wholes.{hands-open, held-lengths, held-next, held-open}
 use Rattle.shared_tree.proofs.held.Held.open_piped.Goals as goal

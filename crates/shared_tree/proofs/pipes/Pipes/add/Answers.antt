@@ -1,6 +1,6 @@
 use Rattle.std.proofs.Common.{◌≡◌, ◌+◌, [], ◌∷◌, ◌++◌, length, length-append, sym, subst, arith}
 use Rattle.shared_tree.specs.Held.{Rises}
-use Rattle.shared_tree.specs.Pipes.{PipesState}
+use Rattle.shared_tree.specs.PipeEnds.{PipesState}
 use Rattle.shared_tree.proofs.Keeping.{Rises-snoc}
 use Rattle.shared_tree.proofs.pipes.Pipes.add.Goals as goal
 

@@ -1,8 +1,9 @@
 use Rattle.std.proofs.Common.{sym, ap, subst, ◌∙◌}
 use Rattle.std.specs.Prelude.{Some, None}
 use Rattle.shared_tree.proofs.Pushing.{pushed_by, delivered, pushed-length}
-use Rattle.shared_tree.specs.Held.{IsReady, deliver, sents}
-use Rattle.shared_tree.specs.Pipes.{PipesState}
+use Rattle.shared_tree.specs.Held.{IsReady, sents}
+use Rattle.shared_tree.specs.Handed.{deliver}
+use Rattle.shared_tree.specs.PipeEnds.{PipesState}
 use Rattle.shared_tree.proofs.pipes.Pipes.hand_over.Goals as goal
 
 pub returns-in_default-clause-sent : goal.returns-in_default-clause-sent

@@ -3,7 +3,7 @@ use Rattle.std.proofs.lemmas.Option.{slice_get_within}
 use Rattle.std.specs.Prelude.{None}
 use Rattle.tree_core.specs.Journal.{now}
 use Rattle.shared_tree.specs.Held.{IsFilled, IsLooked}
-use Rattle.shared_tree.specs.Pipes.{PipesState}
+use Rattle.shared_tree.specs.PipeEnds.{PipesState}
 use Rattle.shared_tree.proofs.Keeping.{in-at, waiting-none, waiting-some}
 use Rattle.shared_tree.proofs.pipes.Pipes.look.Goals as goal
 
