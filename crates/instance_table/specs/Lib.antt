@@ -6,3 +6,4 @@ pub mod Codes
 pub mod Views
 pub mod Staging
 pub mod Rows
+pub mod Added
