@@ -94,11 +94,7 @@ pub enum LineError {
 
 /// What the line asks for, or the first reason why it asks for no call.
 #[tactic(auto, unfolding(crate::specs::Commands::line_of))]
-pub(crate) fn read_line(
-    alloc: Global,
-    queue: u32,
-    line: ScriptLine<'_>,
-) -> Result<Line, LineError>
+pub(crate) fn read_line(alloc: Global, queue: u32, line: ScriptLine<'_>) -> Result<Line, LineError>
     requires { line.is_printable ≡ list_all is_line_byte line.bytes.now }
     ensures { Gives result (line_of queue line.entry.bytes.now) }
 {
