@@ -82,7 +82,11 @@ fn ends_options(words: &[String]) -> bool
 fn has_dashes(words: &[String]) -> bool
     ensures { result ≡ list_any is_dashes (map string_bytes words.now) }
 {
-    words.iter().any(|word| word.as_str() == "--")
+    let mut found = false;
+    for word in words {
+        found = found || word.as_str() == "--";
+    }
+    found
 }
 
 // The fault of words that clap does not take.
