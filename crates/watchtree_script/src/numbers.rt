@@ -9,6 +9,7 @@ ghost use Rattle.watchtree_script.specs.Words.{number_spelled};
 
 /// The number of some digits of a radix, if they are at most so many and it is at most the greatest.
 #[tactic(auto, unfolding(crate::specs::Words::number_spelled))]
+#[inline(always)]
 pub(crate) fn number_spelled(radix: u32, most: usize, greatest: u64, digits: &[u8]) -> Option<u64>
     requires least { 2 ≤ radix }
     requires largest { radix ≤ 36 }

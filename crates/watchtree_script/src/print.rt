@@ -137,6 +137,7 @@ fn push_kind(text: &mut Vec<u8>, number: u32, kind: Kind) -> Result<(), AllocErr
 }
 
 // A number behind a space.
+#[inline(always)]
 fn push_field(text: &mut Vec<u8>, number: u64) -> Result<(), AllocError>
     ensures { OnOk result (text.new.items ≡ text.old.items ++ codes " " ++ decimal number) }
 {
