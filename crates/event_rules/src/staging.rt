@@ -118,20 +118,15 @@ fn raise(
 {
     removals_leave_the_rest();
     let _next_wd = watches.next_wd();
-    let mut recent = Recent::of(watches, first_number(notices));
+    let Some(first) = notices.first() else {
+        return Ok(());
+    };
+    let mut recent = Recent::of(watches, first.number());
     for notice in notices {
         let watch = watch_left(watches, wds, notice.number(), &mut recent);
         raise_one(id, watch, notice, events, wds)?;
     }
     Ok(())
-}
-
-// The number of the file of the first notice.
-fn first_number(notices: &[Notice]) -> u32 {
-    match notices.first() {
-        Some(notice) => notice.number(),
-        None => 0,
-    }
 }
 
 // Adds the watches of an instance that end.

@@ -1,6 +1,6 @@
 //! What calls on files tell.
 
-ghost use Rattle.std.specs.Prelude.{◌≡◌, ◌++◌, ◌+◌, ◌≤◌, ◌<◌, ◌^◌, [], ℕ, false, IfErr, OnOk};
+ghost use Rattle.std.specs.Prelude.{◌≡◌, ◌++◌, ◌+◌, ◌≤◌, ◌<◌, ◌^◌, [], false, IfErr, OnOk};
 ghost use Rattle.inode_table.specs.World.{look};
 ghost use Rattle.inode_table.specs.Resolution.{IsResolved};
 ghost use Rattle.inode_table.specs.TableWorld.{world_of};

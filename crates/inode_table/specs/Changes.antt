@@ -7,11 +7,6 @@ use Rattle.inode_table.specs.Kept.{is_directory}
 use Rattle.inode_table.specs.Tree.{Tree, at}
 
 module _ {N : Type 0} where
-  -- one label of one node leads elsewhere
-  pub record SetsEdge (old new : ℕ → N → Option ℕ) (node : ℕ) (label : N) (target : Option ℕ) : Type 0 where
-    pub here : new node label ≡ target
-    pub others : (k : ℕ) (l : N) → ((k ≡ node) × (l ≡ label) → ⊥) → new k l ≡ old k l
-
   -- the path has one more end
   pub record AddsPath (old new : List N → Option ℕ) (path : List N) (end : ℕ) : Type 0 where
     pub added : new path ≡ Some end

@@ -43,15 +43,4 @@ impl<'a> Resolved<'a> {
             None => unreachable!(),
         }
     }
-
-    /// The same once more.
-    pub fn copy(&self) -> Resolved<'a>
-        ensures { result ≡ self.now }
-    {
-        Resolved {
-            path: self.path,
-            directory: self.directory,
-            here: self.here,
-        }
-    }
 }

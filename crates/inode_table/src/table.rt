@@ -1,8 +1,7 @@
 //! The table of nodes.
 
-ghost use Rattle.std.specs.Prelude.{◌≡◌, ◌≤◌, ℕ, List, None, Some, IfOk, IfErr, OnOk, OnErr, IsSome, if◌then◌else◌};
-ghost use Rattle.std.specs.FinMap as finmap;
-ghost use Rattle.inode_table.specs.Rows.{Label, row_under};
+ghost use Rattle.std.specs.Prelude.{◌≡◌, ◌≤◌, None, Some, IfOk, IfErr, OnOk, OnErr, IsSome, if◌then◌else◌};
+ghost use Rattle.inode_table.specs.Rows.{row_under};
 ghost use Rattle.inode_table.specs.Kept.{rows_of, is_directory, row_of};
 ghost use Rattle.inode_table.specs.Tree.{at, what_at};
 

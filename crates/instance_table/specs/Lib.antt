@@ -6,4 +6,3 @@ pub mod Codes
 pub mod Views
 pub mod Staging
 pub mod Rows
-pub mod Added

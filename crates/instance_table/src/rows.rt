@@ -1,7 +1,6 @@
 //! Open instances as rows.
 
-ghost use Rattle.std.specs.Prelude.{◌≡◌, map, IfOk, IfErr};
-ghost use Rattle.std.specs.FinMap as finmap;
+ghost use Rattle.std.specs.Prelude.{◌≡◌, IfOk, IfErr};
 ghost use Rattle.instance_table.specs.Rows.{instance_row};
 
 use crate::instance::Instance;

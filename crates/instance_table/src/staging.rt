@@ -1,5 +1,5 @@
 //! What notices raise for all instances.
-ghost use Rattle.std.specs.Prelude.{◌≡◌, ◌↔◌, IsTrue, ℕ, ◌==◌, ◌||◌, ◌+◌, ◌≤◌, List, [], ◌∷◌, ◌++◌, None, Some, is_some, fold, length, map, IfErr, OnOk};
+ghost use Rattle.std.specs.Prelude.{◌≡◌, IsTrue, ℕ, ◌==◌, ◌||◌, ◌≤◌, List, ◌∷◌, ◌++◌, Some, is_some, true, fold, map, IfErr, OnOk};
 ghost use Rattle.std.specs.FinMap as finmap;
 ghost use Rattle.std.specs.VecDeque.{deque_len};
 ghost use Rattle.std.specs.List.{list_any};
@@ -12,7 +12,6 @@ ghost use Rattle.event_rules.specs.Staging.{staged_event};
 ghost use Rattle.record_codec.specs.declared.event.Event.{Event};
 ghost use Rattle.instance_table.specs.declared.instance.Instance.{Instance};
 ghost use Rattle.instance_table.specs.Instances.{all_changed, instance_of, told, watches_file};
-ghost use Rattle.instance_table.specs.Added.{AreAdded};
 ghost use Rattle.instance_table.specs.Staging.{IsStaged, ended_all, events_to, heard_all, wds_to};
 
 use crate::ids::Ids;
@@ -29,13 +28,6 @@ use tree_paths::Refusal;
 pub struct Staging {
     pub(crate) hearers: Ids,
     pub(crate) staged: Staged,
-}
-
-/// The last two files whose watchers were put in: a call mostly tells an object and its directory in turn.
-#[derive(Clone, Copy)]
-pub(crate) struct Added {
-    last: Option<u32>,
-    before: Option<u32>,
 }
 
 impl Staging {
@@ -76,30 +68,22 @@ impl Instances {
         ensures { OnOk result ((q : ℕ) → is_some (finmap.get ids.new q) ≡ list_any (λ n. watches_file (told_number n) (instance_of self.now q)) notices.now) }
     {
         ids.clear();
-        let mut added = Added {
-            last: None,
-            before: None,
-        };
-        for notice in notices {
-            self.add_watchers(notice.number(), ids, &mut added)?;
+        for (place, notice) in notices.iter().enumerate() {
+            self.add_watchers(&notices[..place], notice.number(), ids)?;
         }
         Ok(())
     }
 
-    // Puts in the instances that watch a file, where they were not put in of late.
+    // Puts in the instances that watch a file, beside those that watch a file told before.
     #[inline(always)]
-    fn add_watchers(&self, number: u32, ids: &mut Ids, added: &mut Added) -> Result<(), AllocError>
-        requires { AreAdded self.now added.old ids.old }
-        ensures ids { OnOk result ((q : ℕ) → is_some (finmap.get ids.new q) ≡ (watches_file number (instance_of self.now q) || is_some (finmap.get ids.old q))) }
-        ensures added { OnOk result (AreAdded self.now added.new ids.new) }
+    fn add_watchers(&self, told: &[Notice], number: u32, ids: &mut Ids) -> Result<(), AllocError>
+        requires { (q : ℕ) → is_some (finmap.get ids.old q) ≡ list_any (λ n. watches_file (told_number n) (instance_of self.now q)) told.now }
+        ensures { OnOk result ((q : ℕ) → is_some (finmap.get ids.new q) ≡ (watches_file number (instance_of self.now q) || is_some (finmap.get ids.old q))) }
     {
-        if is_of(added.last, number) || is_of(added.before, number) {
+        if is_told_of_late(told, number) {
             return Ok(());
         }
-        add_all(ids, self.watchers(number))?;
-        added.before = added.last;
-        added.last = Some(number);
-        Ok(())
+        add_all(ids, self.watchers(number))
     }
 
     // Stages what notices raise for those that hear any of them.
@@ -147,14 +131,12 @@ impl Instances {
     }
 }
 
-// Whether this is a file's number.
-fn is_of(file: Option<u32>, number: u32) -> bool
-    ensures { IsTrue result ↔ (file ≡ Some number) }
+// Whether one of the last two notices tells this file: a call mostly tells an object and its directory in turn.
+fn is_told_of_late(notices: &[Notice], number: u32) -> bool
+    ensures { IsTrue result → list_any (λ n. told_number n == number) notices.now ≡ true }
 {
-    match file {
-        Some(file) => file == number,
-        None => false,
-    }
+    let late = notices.len().saturating_sub(2);
+    notices[late..].iter().any(|notice| notice.number() == number)
 }
 
 // Puts numbers in.

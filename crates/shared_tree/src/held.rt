@@ -1,6 +1,6 @@
 //! What lies under the lock.
 
-ghost use Rattle.std.specs.Prelude.{◌≡◌, ◌+◌, ◌<◌, ◌≤◌, ℕ, [], length, vec_len, vec_capacity, option_map, IfOk, IfErr, IfSome, OnOk, OnErr, IsTrue, true, false};
+ghost use Rattle.std.specs.Prelude.{◌≡◌, ◌+◌, ◌<◌, ◌≤◌, ℕ, [], vec_len, vec_capacity, option_map, IfOk, IfErr, IfSome, OnOk, OnErr, IsTrue, true};
 ghost use Rattle.record_codec.specs.Records.{AreEvents};
 ghost use Rattle.tree_paths.specs.declared.refusal.Refusal.TheVariants.{Enomem, JournalFull};
 ghost use Rattle.instance_table.specs.Instances.{instance_of, waiting_of};

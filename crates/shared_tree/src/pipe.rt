@@ -1,6 +1,6 @@
 //! The two ends of a pipe, and what goes through it.
 
-ghost use Rattle.std.specs.Prelude.{◌≡◌, ◌<◌, ◌≤◌, ◌↔◌, [], ◌∷◌, ◌++◌, IsTrue, IfOk, IfSome, IfNone, true, false};
+ghost use Rattle.std.specs.Prelude.{◌≡◌, ◌<◌, ◌↔◌, [], ◌∷◌, ◌++◌, IsTrue, IfOk, IfSome, IfNone, false};
 ghost use Rattle.shared_tree.specs.Pipes.{fed};
 ghost use Rattle.shared_tree.specs.PipeEnds.{piped};
 

@@ -1,6 +1,6 @@
 //! What accepted calls do.
 
-ghost use Rattle.std.specs.Prelude.{◌≡◌, ◌≢◌, ℕ, List, [], Some, None, true, false, IfOk, IfErr, OnOk, OnErr, IsSome, ◌&&◌, ◌+◌, ◌<◌, ◌≤◌, ◌^◌, length, take, drop};
+ghost use Rattle.std.specs.Prelude.{◌≡◌, ◌≢◌, List, [], None, true, false, IfOk, IfErr, OnOk, OnErr, IsSome, ◌&&◌, ◌+◌, ◌<◌, ◌≤◌, ◌^◌, length, take, drop};
 ghost use Rattle.std.specs.FinMap as finmap;
 ghost use Rattle.inode_table.specs.Bytes.{resized, written};
 ghost use Rattle.inode_table.specs.World.{IsWhole, look, with_file, changed_at};

@@ -1,7 +1,6 @@
 //! Where a path keeps its names.
 
-ghost use Rattle.std.specs.Prelude.{◌≡◌, ◌⊎◌, IfOk, IfErr, length};
-ghost use Rattle.tree_paths.specs.declared.refusal.Refusal.TheVariants.{Enomem};
+ghost use Rattle.std.specs.Prelude.{◌≡◌, IfOk, length};
 ghost use Rattle.tree_paths.specs.Kept.{kept_names};
 ghost use Rattle.tree_paths.specs.Paths.{names_of, parsed};
 

@@ -1,5 +1,5 @@
 //! Laws of the definitions, over all watches.
-ghost use Rattle.std.specs.Prelude.{◌≡◌, ◌↔◌, ◌≤◌, ℕ, ℤ, Bool, Some, None};
+ghost use Rattle.std.specs.Prelude.{◌≡◌, ◌↔◌, ℕ, ℤ, Bool, Some, None};
 ghost use Rattle.tree_paths.specs.declared.limits.Limits.{Limits};
 ghost use Rattle.watch_table.specs.Watching.{HasEnded, IsSound, Watching, added, add_refusal, dropped, no_watches, number_of, removed, wd_of};
 

@@ -1,5 +1,5 @@
 //! The watches of an instance.
-ghost use Rattle.std.specs.Prelude.{◌≡◌, ◌⊎◌, ℕ, ℤ, pos, false, Some, None, Ok, Err, IfOk, IfErr, OnOk, OnErr, OnSome, IfNone, IsErr, IsNone, IsTrue, ◌↔◌};
+ghost use Rattle.std.specs.Prelude.{◌≡◌, ◌⊎◌, ℕ, pos, false, Some, None, Ok, Err, IfOk, IfErr, OnOk, OnErr, OnSome, IfNone, IsErr, IsNone, IsTrue, ◌↔◌};
 ghost use Rattle.std.specs.FinMap as map;
 ghost use Rattle.std.specs.Map.Iter.{ShowsInOrder, deref};
 ghost use Rattle.tree_paths.specs.declared.refusal.Refusal.{Refusal};

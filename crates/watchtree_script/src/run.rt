@@ -1,6 +1,6 @@
 //! Runs of scripts.
 
-ghost use Rattle.std.specs.Prelude.{◌≡◌, ◌<◌, ◌≤◌, [], ℕ, List, Some, IfOk, OnOk, OnErr, IfErr, IfSome, Ok, length, take};
+ghost use Rattle.std.specs.Prelude.{◌≡◌, ◌<◌, [], ℕ, List, Some, IfOk, OnOk, OnErr, IfErr, IfSome, Ok, take};
 ghost use Rattle.std.specs.List.{list_all};
 ghost use Rattle.record_codec.specs.Ports.{inner_of, faults_of};
 ghost use Rattle.tree_core.specs.Calls.{IsSpelled};

@@ -1,6 +1,6 @@
 //! The changes of a table by keys. Each states the new paths and nodes, and the new world.
 
-ghost use Rattle.std.specs.Prelude.{◌≡◌, ◌≢◌, ◌+◌, ◌^◌, ◌<◌, ◌≤◌, ◌++◌, ◌∷◌, ℕ, List, [], Some, None, false, true, IfSome, IfOk, OnOk, OnErr, IsSome, length};
+ghost use Rattle.std.specs.Prelude.{◌≡◌, ◌≢◌, ◌+◌, ◌^◌, ◌<◌, ◌≤◌, ◌++◌, ◌∷◌, ℕ, List, [], Some, None, false, IfSome, IfOk, OnOk, OnErr, IsSome, length};
 ghost use Rattle.inode_table.specs.Rows.{Label, What};
 ghost use Rattle.inode_table.specs.Tree.{at, what_at};
 

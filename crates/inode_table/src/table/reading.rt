@@ -1,6 +1,6 @@
 //! What stands at a node. None of these calls takes memory.
 
-ghost use Rattle.std.specs.Prelude.{◌≡◌, List, Some, None, IfOk, IfErr, IsSome};
+ghost use Rattle.std.specs.Prelude.{◌≡◌, List, Some, None, IsSome};
 ghost use Rattle.std.specs.Option.{option_map, IsSomeAnd};
 ghost use Rattle.std.specs.FinMap as finmap;
 ghost use Rattle.std.specs.List.Sorted.{IsStrictlySortedBy};
@@ -17,8 +17,7 @@ use std::collections::btree_map::Keys;
 use tree_paths::Refusal;
 
 impl Table {
-    ghost use Rattle.inode_table.specs.World.{AreNamesOf, links, look};
-    ghost use Rattle.inode_table.specs.Refusals.{find};
+    ghost use Rattle.inode_table.specs.World.{AreNamesOf, links};
     ghost use Rattle.inode_table.specs.TableWorld.{number_of, world_of, file_under};
     ghost use Rattle.inode_table.specs.Stands.{seen_at};
 

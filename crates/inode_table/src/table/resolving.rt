@@ -17,7 +17,7 @@ impl Table {
     ghost use Rattle.inode_table.specs.World.{look};
     ghost use Rattle.inode_table.specs.Refusals.{find, parent_of};
     ghost use Rattle.inode_table.specs.Resolution.{IsFound, IsResolved};
-    ghost use Rattle.inode_table.specs.Stands.{look_in, seen_at};
+    ghost use Rattle.inode_table.specs.Stands.{look_in};
     ghost use Rattle.inode_table.specs.TableWorld.{number_of, world_of};
 
     /// Finds what stands at a path and in the directory of its last name, by one walk.

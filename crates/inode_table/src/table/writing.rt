@@ -2,8 +2,7 @@
 //!
 //! A write in place is `reserve_content` and then `write`, which takes no memory: n bytes at the end of a file cost n, amortised.
 
-ghost use Rattle.std.specs.Prelude.{◌≡◌, ℕ, List, Option, OnOk, OnErr, IfErr, false, IsSome, ◌+◌, ◌<◌, ◌≤◌, length};
-ghost use Rattle.inode_table.specs.Rows.{Label};
+ghost use Rattle.std.specs.Prelude.{◌≡◌, ℕ, OnOk, OnErr, IfErr, false, IsSome, ◌+◌, ◌<◌, ◌≤◌, length};
 ghost use Rattle.inode_table.specs.Bytes.{resized, written};
 
 use super::Table;

@@ -28,7 +28,7 @@ loop-notice-preserved c =
     let more = raised (fold removed w c.loop-notice.wds.items) c.notice-item.result in
     let left = fold removed w c.loop-notice.wds.items in
     let n = c.notice-item.result in
-    let at : c.watch_left-watch.result ≡ watch_of left (told_number n) = c.watch_left-watch.ensures.watch ∙ (λ k. watch_of (fold removed w (c.deref.ensures.value k)) (c.number.ensures k)) in
+    let at : c.watch_left-watch.result ≡ watch_of left (told_number n) = c.watch_left-watch.ensures.watch ∙ (λ k. watch_of (fold removed w (c.deref.ensures.value k)) (c.number-in-loop-notice.ensures k)) in
     let raises = raised_by left n c.watch_left-watch.result at in
     let ends = ended_with left n c.watch_left-watch.result at in
     record {

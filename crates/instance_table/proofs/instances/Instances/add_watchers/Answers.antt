@@ -1,31 +1,47 @@
-use Rattle.std.proofs.Common.{◌≡◌, ℕ, Bool, true, false, ◌||◌, eqb, is_some, Option, Some, None, refl, ap, ◌∙◌}
-use Rattle.std.specs.Prelude.{IfSome}
+use Rattle.std.proofs.Common.{◌≡◌, ℕ, Bool, true, false, ◌||◌, eqb, is_some, List, [], ◌∷◌, Option, refl, sym, ap, ◌∙◌}
+use Rattle.std.specs.Prelude.{Result, Ok, Err, OnOk}
 use Rattle.std.specs.FinMap as map
 use Rattle.std.specs.List.{list_any}
-use Rattle.instance_table.specs.Added.{WatchersAreIn}
-use Rattle.instance_table.specs.Ids.{IdSet}
-use Rattle.instance_table.specs.Instances.{Instances, instance_of, watches_file}
+use Rattle.event_rules.specs.declared.notice.Notice.{Notice}
+use Rattle.event_rules.specs.Raised.{told_number}
+use Rattle.instance_table.specs.declared.instance.Instance.{Instance}
+use Rattle.instance_table.specs.Instances.{instance_of, watches_file}
+use Rattle.instance_table.proofs.Indexed.{is-same}
 use Rattle.instance_table.proofs.Watchers.{any-watchers}
 use Rattle.instance_table.proofs.instances.Instances.add_watchers.Goals as goal
 
-also : (a b : Bool) → b ≡ true → (a || b) ≡ true
-also true b h = refl
-also false b h = h
+abbrev hears : Option Instance → Notice → Bool
+hears o n = watches_file (told_number n) o
 
-stay : (m : Instances) (ids more : IdSet) (file : Option ℕ) → ((q : ℕ) → is_some (map.get ids q) ≡ true → is_some (map.get more q) ≡ true) → IfSome file (WatchersAreIn m ids) → IfSome file (WatchersAreIn m more)
-stay m ids more None kept h = tt
-stay m ids more (Some number) kept h = λ q watches. kept q (h q watches)
+-- who watches a file hears the notices of which one tells it
+told-hears : (number : ℕ) (o : Option Instance) (ns : List Notice) → list_any (λ (n : Notice). eqb (told_number n) number) ns ≡ true → (watches_file number o || list_any (hears o) ns) ≡ list_any (hears o) ns
+told-hears number o [] told = absurd (Rattle.std.proofs.lemmas.Bool.false≢true told)
+told-hears number o (n ∷ ns) told =
+    elim (eqb (told_number n) number) as (λ b. eqb (told_number n) number ≡ b → (b || list_any (λ (x : Notice). eqb (told_number x) number) ns) ≡ true → (watches_file number o || (hears o n || list_any (hears o) ns)) ≡ (hears o n || list_any (hears o) ns)) [
+      | true ↦ λ same _. ap (λ k. watches_file k o || (hears o n || list_any (hears o) ns)) (sym (is-same (told_number n) number same)) ∙ twice (hears o n) (list_any (hears o) ns)
+      | false ↦ λ _ rest. past (watches_file number o) (hears o n) (list_any (hears o) ns) (told-hears number o ns rest)
+    ] refl told
+  where
+    twice : (a b : Bool) → (a || (a || b)) ≡ (a || b)
+    twice true b = refl
+    twice false b = refl
 
-pub returns-clause-ids : goal.returns-clause-ids
-returns-clause-ids c q =
-    c.in_ok-add_all.ensures q
-    ∙ ap (λ b. b || is_some (map.get c.args.ids.now q)) (ap (list_any (λ id. eqb q id)) c.watchers.ensures ∙ any-watchers c.args.self.now c.args.number q)
+    past : (w a b : Bool) → (w || b) ≡ b → (w || (a || b)) ≡ (a || b)
+    past true true b h = refl
+    past true false b h = h
+    past false a b h = refl
 
-pub returns-clause-added : goal.returns-clause-added
-returns-clause-added c =
-    let m = c.args.self.now in
-    let put = λ (q : ℕ). c.in_ok-add_all.ensures q ∙ ap (λ b. b || is_some (map.get c.args.ids.now q)) (ap (list_any (λ id. eqb q id)) c.watchers.ensures ∙ any-watchers m c.args.number q) in
-    record {
-      last = λ q watches. put q ∙ ap (λ b. b || is_some (map.get c.args.ids.now q)) watches;
-      before = stay m c.args.ids.now c.add_all.new.ids c.args.added.now.last (λ q there. put q ∙ also (watches_file c.args.number (instance_of m q)) (is_some (map.get c.args.ids.now q)) there) c.requires.last;
-    }
+pub returns-then-is_told_of_late : goal.returns-then-is_told_of_late
+returns-then-is_told_of_late c q =
+    let o = instance_of c.args.self.now q in
+    c.requires q ∙ sym (told-hears c.args.number o c.args.told.now (c.is_told_of_late.ensures c.if-is_told_of_late.true)) ∙ ap (λ b. watches_file c.args.number o || b) (sym (c.requires q))
+
+OnOk-then : {T E : Type 0} {P Q : Type 0} (r : Result T E) → (P → Q) → OnOk r P → OnOk r Q
+OnOk-then (Ok x) f h = f h
+OnOk-then (Err e) f h = h
+
+pub returns : goal.returns
+returns c =
+    OnOk-then c.add_all.result
+    (λ puts q. puts q ∙ ap (λ b. b || is_some (map.get c.args.ids.now q)) (ap (list_any (λ id. eqb q id)) c.watchers.ensures ∙ any-watchers c.args.self.now c.args.number q))
+    c.add_all.ensures

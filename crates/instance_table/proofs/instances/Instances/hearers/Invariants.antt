@@ -3,12 +3,8 @@ use Rattle.std.specs.FinMap as map
 use Rattle.std.specs.List.{list_any}
 use Rattle.event_rules.specs.declared.notice.Notice.{Notice}
 use Rattle.event_rules.specs.Raised.{told_number}
-use Rattle.instance_table.specs.Added.{AreAdded}
 use Rattle.instance_table.specs.Instances.{instance_of, watches_file}
 use Rattle.instance_table.proofs.instances.Instances.hearers.Given as goal
 
-abbrev pub invariant-loop-notice : goal.invariant-loop-notice
-invariant-loop-notice l = record {
-  heard : (q : ℕ) → is_some (map.get l.ids q) ≡ list_any (λ (n : Notice). watches_file (told_number n) (instance_of l.self q)) (take l.notice-index l.notices);
-  added : AreAdded l.self l.added l.ids;
-}
+abbrev pub invariant-loop-place : goal.invariant-loop-place
+invariant-loop-place l = (q : ℕ) → is_some (map.get l.ids q) ≡ list_any (λ (n : Notice). watches_file (told_number n) (instance_of l.self q)) (take l.place l.notices)
