@@ -136,7 +136,9 @@ fn is_told_of_late(notices: &[Notice], number: u32) -> bool
     ensures { IsTrue result → list_any (λ n. told_number n == number) notices.now ≡ true }
 {
     let late = notices.len().saturating_sub(2);
-    notices[late..].iter().any(|notice| notice.number() == number)
+    notices[late..]
+        .iter()
+        .any(|notice| notice.number() == number)
 }
 
 // Puts numbers in.
