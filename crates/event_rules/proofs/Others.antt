@@ -121,13 +121,13 @@ module _ (P : ℤ → Type 0) (watch : Watch) (holds : P watch.0) where
   told-All (Told number bits cookie name) = if-All (asks_for watch bits) (record { wd = watch.0; mask = bits; cookie = cookie; name = name }) holds
   told-All (Gone number) = All-nil (λ (x : Event). P x.wd)
 
-  pub raised_by-All : (n : Notice) → All (λ (x : Event). P x.wd) (raised_at n (Some watch))
-  raised_by-All n = All-append (λ (x : Event). P x.wd) (event_told n watch) (where_ended n watch (ignored watch.0 ∷ [])) (told-All n) (if-All (ends_watch n watch) (ignored watch.0) holds)
+  pub raised_at-All : (n : Notice) → All (λ (x : Event). P x.wd) (raised_at n (Some watch))
+  raised_at-All n = All-append (λ (x : Event). P x.wd) (event_told n watch) (where_ended n watch (ignored watch.0 ∷ [])) (told-All n) (if-All (ends_watch n watch) (ignored watch.0) holds)
 
 module _ (P : ℤ → Type 0) (w : Watching) (n : Notice) where
   raised-All-by : (o : Option Watch) → ((watch : Watch) → o ≡ Some watch → P watch.0) → All (λ (x : Event). P x.wd) (raised_at n o)
   raised-All-by None h = All-nil (λ (x : Event). P x.wd)
-  raised-All-by (Some watch) h = raised_by-All P watch (h watch refl) n
+  raised-All-by (Some watch) h = raised_at-All P watch (h watch refl) n
 
   pub raised-All : ((watch : Watch) → watch_of w (told_number n) ≡ Some watch → P watch.0) → All (λ (x : Event). P x.wd) (raised w n)
   unfolding raised

@@ -7,7 +7,7 @@ use Rattle.std.specs.Cmp.{nat_cmp_total, signed_Decides, tied_itself, int_eq_equ
 use Rattle.std.specs.Ordering.{nat_cmp, int_eq, eq_by_cmp, is_eq}
 use Rattle.std.specs.declared.cmp.Ordering.TheVariants.{Less, Equal, Greater}
 use Rattle.std.proofs.lemmas.List.Sums.{fold-append}
-use Rattle.watch_table.specs.Watching.{IsSound, Watch, Watching, dropped, has_wd, number_of, removed, watch_of, wd_of, without}
+use Rattle.watch_table.specs.Watching.{IsSound, Watch, Watching, dropped, has_wd, watched_by, removed, watch_of, wd_of, without}
 use Rattle.event_rules.specs.declared.notice.Notice.{Notice}
 use Rattle.event_rules.specs.Raised.{told_number, ends_watch, ended, ended_by, left, left_by, watches_after, wds_ended}
 use Rattle.event_rules.specs.Laws.{watch_without}
@@ -85,7 +85,7 @@ module _ (P : Watching → Type 0) (w : Watching) (n : Notice) (all : P w) (othe
 
 -- what is known of sound watches
 pub record Known : Type 0 where
-  pub tells : (w : Watching) (wd : ℤ) (number : ℕ) → IsSound w → (number_of w wd ≡ Some number) ↔ (wd_of w number ≡ Some wd)
+  pub tells : (w : Watching) (wd : ℤ) (number : ℕ) → IsSound w → (watched_by w wd ≡ Some number) ↔ (wd_of w number ≡ Some wd)
   pub after_removed : (w : Watching) (wd : ℤ) → IsSound w → IsSound (removed w wd)
   pub after_dropped : (w : Watching) (number : ℕ) → IsSound w → IsSound (dropped w number)
 
@@ -118,7 +118,7 @@ module _ (known : Known) where
   pub removed-dropped : (w : Watching) (number : ℕ) (watch : Watch) → IsSound w → watch_of w number ≡ Some watch → removed w watch.0 ≡ dropped w number
   removed-dropped w number watch sound there = ap (without w) ((known.tells w watch.0 number sound).1 (wd-of w number watch there))
 
-  watch-removed-by : (w : Watching) (wd : ℤ) (n : ℕ) (o : Option ℕ) → IsSound w → number_of w wd ≡ o → watch_of (without w o) n ≡ unless_of wd (watch_of w n)
+  watch-removed-by : (w : Watching) (wd : ℤ) (n : ℕ) (o : Option ℕ) → IsSound w → watched_by w wd ≡ o → watch_of (without w o) n ≡ unless_of wd (watch_of w n)
   watch-removed-by w wd n None sound is =
       let off : has_wd wd (watch_of w n) ≡ false = has_wd-none wd (watch_of w n) (λ h. some_none is ((known.tells w wd n sound).1 h)) in
       ap (λ b. if b then None else watch_of w n) (sym off)
@@ -140,7 +140,7 @@ module _ (known : Known) where
   watch-removed w [] n sound = sym (watch_without-none (watch_of w n))
   watch-removed w (wd ∷ wds) n sound =
       watch-removed (removed w wd) wds n (known.after_removed w wd sound)
-      ∙ ap (watch_without wds) (watch-removed-by w wd n (number_of w wd) sound refl)
+      ∙ ap (watch_without wds) (watch-removed-by w wd n (watched_by w wd) sound refl)
       ∙ watch_without-cons wd wds (watch_of w n)
 
   -- ---- the watches that notices leave

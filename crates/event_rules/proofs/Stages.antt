@@ -35,9 +35,9 @@ module _ (w : Watching) (left_by_removals : (ns : List Notice) → fold removed 
       is ∙ (λ j. was j ++ ended (there j) n) ∙ sym (ap (wds_ended w) more ∙ wds_ended-push w (take i ns) n)
 
 -- what a notice raises, and the watch that it ends, by the watch of its file
-pub raised_by : (w : Watching) (n : Notice) (o : Option Watch) → o ≡ watch_of w (told_number n) → raised_at n o ≡ raised w n
+pub raised_with : (w : Watching) (n : Notice) (o : Option Watch) → o ≡ watch_of w (told_number n) → raised_at n o ≡ raised w n
 unfolding raised
-raised_by w n o is = ap (raised_at n) is
+raised_with w n o is = ap (raised_at n) is
 
 pub ended_with : (w : Watching) (n : Notice) (o : Option Watch) → o ≡ watch_of w (told_number n) → ended_by n o ≡ ended w n
 unfolding ended

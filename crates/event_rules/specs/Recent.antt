@@ -5,9 +5,9 @@ use Rattle.event_rules.specs.declared.recent.Found.{Found}
 use Rattle.event_rules.specs.declared.recent.Recent.{Recent}
 
 -- it is the watch of the file
-abbrev pub IsFound : Watching → Found → Type 0
-IsFound w found = found.watch ≡ watch_of w found.number
+abbrev pub IsWatchOf : Watching → Found → Type 0
+IsWatchOf w found = found.watch ≡ watch_of w found.number
 
 pub record AreFound (w : Watching) (r : Recent) : Type 0 where
-  pub last : IsFound w r.last
-  pub before : IsFound w r.before
+  pub last : IsWatchOf w r.last
+  pub before : IsWatchOf w r.before

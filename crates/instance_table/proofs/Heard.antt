@@ -18,7 +18,8 @@ use Rattle.event_rules.specs.Raised.{events_of, told_number, watches_after}
 use Rattle.instance_table.specs.declared.instance.Instance.{Instance}
 use Rattle.instance_table.specs.declared.staging.Staging.{Staging}
 use Rattle.instance_table.specs.Instances.{Instances, NobodyWatches, instance_of, changed, all_changed, told, watches_file}
-use Rattle.instance_table.specs.Staging.{IsStaged, ended_all, ends, heard_all, hears, wds_to}
+use Rattle.instance_table.specs.Heard.{ended_all, ends, heard_all, hears}
+use Rattle.instance_table.specs.Staging.{IsStaged, wds_to}
 use Rattle.instance_table.proofs.Indexed.{changed-there, changed-none, changed-not, changed-twice, get-put, is-same}
 
 -- ---- what an instance is after a change

@@ -17,7 +17,7 @@ use Rattle.instance_table.specs.Index.{HasNoEmptyRow, is_noted}
 use Rattle.instance_table.specs.Instances.{Instances, WaitingAreEvents, instance_of, changed, waiting_of, watches_file}
 use Rattle.instance_table.specs.declared.opened.Opened.{Opened}
 use Rattle.instance_table.specs.Ids.{IsPlace}
-use Rattle.instance_table.specs.Opened.{by_number, numbers_of}
+use Rattle.instance_table.specs.Opened.{by_number, ids_of}
 use Rattle.instance_table.specs.Views.{instances_of, NotesEveryWatch}
 use Rattle.instance_table.proofs.Rising.{entries-rising, get-absent, get-at, length-keys, cut-absent, map-cut, map-put, map-set, rises-cut, rises-put, rises-set}
 use Rattle.std.proofs.lemmas.List.{get_or-map}
@@ -103,20 +103,20 @@ waiting-cut m id all q = subst (λ o. AreEvents (waiting_of o)) (sym (get-cut m 
 
 -- ---- the rows
 
-module _ (rows : List Opened) (id place : ℕ) (rising : IsStrictlySortedBy nat_cmp (numbers_of rows)) (at : IsPlace (numbers_of rows) id (Ok place)) where
+module _ (rows : List Opened) (id place : ℕ) (rising : IsStrictlySortedBy nat_cmp (ids_of rows)) (at : IsPlace (ids_of rows) id (Ok place)) where
   -- the instance at the place of a number
   pub instance-at : (row : Opened) → row ≡ get_or rows place row → instance_of (by_number rows) id ≡ Some row.instance
   instance-at row e = get-at (λ (o : Opened). o.id) (λ (o : Opened). o.instance) rows place id row rising at.0 at.1 ∙ ap (λ (o : Opened). Some o.instance) (sym e)
 
   -- another instance at the place of a number
   module _ (row : Opened) (same : row.id ≡ id) where
-    numbered : get_or (numbers_of rows) place 0 ≡ row.id
+    numbered : get_or (ids_of rows) place 0 ≡ row.id
     numbered = at.1 ∙ sym same
 
     pub rows-set : by_number (set rows place row) ≡ map.insert (by_number rows) id row.instance
     rows-set = map-set (λ (o : Opened). o.id) (λ (o : Opened). o.instance) rows place row rising at.0 numbered ∙ ap (λ n. map.insert (by_number rows) n row.instance) same
 
-    pub numbers-set : IsStrictlySortedBy nat_cmp (numbers_of (set rows place row))
+    pub numbers-set : IsStrictlySortedBy nat_cmp (ids_of (set rows place row))
     numbers-set = rises-set (λ (o : Opened). o.id) (λ (o : Opened). o.instance) rows place row rising numbered
 
   pub number-at : (row : Opened) → row ≡ get_or rows place row → row.id ≡ id
@@ -126,7 +126,7 @@ module _ (rows : List Opened) (id place : ℕ) (rising : IsStrictlySortedBy nat_
   rows-cut = map-cut (λ (o : Opened). o.id) (λ (o : Opened). o.instance) rows place id rising at.0 at.1
 
 -- at the place of a number is an instance
-some-at : (rows : List Opened) (id place : ℕ) → IsStrictlySortedBy nat_cmp (numbers_of rows) → IsPlace (numbers_of rows) id (Ok place) → instance_of (by_number rows) id ≡ None → ⊥
+some-at : (rows : List Opened) (id place : ℕ) → IsStrictlySortedBy nat_cmp (ids_of rows) → IsPlace (ids_of rows) id (Ok place) → instance_of (by_number rows) id ≡ None → ⊥
 some-at [] id place rising at free = omega (arith, at.0)
 some-at (row ∷ rows) id place rising at free =
     false≢true (ap is_some (sym free ∙ get-at (λ (o : Opened). o.id) (λ (o : Opened). o.instance) (row ∷ rows) place id row rising at.0 at.1))
@@ -199,7 +199,7 @@ module _ (a : Inside) (whole : NotesEveryWatch a) (id : ℕ) (i : Instance) (was
 
 -- ---- the fields
 
-module _ (a b : Inside) (whole : NotesEveryWatch a) (rising : IsStrictlySortedBy nat_cmp (numbers_of b.opened.items)) (rows : HasNoEmptyRow b.index) where
+module _ (a b : Inside) (whole : NotesEveryWatch a) (rising : IsStrictlySortedBy nat_cmp (ids_of b.opened.items)) (rows : HasNoEmptyRow b.index) where
   -- one instance has changed
   module _ (id : ℕ) (i j : Instance) (was : instance_of (instances_of a) id ≡ Some i) (put : instances_of b ≡ map.insert (instances_of a) id j) (events : AreEvents j.queue.waiting) where
     -- its watches have changed as the index has
@@ -269,19 +269,19 @@ entries-opened a whole = entries-rising (λ (o : Opened). o.id) (λ (o : Opened)
 
 module _ (a : Inside) (whole : NotesEveryWatch a) (id : ℕ) (seen : List Opened) (is : seen ≡ a.opened.items) where
   -- none is there
-  pub absent : (i : ℕ) → IsPlace (numbers_of seen) id (Err i) → instance_of (instances_of a) id ≡ None
+  pub absent : (i : ℕ) → IsPlace (ids_of seen) id (Err i) → instance_of (instances_of a) id ≡ None
   absent i place = subst (λ rows. instance_of (by_number rows) id ≡ None) is (get-absent (λ (o : Opened). o.id) (λ (o : Opened). o.instance) seen i id place)
 
   -- so nothing changes, and there is nothing to close
-  pub nothing-closed : (i : ℕ) → IsPlace (numbers_of seen) id (Err i) → (m : Instances) → instances_of a ≡ m → m ≡ map.remove m id
+  pub nothing-closed : (i : ℕ) → IsPlace (ids_of seen) id (Err i) → (m : Instances) → instances_of a ≡ m → m ≡ map.remove m id
   nothing-closed i place m view = sym (cut-absent m id (ap (λ x. instance_of x id) (sym view) ∙ absent i place))
 
-  pub unchanged : (i : ℕ) → IsPlace (numbers_of seen) id (Err i) → (m : Instances) → instances_of a ≡ m → (change : Instance → Instance) → m ≡ changed m id change
+  pub unchanged : (i : ℕ) → IsPlace (ids_of seen) id (Err i) → (m : Instances) → instances_of a ≡ m → (change : Instance → Instance) → m ≡ changed m id change
   unchanged i place m view change = sym (changed-none m id change (ap (λ x. instance_of x id) (sym view) ∙ absent i place))
 
-  module _ (place : ℕ) (at : IsPlace (numbers_of seen) id (Ok place)) where
-    at-rows : IsPlace (numbers_of a.opened.items) id (Ok place)
-    at-rows = subst (λ rows. IsPlace (numbers_of rows) id (Ok place)) is at
+  module _ (place : ℕ) (at : IsPlace (ids_of seen) id (Ok place)) where
+    at-rows : IsPlace (ids_of a.opened.items) id (Ok place)
+    at-rows = subst (λ rows. IsPlace (ids_of rows) id (Ok place)) is at
 
     pub taken : instance_of (instances_of a) id ≡ None → ⊥
     taken = some-at a.opened.items id place whole.rising at-rows
@@ -300,7 +300,7 @@ module _ (a : Inside) (whole : NotesEveryWatch a) (id : ℕ) (seen : List Opened
         pub put : instances_of with_instance ≡ map.insert (instances_of a) id j
         put = rows-set a.opened.items id place whole.rising at-rows (record row { instance = j }) same-number
 
-        still-rising : IsStrictlySortedBy nat_cmp (numbers_of with_instance.opened.items)
+        still-rising : IsStrictlySortedBy nat_cmp (ids_of with_instance.opened.items)
         still-rising = numbers-set a.opened.items id place whole.rising at-rows (record row { instance = j }) same-number
 
         -- the instances after a change of it
@@ -320,9 +320,9 @@ module _ (a : Inside) (whole : NotesEveryWatch a) (id : ℕ) (seen : List Opened
             (subst (λ (q : Backlog). AreEvents q.waiting) (sym queue) (events-at a whole id row.instance there)) noted
 
   -- a new one, at its place
-  module _ (i : ℕ) (place : IsPlace (numbers_of seen) id (Err i)) (j : Instance) (b : Inside) (with : b.opened.items ≡ take i a.opened.items ++ record { id = id; instance = j } ∷ drop i a.opened.items) where
-    free-place : IsPlace (numbers_of a.opened.items) id (Err i)
-    free-place = subst (λ rows. IsPlace (numbers_of rows) id (Err i)) is place
+  module _ (i : ℕ) (place : IsPlace (ids_of seen) id (Err i)) (j : Instance) (b : Inside) (with : b.opened.items ≡ take i a.opened.items ++ record { id = id; instance = j } ∷ drop i a.opened.items) where
+    free-place : IsPlace (ids_of a.opened.items) id (Err i)
+    free-place = subst (λ rows. IsPlace (ids_of rows) id (Err i)) is place
 
     pub instances_of-new : instances_of b ≡ map.insert (instances_of a) id j
     instances_of-new = ap by_number with ∙ map-put (λ (o : Opened). o.id) (λ (o : Opened). o.instance) a.opened.items i (record { id = id; instance = j }) free-place
@@ -330,12 +330,12 @@ module _ (a : Inside) (whole : NotesEveryWatch a) (id : ℕ) (seen : List Opened
     pub NotesEveryWatch-new : b.index ≡ a.index → ((n : ℕ) → watch_of j.watches n ≡ None) → AreEvents j.queue.waiting → NotesEveryWatch b
     NotesEveryWatch-new index none events =
         IsIndexed-new a b whole
-        (subst (λ rows. IsStrictlySortedBy nat_cmp (numbers_of rows)) (sym with)
+        (subst (λ rows. IsStrictlySortedBy nat_cmp (ids_of rows)) (sym with)
         (rises-put (λ (o : Opened). o.id) (λ (o : Opened). o.instance) a.opened.items i (record { id = id; instance = j }) whole.rising free-place))
         (subst HasNoEmptyRow (sym index) whole.rows) id j instances_of-new (absent i place) none events index
 
   -- one less
-  module _ (place : ℕ) (at : IsPlace (numbers_of seen) id (Ok place)) (b : Inside) (cut : b.opened.items ≡ take place a.opened.items ++ drop (suc place) a.opened.items) where
+  module _ (place : ℕ) (at : IsPlace (ids_of seen) id (Ok place)) (b : Inside) (cut : b.opened.items ≡ take place a.opened.items ++ drop (suc place) a.opened.items) where
     pub instances_of-closed : (m : Instances) → instances_of a ≡ m → instances_of b ≡ map.remove m id
     instances_of-closed m view = ap by_number cut ∙ rows-cut a.opened.items id place whole.rising (at-rows place at) ∙ ap (λ x. map.remove x id) view
 
@@ -343,7 +343,7 @@ module _ (a : Inside) (whole : NotesEveryWatch a) (id : ℕ) (seen : List Opened
         → ((n q : ℕ) → is_noted b.index n q ≡ (not (is_some (watch_of row.instance.watches n) && eqb q id) && is_noted a.index n q)) → HasNoEmptyRow b.index → NotesEveryWatch b
     NotesEveryWatch-closed row e forgotten rows =
         IsIndexed-closed a b whole
-        (subst (λ rows. IsStrictlySortedBy nat_cmp (numbers_of rows)) (sym cut) (rises-cut (λ (o : Opened). o.id) (λ (o : Opened). o.instance) a.opened.items place whole.rising))
+        (subst (λ rows. IsStrictlySortedBy nat_cmp (ids_of rows)) (sym cut) (rises-cut (λ (o : Opened). o.id) (λ (o : Opened). o.instance) a.opened.items place whole.rising))
         rows id row.instance (instances_of-closed (instances_of a) refl) (there place at row e) forgotten
 
 -- the same rows
@@ -352,7 +352,7 @@ NotesEveryWatch-same a b whole rows index = record {
   noted = λ n q. ap (λ x. is_noted x n q) index ∙ whole.noted n q ∙ sym (ap (λ os. watches_file n (instance_of (by_number os) q)) rows);
   rows = subst HasNoEmptyRow (sym index) whole.rows;
   records = subst (λ os. WaitingAreEvents (by_number os)) (sym rows) whole.records;
-  rising = subst (λ os. IsStrictlySortedBy nat_cmp (numbers_of os)) (sym rows) whole.rising;
+  rising = subst (λ os. IsStrictlySortedBy nat_cmp (ids_of os)) (sym rows) whole.rising;
 }
 
 -- two changes of one instance, one after the other

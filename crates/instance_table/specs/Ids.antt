@@ -1,4 +1,4 @@
--- Sets of numbers of instances.
+-- Sets of numbers of instances. No public clause cites this module.
 use Rattle.std.specs.Prelude.{◌≡◌, ◌<◌, ◌≤◌, ℕ, List, MatchResult, Result, length, map, slice_index_or}
 use Rattle.std.specs.FinMap.{FinMap, from_entries}
 use Rattle.std.specs.Ordering.{nat_cmp}

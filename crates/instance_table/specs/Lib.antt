@@ -5,4 +5,5 @@ pub mod Opened
 pub mod Codes
 pub mod Views
 pub mod Staging
+pub mod Heard
 pub mod Rows

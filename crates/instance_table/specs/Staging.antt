@@ -3,14 +3,13 @@ use Rattle.std.specs.Prelude.{◌≡◌, ℕ, ℤ, ◌==◌, List, Some, map, fo
 use Rattle.std.specs.List.{filter}
 use Rattle.record_codec.specs.declared.event.Event.{Event}
 use Rattle.watch_table.specs.Watching.{removed}
-use Rattle.event_queue.specs.Backlogs.{after_offer}
 use Rattle.event_rules.specs.declared.notice.Notice.{Notice}
 use Rattle.event_rules.specs.declared.staging.StagedEvent.{StagedEvent}
 use Rattle.event_rules.specs.declared.staging.StagedEnd.{StagedEnd}
 use Rattle.event_rules.specs.Raised.{events_of, watches_after}
 use Rattle.instance_table.specs.declared.instance.Instance.{Instance}
 use Rattle.instance_table.specs.declared.staging.Staging.{Staging}
-use Rattle.instance_table.specs.Instances.{Instances, changed, instance_of}
+use Rattle.instance_table.specs.Instances.{Instances, instance_of}
 
 -- the events that an instance hears
 abbrev pub events_to : ℕ → List StagedEvent → List Event
@@ -24,17 +23,3 @@ wds_to id ds = map (λ d. d.wd) (filter (λ d. id == d.id) ds)
 pub record IsStaged (m : Instances) (ns : List Notice) (s : Staging) : Type 0 where
   pub events : (id : ℕ) (i : Instance) → instance_of m id ≡ Some i → events_to id s.staged.events.items ≡ events_of i.watches ns
   pub drops : (id : ℕ) (i : Instance) → instance_of m id ≡ Some i → fold removed i.watches (wds_to id s.staged.drops.items) ≡ watches_after i.watches ns
-
--- an instance that hears an event, and one of which a watch ends
-abbrev pub hears : StagedEvent → Instance → Instance
-hears h i = record i { queue = after_offer i.queue h.event }
-
-abbrev pub ends : StagedEnd → Instance → Instance
-ends d i = record i { watches = removed i.watches d.wd }
-
--- the instances once each event was heard, and once each of the watches ended
-abbrev pub heard_all : Instances → List StagedEvent → Instances
-heard_all m hs = fold (λ m h. changed m h.id (hears h)) m hs
-
-abbrev pub ended_all : Instances → List StagedEnd → Instances
-ended_all m ds = fold (λ m d. changed m d.id (ends d)) m ds

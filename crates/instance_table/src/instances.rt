@@ -10,7 +10,7 @@ ghost use Rattle.watch_table.specs.Masks.{mask_fault};
 ghost use Rattle.watch_table.specs.Watching.{add_refusal, added, removed, watch_of, wd_added};
 ghost use Rattle.instance_table.specs.Index.{HasNoEmptyRow, is_noted};
 ghost use Rattle.instance_table.specs.Rows.{instance_row};
-ghost use Rattle.instance_table.specs.Staging.{heard_all};
+ghost use Rattle.instance_table.specs.Heard.{heard_all};
 ghost use Rattle.instance_table.specs.Instances.{NobodyWatches, WaitingAreEvents, after_read, changed, instance_of, new_instance, unwatching, waiting_of, watchers_of, watching};
 
 use crate::index::Index;
@@ -89,7 +89,19 @@ impl Instances {
     pub fn get(&self, id: u32) -> Option<&Instance>
         ensures { option_copied result ≡ instance_of self.now id }
     {
-        self.get_next(id, &mut 0)
+        self.find(id, &mut 0)
+    }
+
+    /// The open instance of a number. The place is looked at first, and is then where the instance stands among the open ones:
+    /// a call for the same instance that is handed it need not search again. Any place gives the same answer.
+    pub fn find(&self, id: u32, place: &mut usize) -> Option<&Instance>
+        ensures { option_copied result ≡ instance_of self.now id }
+    {
+        let Ok(found) = place_of(&self.opened, id, *place) else {
+            return None;
+        };
+        *place = found;
+        Some(&self.opened[found].instance)
     }
 
     /// The numbers of the instances that watch a file, rising. It takes no memory.
@@ -146,23 +158,24 @@ impl Instances {
         }
     }
 
-    /// Closes an instance: its watches are gone, and what waited is given up. It takes no memory.
-    pub fn close(&mut self, id: u32)
+    /// Closes an instance: its watches are gone, and what waited is given up. It takes no memory. `place` is looked at first.
+    pub fn close(&mut self, id: u32, place: usize)
         ensures { self.new ≡ finmap.remove self.old id }
     {
-        let Ok(place) = place_of(&self.opened, id, 0) else {
+        let Ok(found) = place_of(&self.opened, id, place) else {
             return;
         };
-        let closed = self.opened.remove(place);
+        let closed = self.opened.remove(found);
         forget(&mut self.index, &closed.instance.watches, id);
     }
 
-    /// Watches a file for an instance, and answers the descriptor of the watch.
+    /// Watches a file for an instance, and answers the descriptor of the watch. `place` is looked at first.
     ///
     /// It is refused as [`Watches::add`] says; then all is as it was.
     pub fn watch(
         &mut self,
         id: u32,
+        place: usize,
         number: u32,
         mask: Mask,
         is_directory: bool,
@@ -175,12 +188,12 @@ impl Instances {
         ensures refusals { IfErr result (λ r. IfSome (instance_of self.old id) (λ i. (add_refusal i.watches number mask.0 is_directory ≡ Some r) ⊎ (r ≡ Enomem))) }
         ensures err { OnErr result (self.new ≡ self.old) }
     {
-        let Ok(place) = place_of(&self.opened, id, 0) else {
+        let Ok(found) = place_of(&self.opened, id, place) else {
             unreachable!()
         };
         add_noted(
             &mut self.index,
-            &mut self.opened[place].instance.watches,
+            &mut self.opened[found].instance.watches,
             id,
             number,
             mask,
@@ -188,35 +201,36 @@ impl Instances {
         )
     }
 
-    /// Ends the watch of a descriptor, and tells the instance so. It takes no memory.
-    pub fn unwatch(&mut self, id: u32, wd: i32)
+    /// Ends the watch of a descriptor, and tells the instance so. It takes no memory. `place` is looked at first.
+    pub fn unwatch(&mut self, id: u32, place: usize, wd: i32)
         ensures { self.new ≡ changed self.old id (unwatching wd) }
     {
-        self.end_watch(id, wd, &mut 0);
-        self.offer(id, ignored(wd));
+        let mut next = place;
+        self.end_watch(id, wd, &mut next);
+        self.offer(id, place, ignored(wd));
     }
 
-    /// Takes the oldest records out of an instance's queue. It takes no memory.
-    pub fn drop_oldest(&mut self, id: u32, count: usize)
+    /// Takes the oldest records out of an instance's queue. It takes no memory. `place` is looked at first.
+    pub fn drop_oldest(&mut self, id: u32, place: usize, count: usize)
         ensures { self.new ≡ changed self.old id (after_read count) }
     {
-        let Ok(place) = place_of(&self.opened, id, 0) else {
+        let Ok(found) = place_of(&self.opened, id, place) else {
             return;
         };
-        drop_oldest(&mut self.opened[place].instance.queue, count);
+        drop_oldest(&mut self.opened[found].instance.queue, count);
     }
 
     /// Moves the oldest records out of an instance's queue, behind those of a vector that has room for them. It takes no
-    /// memory.
-    pub fn move_oldest(&mut self, id: u32, count: usize, records: &mut Vec<Event>)
+    /// memory. `place` is looked at first.
+    pub fn move_oldest(&mut self, id: u32, place: usize, count: usize, records: &mut Vec<Event>)
         requires room { vec_len records.old + count ≤ vec_capacity records.old }
         ensures instances { self.new ≡ changed self.old id (after_read count) }
         ensures records { records.new.items ≡ records.old.items ++ take count (waiting_of (instance_of self.old id)) }
     {
-        let Ok(place) = place_of(&self.opened, id, 0) else {
+        let Ok(found) = place_of(&self.opened, id, place) else {
             return;
         };
-        move_oldest(&mut self.opened[place].instance.queue, count, records);
+        move_oldest(&mut self.opened[found].instance.queue, count, records);
     }
 
     // The open instance of a number. The place `next` is looked at first, and is then the one behind the instance.
@@ -248,14 +262,14 @@ impl Instances {
         offer_run(&mut self.opened[place].instance.queue, first, events);
     }
 
-    // Raises an event.
-    pub(crate) fn offer(&mut self, id: u32, event: Event)
+    // Raises an event. The place is looked at first.
+    pub(crate) fn offer(&mut self, id: u32, place: usize, event: Event)
         ensures { self.new ≡ changed self.old id (λ i. record i { queue = after_offer i.queue event }) }
     {
-        let Ok(place) = place_of(&self.opened, id, 0) else {
+        let Ok(found) = place_of(&self.opened, id, place) else {
             return;
         };
-        offer_one(&mut self.opened[place].instance.queue, event);
+        offer_one(&mut self.opened[found].instance.queue, event);
     }
 
     // Ends the watch of a descriptor, if there is one. The place `next` is looked at first, and is then the one behind the
@@ -268,7 +282,7 @@ impl Instances {
         };
         *next = place + 1;
         let watches = &mut self.opened[place].instance.watches;
-        let Some(number) = watches.number_of(wd) else {
+        let Some(number) = watches.watched_by(wd) else {
             return;
         };
         watches.drop_file(number);

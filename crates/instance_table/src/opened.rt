@@ -2,7 +2,7 @@
 ghost use Rattle.std.specs.List.Sorted.{IsStrictlySortedBy};
 ghost use Rattle.std.specs.Ordering.{nat_cmp};
 ghost use Rattle.instance_table.specs.Ids.{IsPlace};
-ghost use Rattle.instance_table.specs.Opened.{numbers_of};
+ghost use Rattle.instance_table.specs.Opened.{ids_of};
 
 use crate::instance::Instance;
 
@@ -17,8 +17,8 @@ pub(crate) struct Opened {
 // other.
 #[inline(always)]
 pub(crate) fn place_of(rows: &[Opened], id: u32, first: usize) -> Result<usize, usize>
-    requires { IsStrictlySortedBy nat_cmp (numbers_of rows.now) }
-    ensures { IsPlace (numbers_of rows.now) id result }
+    requires { IsStrictlySortedBy nat_cmp (ids_of rows.now) }
+    ensures { IsPlace (ids_of rows.now) id result }
 {
     if let Some(row) = rows.get(first)
         && row.id == id
@@ -31,8 +31,8 @@ pub(crate) fn place_of(rows: &[Opened], id: u32, first: usize) -> Result<usize, 
 // Where the instance of a number is, or else where it is put in. The last one is looked at first, as numbers mostly come
 // rising.
 fn find_row(rows: &[Opened], id: u32) -> Result<usize, usize>
-    requires { IsStrictlySortedBy nat_cmp (numbers_of rows.now) }
-    ensures { IsPlace (numbers_of rows.now) id result }
+    requires { IsStrictlySortedBy nat_cmp (ids_of rows.now) }
+    ensures { IsPlace (ids_of rows.now) id result }
 {
     match rows.last() {
         Some(last) if id <= last.id => rows.binary_search_by_key(&id, |row| row.id),

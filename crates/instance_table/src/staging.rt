@@ -12,7 +12,8 @@ ghost use Rattle.event_rules.specs.Staging.{staged_event};
 ghost use Rattle.record_codec.specs.declared.event.Event.{Event};
 ghost use Rattle.instance_table.specs.declared.instance.Instance.{Instance};
 ghost use Rattle.instance_table.specs.Instances.{all_changed, instance_of, told, watches_file};
-ghost use Rattle.instance_table.specs.Staging.{IsStaged, ended_all, events_to, heard_all, wds_to};
+ghost use Rattle.instance_table.specs.Heard.{ended_all, heard_all};
+ghost use Rattle.instance_table.specs.Staging.{IsStaged, events_to, wds_to};
 
 use crate::ids::Ids;
 use crate::instances::Instances;

@@ -41,7 +41,7 @@ fn watch(instances: &mut Instances, id: u32, number: u32, bits: u32) -> Result<i
     if instances.get(id).is_none() || mask.fault().is_some() {
         return Err(Refusal::Ebadf);
     }
-    instances.watch(id, number, mask, false)
+    instances.watch(id, 0, number, mask, false)
 }
 
 // A notice that is told of a file.
@@ -112,7 +112,7 @@ fn those_that_watch_hear(rt: HostRuntime) -> Result<(), Fail> {
         waits(&instances, 1, 0, 1, IN_CREATE) && waits(&instances, 2, 0, 1, IN_CREATE),
     );
     equal(&rt, waiting(&instances, 3), 0);
-    instances.drop_oldest(1, 1);
+    instances.drop_oldest(1, 0, 1);
     equal(&rt, waiting(&instances, 1), 0);
     equal(&rt, waiting(&instances, 2), 1);
     Ok(())
@@ -165,14 +165,14 @@ fn a_lost_file_ends_its_watches(rt: HostRuntime) -> Result<(), Fail> {
 fn who_stops_watching_is_forgotten(rt: HostRuntime) -> Result<(), Fail> {
     let alloc = rt.alloc();
     let mut instances = three(alloc)?;
-    instances.unwatch(2, 1);
+    instances.unwatch(2, 0, 1);
     holds(
         &rt,
         "waits(&instances, 2, 0, 1, IN_IGNORED)",
         waits(&instances, 2, 0, 1, IN_IGNORED),
     );
     equal(&rt, instances.watchers(FILE), [1].as_slice());
-    instances.close(1);
+    instances.close(1, 0);
     holds(
         &rt,
         "instances.watchers(FILE).is_empty()",

@@ -9,7 +9,7 @@ use Rattle.record_codec.specs.declared.event.Event.{Event}
 use Rattle.tree_paths.specs.Rows.{row, first_row}
 use Rattle.tree_paths.specs.declared.refusal.Refusal.{Refusal}
 use Rattle.tree_paths.specs.declared.refusal.Refusal.TheVariants.{Einval}
-use Rattle.watch_table.specs.Watching.{Watching, IsSound, number_of, wd_of}
+use Rattle.watch_table.specs.Watching.{Watching, IsSound, watched_by, wd_of}
 use Rattle.event_queue.specs.declared.offered.Offered.{Offered}
 use Rattle.event_queue.specs.declared.offered.Offered.TheVariants.{Kept, Merged, Marked, Lost}
 use Rattle.event_queue.specs.Backlogs.{Backlog, is_mark, overflow_mark, offered, joining, after_offer}
@@ -84,7 +84,7 @@ are-in-order (r ∷ rs) plain = kept-more r rs (All-head (λ (x : Raised). IsNoM
 pub record RaisedLaws : Type 0 where
   pub watches : WatchLaws
   pub events : (w : Watching) (ns : List Notice) → All (λ e. HasWatch w e.wd) (events_of w ns)
-  pub tells : (w : Watching) (wd : ℤ) (number : ℕ) → IsSound w → (number_of w wd ≡ Some number) ↔ (wd_of w number ≡ Some wd)
+  pub tells : (w : Watching) (wd : ℤ) (number : ℕ) → IsSound w → (watched_by w wd ≡ Some number) ↔ (wd_of w number ≡ Some wd)
 
 mark-wd : overflow_mark.wd ≡ negsuc 0
 unfolding overflow_mark
@@ -110,7 +110,7 @@ has-number (Some n) e = (n, refl)
 module _ (laws : RaisedLaws) (t : Tree) (id : ℕ) (i : Instance) (is : instance_of t.instances id ≡ Some i) (sound : IsSound i.watches) where
   ended : (wd : ℤ) → first_row (rm_watch_rows wd (Some i)) ≡ None → HasWatch i.watches wd
   unfolding rm_watch_rows
-  ended wd e = let found = has-number (number_of i.watches wd) e in (found.0, (laws.tells i.watches wd found.0 sound).0 found.1)
+  ended wd e = let found = has-number (watched_by i.watches wd) e in (found.0, (laws.tells i.watches wd found.0 sound).0 found.1)
 
   abbrev IsWatched : Event → Type 0
   IsWatched e = HasWatch i.watches e.wd

@@ -5,7 +5,7 @@ use Rattle.std.proofs.lemmas.Bool.{eqb-true}
 use Rattle.tree_paths.specs.declared.refusal.Refusal.{Refusal}
 use Rattle.inode_table.specs.World.{look}
 use Rattle.watch_table.specs.Masks.{known}
-use Rattle.watch_table.specs.Watching.{IsSound, Watch, Watching, added, added_to, dropped, number_of, removed, watch_of, wd_added, wd_or, without}
+use Rattle.watch_table.specs.Watching.{IsSound, Watch, Watching, added, added_to, dropped, watched_by, removed, watch_of, wd_added, wd_or, without}
 use Rattle.event_rules.specs.declared.notice.Notice.{Notice}
 use Rattle.event_rules.specs.Laws.{IsPartOf}
 use Rattle.event_rules.specs.Raised.{watches_after}
@@ -132,7 +132,7 @@ added-step w number mask sound = by (watch_of w number) refl
 
 removed-same : (w : Watching) (wd : ℤ) → (removed w wd).next_wd ≡ w.next_wd
 unfolding dropped
-removed-same w wd = by (number_of w wd)
+removed-same w wd = by (watched_by w wd)
   where
     by : (o : Option ℕ) → (without w o).next_wd ≡ w.next_wd
     by None = refl

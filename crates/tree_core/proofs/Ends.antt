@@ -11,7 +11,7 @@ use Rattle.tree_paths.specs.declared.refusal.Refusal.{Refusal}
 use Rattle.tree_paths.specs.declared.refusal.Refusal.TheVariants.{Einval}
 use Rattle.inode_table.specs.World.{look}
 use Rattle.watch_table.specs.Masks.{known}
-use Rattle.watch_table.specs.Watching.{HasEnded, IsSound, Watch, Watching, added, number_of, removed, watch_of, wd_added, wd_of, wd_or}
+use Rattle.watch_table.specs.Watching.{HasEnded, IsSound, Watch, Watching, added, watched_by, removed, watch_of, wd_added, wd_of, wd_or}
 use Rattle.event_rules.specs.declared.notice.Notice.{Notice}
 use Rattle.event_rules.specs.Raised.{events_of, ignored, watches_after, wds_ended}
 use Rattle.event_rules.specs.Laws.{TellsNothing, says_ended}
@@ -38,8 +38,8 @@ use Rattle.tree_core.proofs.Untouched.{next-after}
 -- the laws of the crates of watches and of events, on watches that end
 pub record EndLaws : Type 0 where
   pub sound : WatchLaws
-  pub tells : (w : Watching) (wd : ℤ) (number : ℕ) → IsSound w → (number_of w wd ≡ Some number) ↔ (wd_of w number ≡ Some wd)
-  pub ends : (w : Watching) (wd : ℤ) (number : ℕ) → IsSound w → number_of w wd ≡ Some number → HasEnded (removed w wd) wd
+  pub tells : (w : Watching) (wd : ℤ) (number : ℕ) → IsSound w → (watched_by w wd ≡ Some number) ↔ (wd_of w number ≡ Some wd)
+  pub ends : (w : Watching) (wd : ℤ) (number : ℕ) → IsSound w → watched_by w wd ≡ Some number → HasEnded (removed w wd) wd
   pub after_added : (w : Watching) (wd : ℤ) (number mask : ℕ) → HasEnded w wd → HasEnded (added w number mask) wd
   pub after_removed : (w : Watching) (wd other : ℤ) → HasEnded w wd → HasEnded (removed w other) wd
   pub said : (w : Watching) (ns : List Notice) → filter says_ended (events_of w ns) ≡ map ignored (wds_ended w ns)
@@ -113,9 +113,9 @@ over-cut wd true o h = over-given wd o h
 over-cut wd false o h = h
 
 -- an accepted call to end a watch has one
-rm-watched : (wd : ℤ) (i : Instance) → first_row (rm_watch_rows wd (Some i)) ≡ None → (number : ℕ) × (number_of i.watches wd ≡ Some number)
+rm-watched : (wd : ℤ) (i : Instance) → first_row (rm_watch_rows wd (Some i)) ≡ None → (number : ℕ) × (watched_by i.watches wd ≡ Some number)
 unfolding rm_watch_rows
-rm-watched wd i passes = by (number_of i.watches wd) (row-passes (is_none (number_of i.watches wd)) Einval (first-passes (row (is_none (number_of i.watches wd)) Einval) [] passes).0)
+rm-watched wd i passes = by (watched_by i.watches wd) (row-passes (is_none (watched_by i.watches wd)) Einval (first-passes (row (is_none (watched_by i.watches wd)) Einval) [] passes).0)
   where
     by : (o : Option ℕ) → is_none o ≡ false → (number : ℕ) × (o ≡ Some number)
     by None h = absurd (cc)
@@ -159,7 +159,7 @@ module _ (laws : EndLaws) where
       by true is =
           let open_one : instance_of t.instances from ≡ Some i = ap (instance_of t.instances) (eqb-true from id is) ∙ there in
           let watched = rm-watched other i (ap (λ o. first_row (rm_watch_rows other o)) (sym open_one) ∙ passes) in
-          All-cons (λ (e : Event). e.wd ≢ wd) (ignored other) [] (λ same. apart h.unwatched (ap (number_of i.watches) (sym same) ∙ watched.1)) (All-nil (λ (e : Event). e.wd ≢ wd))
+          All-cons (λ (e : Event). e.wd ≢ wd) (ignored other) [] (λ same. apart h.unwatched (ap (watched_by i.watches) (sym same) ∙ watched.1)) (All-nil (λ (e : Event). e.wd ≢ wd))
       by false is = All-nil (λ (e : Event). e.wd ≢ wd)
   silent-for t (call.Read from bytes) id i wd there passes sound h = All-nil (λ (e : Event). e.wd ≢ wd)
   silent-for t (call.Pump from bytes) id i wd there passes sound h = All-nil (λ (e : Event). e.wd ≢ wd)

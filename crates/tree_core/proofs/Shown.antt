@@ -18,7 +18,7 @@ use Rattle.instance_table.specs.declared.instance.Instance.{Instance}
 use Rattle.instance_table.specs.Rows.{instance_row}
 use Rattle.instance_table.specs.Instances.{all_changed, instance_of}
 use Rattle.tree_core.specs.declared.snapshot.Snapshot.{Snapshot}
-use Rattle.tree_core.specs.Kept.{cookies_until, file_of, open_of, opened_of, tree_of, world_of}
+use Rattle.tree_core.specs.Kept.{cookies_until, file_of, open_of, opened_of, tree_of, world_shown}
 use Rattle.tree_core.specs.Snapshots.{IsSnapshotOf}
 use Rattle.tree_core.specs.Sound.{IsSoundInstance, IsSoundTree}
 use Rattle.tree_core.specs.Tree.{Tree, cookie_now}
@@ -71,7 +71,7 @@ cookie-back next few some = grind (arith, nat_tests)
 -- ---- the tree
 
 pub tree_of-snapshot : (t : Tree) (place : ℕ) (s : Snapshot) → IsSoundTree t → IsSnapshotOf t place s → tree_of t.limits s ≡ t
-unfolding world_of opened_of
+unfolding world_shown opened_of
 tree_of-snapshot t place s is shows = λ k. record {
   limits = t.limits;
   world = record {

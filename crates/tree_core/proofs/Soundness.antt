@@ -25,7 +25,7 @@ use Rattle.tree_ops.specs.Refused.{refused}
 use Rattle.tree_ops.specs.After as ops
 use Rattle.tree_ops.proofs.Worlds.{standing}
 use Rattle.watch_table.specs.Masks.{known, mask_fault}
-use Rattle.watch_table.specs.Watching.{Watch, Watching, IsSound, added, added_to, dropped, removed, without, number_of, no_watches, watch_of}
+use Rattle.watch_table.specs.Watching.{Watch, Watching, IsSound, added, added_to, dropped, removed, without, watched_by, no_watches, watch_of}
 use Rattle.event_queue.specs.Backlogs.{Backlog, after_offer, overflow_mark}
 use Rattle.event_queue.specs.Fates.{IsBounded, KeepsBounds}
 use Rattle.event_rules.specs.declared.notice.Notice.{Notice}
@@ -128,7 +128,7 @@ watched-added w number mask n h =
     by off (Some watch) = get-insert_other nat_cmp_total nat_cmp-IsAntisymmetric w.watches number _ n off
 
 watched-removed : (w : Watching) (wd : ℤ) (n : ℕ) → IsSome (watch_of (removed w wd) n) → IsSome (watch_of w n)
-watched-removed w wd n h = by (number_of w wd) h
+watched-removed w wd n h = by (watched_by w wd) h
   where
     by : (o : Option ℕ) → IsSome (watch_of (without w o) n) → IsSome (watch_of w n)
     by None g = g
@@ -172,7 +172,7 @@ limits-added limits w number mask has = by (watch_of w number)
 
 limits-removed : (limits : Limits) (w : Watching) (wd : ℤ) → HasLimits limits w → HasLimits limits (removed w wd)
 unfolding dropped
-limits-removed limits w wd has = by (number_of w wd)
+limits-removed limits w wd has = by (watched_by w wd)
   where
     by : (o : Option ℕ) → HasLimits limits (without w o)
     by None = has

@@ -8,7 +8,7 @@ use Rattle.record_codec.specs.declared.event.Event.{Event}
 use Rattle.tree_paths.specs.declared.refusal.Refusal.{Refusal}
 use Rattle.inode_table.specs.World.{look}
 use Rattle.watch_table.specs.Masks.{known}
-use Rattle.watch_table.specs.Watching.{HasEnded, Watch, Watching, added, added_to, dropped, number_of, removed, watch_of, without}
+use Rattle.watch_table.specs.Watching.{HasEnded, Watch, Watching, added, added_to, dropped, watched_by, removed, watch_of, without}
 use Rattle.event_queue.specs.declared.offered.Offered.{Offered}
 use Rattle.event_queue.specs.declared.offered.Offered.TheVariants.{Kept, Merged, Marked, Lost}
 use Rattle.event_queue.specs.Backlogs.{joining, overflow_mark}
@@ -136,7 +136,7 @@ added-next w number mask = by (watch_of w number)
 
 removed-next : (w : Watching) (wd : ℤ) → w.next_wd ≤ (removed w wd).next_wd
 unfolding dropped
-removed-next w wd = by (number_of w wd)
+removed-next w wd = by (watched_by w wd)
   where
     by : (o : Option ℕ) → w.next_wd ≤ (without w o).next_wd
     by None = omega arith

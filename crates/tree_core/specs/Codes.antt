@@ -1,4 +1,4 @@
--- Codes of values, by which proofs tell them apart.
+-- Codes of values, by which proofs tell them apart. No public clause cites this module.
 use Rattle.std.specs.Prelude.{ℕ, List, refl}
 use Rattle.std.specs.Coded.{Coded, code_by, coded×, coded_list, coded_ℕ}
 use Rattle.std.specs.FinMap as finmap

@@ -15,7 +15,7 @@ use Rattle.tree_ops.specs.declared.call.FileCall.{FileCall}
 use Rattle.tree_ops.specs.Refused as ops
 use Rattle.tree_ops.specs.After as ops_after
 use Rattle.watch_table.specs.Masks.{known, mask_fault}
-use Rattle.watch_table.specs.Watching.{add_refusal, number_of, wd_added}
+use Rattle.watch_table.specs.Watching.{add_refusal, watched_by, wd_added}
 use Rattle.event_queue.specs.Reads.{fitting}
 use Rattle.event_rules.specs.Table.{notices_of}
 use Rattle.instance_table.specs.declared.instance.Instance.{Instance}
@@ -62,13 +62,13 @@ seen_fault i mask None = None
 seen_fault i mask (Some seen) = add_refusal i.watches seen.number mask (is_directory_kind seen.kind)
 
 unfoldable pub add_watch_rows : Look → List (List ℕ) → ℕ → Option Instance → List (Option Refusal)
-add_watch_rows at p mask None = Some Ebadf ∷ []
-add_watch_rows at p mask (Some i) = mask_fault mask ∷ find at p ∷ seen_fault i mask (at p) ∷ []
+add_watch_rows seen_at p mask None = Some Ebadf ∷ []
+add_watch_rows seen_at p mask (Some i) = mask_fault mask ∷ find seen_at p ∷ seen_fault i mask (seen_at p) ∷ []
 
 -- why no watch is ended (inotify_rm_watch(2), "ERRORS")
 unfoldable pub rm_watch_rows : ℤ → Option Instance → List (Option Refusal)
 rm_watch_rows wd None = Some Ebadf ∷ []
-rm_watch_rows wd (Some i) = row (is_none (number_of i.watches wd)) Einval ∷ []
+rm_watch_rows wd (Some i) = row (is_none (watched_by i.watches wd)) Einval ∷ []
 
 -- whether the records of an instance go another way than they are asked for
 abbrev pub way_row : Bool → Bool → Option Refusal

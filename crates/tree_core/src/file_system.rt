@@ -249,7 +249,8 @@ impl FileSystem {
         requires { IsNumbered (tree_in self.old) }
         ensures { Executes self.old (Call.AddWatch id path.now mask) keeps result self.new }
     {
-        if self.instances.get(id).is_none() {
+        let mut place = 0;
+        if self.instances.find(id, &mut place).is_none() {
             return Ok(Replies::refused(Refusal::Ebadf, keeps));
         }
         let mask = Mask::of(mask);
@@ -262,7 +263,7 @@ impl FileSystem {
         };
         match self
             .instances
-            .watch(id, seen.number, mask, is_directory(seen.kind))
+            .watch(id, place, seen.number, mask, is_directory(seen.kind))
         {
             Ok(wd) => Replies::of(Reply::Wd(wd), keeps),
             Err(Refusal::Enomem) => Err(Refusal::Enomem),
@@ -275,11 +276,12 @@ impl FileSystem {
         requires { IsNumbered (tree_in self.old) }
         ensures { Executes self.old (Call.RmWatch id wd) keeps result self.new }
     {
-        if let Some(refusal) = rm_watch_fault(self.instances.get(id), wd) {
+        let mut place = 0;
+        if let Some(refusal) = rm_watch_fault(self.instances.find(id, &mut place), wd) {
             return Ok(Replies::refused(refusal, keeps));
         }
         let replies = Replies::of(Reply::Done, keeps)?;
-        self.instances.unwatch(id, wd);
+        self.instances.unwatch(id, place, wd);
         Ok(replies)
     }
 
@@ -288,10 +290,11 @@ impl FileSystem {
         requires { IsNumbered (tree_in self.old) }
         ensures { Executes self.old (Call.Read id bytes) keeps result self.new }
     {
-        if let Some(refusal) = read_fault(self.instances.get(id), bytes, false) {
+        let mut place = 0;
+        if let Some(refusal) = read_fault(self.instances.find(id, &mut place), bytes, false) {
             return Ok(Replies::refused(refusal, keeps));
         }
-        self.take_records(id, bytes, keeps)
+        self.take_records(id, &mut place, bytes, keeps)
     }
 
     // Reads records for a pipe.
@@ -299,27 +302,34 @@ impl FileSystem {
         requires { IsNumbered (tree_in self.old) }
         ensures { Executes self.old (Call.Pump id bytes) keeps result self.new }
     {
-        if let Some(refusal) = read_fault(self.instances.get(id), bytes, true) {
+        let mut place = 0;
+        if let Some(refusal) = read_fault(self.instances.find(id, &mut place), bytes, true) {
             return Ok(Replies::refused(refusal, keeps));
         }
-        self.take_records(id, bytes, keeps)
+        self.take_records(id, &mut place, bytes, keeps)
     }
 
-    // Takes the records that fit out of an instance's queue.
-    fn take_records(&mut self, id: u32, bytes: u32, keeps: bool) -> Result<Replies, Refusal>
+    // Takes the records that fit out of an instance's queue. The place is looked at first.
+    fn take_records(
+        &mut self,
+        id: u32,
+        place: &mut usize,
+        bytes: u32,
+        keeps: bool,
+    ) -> Result<Replies, Refusal>
         requires { IsSome (instance_of self.old.instances id) }
         ensures replies { IfOk result (λ r. r ≡ copies_of keeps (read_answer bytes (instance_of self.old.instances id))) }
         ensures ok { OnOk result (self.new ≡ record self.old { instances = changed self.old.instances id (after_reading bytes) }) }
         ensures err { OnErr result (self.new ≡ self.old) }
         ensures memory { IfErr result (λ refusal. refusal ≡ Enomem) }
     {
-        let Some(instance) = self.instances.get(id) else {
+        let Some(instance) = self.instances.find(id, place) else {
             unreachable!()
         };
         let fit = instance.queue.fit(bytes as usize);
         let records = spelled(self.alloc, &instance.queue, fit)?;
         let replies = Replies::of(Reply::Records(records), keeps)?;
-        self.instances.drop_oldest(id, fit.count);
+        self.instances.drop_oldest(id, *place, fit.count);
         Ok(replies)
     }
 
@@ -330,17 +340,18 @@ impl FileSystem {
         ensures records { IfOk result (λ p. p.records ≡ pumped (tree_in self.old) id bytes) }
         ensures events { IfOk result (λ p. IfSome p.records AreEvents) }
     {
-        if let Some(refusal) = read_fault(self.instances.get(id), bytes, true) {
+        let mut place = 0;
+        if let Some(refusal) = read_fault(self.instances.find(id, &mut place), bytes, true) {
             return Ok(Pumped {
                 replies: Replies::refused(refusal, true),
                 records: None,
             });
         }
-        self.move_records(id, bytes)
+        self.move_records(id, &mut place, bytes)
     }
 
-    // Moves the records that fit out of an instance's queue.
-    fn move_records(&mut self, id: u32, bytes: u32) -> Result<Pumped, Refusal>
+    // Moves the records that fit out of an instance's queue. The place is looked at first.
+    fn move_records(&mut self, id: u32, place: &mut usize, bytes: u32) -> Result<Pumped, Refusal>
         requires { IsSome (instance_of self.old.instances id) }
         ensures replies { IfOk result (λ p. p.replies ≡ copies_of true (read_answer bytes (instance_of self.old.instances id))) }
         ensures records { IfOk result (λ p. p.records ≡ option_map (oldest bytes) (instance_of self.old.instances id)) }
@@ -349,14 +360,15 @@ impl FileSystem {
         ensures err { OnErr result (self.new ≡ self.old) }
         ensures memory { IfErr result (λ refusal. refusal ≡ Enomem) }
     {
-        let Some(instance) = self.instances.get(id) else {
+        let Some(instance) = self.instances.find(id, place) else {
             unreachable!()
         };
         let fit = instance.queue.fit(bytes as usize);
         let spelled = spelled(self.alloc, &instance.queue, fit)?;
         let replies = Replies::of(Reply::Records(spelled), true)?;
         let mut records = Vec::with_capacity(self.alloc, fit.count)?;
-        self.instances.move_oldest(id, fit.count, &mut records);
+        self.instances
+            .move_oldest(id, *place, fit.count, &mut records);
         Ok(Pumped {
             replies,
             records: Some(Events::from_vec(records)),
@@ -368,11 +380,12 @@ impl FileSystem {
         requires { IsNumbered (tree_in self.old) }
         ensures { Executes self.old (Call.Close id) keeps result self.new }
     {
-        if let Some(refusal) = close_fault(self.instances.get(id)) {
+        let mut place = 0;
+        if let Some(refusal) = close_fault(self.instances.find(id, &mut place)) {
             return Ok(Replies::refused(refusal, keeps));
         }
         let replies = Replies::of(Reply::Done, keeps)?;
-        self.instances.close(id);
+        self.instances.close(id, place);
         Ok(replies)
     }
 }
@@ -412,7 +425,7 @@ fn rm_watch_fault(instance: Option<&Instance>, wd: i32) -> Option<Refusal>
     let Some(instance) = instance else {
         return Some(Refusal::Ebadf);
     };
-    if instance.watches.number_of(wd).is_none() {
+    if instance.watches.watched_by(wd).is_none() {
         return Some(Refusal::Einval);
     }
     None

@@ -3,8 +3,8 @@ use Rattle.std.proofs.Common.{◌≡◌, ◌≢◌, ◌⊎◌, ℕ, Bool, true, 
 use Rattle.std.specs.Prelude.{ℤ, pos, ◌≤ℤ◌, ◌<ℤ◌, option_map}
 use Rattle.std.proofs.lemmas.Int.{ints}
 use Rattle.watch_table.specs.Masks.{stored}
-use Rattle.watch_table.specs.Watching.{HasEnded, IsSound, Watch, Watching, added, add_refusal, dropped, is_barred, is_full, next_bits, number_of, removed, watch_of, wd_of, with_bits, with_new_watch, without}
-use Rattle.watch_table.proofs.Watched.{added-new, added-watched, dropped-IsSound, kept-IsSound, new-IsSound, number_of-none, number_of-some, number_of-unwatched, refused_as_barred, refused_as_full, room_of, some_none, wd_of-dropped, wd_of-kept, wd_of-new}
+use Rattle.watch_table.specs.Watching.{HasEnded, IsSound, Watch, Watching, added, add_refusal, dropped, is_barred, is_full, next_bits, watched_by, removed, watch_of, wd_of, with_bits, with_new_watch, without}
+use Rattle.watch_table.proofs.Watched.{added-new, added-watched, dropped-IsSound, kept-IsSound, new-IsSound, watched_by-none, watched_by-some, watched_by-unwatched, refused_as_barred, refused_as_full, room_of, some_none, wd_of-dropped, wd_of-kept, wd_of-new}
 
 -- the watch of a file, or none
 watched_or_not : (o : Option Watch) → ((watch : Watch) × (o ≡ Some watch)) ⊎ (o ≡ None)
@@ -43,13 +43,13 @@ without-by P w None here there = here
 without-by P w (Some number) here there = there number
 
 pub removed-IsSound : (w : Watching) (wd : ℤ) → IsSound w → IsSound (removed w wd)
-removed-IsSound w wd sound = without-by IsSound w (number_of w wd) sound (λ number. dropped-IsSound w number sound)
+removed-IsSound w wd sound = without-by IsSound w (watched_by w wd) sound (λ number. dropped-IsSound w number sound)
 
 -- ---- descriptors whose watches have ended
 
 -- by the files
 ended_by : (w : Watching) (wd : ℤ) → (pos 1 ≤ℤ wd) × (wd <ℤ pos w.next_wd) → ((n : ℕ) → wd_of w n ≢ Some wd) → HasEnded w wd
-ended_by w wd given none = record { given = given; unwatched = number_of-unwatched w wd none }
+ended_by w wd given none = record { given = given; unwatched = watched_by-unwatched w wd none }
 
 dropped-next : (w : Watching) (number : ℕ) → (dropped w number).next_wd ≡ w.next_wd
 unfolding dropped
@@ -64,16 +64,16 @@ ends_by_drop w wd number sound was =
     let there = wd_of-dropped w number n wd h in
     there.0 (sound.apart n number wd there.1 was))
 
-pub ends_by_remove : (w : Watching) (wd : ℤ) (number : ℕ) → IsSound w → number_of w wd ≡ Some number → HasEnded (removed w wd) wd
+pub ends_by_remove : (w : Watching) (wd : ℤ) (number : ℕ) → IsSound w → watched_by w wd ≡ Some number → HasEnded (removed w wd) wd
 ends_by_remove w wd number sound found =
-    subst (λ o. HasEnded (without w o) wd) (sym found) (ends_by_drop w wd number sound (number_of-some w wd number found))
+    subst (λ o. HasEnded (without w o) wd) (sym found) (ends_by_drop w wd number sound (watched_by-some w wd number found))
 
 pub HasEnded-dropped : (w : Watching) (wd : ℤ) (number : ℕ) → HasEnded w wd → HasEnded (dropped w number) wd
 HasEnded-dropped w wd number ended =
-    ended_by (dropped w number) wd (still_given w number wd ended.given) (λ n h. number_of-none w wd n ended.unwatched (wd_of-dropped w number n wd h).1)
+    ended_by (dropped w number) wd (still_given w number wd ended.given) (λ n h. watched_by-none w wd n ended.unwatched (wd_of-dropped w number n wd h).1)
 
 pub HasEnded-removed : (w : Watching) (wd other : ℤ) → HasEnded w wd → HasEnded (removed w other) wd
-HasEnded-removed w wd other ended = without-by (λ x. HasEnded x wd) w (number_of w other) ended (λ number. HasEnded-dropped w wd number ended)
+HasEnded-removed w wd other ended = without-by (λ x. HasEnded x wd) w (watched_by w other) ended (λ number. HasEnded-dropped w wd number ended)
 
 pub HasEnded-added : (w : Watching) (wd : ℤ) (number mask : ℕ) → HasEnded w wd → HasEnded (added w number mask) wd
 HasEnded-added w wd number mask ended =
@@ -82,7 +82,7 @@ HasEnded-added w wd number mask ended =
           let kept = with_bits w number found.0.0 (next_bits mask found.0.1) in
           let stays = wd_of-kept w number found.0.0 (next_bits mask found.0.1) (ap (option_map (λ (x : Watch). x.0)) found.1) in
           subst (λ x. HasEnded x wd) (sym (added-watched w number mask found.0 found.1))
-          (ended_by kept wd ended.given (λ n h. number_of-none w wd n ended.unwatched (sym (stays n) ∙ h)))
+          (ended_by kept wd ended.given (λ n h. watched_by-none w wd n ended.unwatched (sym (stays n) ∙ h)))
       | inr none ↦
           let made = with_new_watch w number (stored mask) in
           let given = ended.given.1 in
@@ -91,6 +91,6 @@ HasEnded-added w wd number mask ended =
             | inl t ↦
                 let below : pos w.next_wd <ℤ pos w.next_wd = subst (λ z. z <ℤ pos w.next_wd) t.1 given in
                 absurd (omega (arith, ints))
-            | inr t ↦ number_of-none w wd n ended.unwatched t.1
+            | inr t ↦ watched_by-none w wd n ended.unwatched t.1
           ]))
     ]

@@ -11,10 +11,10 @@ use Rattle.std.specs.declared.alloc.Global.{Global}
 use Rattle.std.specs.Cmp.{int_cmp_total}
 use Rattle.tree_paths.specs.declared.limits.Limits.{Limits}
 use Rattle.watch_table.specs.declared.watches.Watches.TheInside.{Inside}
-use Rattle.watch_table.specs.Watching.{Watch, Watching, IsSound, dropped, number_of, watch_of, wd_of, with_bits, with_new_watch}
+use Rattle.watch_table.specs.Watching.{Watch, Watching, IsSound, dropped, watched_by, watch_of, wd_of, with_bits, with_new_watch}
 use Rattle.watch_table.specs.Index.{IsIndexed, watching_of}
 use Rattle.watch_table.proofs.Maps.{tie, from_map-insert, from_map-remove}
-use Rattle.watch_table.proofs.Watched.{no_watches-IsSound, number_of-by, some_none, same_some, wd_of-dropped, wd_of-dropped_other, dropped-IsSound, kept-IsSound, wd_of-kept, new-IsSound, wd_of-new, new-apart, wd_of-put_here, wd_of-put_other}
+use Rattle.watch_table.proofs.Watched.{no_watches-IsSound, watched_by-by, some_none, same_some, wd_of-dropped, wd_of-dropped_other, dropped-IsSound, kept-IsSound, wd_of-kept, new-IsSound, wd_of-new, new-apart, wd_of-put_here, wd_of-put_other}
 
 pub no_watches-IsIndexed : (limits : Limits) (alloc : Global) (m : BTreeMap ℕ Watch) (n : BTreeMap ℤ ℕ) → tree.IsEmpty m → tree.IsEmpty n
     → IsIndexed (record { alloc = alloc; by_number = m; by_wd = n; next_wd = 1; most_watches = limits.watches; last_wd = limits.wds })
@@ -51,8 +51,8 @@ module _ (a : Inside) (whole : IsIndexed a) where
       ] refl
 
   -- the map from descriptors tells the file of each
-  pub number_of-got : (wd : ℤ) → number_of (watching_of a) wd ≡ tree.get int_cmp a.by_wd wd
-  number_of-got wd = number_of-by (watching_of a) wd (tree.get int_cmp a.by_wd wd) (λ n. whole.watched n wd) (λ n. whole.indexed n wd)
+  pub watched_by-got : (wd : ℤ) → watched_by (watching_of a) wd ≡ tree.get int_cmp a.by_wd wd
+  watched_by-got wd = watched_by-by (watching_of a) wd (tree.get int_cmp a.by_wd wd) (λ n. whole.watched n wd) (λ n. whole.indexed n wd)
 
   -- maps with the same entries
   pub IsIndexed-same : (m : BTreeMap ℕ Watch) (n : BTreeMap ℤ ℕ) → m.entries ≡ a.by_number.entries → ((wd : ℤ) → tree.get int_cmp n wd ≡ tree.get int_cmp a.by_wd wd)

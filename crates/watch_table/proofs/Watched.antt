@@ -14,7 +14,7 @@ use Rattle.tree_paths.specs.declared.refusal.Refusal.TheVariants.{Eexist, Enotdi
 use Rattle.watch_table.specs.Masks.{has_any, stored}
 use Rattle.record_codec.specs.declared.bits.TheConstants.{IN_MASK_CREATE}
 use Rattle.tree_paths.specs.Rows.{row, first_row}
-use Rattle.watch_table.specs.Watching.{Watch, Watching, IsSound, added, added_to, add_refusal, dropped, has_wd, is_barred, is_full, is_taken, next_bits, no_watches, number_of, watch_of, wd_added, wd_of, wd_or, with_bits, with_new_watch}
+use Rattle.watch_table.specs.Watching.{Watch, Watching, IsSound, added, added_to, add_refusal, dropped, has_wd, is_barred, is_full, is_taken, next_bits, no_watches, watched_by, watch_of, wd_added, wd_of, wd_or, with_bits, with_new_watch}
 use Rattle.watch_table.proofs.Maps.{tie, get-insert_here, get-insert_other, get-remove_here, get-remove_other}
 
 pub some_none : {A : Type 0} {o : Option A} {x : A} → o ≡ None → o ≡ Some x → ⊥
@@ -52,36 +52,36 @@ has_wd-of : (wd : ℤ) (o : Option Watch) → option_map (λ watch. watch.0) o �
 has_wd-of wd None h = absurd (some_none refl h)
 has_wd-of wd (Some watch) h = ((signed_Decides watch.0 wd).1 (same_some h), refl)
 
-pub number_of-some : (w : Watching) (wd : ℤ) (n : ℕ) → number_of w wd ≡ Some n → wd_of w n ≡ Some wd
-unfolding number_of
-number_of-some w wd n e = has_wd-true wd (watch_of w n) (find-passes (λ number. has_wd wd (watch_of w number)) (map.keys w.watches) n e)
+pub watched_by-some : (w : Watching) (wd : ℤ) (n : ℕ) → watched_by w wd ≡ Some n → wd_of w n ≡ Some wd
+unfolding watched_by
+watched_by-some w wd n e = has_wd-true wd (watch_of w n) (find-passes (λ number. has_wd wd (watch_of w number)) (map.keys w.watches) n e)
 
-pub number_of-none : (w : Watching) (wd : ℤ) (n : ℕ) → number_of w wd ≡ None → wd_of w n ≢ Some wd
-unfolding number_of
-number_of-none w wd n e h =
+pub watched_by-none : (w : Watching) (wd : ℤ) (n : ℕ) → watched_by w wd ≡ None → wd_of w n ≢ Some wd
+unfolding watched_by
+watched_by-none w wd n e h =
     let has = has_wd-of wd (watch_of w n) h in
     let there : list_any (eq_by_cmp nat_cmp n) (map.keys w.watches) ≡ true = sym (contains_key-keys w.watches n) ∙ has.1 in
     false≢true (sym (find-misses (λ number. has_wd wd (watch_of w number)) (map.keys w.watches) n e there) ∙ has.0)
 
 -- the file of a descriptor is the one that any look-up finds which has just the watches
-pub number_of-by : (w : Watching) (wd : ℤ) (o : Option ℕ) → ((n : ℕ) → o ≡ Some n → wd_of w n ≡ Some wd) → ((n : ℕ) → wd_of w n ≡ Some wd → o ≡ Some n) → number_of w wd ≡ o
-number_of-by w wd None watched indexed =
-    elim (number_of w wd) as (λ r. number_of w wd ≡ r → r ≡ None) [
+pub watched_by-by : (w : Watching) (wd : ℤ) (o : Option ℕ) → ((n : ℕ) → o ≡ Some n → wd_of w n ≡ Some wd) → ((n : ℕ) → wd_of w n ≡ Some wd → o ≡ Some n) → watched_by w wd ≡ o
+watched_by-by w wd None watched indexed =
+    elim (watched_by w wd) as (λ r. watched_by w wd ≡ r → r ≡ None) [
       | None ↦ λ e. refl
-      | Some m ↦ λ e. sym (indexed m (number_of-some w wd m e))
+      | Some m ↦ λ e. sym (indexed m (watched_by-some w wd m e))
     ] refl
-number_of-by w wd (Some n) watched indexed =
-    elim (number_of w wd) as (λ r. number_of w wd ≡ r → r ≡ Some n) [
-      | None ↦ λ e. absurd (number_of-none w wd n e (watched n refl))
-      | Some m ↦ λ e. sym (indexed m (number_of-some w wd m e))
+watched_by-by w wd (Some n) watched indexed =
+    elim (watched_by w wd) as (λ r. watched_by w wd ≡ r → r ≡ Some n) [
+      | None ↦ λ e. absurd (watched_by-none w wd n e (watched n refl))
+      | Some m ↦ λ e. sym (indexed m (watched_by-some w wd m e))
     ] refl
 
-pub number_of-watched : (w : Watching) → IsSound w → (wd : ℤ) (n : ℕ) → wd_of w n ≡ Some wd → number_of w wd ≡ Some n
-number_of-watched w sound wd n h =
-    number_of-by w wd (Some n) (λ m e. ap (wd_of w) (sym (same_some e)) ∙ h) (λ m g. ap Some (sound.apart n m wd h g))
+pub watched_by-watched : (w : Watching) → IsSound w → (wd : ℤ) (n : ℕ) → wd_of w n ≡ Some wd → watched_by w wd ≡ Some n
+watched_by-watched w sound wd n h =
+    watched_by-by w wd (Some n) (λ m e. ap (wd_of w) (sym (same_some e)) ∙ h) (λ m g. ap Some (sound.apart n m wd h g))
 
-pub number_of-unwatched : (w : Watching) (wd : ℤ) → ((n : ℕ) → wd_of w n ≢ Some wd) → number_of w wd ≡ None
-number_of-unwatched w wd h = number_of-by w wd None (λ n e. absurd (some_none refl e)) (λ n g. absurd (h n g))
+pub watched_by-unwatched : (w : Watching) (wd : ℤ) → ((n : ℕ) → wd_of w n ≢ Some wd) → watched_by w wd ≡ None
+watched_by-unwatched w wd h = watched_by-by w wd None (λ n e. absurd (some_none refl e)) (λ n g. absurd (h n g))
 
 -- ---- what is true of the watches of each instance
 

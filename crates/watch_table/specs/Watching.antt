@@ -46,8 +46,8 @@ has_wd wd None = false
 has_wd wd (Some watch) = int_eq watch.0 wd
 
 -- the number of the file that is watched under a descriptor
-unfoldable pub number_of : Watching → ℤ → Option ℕ
-number_of w wd = find (λ number. has_wd wd (watch_of w number)) (map.keys w.watches)
+unfoldable pub watched_by : Watching → ℤ → Option ℕ
+watched_by w wd = find (λ number. has_wd wd (watch_of w number)) (map.keys w.watches)
 
 -- the bits that a watch keeps after another call for its file: the call's, joined under IN_MASK_ADD with those it had
 abbrev pub next_bits : ℕ → ℕ → ℕ
@@ -107,7 +107,7 @@ without w (Some number) = dropped w number
 
 -- the watches without that of a descriptor
 abbrev pub removed : Watching → ℤ → Watching
-removed w wd = without w (number_of w wd)
+removed w wd = without w (watched_by w wd)
 
 -- what is true of the watches of each instance
 pub record IsSound (w : Watching) : Type 0 where
@@ -124,4 +124,4 @@ pub record IsSound (w : Watching) : Type 0 where
 -- a descriptor was given, and its watch has ended
 pub record HasEnded (w : Watching) (wd : ℤ) : Type 0 where
   pub given : (pos 1 ≤ℤ wd) × (wd <ℤ pos w.next_wd)
-  pub unwatched : number_of w wd ≡ None
+  pub unwatched : watched_by w wd ≡ None

@@ -1,7 +1,7 @@
 //! Laws of the definitions, over all watches.
 ghost use Rattle.std.specs.Prelude.{◌≡◌, ◌↔◌, ℕ, ℤ, Bool, Some, None};
 ghost use Rattle.tree_paths.specs.declared.limits.Limits.{Limits};
-ghost use Rattle.watch_table.specs.Watching.{HasEnded, IsSound, Watching, added, add_refusal, dropped, no_watches, number_of, removed, wd_of};
+ghost use Rattle.watch_table.specs.Watching.{HasEnded, IsSound, Watching, added, add_refusal, dropped, no_watches, watched_by, removed, wd_of};
 
 /// The watches of an instance are sound, from none on, after each call.
 pub fn watches_stay_sound()
@@ -15,13 +15,13 @@ pub fn watches_stay_sound()
 /// The file of a descriptor is the one whose watch has it.
 pub fn descriptors_tell_files()
     ensures { (w : Watching) (wd : ℤ) (number : ℕ)
-        → IsSound w → (number_of w wd ≡ Some number) ↔ (wd_of w number ≡ Some wd) }
+        → IsSound w → (watched_by w wd ≡ Some number) ↔ (wd_of w number ≡ Some wd) }
 {}
 
 /// A descriptor whose watch has ended is never given again.
 pub fn descriptors_end_for_good()
     ensures removed { (w : Watching) (wd : ℤ) (number : ℕ)
-        → IsSound w → number_of w wd ≡ Some number → HasEnded (removed w wd) wd }
+        → IsSound w → watched_by w wd ≡ Some number → HasEnded (removed w wd) wd }
     ensures dropped { (w : Watching) (wd : ℤ) (number : ℕ)
         → IsSound w → wd_of w number ≡ Some wd → HasEnded (dropped w number) wd }
 

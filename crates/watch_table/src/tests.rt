@@ -139,8 +139,8 @@ fn ends(rt: HostRuntime) {
             watch(&mut watches, number, bits::IN_ALL_EVENTS, false).is_ok(),
         );
     }
-    equal(&rt, watches.number_of(1), Some(9));
-    equal(&rt, watches.number_of(-1), None);
+    equal(&rt, watches.watched_by(1), Some(9));
+    equal(&rt, watches.watched_by(-1), None);
     let mut sum = 0;
     for number in watches.numbers() {
         holds(&rt, "*number > sum", *number > sum);

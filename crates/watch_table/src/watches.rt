@@ -7,7 +7,7 @@ ghost use Rattle.tree_paths.specs.declared.refusal.Refusal.TheVariants.{Einval, 
 ghost use Rattle.watch_table.specs.Masks.{mask_fault};
 ghost use Rattle.watch_table.specs.Index.{bits_in};
 ghost use Rattle.watch_table.specs.Rows.{watch_rows};
-ghost use Rattle.watch_table.specs.Watching.{IsSound, added, add_refusal, dropped, is_barred, is_full, is_taken, next_bits, no_watches, number_of, removed, watch_of, wd_added, wd_of, with_new_watch};
+ghost use Rattle.watch_table.specs.Watching.{IsSound, added, add_refusal, dropped, is_barred, is_full, is_taken, next_bits, no_watches, watched_by, removed, watch_of, wd_added, wd_of, with_new_watch};
 
 use crate::{Mask, WatchRows};
 use bitflags::Flags;
@@ -79,8 +79,8 @@ impl Watches {
     }
 
     /// The number of the file that is watched under a descriptor. It takes no memory.
-    pub fn number_of(&self, wd: i32) -> Option<u32>
-        ensures { result ≡ number_of self.now wd }
+    pub fn watched_by(&self, wd: i32) -> Option<u32>
+        ensures { result ≡ watched_by self.now wd }
     {
         self.by_wd.get(&wd).copied()
     }
@@ -212,7 +212,7 @@ impl Watches {
     /// Ends the watch of a descriptor. `EINVAL` where there is none. It takes no memory.
     pub fn remove(&mut self, wd: i32) -> Result<(), Refusal>
         ensures watches { self.new ≡ removed self.old wd }
-        ensures refused { IsErr result ↔ IsNone (number_of self.old wd) }
+        ensures refused { IsErr result ↔ IsNone (watched_by self.old wd) }
         ensures refusals { IfErr result (λ r. r ≡ Einval) }
     {
         match self.by_wd.remove(&wd) {

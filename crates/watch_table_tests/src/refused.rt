@@ -29,7 +29,7 @@ fn watch(watches: &mut Watches, number: u32, bits: u32) -> Result<i32, Refusal> 
 }
 
 // The numbers of the files, which do not rise.
-fn number_of(file: u32) -> u32 {
+fn watched_by(file: u32) -> u32 {
     file.wrapping_mul(7) % 41
 }
 
@@ -37,7 +37,7 @@ fn number_of(file: u32) -> u32 {
 fn watching(alloc: Global, count: u32, limits: &Limits) -> Result<Watches, Refusal> {
     let mut watches = Watches::new(alloc, limits);
     for file in 0..count {
-        watch(&mut watches, number_of(file), bits::IN_CREATE)?;
+        watch(&mut watches, watched_by(file), bits::IN_CREATE)?;
     }
     Ok(watches)
 }
@@ -46,7 +46,7 @@ fn watching(alloc: Global, count: u32, limits: &Limits) -> Result<Watches, Refus
 fn are_alike(one: &Watches, other: &Watches) -> bool {
     for number in 0..50 {
         let wd = number as i32;
-        if one.of(number) != other.of(number) || one.number_of(wd) != other.number_of(wd) {
+        if one.of(number) != other.of(number) || one.watched_by(wd) != other.watched_by(wd) {
             return false;
         }
     }
@@ -60,7 +60,7 @@ fn refused_in_turn(alloc: Global, count: u32) -> Result<Option<u32>, Refusal> {
     let mut watches = watching(alloc, count, &Limits::full())?;
     for k in 1..MOST {
         let _ = refuse(alloc, k);
-        let told = watch(&mut watches, number_of(count), bits::IN_CREATE);
+        let told = watch(&mut watches, watched_by(count), bits::IN_CREATE);
         match (told, was_refused(alloc)) {
             (Err(Refusal::Enomem), true) if are_alike(&watches, &twin) => {}
             (Ok(_), false) if are_alike(&watches, &next) => return Ok(Some(k - 1)),
@@ -114,7 +114,7 @@ fn each_growth_of_the_rows(rt: HostRuntime) -> Result<(), Fail> {
 // Whether the calls that take no memory answer as they should, of the files 0, 7 and 14.
 fn are_told(watches: &mut Watches) -> bool {
     watches.of(7) == Some((2, bits::IN_CREATE))
-        && watches.number_of(3) == Some(14)
+        && watches.watched_by(3) == Some(14)
         && watch(watches, 7, bits::IN_DELETE) == Ok(2)
         && watch(watches, 7, bits::IN_DELETE | bits::IN_ONLYDIR) == Err(Refusal::Enotdir)
         && watch(watches, 21, bits::IN_CREATE) == Err(Refusal::Enospc)

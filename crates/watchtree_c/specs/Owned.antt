@@ -1,4 +1,4 @@
--- What a handle owns: what C opened, in its box, where it has one.
+-- What a handle owns: what C opened, in its box, where it has one. No public clause cites this module.
 use Rattle.std.specs.Prelude.{Option, Some, None}
 use Rattle.std.specs.Coded.{Coded, coded_option}
 use base.Fml.{Fml, ftrue}

@@ -223,10 +223,10 @@ fn each_growth_of_stage_and_rows(rt: HostRuntime) -> Result<(), Fail> {
 // Whether the calls that take no memory do what they should, on instances of which two watch the file.
 fn are_done(instances: &mut Instances) -> bool {
     let were = instances.watchers(FILE) == [1, 2].as_slice();
-    instances.unwatch(2, 1);
+    instances.unwatch(2, 0, 1);
     let is_one = instances.watchers(FILE) == [1].as_slice() && waiting(instances, 2) == 1;
-    instances.drop_oldest(2, 1);
-    instances.close(1);
+    instances.drop_oldest(2, 0, 1);
+    instances.close(1, 0);
     let is_none = instances.watchers(FILE).is_empty() && waiting(instances, 2) == 0;
     were && is_one && is_none && waiting(instances, 1) == 99 && instances.len() == 2
 }

@@ -7,7 +7,7 @@ use Rattle.event_rules.specs.declared.notice.Notice.{Notice}
 use Rattle.event_rules.specs.declared.staging.StagedEvent.{StagedEvent}
 use Rattle.event_rules.specs.Raised.{events_of, raised, told_number}
 use Rattle.event_rules.specs.Staging.{staged_event}
-use Rattle.event_rules.proofs.Stages.{ended_with, events_more, raised_by, wds_more}
+use Rattle.event_rules.proofs.Stages.{ended_with, events_more, raised_with, wds_more}
 use Rattle.event_rules.proofs.staging.raise.Goals as goal
 
 pub loop-notice-init : goal.loop-notice-init
@@ -29,7 +29,7 @@ loop-notice-preserved c =
     let left = fold removed w c.loop-notice.wds.items in
     let n = c.notice-item.result in
     let at : c.watch_left-watch.result ≡ watch_of left (told_number n) = c.watch_left-watch.ensures.watch ∙ (λ k. watch_of (fold removed w (c.deref.ensures.value k)) (c.number-in-loop-notice.ensures k)) in
-    let raises = raised_by left n c.watch_left-watch.result at in
+    let raises = raised_with left n c.watch_left-watch.result at in
     let ends = ended_with left n c.watch_left-watch.result at in
     record {
       events =

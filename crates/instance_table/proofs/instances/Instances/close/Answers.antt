@@ -6,8 +6,8 @@ returns-in_default c = nothing-closed c.self.inside c.self.invariant c.args.id c
 
 pub invariant_of-self : goal.invariant_of-self
 invariant_of-self c =
-    NotesEveryWatch-closed c.self.inside c.self.invariant c.args.id c.deref.result.now c.deref.ensures.value c.in-Ok.place c.in-Ok.ensures (record c.self.inside { opened = c.remove-closed.new.self; index = c.forget.new.index }) c.remove-closed.ensures.items c.remove-closed.result c.remove-closed.ensures.value c.forget.ensures.noted
+    NotesEveryWatch-closed c.self.inside c.self.invariant c.args.id c.deref.result.now c.deref.ensures.value c.in-Ok.found c.in-Ok.ensures (record c.self.inside { opened = c.remove-closed.new.self; index = c.forget.new.index }) c.remove-closed.ensures.items c.remove-closed.result c.remove-closed.ensures.value c.forget.ensures.noted
     (c.forget.ensures.rows c.self.invariant.rows)
 
 pub returns : goal.returns
-returns c = instances_of-closed c.self.inside c.self.invariant c.args.id c.deref.result.now c.deref.ensures.value c.in-Ok.place c.in-Ok.ensures (record c.self.inside { opened = c.remove-closed.new.self; index = c.forget.new.index }) c.remove-closed.ensures.items c.args.self.now c.self.view_is
+returns c = instances_of-closed c.self.inside c.self.invariant c.args.id c.deref.result.now c.deref.ensures.value c.in-Ok.found c.in-Ok.ensures (record c.self.inside { opened = c.remove-closed.new.self; index = c.forget.new.index }) c.remove-closed.ensures.items c.args.self.now c.self.view_is

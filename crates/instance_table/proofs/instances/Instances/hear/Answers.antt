@@ -2,7 +2,7 @@ use Rattle.std.proofs.Common.{◌∷◌, ap, sym, refl}
 use Rattle.std.specs.Prelude.{fold}
 use Rattle.event_queue.specs.Backlogs.{after_offer}
 use Rattle.instance_table.specs.declared.instance.Instance.{Instance}
-use Rattle.instance_table.specs.Staging.{heard_all, hears}
+use Rattle.instance_table.specs.Heard.{heard_all, hears}
 use Rattle.instance_table.proofs.Heard.{run-heard}
 use Rattle.instance_table.proofs.Indexed.{NotesEveryWatch-kept, events-at, instances_of-changed, there, unchanged}
 use Rattle.instance_table.proofs.instances.Instances.hear.Goals as goal

@@ -1,5 +1,5 @@
 use Rattle.std.proofs.Common.{◌≡◌, deque_len}
-use Rattle.instance_table.specs.Staging.{heard_all}
+use Rattle.instance_table.specs.Heard.{heard_all}
 use Rattle.instance_table.proofs.instances.Instances.hear_each.Given as goal
 
 abbrev pub invariant-loop-first : goal.invariant-loop-first

@@ -20,19 +20,19 @@ pub invariant_of-self : goal.invariant_of-self
 invariant_of-self c =
     let a = c.self.inside in
     let row = c.index_mut.result.now in
-    let was = there a c.self.invariant c.args.id c.deref.result.now c.deref.ensures.value c.in-Ok.place c.in-Ok.ensures row c.index_mut.ensures.value in
-    NotesEveryWatch-kept a c.self.invariant c.args.id c.deref.result.now c.deref.ensures.value c.in-Ok.place c.in-Ok.ensures row c.index_mut.ensures.value (record row.instance { queue = c.move_oldest.new.queue }) refl
+    let was = there a c.self.invariant c.args.id c.deref.result.now c.deref.ensures.value c.in-Ok.found c.in-Ok.ensures row c.index_mut.ensures.value in
+    NotesEveryWatch-kept a c.self.invariant c.args.id c.deref.result.now c.deref.ensures.value c.in-Ok.found c.in-Ok.ensures row c.index_mut.ensures.value (record row.instance { queue = c.move_oldest.new.queue }) refl
     (subst (λ q. AreEvents q.waiting) (sym c.move_oldest.ensures.queue) (events-drop c.args.count row.instance.queue.waiting (events-at a c.self.invariant c.args.id row.instance was)))
 
 pub returns-clause-instances : goal.returns-clause-instances
 returns-clause-instances c =
     let row = c.index_mut.result.now in
-    instances_of-changed c.self.inside c.self.invariant c.args.id c.deref.result.now c.deref.ensures.value c.in-Ok.place c.in-Ok.ensures row c.index_mut.ensures.value (record row.instance { queue = c.move_oldest.new.queue }) c.args.self.now c.self.view_is
+    instances_of-changed c.self.inside c.self.invariant c.args.id c.deref.result.now c.deref.ensures.value c.in-Ok.found c.in-Ok.ensures row c.index_mut.ensures.value (record row.instance { queue = c.move_oldest.new.queue }) c.args.self.now c.self.view_is
     (after_read c.args.count) (ap (λ q. record row.instance { queue = q }) (sym c.move_oldest.ensures.queue))
 
 pub returns-clause-records : goal.returns-clause-records
 returns-clause-records c =
     let row = c.index_mut.result.now in
     let was : instance_of c.args.self.now c.args.id ≡ Some row.instance =
-    ap (λ m. instance_of m c.args.id) (sym c.self.view_is) ∙ there c.self.inside c.self.invariant c.args.id c.deref.result.now c.deref.ensures.value c.in-Ok.place c.in-Ok.ensures row c.index_mut.ensures.value in
+    ap (λ m. instance_of m c.args.id) (sym c.self.view_is) ∙ there c.self.inside c.self.invariant c.args.id c.deref.result.now c.deref.ensures.value c.in-Ok.found c.in-Ok.ensures row c.index_mut.ensures.value in
     c.move_oldest.ensures.records ∙ ap (λ o. c.args.records.now.items ++ take c.args.count (waiting_of o)) (sym was)

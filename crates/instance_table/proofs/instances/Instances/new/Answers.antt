@@ -4,7 +4,7 @@ use Rattle.std.specs.List.Sorted.{IsStrictlySortedBy}
 use Rattle.std.specs.Ordering.{nat_cmp}
 use Rattle.record_codec.specs.Records.{AreEvents}
 use Rattle.instance_table.specs.Instances.{instance_of, waiting_of, watches_file}
-use Rattle.instance_table.specs.Opened.{by_number, numbers_of}
+use Rattle.instance_table.specs.Opened.{by_number, ids_of}
 use Rattle.instance_table.proofs.Rising.{rises-none}
 use Rattle.instance_table.proofs.instances.Instances.new.Goals as goal
 
@@ -13,5 +13,5 @@ invariant_of-result c = let none : (id : ℕ) → instance_of (by_number c.new.r
   rows = c.new-2.ensures.rows;
   noted = λ number id. c.new-2.ensures.noted number id ∙ sym (ap (watches_file number) (none id));
   records = λ id. subst (λ o. AreEvents (waiting_of o)) (sym (none id)) tt;
-  rising = subst (λ rows. IsStrictlySortedBy nat_cmp (numbers_of rows)) (sym c.new.ensures.items) rises-none;
+  rising = subst (λ rows. IsStrictlySortedBy nat_cmp (ids_of rows)) (sym c.new.ensures.items) rises-none;
 }

@@ -1,5 +1,5 @@
 use Rattle.std.proofs.Common.{ap, ◌∙◌}
-use Rattle.instance_table.specs.Staging.{ended_all}
+use Rattle.instance_table.specs.Heard.{ended_all}
 use Rattle.instance_table.proofs.Heard.{heard-told}
 use Rattle.instance_table.proofs.instances.Instances.tell.Goals as goal
 

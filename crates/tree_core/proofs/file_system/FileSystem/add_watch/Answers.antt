@@ -20,21 +20,21 @@ use Rattle.tree_core.proofs.file_system.FileSystem.add_watch.Goals as goal
 pub returns-then-is_none : goal.returns-then-is_none
 returns-then-is_none c =
     let m = c.args.self.now in
-    let none = copied-none c.get.result (instance_of m.instances c.args.id) c.get.ensures (c.is_none.ensures ∙ ap not c.if-is_none.true) in
+    let none = copied-none c.find.result (instance_of m.instances c.args.id) c.find.ensures (c.is_none.ensures ∙ ap not c.if-is_none.true) in
     refused-serves m (call.AddWatch c.args.id c.args.path.now c.args.mask) c.args.keeps c.requires Ebadf c.refused.result c.refused.ensures
     (add-bad-there (world_of m.table) m.instances c.args.id c.args.path.now c.args.mask none)
 
 pub returns-in-Some : goal.returns-in-Some
 returns-in-Some c =
     let m = c.args.self.now in
-    let found = copied-some c.get.result (instance_of m.instances c.args.id) c.get.ensures (c.is_none.ensures ∙ ap not c.if-is_none.false) in
+    let found = copied-some c.find.result (instance_of m.instances c.args.id) c.find.ensures (c.is_none.ensures ∙ ap not c.if-is_none.false) in
     refused-serves m (call.AddWatch c.args.id c.args.path.now c.args.mask) c.args.keeps c.requires c.in-Some.refusal c.refused-in-Some.result c.refused-in-Some.ensures
     (add-mask-there (world_of m.table) m.instances c.args.id found.0 c.args.path.now c.args.mask c.of-mask.result.0 found.1 c.of-mask.ensures c.in-Some.refusal c.in-Some.ensures)
 
 pub returns-in-Err : goal.returns-in-Err
 returns-in-Err c =
     let m = c.args.self.now in
-    let found = copied-some c.get.result (instance_of m.instances c.args.id) c.get.ensures (c.is_none.ensures ∙ ap not c.if-is_none.false) in
+    let found = copied-some c.find.result (instance_of m.instances c.args.id) c.find.ensures (c.is_none.ensures ∙ ap not c.if-is_none.false) in
     let missing = subst (λ p. find (look (world_of m.table)) p ≡ Some c.in-Err.refusal) c.resolve.ensures.names c.in-Err.ensures.missing in
     refused-serves m (call.AddWatch c.args.id c.args.path.now c.args.mask) c.args.keeps c.requires c.in-Err.refusal c.refused-in-Err.result c.refused-in-Err.ensures
     (add-path-there (world_of m.table) m.instances c.args.id found.0 c.args.path.now c.args.mask c.of-mask.result.0 found.1 c.of-mask.ensures c.in-Err.refusal c.in_default.ensures missing)
@@ -43,7 +43,7 @@ pub returns-in-Ok-watch : goal.returns-in-Ok-watch
 unfolding after_add_watch
 returns-in-Ok-watch c =
     let m = c.args.self.now in
-    let found = copied-some c.get.result (instance_of m.instances c.args.id) c.get.ensures (c.is_none.ensures ∙ ap not c.if-is_none.false) in
+    let found = copied-some c.find.result (instance_of m.instances c.args.id) c.find.ensures (c.is_none.ensures ∙ ap not c.if-is_none.false) in
     let i = found.0 in
     let n = c.of-mask.result.0 in
     let seen = c.in-Ok.seen in
@@ -64,7 +64,7 @@ returns-in-Ok-watch c =
 pub returns-in-Err-watch : goal.returns-in-Err-watch
 returns-in-Err-watch c =
     let m : FileSystem = c.args.self.now in
-    let found = copied-some c.get.result (instance_of m.instances c.args.id) c.get.ensures (c.is_none.ensures ∙ ap not c.if-is_none.false) in
+    let found = copied-some c.find.result (instance_of m.instances c.args.id) c.find.ensures (c.is_none.ensures ∙ ap not c.if-is_none.false) in
     let i = found.0 in
     let n = c.of-mask.result.0 in
     let seen = c.in-Ok.seen in

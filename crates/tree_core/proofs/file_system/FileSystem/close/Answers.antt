@@ -14,7 +14,7 @@ unfolding after_close
 returns c =
     let m : FileSystem = c.args.self.now in
     accepted-serves m (call.Close c.args.id) c.args.keeps c.requires c.in_ok-replies.replies _ reply.Done c.in_ok-replies.ensures.ok
-    (fault-there m.instances (λ o. first_row (close_rows o)) c.args.id _ None c.get.ensures c.in_default.ensures)
+    (fault-there m.instances (λ o. first_row (close_rows o)) c.args.id _ None c.find.ensures c.in_default.ensures)
     refl
     (λ i. record (tree_in m) { instances = c.close.ensures i })
     (IsNumbered-closed (tree_in m) c.requires c.args.id)

@@ -9,7 +9,7 @@ use Rattle.tree_core.proofs.Instances.{fault-there, read-open, IsNumbered-change
 use Rattle.tree_core.proofs.file_system.FileSystem.pump.Goals as goal
 
 pub take_records-requires : goal.take_records-requires
-take_records-requires c = ap is_some (sym c.get.ensures) ∙ read-open true c.args.bytes _ c.in_default.ensures
+take_records-requires c = ap is_some (sym c.find.ensures) ∙ read-open true c.args.bytes _ c.in_default.ensures
 
 pub returns : goal.returns
 unfolding after_accepted_read
@@ -18,7 +18,7 @@ returns c =
     result-serves m (call.Pump c.args.id c.args.bytes) c.args.keeps c.requires c.take_records.result c.take_records.new.self
     (record m { instances = changed m.instances c.args.id (after_reading c.args.bytes) })
     (read_answer c.args.bytes (instance_of m.instances c.args.id))
-    (fault-there m.instances (λ o. first_row (read_rows true c.args.bytes o)) c.args.id _ None c.get.ensures c.in_default.ensures)
+    (fault-there m.instances (λ o. first_row (read_rows true c.args.bytes o)) c.args.id _ None c.find.ensures c.in_default.ensures)
     refl
     refl
     (IsNumbered-changed (tree_in m) c.requires c.args.id (after_reading c.args.bytes))

@@ -11,7 +11,7 @@ use Rattle.tree_core.proofs.Pumping.{replies_in-if_ok, replies_in-on_ok, replies
 use Rattle.tree_core.proofs.file_system.FileSystem.pump_out.Goals as goal
 
 pub move_records-requires : goal.move_records-requires
-move_records-requires c = ap is_some (sym c.get.ensures) ∙ read-open true c.args.bytes _ c.in_default.ensures
+move_records-requires c = ap is_some (sym c.find.ensures) ∙ read-open true c.args.bytes _ c.in_default.ensures
 
 pub returns-clause-served : goal.returns-clause-served
 unfolding after_accepted_read
@@ -21,7 +21,7 @@ returns-clause-served c =
     result-serves m (call.Pump c.args.id c.args.bytes) true c.requires (replies_in c.move_records.result) c.move_records.new.self
     (record m { instances = changed m.instances c.args.id (after_reading c.args.bytes) })
     answer
-    (fault-there m.instances (λ o. first_row (read_rows true c.args.bytes o)) c.args.id _ None c.get.ensures c.in_default.ensures)
+    (fault-there m.instances (λ o. first_row (read_rows true c.args.bytes o)) c.args.id _ None c.find.ensures c.in_default.ensures)
     refl
     refl
     (IsNumbered-changed (tree_in m) c.requires c.args.id (after_reading c.args.bytes))
@@ -33,8 +33,8 @@ returns-clause-served c =
 pub returns-clause-records : goal.returns-clause-records
 returns-clause-records c =
     let m = c.args.self.now in
-    let opened = ap is_some (sym c.get.ensures) ∙ read-open true c.args.bytes _ c.in_default.ensures in
+    let opened = ap is_some (sym c.find.ensures) ∙ read-open true c.args.bytes _ c.in_default.ensures in
     if_ok-same c.move_records.result (option_map (oldest c.args.bytes) (instance_of m.instances c.args.id)) _
     (sym (pumped-accepted (tree_in m) c.args.id c.args.bytes (instance_of m.instances c.args.id) refl
-    (fault-there m.instances (λ o. first_row (read_rows true c.args.bytes o)) c.args.id _ None c.get.ensures c.in_default.ensures) opened))
+    (fault-there m.instances (λ o. first_row (read_rows true c.args.bytes o)) c.args.id _ None c.find.ensures c.in_default.ensures) opened))
     c.move_records.ensures.records

@@ -17,7 +17,7 @@ returns c =
     let m = c.args.self.now in
     let same = to_z-of_z w32 c.args.wd c.ranges.wd in
     accepted-serves m (call.RmWatch c.args.id c.args.wd) c.args.keeps c.requires c.in_ok-replies.replies _ reply.Done c.in_ok-replies.ensures.ok
-    (fault-there m.instances (λ o. first_row (rm_watch_rows c.args.wd o)) c.args.id _ None c.get.ensures (c.in_default.ensures ∙ ap (λ z. first_row (rm_watch_rows z (option_copied c.get.result))) same))
+    (fault-there m.instances (λ o. first_row (rm_watch_rows c.args.wd o)) c.args.id _ None c.find.ensures (c.in_default.ensures ∙ ap (λ z. first_row (rm_watch_rows z (option_copied c.find.result))) same))
     refl
     (ap (λ (x : Instances). record (tree_in m) { instances = x }) (c.unwatch.ensures ∙ ap (λ z. changed m.instances c.args.id (unwatching z)) same))
     (IsNumbered-changed (tree_in m) c.requires c.args.id (unwatching c.args.wd))

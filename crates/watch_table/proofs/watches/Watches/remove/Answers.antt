@@ -4,9 +4,9 @@ use Rattle.std.specs.Map.{lookup}
 use Rattle.std.specs.Ordering.{int_cmp}
 use Rattle.std.proofs.lemmas.Bool.{false≢true}
 use Rattle.std.proofs.lemmas.Int.{to_z-of_z}
-use Rattle.watch_table.specs.Watching.{number_of, removed, without}
+use Rattle.watch_table.specs.Watching.{watched_by, removed, without}
 use Rattle.watch_table.specs.Index.{watching_of}
-use Rattle.watch_table.proofs.Indexed.{IsIndexed-same, IsIndexed-dropped, number_of-got, watching_of-dropped}
+use Rattle.watch_table.proofs.Indexed.{IsIndexed-same, IsIndexed-dropped, watched_by-got, watching_of-dropped}
 use Rattle.watch_table.proofs.watches.Watches.remove.Goals as goal
 
 pub invariant_of-self : goal.invariant_of-self
@@ -29,7 +29,7 @@ returns-in-Some-clause-watches c =
     let wd = c.args.wd in
     let got : tree.get int_cmp a.by_wd wd ≡ Some c.in-Some.number = ap (tree.get int_cmp a.by_wd) (sym (to_z-of_z w32 wd c.ranges.wd)) ∙ sym c.in-Some.ensures.value in
     watching_of-dropped a c.self.invariant c.remove-in-Some.new.self c.remove.new.self c.in-Some.number wd c.remove-in-Some.ensures.updates
-    ∙ ap (without (watching_of a)) (sym (number_of-got a c.self.invariant wd ∙ got))
+    ∙ ap (without (watching_of a)) (sym (watched_by-got a c.self.invariant wd ∙ got))
     ∙ ap (λ w. removed w wd) c.self.view_is
 
 pub returns-in-Some-clause-refused : goal.returns-in-Some-clause-refused
@@ -37,7 +37,7 @@ returns-in-Some-clause-refused c =
     let a = c.self.inside in
     let wd = c.args.wd in
     let got : tree.get int_cmp a.by_wd wd ≡ Some c.in-Some.number = ap (tree.get int_cmp a.by_wd) (sym (to_z-of_z w32 wd c.ranges.wd)) ∙ sym c.in-Some.ensures.value in
-    let found : number_of c.args.self.now wd ≡ Some c.in-Some.number = ap (λ w. number_of w wd) (sym c.self.view_is) ∙ number_of-got a c.self.invariant wd ∙ got in
+    let found : watched_by c.args.self.now wd ≡ Some c.in-Some.number = ap (λ w. watched_by w wd) (sym c.self.view_is) ∙ watched_by-got a c.self.invariant wd ∙ got in
     (λ e. absurd (false≢true e), λ none. sym none ∙ ap is_some found)
 
 pub returns-in-None-clause-watches : goal.returns-in-None-clause-watches
@@ -45,7 +45,7 @@ returns-in-None-clause-watches c =
     let a = c.self.inside in
     let wd = c.args.wd in
     let got : tree.get int_cmp a.by_wd wd ≡ None = ap (tree.get int_cmp a.by_wd) (sym (to_z-of_z w32 wd c.ranges.wd)) ∙ sym c.in-None.ensures.value in
-    let none : number_of c.args.self.now wd ≡ None = ap (λ w. number_of w wd) (sym c.self.view_is) ∙ number_of-got a c.self.invariant wd ∙ got in
+    let none : watched_by c.args.self.now wd ≡ None = ap (λ w. watched_by w wd) (sym c.self.view_is) ∙ watched_by-got a c.self.invariant wd ∙ got in
     c.self.view_is ∙ ap (without c.args.self.now) (sym none)
 
 pub returns-in-None-clause-refused : goal.returns-in-None-clause-refused
@@ -53,5 +53,5 @@ returns-in-None-clause-refused c =
     let a = c.self.inside in
     let wd = c.args.wd in
     let got : tree.get int_cmp a.by_wd wd ≡ None = ap (tree.get int_cmp a.by_wd) (sym (to_z-of_z w32 wd c.ranges.wd)) ∙ sym c.in-None.ensures.value in
-    let none : number_of c.args.self.now wd ≡ None = ap (λ w. number_of w wd) (sym c.self.view_is) ∙ number_of-got a c.self.invariant wd ∙ got in
+    let none : watched_by c.args.self.now wd ≡ None = ap (λ w. watched_by w wd) (sym c.self.view_is) ∙ watched_by-got a c.self.invariant wd ∙ got in
     (λ _. ap is_some none, λ _. refl)
