@@ -29,7 +29,7 @@ fn watch(watches: &mut Watches, number: u32, bits: u32) -> Result<i32, Refusal> 
 }
 
 // The numbers of the files, which do not rise.
-fn watched_by(file: u32) -> u32 {
+fn number_of(file: u32) -> u32 {
     file.wrapping_mul(7) % 41
 }
 
@@ -37,7 +37,7 @@ fn watched_by(file: u32) -> u32 {
 fn watching(alloc: Global, count: u32, limits: &Limits) -> Result<Watches, Refusal> {
     let mut watches = Watches::new(alloc, limits);
     for file in 0..count {
-        watch(&mut watches, watched_by(file), bits::IN_CREATE)?;
+        watch(&mut watches, number_of(file), bits::IN_CREATE)?;
     }
     Ok(watches)
 }
@@ -60,7 +60,7 @@ fn refused_in_turn(alloc: Global, count: u32) -> Result<Option<u32>, Refusal> {
     let mut watches = watching(alloc, count, &Limits::full())?;
     for k in 1..MOST {
         let _ = refuse(alloc, k);
-        let told = watch(&mut watches, watched_by(count), bits::IN_CREATE);
+        let told = watch(&mut watches, number_of(count), bits::IN_CREATE);
         match (told, was_refused(alloc)) {
             (Err(Refusal::Enomem), true) if are_alike(&watches, &twin) => {}
             (Ok(_), false) if are_alike(&watches, &next) => return Ok(Some(k - 1)),
