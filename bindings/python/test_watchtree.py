@@ -11,6 +11,8 @@ import os
 import random
 import shlex
 import subprocess
+import sys
+import traceback
 
 import watchtree
 from watchtree import Event, Mask, Stat, Tree
@@ -257,9 +259,9 @@ def main():
     if not asked.names or "test_program" in asked.names:
         try:
             test_program(asked.program, asked.seed)
-        except BaseException:
-            print(f"again: {again(asked.program, asked.seed)}", flush=True)
-            raise
+        except Exception:
+            traceback.print_exc()
+            sys.exit(f"again: {again(asked.program, asked.seed)}")
 
 
 if __name__ == "__main__":
