@@ -1,14 +1,18 @@
 """Tests of the Python module: what each call answers and raises, and that it agrees with `watchtree run`.
 
-usage: test_watchtree.py PROGRAM [NAME..]: the program that runs scripts, and the tests to run, all unless named.
+usage: test_watchtree.py [--seed SEED] PROGRAM [NAME..]: the program that runs scripts, and the tests to run, all unless
+named. The random calls are made from the seed, which is printed; where they fail the command that runs them again is too.
 """
 
+import argparse
 import doctest
 import errno
 import os
 import random
+import shlex
 import subprocess
 import sys
+import traceback
 
 import watchtree
 from watchtree import Event, Mask, Stat, Tree
@@ -201,14 +205,22 @@ def one_call(rng, scribe):
         scribe.note(f"{command} {words}".strip(), call, text)
 
 
-def test_program(program):
-    """As many random calls answer the same through the module and the program, and as lines through line()."""
-    rng = random.Random(SEED)
+def random_calls(seed):
+    """Makes random calls, so many that each kind of call is among them; at last all instances are closed."""
+    rng = random.Random(seed)
     scribe = Scribe()
     for limit in (1000, 2, 16384):
         scribe.init(limit)
-    while len(scribe.lines) < CALLS:
+    while len(scribe.lines) < CALLS - len(scribe.instances):
         one_call(rng, scribe)
+    for number, instance in scribe.instances.items():
+        scribe.note(f"close {number}", instance.close, str)
+    return scribe
+
+
+def test_program(program, seed):
+    """As many random calls answer the same through the module and the program, and as lines through line()."""
+    scribe = random_calls(seed)
     script = "".join(f"{it}\n" for it in scribe.lines).encode()
     ran = subprocess.run([program, "run"], input=script, capture_output=True, check=True)
     wanted = "".join(scribe.replies)
@@ -222,19 +234,34 @@ def test_program(program):
     assert len(kinds) == 19 and accepted > CALLS / 10
     with Tree() as tree:
         assert "".join(tree.line(it) for it in scribe.lines) == wanted
-    print(f"{CALLS} calls, {accepted} of them accepted")
+    print(f"{len(scribe.lines)} calls of seed {seed}, {accepted} of them accepted")
 
 
 TESTS = [test_session, test_refusals, test_room, test_example]
 
 
+def again(program, seed):
+    """The command that makes the same random calls again."""
+    library = os.environ.get("LIBWATCHTREE")
+    words = ["env", f"LIBWATCHTREE={library}"] if library else []
+    return shlex.join([*words, "python3", os.path.abspath(__file__), "--seed", str(seed), program, "test_program"])
+
+
 def main():
-    program, wanted = os.path.abspath(sys.argv[1]), sys.argv[2:]
+    parser = argparse.ArgumentParser(usage=__doc__, add_help=False, allow_abbrev=False)
+    parser.add_argument("--seed", type=int, default=SEED)
+    parser.add_argument("program", type=os.path.abspath)
+    parser.add_argument("names", nargs="*")
+    asked = parser.parse_args()
     for test in TESTS:
-        if not wanted or test.__name__ in wanted:
+        if not asked.names or test.__name__ in asked.names:
             test()
-    if not wanted or "test_program" in wanted:
-        test_program(program)
+    if not asked.names or "test_program" in asked.names:
+        try:
+            test_program(asked.program, asked.seed)
+        except Exception:
+            traceback.print_exc()
+            sys.exit(f"again: {again(asked.program, asked.seed)}")
 
 
 if __name__ == "__main__":

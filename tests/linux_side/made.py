@@ -1,4 +1,4 @@
-"""Scripts of tests/linux's own: one that shows each class by itself, and random ones from a fixed seed."""
+"""Scripts of tests/linux's own: one that shows each class by itself, and random ones from a seed."""
 import random
 
 from .lines import lines_of
@@ -42,9 +42,9 @@ def word(chance, kind):
     return chance.choice(choices[kind]) if kind in choices else kind
 
 
-def random_script(number):
+def random_script(seed, number):
     """A script of some sixty lines: a few files first, that the others find something."""
-    chance = random.Random(SEED * 1_000_003 + number)
+    chance = random.Random(seed * 1_000_003 + number)
     text = ["init", "init", "mkdir /a 755", "mkdir /b 755", "create /a/a 644", "watch 1 /a 0xfff", "watch 1 / 0xfff"]
     calls, weights = zip(*CALLS)
     for shape in chance.choices(calls, weights, k=60):
@@ -52,9 +52,9 @@ def random_script(number):
     return "\n".join([*text, "read 1 65536", "read 2 65536"])
 
 
-def filled_script(number, limit):
+def filled_script(seed, number, limit):
     """A script whose queue is filled to the limit of the kernel's queues but for a few records, and then told more."""
-    chance = random.Random(SEED * 1_000_033 + number)
+    chance = random.Random(seed * 1_000_033 + number)
     text = [f"init {limit}", "mkdir /a 755", "create /a/a 644", "create /a/b 644", "watch 1 /a 0xfff"]
     text += ["chmod /a/a 700", "chmod /a/b 700"] * (limit // 2 - 3)
     text += ["truncate /a/b 0", "truncate /a/b 0"]
@@ -105,11 +105,17 @@ def full_script(limit):
     return "\n".join([*text, *["chmod /a/a 700", "chmod /a/b 700"] * (limit // 2), "chmod /a/b 700", "read 1 4194304"])
 
 
-def scripts(limit):
-    """All scripts, by their names. Those that fill a queue are there where a queue here can be as long as the kernel's."""
+def shown_scripts(limit):
+    """A script for each class, by their names; one that fills a queue where a queue here can be as long as the kernel's."""
     found = {f"of {name}": text for name, text in SHOWN.items()}
-    found.update({f"random {number}": random_script(number) for number in range(COUNT)})
     if limit <= 65535:
         found[f"of {FULL}"] = full_script(limit)
-        found.update({f"filled {number}": filled_script(number, limit) for number in range(FILLED)})
+    return {name: lines_of(text.encode()) for name, text in found.items()}
+
+
+def random_scripts(seed, limit):
+    """The scripts made from a seed, by their names; those that fill a queue under the same condition."""
+    found = {f"random {number}": random_script(seed, number) for number in range(COUNT)}
+    if limit <= 65535:
+        found.update({f"filled {number}": filled_script(seed, number, limit) for number in range(FILLED)})
     return {name: lines_of(text.encode()) for name, text in found.items()}
