@@ -5,8 +5,8 @@ usage: declared.py HEADER SOURCES-OF-THE-CRATE LIBRARY.so DECLARATIONS-IN-RUST
 Each `pub extern "C" fn` of the crate has one declaration in C, by these rules: `alloc: Global` takes no bytes, and has
 no parameter; a slice is a pointer and its length; a struct of the crate is a struct of C, field by field. The text that
 these rules give is compared with the header's, the names with those that the library defines. So are the declarations
-in Rust and those of the Python module. Afterwards the header and the crate are changed in memory, a word at a time, and
-each change must be seen.
+in Rust; python/declared.py looks at those in Python. Afterwards the header and the crate are changed in memory, a word
+at a time, and each change must be seen.
 """
 import ctypes
 import re
@@ -14,8 +14,6 @@ import shutil
 import subprocess
 import sys
 from pathlib import Path
-
-import watchtree
 
 PLAIN = {"u32": "uint32_t", "i32": "int32_t", "u64": "uint64_t", "i64": "int64_t", "bool": "bool", "*mut u8": "void *"}
 STRUCTS = {"Tree": "wt_tree", "Stat": "wt_stat"}
@@ -105,24 +103,10 @@ def in_rust(text):
     return found
 
 
-def in_python(call):
-    """Returns the types that the Python module is to give a declaration's parameters behind the tree, pointers aside."""
-    words = call[call.index("(") + 1 : -1].split(", ")[1:]
-    sizes = {"size_t": ctypes.c_size_t, "int32_t": ctypes.c_int32, **SIZES}
-    return [None if "*" in it else sizes[it.split()[0]] for it in words]
-
-
 def bound(header, rust):
-    """Returns what differs between the header and the declarations in Rust and Python."""
-    calls, structs = declared(header)
+    """Returns what differs between the header and the declarations in Rust."""
+    calls, _ = declared(header)
     found = [f"in Rust: {it} differs" for it in calls | in_rust(rust) if calls.get(it) != in_rust(rust).get(it)]
-    plain = {ctypes.c_size_t, *SIZES.values(), ctypes.c_int32} - {ctypes.c_void_p}
-    types = {name: [it if it in plain else None for it in given] for name, given in watchtree.CALLS.items()}
-    wanted = {name: in_python(call) for name, call in calls.items() if name != "wt_close"}
-    found += [f"in Python: {it} differs" for it in wanted | types if wanted.get(it) != types.get(it)]
-    for name, layout in (("wt_tree", watchtree._Tree), ("wt_stat", watchtree._Stat)):
-        if [(field, kind) for field, kind in layout._fields_] != [(it[1], SIZES[it[0]]) for it in structs[name]]:
-            found.append(f"in Python: struct {name} differs")
     return found
 
 
@@ -157,7 +141,8 @@ def main():
     found += [f"the library lacks {it}" for it in exported(source) if not hasattr(library, it)]
     if shutil.which("nm"):
         ran = subprocess.run(["nm", "-D", "--defined-only", sys.argv[3]], capture_output=True, text=True, check=True)
-        defined = {it.split()[2] for it in ran.stdout.splitlines()}
+        # (declared_threads.py looks at the layer for threads)
+        defined = {it.split()[2] for it in ran.stdout.splitlines() if not it.split()[2].startswith("wtt_")}
         found += [f"the library also shows {it}" for it in defined if it not in exported(source)]
     count, passed = unseen(header, source)
     found += [f"not seen: {it}" for it in passed]

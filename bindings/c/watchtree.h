@@ -4,7 +4,7 @@
  * from 1001 on are this library's own. A call on a tree that is not open answers -EBADF.
  * A path is absolute, and is given by its bytes and their number; no zero byte ends it.
  * A struct wt_tree begins as zero bytes, is changed by these functions alone, and is never copied while it is open.
- * One thread uses a tree at a time: where threads share one, the caller locks. It may go from thread to thread.
+ * One thread uses a tree at a time; it may go from thread to thread. watchtree_threads.h is for threads that share one.
  */
 #ifndef WATCHTREE_H
 #define WATCHTREE_H

@@ -127,6 +127,8 @@ class Scribe:
         self.tree = Tree()
         self.instances = {}
         self.lines, self.replies = [], []
+        # A read that finds no record or no instance has an entry in the program's journal, and none in the module's.
+        self.empty_reads = 0
 
     def note(self, line, call, text):
         self.lines.append(line)
@@ -134,6 +136,7 @@ class Scribe:
             value = call()
             self.replies.append("ok\n" if value is None else f"ok {text(value)}\n")
         except OSError as fault:
+            self.empty_reads += line.startswith("hex") and fault.errno in (errno.EAGAIN, errno.EBADF)
             name = errno.errorcode.get(fault.errno) or watchtree.OWN[fault.errno]
             self.replies.append(f"err {name} {fault.errno}\n")
 
@@ -196,7 +199,7 @@ def one_call(rng, scribe):
         ("unwatch", f"{number} {wd}", lambda: instance.rm_watch(wd), str, 1),
         ("hex", f"{number} {room}", lambda: instance.read_bytes(room), records_text, 6),
         ("close", f"{number}", instance.close, str, 0.02),
-        ("cut", "", tree.cut, str, 0.1),
+        ("cut", "", lambda: tree.cut() + scribe.empty_reads, str, 0.1),
     ]
     command, words, call, text, _ = rng.choices(choices, [it[-1] for it in choices])[0]
     if rng.random() < 0.01:

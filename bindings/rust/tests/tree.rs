@@ -1,4 +1,7 @@
 //! Each method once, what is refused, and a tree in another thread.
+use std::ffi::{OsStr, OsString};
+use std::os::unix::ffi::OsStrExt;
+use std::path::Path;
 use std::thread;
 use watchtree::{mask, Error, Event, Instance, Stat, Tree, RENAME_EXCHANGE, RENAME_NOREPLACE};
 
@@ -13,27 +16,32 @@ fn calls_answer() -> Result<(), Error> {
     assert_eq!((tree.pread("/d/f", 1, &mut out)?, &out[..5]), (4, &b"ello\0"[..]));
     tree.truncate("/d/f", 2)?;
     tree.chmod("/d/f", 0o640)?;
+    tree.rm_watch(instance, 1)?;
+    let events = tree.read(instance, 65536)?;
+    assert_eq!(events.iter().last().map(|it| (it.mask, it.name)), Some((mask::IGNORED, None)));
+    assert_eq!(tree.add_watch(instance, "/d", mask::ALL_EVENTS)?, 2);
     let wanted = Stat { number: 3, is_directory: false, mode: 0o640, links: 1, size: 2 };
     assert_eq!(tree.stat("/d/f")?, wanted);
     tree.link("/d/f", "/d/g")?;
-    assert_eq!(tree.list("/d")?, [b"f", b"g"]);
+    assert_eq!(tree.list("/d")?, ["f", "g"]);
     tree.unlink("/d/g")?;
     let waiting = tree.waiting(instance)?;
     assert_eq!(tree.read(instance, 65536)?.iter().count() as u64, waiting);
-    tree.rename("/d/f", b"/d/\xff")?;
+    let odd = OsStr::from_bytes(b"/d/\xff");
+    tree.rename("/d/f", odd)?;
     let events = tree.read(instance, 4096)?;
-    let from = Event { wd: 1, mask: mask::MOVED_FROM, cookie: 1, name: b"f" };
-    let to = Event { wd: 1, mask: mask::MOVED_TO, cookie: 1, name: b"\xff" };
+    let from = Event { wd: 2, mask: mask::MOVED_FROM, cookie: 1, name: Some("f".as_ref()) };
+    let to = Event { wd: 2, mask: mask::MOVED_TO, cookie: 1, name: Some(OsStr::from_bytes(b"\xff")) };
     assert_eq!(events.iter().collect::<Vec<_>>(), [from, to]);
     assert_eq!(events.as_bytes().len(), 64);
     tree.create("/d/h", 0o644)?;
-    tree.rename2("/d/h", b"/d/\xff", RENAME_EXCHANGE)?;
+    tree.rename2("/d/h", odd, RENAME_EXCHANGE)?;
     assert_eq!(tree.stat("/d/h")?.number, 3);
-    assert_eq!(tree.rename2("/d/h", b"/d/\xff", RENAME_NOREPLACE), Err(Error(17)));
-    tree.rename2("/d/h", b"/d/\xff", 0)?;
-    tree.rm_watch(instance, 1)?;
+    assert_eq!(tree.rename2("/d/h", odd, RENAME_NOREPLACE), Err(Error(17)));
+    tree.rename2("/d/h", odd, 0)?;
+    tree.rm_watch(instance, 2)?;
     tree.close(instance)?;
-    tree.unlink(b"/d/\xff")?;
+    tree.unlink(odd)?;
     tree.rmdir("/d")?;
     assert_eq!(tree.cut()?, tree.cut()?);
     Ok(())
@@ -51,7 +59,7 @@ fn refusals_are_errors() -> Result<(), Error> {
     tree.add_watch(instance, "/", mask::CREATE)?;
     tree.create("/f", 0o644)?;
     assert_eq!(tree.read(instance, 31), Err(Error(22)));
-    assert_eq!(tree.read(instance, 32)?.iter().next().map(|it| it.name.to_vec()), Some(b"f".to_vec()));
+    assert_eq!(tree.read(instance, 32)?.iter().next().and_then(|it| it.name), Some("f".as_ref()));
     assert_eq!(tree.line("nothing", 9), Err(Error(1102)));
     assert_eq!(Error(1001).to_string(), "the journal is full");
     Ok(())
@@ -60,9 +68,9 @@ fn refusals_are_errors() -> Result<(), Error> {
 #[test]
 fn what_does_not_fit_is_asked_for_again() -> Result<(), Error> {
     let mut tree = Tree::open()?;
-    let names: Vec<Vec<u8>> = (0..100).map(|i| format!("{i:03}{}", "n".repeat(200)).into_bytes()).collect();
+    let names: Vec<OsString> = (0..100).map(|i| format!("{i:03}{}", "n".repeat(200)).into()).collect();
     for name in &names {
-        tree.create([b"/", name.as_slice()].concat(), 0o644)?;
+        tree.create(Path::new("/").join(name), 0o644)?;
     }
     assert_eq!(tree.list("/")?, names);
     let text = tree.line("list /", 9)?;
@@ -75,6 +83,6 @@ fn a_tree_goes_to_another_thread() -> Result<(), Error> {
     let mut tree = Tree::open()?;
     tree.mkdir("/d", 0o755)?;
     let mut tree = thread::spawn(move || tree.create("/d/f", 0o644).map(|_| tree)).join().expect("it ends")?;
-    assert_eq!(tree.list("/d")?, [b"f"]);
+    assert_eq!(tree.list("/d")?, ["f"]);
     Ok(())
 }

@@ -1,0 +1,189 @@
+"""The tree."""
+
+import ctypes
+import errno
+import os
+import threading
+from typing import List, NamedTuple, Optional, Union
+
+from ._errors import fail
+from ._instance import Instance
+from ._library import QUEUE, StatBuffer, default_library, unsigned
+
+RENAME_NOREPLACE, RENAME_EXCHANGE = 1, 2
+AnyPath = Union[str, bytes, "os.PathLike[str]", "os.PathLike[bytes]"]
+
+
+class Stat(NamedTuple):
+    """What stat(2) says of a file or directory."""
+
+    number: int
+    is_directory: bool
+    mode: int
+    links: int
+    size: int
+
+
+class Tree:
+    """A tree, which has only the root at first. It is closed at the end of a `with`, by close(), or when it is deleted.
+
+    Threads may share it. Each call takes the lock of the tree in the C library, and lets other threads of Python run.
+    """
+
+    def __init__(self, library: Optional[ctypes.CDLL] = None) -> None:
+        self._library = library or default_library()
+        # What takes more than one call, such as line(), has a lock of its own.
+        self._several = threading.RLock()
+        self._process = os.getpid()
+        self._at = ctypes.c_void_p()
+        number = self._library.wtt_open(ctypes.byref(self._at))
+        if number < 0:
+            fail(-number)
+
+    def __del__(self) -> None:
+        # No thread is in a call now: a method has a reference to its tree.
+        if getattr(self, "_at", None):
+            self._library.wtt_close(self._at)
+
+    def close(self) -> None:
+        """Closes the tree and its instances. Calls on them, and those that wait in other threads, raise EBADF."""
+        self._library.wtt_shutdown(self._at)
+
+    def __enter__(self) -> "Tree":
+        return self
+
+    def __exit__(self, *_: object) -> None:
+        self.close()
+
+    def _call(self, name: str, *words: object) -> int:
+        number: int = getattr(self._library, name)(self._at, *words)
+        if number < 0:
+            fail(-number)
+        return number
+
+    def _on_path(self, name: str, path: AnyPath, *words: object) -> int:
+        plain = os.fsencode(path)
+        return self._call(name, plain, len(plain), *words)
+
+    def _on_paths(self, name: str, old: AnyPath, to: AnyPath, *words: object) -> int:
+        plain = os.fsencode(to)
+        return self._on_path(name, old, plain, len(plain), *words)
+
+    def _lock(self) -> "threading._RLock":
+        # In a child of fork(2) a thread that is not there any more may hold it.
+        if os.getpid() != self._process:
+            fail(errno.EBADF)
+        return self._several
+
+    def cut(self) -> int:
+        """Cuts the journal of calls, and returns the sequence number of the last one."""
+        return self._call("wtt_cut")
+
+    def mkdir(self, path: AnyPath, mode: int = 0o755) -> int:
+        """Makes a directory, and returns its number."""
+        return self._on_path("wtt_mkdir", path, unsigned(mode))
+
+    def create(self, path: AnyPath, mode: int = 0o644) -> int:
+        """Makes a regular file, and returns its number."""
+        return self._on_path("wtt_create", path, unsigned(mode))
+
+    def write(self, path: AnyPath, data: bytes, offset: int = 0) -> int:
+        """Writes bytes at an offset, and returns how many."""
+        plain = bytes(data)
+        return self._on_path("wtt_write", path, unsigned(offset, 64), plain, len(plain))
+
+    def read(self, path: AnyPath, count: int, offset: int = 0) -> bytes:
+        """Reads at most so many bytes at an offset."""
+        return self._read("wtt_pread", path, count, offset)
+
+    def truncate(self, path: AnyPath, length: int) -> None:
+        """Sets the size of a file."""
+        self._on_path("wtt_truncate", path, unsigned(length, 64))
+
+    def chmod(self, path: AnyPath, mode: int) -> None:
+        """Sets the mode of a file or directory."""
+        self._on_path("wtt_chmod", path, unsigned(mode))
+
+    def link(self, old: AnyPath, to: AnyPath) -> None:
+        """Makes a hard link."""
+        self._on_paths("wtt_link", old, to)
+
+    def unlink(self, path: AnyPath) -> None:
+        """Removes a path of a file."""
+        self._on_path("wtt_unlink", path)
+
+    def rmdir(self, path: AnyPath) -> None:
+        """Removes an empty directory."""
+        self._on_path("wtt_rmdir", path)
+
+    def rename(self, old: AnyPath, to: AnyPath) -> None:
+        """Renames a file or directory."""
+        self._on_paths("wtt_rename", old, to)
+
+    def rename2(self, old: AnyPath, to: AnyPath, flags: int) -> None:
+        """Renames with the flags of renameat2(2): RENAME_NOREPLACE, RENAME_EXCHANGE, or 0."""
+        self._on_paths("wtt_rename2", old, to, unsigned(flags))
+
+    def stat(self, path: AnyPath) -> Stat:
+        """Returns what stands at a path."""
+        return self._stat("wtt_stat", path)
+
+    def listdir(self, path: AnyPath = "/") -> List[str]:
+        """Returns the names in a directory in the order of their bytes."""
+        return self._list("wtt_list", path)
+
+    def peek_stat(self, path: AnyPath) -> Stat:
+        """As stat(), but the journal has no entry of it."""
+        return self._stat("wtt_peek_stat", path)
+
+    def peek_listdir(self, path: AnyPath = "/") -> List[str]:
+        """As listdir(), but the journal has no entry of it."""
+        return self._list("wtt_peek_list", path)
+
+    def peek_read(self, path: AnyPath, count: int, offset: int = 0) -> bytes:
+        """As read(), but the journal has no entry of it, and it raises no events."""
+        return self._read("wtt_peek_pread", path, count, offset)
+
+    def path_of(self, number: int) -> str:
+        """Returns a path of the file or directory with a number. The journal has no entry of it."""
+        return os.fsdecode(self._text("wtt_path_of", unsigned(number)))
+
+    def _read(self, name: str, path: AnyPath, count: int, offset: int) -> bytes:
+        out = ctypes.create_string_buffer(max(unsigned(count), 1))
+        return ctypes.string_at(out, self._on_path(name, path, unsigned(offset, 64), out, count))
+
+    def _stat(self, name: str, path: AnyPath) -> Stat:
+        out = StatBuffer()
+        self._on_path(name, path, ctypes.byref(out))
+        return Stat(out.number, bool(out.is_directory), out.mode, out.links, out.size)
+
+    def _list(self, name: str, path: AnyPath) -> List[str]:
+        plain = os.fsencode(path)
+        return [os.fsdecode(it) for it in self._text(name, plain, len(plain)).split(b"\0")[:-1]]
+
+    def _text(self, name: str, *words: object) -> bytes:
+        """Makes a call that returns how many bytes it has, with a larger buffer until they fit."""
+        size = 4096
+        while True:
+            out = ctypes.create_string_buffer(size)
+            wanted = self._call(name, *words, out, size)
+            if wanted <= size:
+                return ctypes.string_at(out, wanted)
+            size = wanted
+
+    def inotify(self, limit: int = QUEUE) -> Instance:
+        """Makes an instance with a queue of so many records."""
+        return Instance(self, self._call("wtt_inotify_init", unsigned(limit)))
+
+    def line(self, line: Union[str, bytes], queue: int = QUEUE) -> str:
+        """Runs a line of a script, such as `mkdir /d 755`, and returns the text that it prints."""
+        plain = os.fsencode(line)
+        out = ctypes.create_string_buffer(4096)
+        with self._lock():
+            wanted = self._call("wtt_line", unsigned(queue), plain, len(plain), out, len(out))
+            if wanted > len(out):
+                out = ctypes.create_string_buffer(wanted)
+                # (a signal handler that runs a line in between changes the text)
+                if self._call("wtt_text", out, wanted) != wanted:
+                    fail(errno.ESTALE)
+        return os.fsdecode(ctypes.string_at(out, wanted))

@@ -1,0 +1,57 @@
+"""Waits for a descriptor: in a thread, or in an event loop."""
+
+import errno
+import math
+import select
+import time
+from typing import TYPE_CHECKING, Optional
+
+if TYPE_CHECKING:
+    import asyncio
+
+# poll(2) takes no more milliseconds; a wait without an end is made of such.
+_LONGEST = 2**30
+
+
+def end_of(timeout: Optional[float]) -> float:
+    """Returns the time of the monotonic clock at which a wait of so many seconds ends: None is without end."""
+    if timeout is None:
+        return math.inf
+    if not timeout >= 0:
+        raise ValueError("timeout must be None or a non-negative number")
+    return time.monotonic() + timeout
+
+
+def wait_until(fd: int, end: float) -> bool:
+    """Waits until a descriptor is readable. False if the time is over first.
+
+    It is poll(2) that waits, and not the C library, so that a signal handler of Python runs at once, and Ctrl-C ends it.
+    """
+    poll = select.poll()
+    poll.register(fd, select.POLLIN)
+    while True:
+        left = end - time.monotonic()
+        for _, found in poll.poll(min(max(left, 0) * 1000, _LONGEST)):
+            if found & select.POLLNVAL:
+                raise OSError(errno.EBADF, f"descriptor {fd} was closed by others")
+            return True
+        if left <= 0:
+            return False
+
+
+async def wait_in_loop(fd: int) -> None:
+    """Waits until a descriptor is readable. The event loop goes on."""
+    import asyncio  # (which takes long, for programs without a loop)
+
+    loop = asyncio.get_running_loop()
+    is_readable: "asyncio.Future[None]" = loop.create_future()
+
+    def wake() -> None:
+        if not is_readable.done():
+            is_readable.set_result(None)
+
+    loop.add_reader(fd, wake)
+    try:
+        await is_readable
+    finally:
+        loop.remove_reader(fd)

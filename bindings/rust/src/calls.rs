@@ -1,0 +1,132 @@
+//! The calls that `Tree` and `SharedTree` have in common.
+use std::os::raw::c_char;
+use std::os::unix::ffi::OsStrExt;
+use std::path::Path;
+
+/// What is at a path.
+#[derive(Clone, Copy, Debug, PartialEq, Eq)]
+pub struct Stat {
+    pub number: u32,
+    pub is_directory: bool,
+    pub mode: u32,
+    pub links: u64,
+    pub size: u64,
+}
+
+/// A path as C takes it. It is valid as long as the path is.
+pub(crate) fn text(path: &Path) -> (*const c_char, usize) {
+    let bytes = path.as_os_str().as_bytes();
+    (bytes.as_ptr().cast(), bytes.len())
+}
+
+/// Calls a function until its buffer is as long as the answer asks for.
+pub(crate) fn all_of(mut call: impl FnMut(&mut [u8]) -> i64) -> Result<Vec<u8>, crate::Error> {
+    let mut out = vec![0; 4096];
+    loop {
+        let wanted = crate::error::answer(call(&mut out))? as usize;
+        if wanted <= out.len() {
+            out.truncate(wanted);
+            return Ok(out);
+        }
+        out.resize(wanted, 0);
+    }
+}
+
+/// Writes the methods: the receiver, the word `self`, and the functions of C.
+macro_rules! calls {
+    ([$($receiver:tt)+], $me:ident, $sys:ident, $prefix:ident: $cut:ident $mkdir:ident $create:ident $write:ident
+     $pread:ident $truncate:ident $chmod:ident $link:ident $unlink:ident $rmdir:ident $rename:ident $rename2:ident
+     $stat:ident $list:ident) => {
+        /// Cuts the journal of calls, and returns the sequence number of the last one.
+        pub fn cut($($receiver)+) -> Result<u64, Error> {
+            answer(unsafe { $sys::$cut($me.$prefix()) })
+        }
+
+        /// Makes a directory, and returns its number.
+        pub fn mkdir($($receiver)+, path: impl AsRef<Path>, mode: u32) -> Result<u32, Error> {
+            let (path, len) = text(path.as_ref());
+            answer(unsafe { $sys::$mkdir($me.$prefix(), path, len, mode) }).map(|it| it as u32)
+        }
+
+        /// Makes a regular file, and returns its number.
+        pub fn create($($receiver)+, path: impl AsRef<Path>, mode: u32) -> Result<u32, Error> {
+            let (path, len) = text(path.as_ref());
+            answer(unsafe { $sys::$create($me.$prefix(), path, len, mode) }).map(|it| it as u32)
+        }
+
+        /// Writes bytes at an offset, and returns how many.
+        pub fn write($($receiver)+, path: impl AsRef<Path>, offset: u64, bytes: &[u8]) -> Result<u64, Error> {
+            let (path, len) = text(path.as_ref());
+            let data = bytes.as_ptr().cast();
+            answer(unsafe { $sys::$write($me.$prefix(), path, len, offset, data, bytes.len()) })
+        }
+
+        /// Reads bytes at an offset into `out`, and returns how many.
+        pub fn pread($($receiver)+, path: impl AsRef<Path>, offset: u64, out: &mut [u8]) -> Result<usize, Error> {
+            let (path, len) = text(path.as_ref());
+            let buffer = out.as_mut_ptr().cast();
+            answer(unsafe { $sys::$pread($me.$prefix(), path, len, offset, buffer, out.len()) }).map(|it| it as usize)
+        }
+
+        pub fn truncate($($receiver)+, path: impl AsRef<Path>, len: u64) -> Result<(), Error> {
+            let (path, path_len) = text(path.as_ref());
+            answer(unsafe { $sys::$truncate($me.$prefix(), path, path_len, len) }).map(drop)
+        }
+
+        pub fn chmod($($receiver)+, path: impl AsRef<Path>, mode: u32) -> Result<(), Error> {
+            let (path, len) = text(path.as_ref());
+            answer(unsafe { $sys::$chmod($me.$prefix(), path, len, mode) }).map(drop)
+        }
+
+        pub fn link($($receiver)+, old: impl AsRef<Path>, to: impl AsRef<Path>) -> Result<(), Error> {
+            let ((old, old_len), (to, to_len)) = (text(old.as_ref()), text(to.as_ref()));
+            answer(unsafe { $sys::$link($me.$prefix(), old, old_len, to, to_len) }).map(drop)
+        }
+
+        pub fn unlink($($receiver)+, path: impl AsRef<Path>) -> Result<(), Error> {
+            let (path, len) = text(path.as_ref());
+            answer(unsafe { $sys::$unlink($me.$prefix(), path, len) }).map(drop)
+        }
+
+        pub fn rmdir($($receiver)+, path: impl AsRef<Path>) -> Result<(), Error> {
+            let (path, len) = text(path.as_ref());
+            answer(unsafe { $sys::$rmdir($me.$prefix(), path, len) }).map(drop)
+        }
+
+        pub fn rename($($receiver)+, old: impl AsRef<Path>, to: impl AsRef<Path>) -> Result<(), Error> {
+            let ((old, old_len), (to, to_len)) = (text(old.as_ref()), text(to.as_ref()));
+            answer(unsafe { $sys::$rename($me.$prefix(), old, old_len, to, to_len) }).map(drop)
+        }
+
+        /// Renames by the flags of renameat2(2): [`RENAME_NOREPLACE`](crate::RENAME_NOREPLACE),
+        /// [`RENAME_EXCHANGE`](crate::RENAME_EXCHANGE), or 0.
+        pub fn rename2(
+            $($receiver)+,
+            old: impl AsRef<Path>,
+            to: impl AsRef<Path>,
+            flags: u32,
+        ) -> Result<(), Error> {
+            let ((old, old_len), (to, to_len)) = (text(old.as_ref()), text(to.as_ref()));
+            answer(unsafe { $sys::$rename2($me.$prefix(), old, old_len, to, to_len, flags) }).map(drop)
+        }
+
+        pub fn stat($($receiver)+, path: impl AsRef<Path>) -> Result<Stat, Error> {
+            let (path, len) = text(path.as_ref());
+            let mut out = RawStat::default();
+            answer(unsafe { $sys::$stat($me.$prefix(), path, len, &mut out) })?;
+            let RawStat { links, size, number, mode, is_directory } = out;
+            Ok(Stat { number, is_directory: is_directory != 0, mode, links, size })
+        }
+
+        /// The names in a directory, in the order of their bytes.
+        pub fn list($($receiver)+, path: impl AsRef<Path>) -> Result<Vec<OsString>, Error> {
+            let (path, len) = text(path.as_ref());
+            let names = all_of(|out| unsafe {
+                $sys::$list($me.$prefix(), path, len, out.as_mut_ptr().cast(), out.len())
+            })?;
+            let names = names.split(|&it| it == 0).filter(|it| !it.is_empty());
+            Ok(names.map(|it| OsString::from_vec(it.to_vec())).collect())
+        }
+    };
+}
+pub(crate) use calls;

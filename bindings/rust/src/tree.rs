@@ -1,0 +1,92 @@
+//! A tree for one thread at a time.
+use crate::calls::{all_of, calls, text};
+use crate::error::answer;
+use crate::sys::{self, RawStat, RawTree};
+use crate::{Error, Events, Stat};
+use std::ffi::OsString;
+use std::os::unix::ffi::OsStringExt;
+use std::path::Path;
+use std::ptr;
+
+/// The number of an instance of inotify in a [`Tree`].
+#[derive(Clone, Copy, Debug, PartialEq, Eq, Hash)]
+pub struct Instance(pub u32);
+
+/// A tree of files with its instances, for one thread at a time. It is closed when it is dropped.
+///
+/// It may go to another thread. Threads that share a tree take a [`SharedTree`](crate::SharedTree).
+#[derive(Debug)]
+pub struct Tree {
+    raw: RawTree,
+}
+
+// The library's handle owns what it points to, and is proved to be one that may go to another thread.
+unsafe impl Send for Tree {}
+
+impl Drop for Tree {
+    fn drop(&mut self) {
+        unsafe { sys::wt_close(&mut self.raw) }
+    }
+}
+
+impl Tree {
+    /// Opens a tree with nothing but the root.
+    pub fn open() -> Result<Tree, Error> {
+        let mut tree = Tree { raw: RawTree { at: ptr::null_mut(), ready: false } };
+        answer(unsafe { sys::wt_open(&mut tree.raw) })?;
+        Ok(tree)
+    }
+
+    fn raw(&mut self) -> &mut RawTree {
+        &mut self.raw
+    }
+
+    calls!([&mut self], self, sys, raw: wt_cut wt_mkdir wt_create wt_write wt_pread wt_truncate wt_chmod wt_link
+        wt_unlink wt_rmdir wt_rename wt_rename2 wt_stat wt_list);
+
+    /// Makes an instance with a queue of so many records.
+    pub fn inotify(&mut self, limit: u32) -> Result<Instance, Error> {
+        answer(unsafe { sys::wt_inotify_init(&mut self.raw, limit) }).map(|it| Instance(it as u32))
+    }
+
+    /// Watches what is at a path, and returns the watch descriptor.
+    pub fn add_watch(&mut self, instance: Instance, path: impl AsRef<Path>, mask: u32) -> Result<i32, Error> {
+        let (path, len) = text(path.as_ref());
+        answer(unsafe { sys::wt_inotify_add_watch(&mut self.raw, instance.0, path, len, mask) }).map(|it| it as i32)
+    }
+
+    pub fn rm_watch(&mut self, instance: Instance, wd: i32) -> Result<(), Error> {
+        answer(unsafe { sys::wt_inotify_rm_watch(&mut self.raw, instance.0, wd) }).map(drop)
+    }
+
+    /// Reads as many whole records as fit into so many bytes. [`Error::AGAIN`] if none waits.
+    pub fn read(&mut self, instance: Instance, bytes: usize) -> Result<Events, Error> {
+        let mut out = vec![0; bytes];
+        let count = answer(unsafe { sys::wt_read(&mut self.raw, instance.0, out.as_mut_ptr().cast(), bytes) })?;
+        out.truncate(count as usize);
+        Ok(Events::new(out))
+    }
+
+    /// How many records wait.
+    pub fn waiting(&mut self, instance: Instance) -> Result<u64, Error> {
+        answer(unsafe { sys::wt_waiting(&mut self.raw, instance.0) })
+    }
+
+    pub fn close(&mut self, instance: Instance) -> Result<(), Error> {
+        answer(unsafe { sys::wt_inotify_close(&mut self.raw, instance.0) }).map(drop)
+    }
+
+    /// Runs a line of a script, as `mkdir /d 755`, and returns the text that it prints. `queue` is the limit of an
+    /// instance that names none.
+    pub fn line(&mut self, line: impl AsRef<[u8]>, queue: u32) -> Result<Vec<u8>, Error> {
+        let (line, mut has_run) = (line.as_ref(), false);
+        all_of(|out| {
+            let buffer = out.as_mut_ptr().cast();
+            if has_run {
+                return unsafe { sys::wt_text(&mut self.raw, buffer, out.len()) };
+            }
+            has_run = true;
+            unsafe { sys::wt_line(&mut self.raw, queue, line.as_ptr().cast(), line.len(), buffer, out.len()) }
+        })
+    }
+}
