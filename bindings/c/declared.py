@@ -19,7 +19,7 @@ PLAIN = {"u32": "uint32_t", "i32": "int32_t", "u64": "uint64_t", "i64": "int64_t
 STRUCTS = {"Tree": "wt_tree", "Stat": "wt_stat"}
 SIZES = {"void *": ctypes.c_void_p, "bool": ctypes.c_bool, "uint64_t": ctypes.c_uint64, "uint32_t": ctypes.c_uint32}
 RUST = {"*mut RawTree": "struct wt_tree *", "*mut RawStat": "struct wt_stat *", "usize": "size_t", **PLAIN}
-RUST |= {"*const c_char": "const char *", "*const c_void": "const void *", "*mut c_void": "void *"}
+RUST |= {"*const c_char": "const char *", "*const c_void": "const void *", "*mut c_void": "void *", "*mut u32": "uint32_t *"}
 # What the layout of C gives each struct: its size in bytes.
 WANTED_SIZES = {"wt_tree": 16, "wt_stat": 32}
 
@@ -31,8 +31,8 @@ def parameter(name, kind):
     if kind == "&[u8]":
         pointer = "const void *" if name == "bytes" else "const char *"
         return [f"{pointer}{name}", f"size_t {name}_len"]
-    if kind == "&mut [u8]":
-        return [f"void *{name}", f"size_t {name}_len"]
+    if kind in ("&mut [u8]", "&mut [u32]"):
+        return [f"{'void' if 'u8' in kind else 'uint32_t'} *{name}", f"size_t {name}_len"]
     if kind.startswith("&mut "):
         return [f"struct {STRUCTS[kind[5:]]} *{name}"]
     return [f"{PLAIN[kind]} {name}"]
@@ -103,10 +103,13 @@ def in_rust(text):
     return found
 
 
-def bound(header, rust):
-    """Returns what differs between the header and the declarations in Rust."""
+def bound(header, rust, library):
+    """Returns what differs between the header and the declarations in Rust, and in WT_QUEUE."""
     calls, _ = declared(header)
     found = [f"in Rust: {it} differs" for it in calls | in_rust(rust) if calls.get(it) != in_rust(rust).get(it)]
+    queue = re.search(r"#define WT_QUEUE (\d+)\n", header)
+    if not queue or f"pub const QUEUE: u32 = {queue[1]};" not in library:
+        found.append("in Rust: WT_QUEUE differs")
     return found
 
 
@@ -123,9 +126,10 @@ def unseen(header, source):
             passed.append(f"header, {text[low:high]} at {low}")
     at = [it.span(1) for it in re.finditer(r'pub extern "C" fn (\w+\([^)]*\)\s*(?:-> \w+)?)', source)]
     for low, high in at:
-        for it in re.finditer(r"u32|i32|u64|i64|&mut \[u8\]|&\[u8\]|\bwt_\w+", source[low:high]):
+        for it in re.finditer(r"&mut \[u32\]|u32|i32|u64|i64|&mut \[u8\]|&\[u8\]|\bwt_\w+", source[low:high]):
             count += 1
             other = {"u32": "u64", "i32": "i64", "u64": "u32", "i64": "u32", "&mut [u8]": "&[u8]", "&[u8]": "&mut [u8]"}
+            other["&mut [u32]"] = "&mut [u8]"
             changed = source[: low + it.start()] + other.get(it[0], "wt_other") + source[low + it.end() :]
             if not differences(header, changed):
                 passed.append(f"crate, {it[0]} at {low + it.start()}")
@@ -136,7 +140,8 @@ def main():
     header = Path(sys.argv[1]).read_text()
     source = "\n".join(it.read_text() for it in sorted(Path(sys.argv[2]).glob("*.rt")))
     found = differences(header, source)
-    found += bound(header, Path(sys.argv[4]).read_text())
+    rust = Path(sys.argv[4])
+    found += bound(header, rust.read_text(), rust.with_name("lib.rs").read_text())
     library = ctypes.CDLL(sys.argv[3])
     found += [f"the library lacks {it}" for it in exported(source) if not hasattr(library, it)]
     if shutil.which("nm"):

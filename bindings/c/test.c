@@ -25,6 +25,7 @@ static void closed_trees(void) {
     struct wt_tree t = WT_TREE_INIT;
     struct wt_stat s = { 7, 7, 7, 7, 7 };
     char out[8] = "before";
+    uint32_t number = 7;
     for (int turn = 0; turn < 2; turn++) {
         wt_close(&t);
         IS(wt_cut(&t), -EBADF), IS(wt_mkdir(&t, PATH("/d"), 0755), -EBADF), IS(wt_create(&t, PATH("/d"), 0644), -EBADF);
@@ -38,6 +39,9 @@ static void closed_trees(void) {
         IS(wt_inotify_rm_watch(&t, 1, 1), -EBADF), IS(wt_read(&t, 1, out, sizeof out), -EBADF);
         IS(wt_waiting(&t, 1), -EBADF), IS(wt_inotify_close(&t, 1), -EBADF);
         IS(wt_line(&t, 1, PATH("mkdir /d 755"), out, sizeof out), -EBADF), IS(wt_text(&t, out, sizeof out), -EBADF);
+        IS(wt_bytes_waiting(&t, 1), -EBADF), IS(wt_ready(&t, &number, 1), -EBADF), HOLDS(number == 7);
+        IS(wt_peek_stat(&t, PATH("/d"), &s), -EBADF), IS(wt_peek_list(&t, PATH("/"), out, sizeof out), -EBADF);
+        IS(wt_peek_pread(&t, PATH("/d"), 0, out, sizeof out), -EBADF);
         HOLDS(!strcmp(out, "before") && s.links == 7 && s.is_directory == 7);
         if (turn == 0) IS(wt_open(&t), 0), IS(wt_open(&t), -EBUSY);
     }
@@ -131,6 +135,57 @@ static void instances(struct wt_tree *t) {
     for (uint32_t i = 2; i < 130; i++) IS(wt_inotify_close(t, i), 0);
 }
 
+/* What is no call of the tree: it answers as the call would, the journal keeps none of it, and no event is raised. */
+static void peeks(struct wt_tree *t) {
+    struct wt_stat s, told;
+    char out[8], told_out[8];
+    uint32_t ready[3] = { 9, 9, 9 };
+    IS(wt_inotify_init(t, WT_QUEUE), 130), IS(wt_inotify_init(t, WT_QUEUE), 131), IS(wt_inotify_init(t, WT_QUEUE), 132);
+    IS(wt_ready(t, ready, 3), 0), IS(wt_bytes_waiting(t, 131), 0), IS(wt_bytes_waiting(t, 133), -EBADF);
+    HOLDS(ready[0] == 9 && ready[2] == 9);
+    IS(wt_inotify_add_watch(t, 130, PATH("/d"), IN_ALL_EVENTS), 1);
+    IS(wt_inotify_add_watch(t, 132, PATH("/d/a name"), IN_ALL_EVENTS), 1);
+    IS(wt_write(t, PATH("/d/a name"), 0, "hello", 5), 5);
+    IS(wt_bytes_waiting(t, 130), 96), IS(wt_bytes_waiting(t, 132), 48), IS(wt_waiting(t, 130), 3);
+    IS(wt_ready(t, NULL, 0), 2), IS(wt_ready(t, ready, 1), 2), HOLDS(ready[0] == 130 && ready[1] == 9);
+    IS(wt_ready(t, ready, 3), 2), HOLDS(ready[0] == 130 && ready[1] == 132 && ready[2] == 9);
+    int64_t place = wt_cut(t);
+    IS(wt_peek_stat(t, PATH("/d/a name"), &s), 0), IS(wt_peek_stat(t, PATH("/no"), &s), -ENOENT);
+    IS(wt_peek_stat(t, PATH("d"), &s), -EINVAL);
+    HOLDS(s.size == 5 && s.is_directory == 0);
+    memset(out, '-', sizeof out), memset(told_out, '-', sizeof told_out);
+    IS(wt_peek_pread(t, PATH("/d/a name"), 1, out, 3), 3), HOLDS(!memcmp(out, "ell-", 4));
+    IS(wt_peek_pread(t, PATH("/d/a name"), 3, out, sizeof out), 2), HOLDS(!memcmp(out, "lol-", 4));
+    IS(wt_peek_pread(t, PATH("/d/a name"), 5, out, sizeof out), 0), IS(wt_peek_pread(t, PATH("/d"), 0, out, 1), -EISDIR);
+    IS(wt_peek_list(t, PATH("/d"), out, 4), 7), HOLDS(!memcmp(out, "a na-", 5));
+    IS(wt_peek_list(t, PATH("/d/a name"), out, sizeof out), -ENOTDIR), IS(wt_peek_list(t, PATH("/no"), out, 1), -ENOENT);
+    IS(wt_bytes_waiting(t, 130), 96), IS(wt_bytes_waiting(t, 132), 48), IS(wt_cut(t), place);
+    IS(wt_stat(t, PATH("/d/a name"), &told), 0), HOLDS(!memcmp(&s, &told, 32)), IS(wt_cut(t), place + 1);
+    IS(wt_list(t, PATH("/d"), told_out, 4), 7), HOLDS(!memcmp(told_out, "a na-", 5)), HOLDS(wt_waiting(t, 130) > 3);
+    for (uint32_t i = 130; i < 133; i++) IS(wt_inotify_close(t, i), 0);
+}
+
+/* The version, and each number that has a text: those of errno(3) have the words of strerror(3). */
+static void texts(void) {
+    char out[80] = "", file[16] = "", wanted[80];
+    FILE *home = fopen("../VERSION", "r");
+    HOLDS(home && fgets(file, sizeof file, home));
+    if (home) fclose(home);
+    int64_t len = wt_version(out, 3), found = 0;
+    HOLDS(len + 1 == (int64_t)strlen(file) && !strncmp(out, file, 3) && out[3] == 0);
+    IS(wt_version(out, sizeof out), len), HOLDS(!memcmp(out, file, (size_t)len));
+    for (int number = -1200; number <= 1200; number++) {
+        memset(out, 0, sizeof out);
+        len = wt_error_text(number, out, sizeof out - 1);
+        if (len == -EINVAL) continue;
+        char *words = strstr(out, ": ");
+        HOLDS(number < 0 && (size_t)len == strlen(out) && words), found++;
+        if (number > -1000 && words) HOLDS(!strcmp(words + 2, strerror(-number)));
+    }
+    IS(found, 31), IS(wt_error_text(INT64_MIN, out, 1), -EINVAL), IS(wt_error_text(-ENOENT, wanted, 6), 33);
+    HOLDS(!memcmp(wanted, "ENOENT", 6)), IS(wt_error_text(-WT_BAD_MASK, NULL, 0), 55);
+}
+
 static void lines(struct wt_tree *t) {
     char out[16] = "----------";
     IS(wt_text(t, out, sizeof out), 0), IS(wt_line(t, 9, PATH("chmod /d 700"), out, sizeof out), 3);
@@ -154,7 +209,7 @@ static void lines(struct wt_tree *t) {
 static void limits(struct wt_tree *t) {
     char path[32];
     int64_t number = 0, cuts = 0, place = 0;
-    IS(wt_mkdir(t, PATH("/l"), 0755), 7), IS(wt_create(t, PATH("/l/f"), 0644), 8), IS(wt_inotify_init(t, 1), 130);
+    IS(wt_mkdir(t, PATH("/l"), 0755), 7), IS(wt_create(t, PATH("/l/f"), 0644), 8), IS(wt_inotify_init(t, 1), 133);
     for (int i = 1; i < 65000; i++) {
         snprintf(path, sizeof path, "/l/%d", i);
         IS(wt_link(t, PATH("/l/f"), PATH(path)), 0);
@@ -163,7 +218,7 @@ static void limits(struct wt_tree *t) {
     for (int i = 0; i < 8193; i++) {
         snprintf(path, sizeof path, "/w%d", i);
         IS(wt_create(t, PATH(path), 0644), i + 9);
-        IS(wt_inotify_add_watch(t, 130, PATH(path), IN_MODIFY), i < 8192 ? i + 1 : -ENOSPC);
+        IS(wt_inotify_add_watch(t, 133, PATH(path), IN_MODIFY), i < 8192 ? i + 1 : -ENOSPC);
     }
     for (;;) {
         number = wt_create(t, PATH("/f"), 0644);
@@ -185,6 +240,8 @@ int main(void) {
     files(&t);
     refused_files(&t);
     instances(&t);
+    peeks(&t);
+    texts();
     lines(&t);
     limits(&t);
     wt_close(&t);

@@ -18,6 +18,9 @@ extern "C" {
 struct wt_tree { void *at; bool ready; };
 #define WT_TREE_INIT { 0, false }
 
+/* The usual limit of a queue, as fs.inotify.max_queued_events of Linux. */
+#define WT_QUEUE 16384
+
 struct wt_stat { uint64_t links; uint64_t size; uint32_t number; uint32_t mode; uint32_t is_directory; };
 
 /* What a call answers below zero beside the errnos of its system call. */
@@ -69,12 +72,30 @@ int64_t wt_read(struct wt_tree *tree, uint32_t instance, void *out, size_t out_l
 int64_t wt_waiting(struct wt_tree *tree, uint32_t instance);
 int64_t wt_inotify_close(struct wt_tree *tree, uint32_t instance);
 
+/* The calls from here to wt_peek_pread are no calls of the tree: its journal keeps none, and they raise no event. */
+/* How many bytes all waiting records take: what ioctl(2) with FIONREAD gives of an inotify descriptor. */
+int64_t wt_bytes_waiting(struct wt_tree *tree, uint32_t instance);
+/* The numbers of the open instances that have a record waiting, rising, as many as fit: out_len counts numbers. It
+ * answers how many there are. */
+int64_t wt_ready(struct wt_tree *tree, uint32_t *out, size_t out_len);
+/* What wt_stat, wt_list and wt_pread would answer. */
+int64_t wt_peek_stat(struct wt_tree *tree, const char *path, size_t path_len, struct wt_stat *out);
+int64_t wt_peek_list(struct wt_tree *tree, const char *path, size_t path_len, void *out, size_t out_len);
+int64_t wt_peek_pread(struct wt_tree *tree, const char *path, size_t path_len, uint64_t offset, void *out,
+                      size_t out_len);
+
 /* Runs a line of a script, as `mkdir /d 755`, and gives as much of its text as there is room for. It answers how many
  * bytes the text has: where that is more than out_len, wt_text gives it again. queue is the limit of an instance that
  * names none. */
 int64_t wt_line(struct wt_tree *tree, uint32_t queue, const char *line, size_t line_len, void *out, size_t out_len);
 /* The text of the last line, which the tree keeps until the next one. */
 int64_t wt_text(struct wt_tree *tree, void *out, size_t out_len);
+
+/* The version of the library, as "1.0.0", as many of its bytes as fit. It answers how many it has. */
+int64_t wt_version(void *out, size_t out_len);
+/* What an answer below zero means, as "ENOENT: No such file or directory", as many of its bytes as fit. It answers how
+ * many it has. -EINVAL where the number is none of this library's. */
+int64_t wt_error_text(int64_t number, void *out, size_t out_len);
 
 #ifdef __cplusplus
 }

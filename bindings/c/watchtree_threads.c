@@ -79,20 +79,13 @@ static void end_listened(struct listened *it) {
     free(it);
 }
 
-/* Stores the numbers of the instances with records, rising, and returns how many. */
-static size_t ready_instances(struct wtt *t, uint32_t *out) NEEDS_LOCK {
-    size_t count = 0;
-    for (struct listened *it = t->first; it && count < INSTANCES; it = it->next)
-        if (wt_waiting(tree_of(t), it->instance) > 0) out[count++] = it->instance;
-    return count;
-}
-
 /* After a call: each descriptor is readable exactly while records wait, and a thread that waits for them is woken.
  * `has_read` is the instance that the call read: if it left records behind, they are announced once more. */
 static void notify(struct wtt *t, uint32_t has_read) NEEDS_LOCK {
     uint32_t ready[INSTANCES];
     if (!t->first) return;
-    size_t count = ready_instances(t, ready), at = 0;
+    int64_t count = wt_ready(tree_of(t), ready, INSTANCES), at = 0;
+    if (count > INSTANCES) abort(); /* the library has another limit than this file */
     for (struct listened *it = t->first; it; it = it->next) {
         while (at < count && ready[at] < it->instance) at++;
         bool has_records = at < count && ready[at] == it->instance;
@@ -311,3 +304,9 @@ CALL(inotify_add_watch, (struct wtt *t, uint32_t instance, const char *path, siz
      wt_inotify_add_watch(tree_of(t), instance, path, n, mask))
 CALL(inotify_rm_watch, (struct wtt *t, uint32_t instance, int32_t wd), wt_inotify_rm_watch(tree_of(t), instance, wd))
 CALL(waiting, (struct wtt *t, uint32_t instance), wt_waiting(tree_of(t), instance))
+CALL(bytes_waiting, (struct wtt *t, uint32_t instance), wt_bytes_waiting(tree_of(t), instance))
+CALL(peek_stat, (struct wtt *t, const char *path, size_t n, struct wt_stat *out), wt_peek_stat(tree_of(t), path, n, out))
+CALL(peek_list, (struct wtt *t, const char *path, size_t n, void *out, size_t m),
+     wt_peek_list(tree_of(t), path, n, out, m))
+CALL(peek_pread, (struct wtt *t, const char *path, size_t n, uint64_t offset, void *out, size_t m),
+     wt_peek_pread(tree_of(t), path, n, offset, out, m))

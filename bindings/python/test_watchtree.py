@@ -48,8 +48,13 @@ def test_session():
         tree.rename2("/d/h", "/d/f", 0)
         tree.rename("/d/f", "/d/\udcff")
         assert tree.listdir("/d") == ["\udcff"]
-        waiting = instance.waiting
+        place = tree.cut()
+        assert tree.peek_stat("/d") == tree.stat("/d") and tree.peek_listdir("/d") == ["\udcff"]
+        assert tree.peek_read("/d/\udcff", 9) == b"he"
+        assert raises(errno.ENOENT, tree.peek_stat, "/none") and tree.cut() == place + 1
+        waiting, size = instance.waiting, instance.bytes_waiting
         events = instance.read()
+        assert size == waiting * 16 + sum(16 for it in events if it.name)
         assert len(events) == waiting and events[-1] == Event(1, Mask.MOVED_TO, events[-2].cookie, "\udcff")
         assert events[-2].mask == Mask.MOVED_FROM and events[-2].cookie > 0
         tree.unlink("/d/\udcff")
@@ -91,6 +96,8 @@ def test_refusals():
         except OverflowError:
             continue
         raise AssertionError(words)
+    assert watchtree.error_text(-errno.EEXIST) == "EEXIST: File exists"
+    assert watchtree.error_text(-watchtree.JOURNAL_FULL).startswith("JournalFull: ")
     tree.close()
     tree.close()
     assert raises(errno.EBADF, tree.mkdir, "/e") and raises(errno.EBADF, tree.cut)

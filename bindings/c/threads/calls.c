@@ -40,7 +40,10 @@ static void call_on_files(unsigned which, const char *path, const char *other) {
     case 9: BOTH(rename, PATH(path), PATH(other)); break;
     case 10: BOTH(rename2, PATH(path), PATH(other), few); break;
     case 11: both("stat", wt_stat(&plain, PATH(path), &stats[0]), wtt_stat(shared, PATH(path), &stats[1])); break;
-    default: INTO_OUT(list, PATH(path)); break;
+    case 12: INTO_OUT(list, PATH(path)); break;
+    case 13: both("peek_stat", wt_peek_stat(&plain, PATH(path), &stats[0]), wtt_peek_stat(shared, PATH(path), &stats[1])); break;
+    case 14: INTO_OUT(peek_list, PATH(path)); break;
+    default: INTO_OUT(peek_pread, PATH(path), few); break;
     }
 }
 
@@ -55,6 +58,7 @@ static void call_on_instances(unsigned which, const char *path, uint32_t instanc
     case 3: BOTH(inotify_rm_watch, instance, (int32_t)few); break;
     case 4: if (few == 0) BOTH(inotify_close, instance); break;
     case 5: BOTH(waiting, instance); break;
+    case 8: BOTH(bytes_waiting, instance); break;
     case 6: INTO_OUT(line, 64, PATH(line)); break;
     case 7: both("text", wt_text(&plain, out[0], size), wtt_text(shared, out[1], size)); break;
     default: {
@@ -72,8 +76,8 @@ int main(void) {
     unsigned answered = 0;
     for (int turn = 0; turn < CALLS; turn++) {
         const char *path = PATHS[choose(10)], *other = PATHS[choose(10)];
-        if (choose(2)) call_on_files(choose(13), path, other);
-        else call_on_instances(choose(9), path, choose(12) + 1);
+        if (choose(2)) call_on_files(choose(16), path, other);
+        else call_on_instances(choose(10), path, choose(12) + 1);
         HOLDS(!memcmp(out[0], out[1], sizeof out[0]) && !memcmp(&stats[0], &stats[1], sizeof stats[0]));
         /* (a descriptor changes no answer) */
         if (turn % 1000 == 0) {

@@ -1,6 +1,8 @@
 //! The calls that `Tree` and `SharedTree` have in common.
+use crate::sys::RawStat;
+use std::ffi::OsString;
 use std::os::raw::c_char;
-use std::os::unix::ffi::OsStrExt;
+use std::os::unix::ffi::{OsStrExt, OsStringExt};
 use std::path::Path;
 
 /// What is at a path.
@@ -11,6 +13,19 @@ pub struct Stat {
     pub mode: u32,
     pub links: u64,
     pub size: u64,
+}
+
+impl From<RawStat> for Stat {
+    fn from(raw: RawStat) -> Stat {
+        let RawStat { links, size, number, mode, is_directory } = raw;
+        Stat { number, is_directory: is_directory != 0, mode, links, size }
+    }
+}
+
+/// The names in a text in which a zero byte ends each.
+pub(crate) fn names(text: Vec<u8>) -> Vec<OsString> {
+    let names = text.split(|&it| it == 0).filter(|it| !it.is_empty());
+    names.map(|it| OsString::from_vec(it.to_vec())).collect()
 }
 
 /// A path as C takes it. It is valid as long as the path is.
@@ -36,7 +51,7 @@ pub(crate) fn all_of(mut call: impl FnMut(&mut [u8]) -> i64) -> Result<Vec<u8>, 
 macro_rules! calls {
     ([$($receiver:tt)+], $me:ident, $sys:ident, $prefix:ident: $cut:ident $mkdir:ident $create:ident $write:ident
      $pread:ident $truncate:ident $chmod:ident $link:ident $unlink:ident $rmdir:ident $rename:ident $rename2:ident
-     $stat:ident $list:ident) => {
+     $stat:ident $list:ident $peek_stat:ident $peek_list:ident $peek_pread:ident) => {
         /// Cuts the journal of calls, and returns the sequence number of the last one.
         pub fn cut($($receiver)+) -> Result<u64, Error> {
             answer(unsafe { $sys::$cut($me.$prefix()) })
@@ -59,6 +74,14 @@ macro_rules! calls {
             let (path, len) = text(path.as_ref());
             let data = bytes.as_ptr().cast();
             answer(unsafe { $sys::$write($me.$prefix(), path, len, offset, data, bytes.len()) })
+        }
+
+        /// As `pread`, but the journal has no entry of it, and it raises no events.
+        pub fn peek_pread($($receiver)+, path: impl AsRef<Path>, offset: u64, out: &mut [u8]) -> Result<usize, Error> {
+            let (path, len) = text(path.as_ref());
+            let buffer = out.as_mut_ptr().cast();
+            answer(unsafe { $sys::$peek_pread($me.$prefix(), path, len, offset, buffer, out.len()) })
+                .map(|it| it as usize)
         }
 
         /// Reads bytes at an offset into `out`, and returns how many.
@@ -114,18 +137,28 @@ macro_rules! calls {
             let (path, len) = text(path.as_ref());
             let mut out = RawStat::default();
             answer(unsafe { $sys::$stat($me.$prefix(), path, len, &mut out) })?;
-            let RawStat { links, size, number, mode, is_directory } = out;
-            Ok(Stat { number, is_directory: is_directory != 0, mode, links, size })
+            Ok(out.into())
+        }
+
+        /// As `stat`, but the journal has no entry of it.
+        pub fn peek_stat($($receiver)+, path: impl AsRef<Path>) -> Result<Stat, Error> {
+            let (path, len) = text(path.as_ref());
+            let mut out = RawStat::default();
+            answer(unsafe { $sys::$peek_stat($me.$prefix(), path, len, &mut out) })?;
+            Ok(out.into())
         }
 
         /// The names in a directory, in the order of their bytes.
         pub fn list($($receiver)+, path: impl AsRef<Path>) -> Result<Vec<OsString>, Error> {
             let (path, len) = text(path.as_ref());
-            let names = all_of(|out| unsafe {
-                $sys::$list($me.$prefix(), path, len, out.as_mut_ptr().cast(), out.len())
-            })?;
-            let names = names.split(|&it| it == 0).filter(|it| !it.is_empty());
-            Ok(names.map(|it| OsString::from_vec(it.to_vec())).collect())
+            all_of(|out| unsafe { $sys::$list($me.$prefix(), path, len, out.as_mut_ptr().cast(), out.len()) }).map(names)
+        }
+
+        /// As `list`, but the journal has no entry of it.
+        pub fn peek_list($($receiver)+, path: impl AsRef<Path>) -> Result<Vec<OsString>, Error> {
+            let (path, len) = text(path.as_ref());
+            all_of(|out| unsafe { $sys::$peek_list($me.$prefix(), path, len, out.as_mut_ptr().cast(), out.len()) })
+                .map(names)
         }
     };
 }

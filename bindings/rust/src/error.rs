@@ -1,6 +1,8 @@
 //! Why a call was refused.
+use crate::sys;
 use std::fmt;
 use std::io;
+use std::os::raw::c_void;
 
 /// Why a call was refused: a number of errno(3), or from 1001 on one of this library's own, as watchtree.h lists them.
 #[derive(Clone, Copy, Debug, PartialEq, Eq)]
@@ -17,11 +19,9 @@ impl Error {
 
 impl fmt::Display for Error {
     fn fmt(&self, f: &mut fmt::Formatter<'_>) -> fmt::Result {
-        match self.0 {
-            1001 => write!(f, "the journal is full"),
-            1101..=1108 => write!(f, "the line has a fault ({})", self.0),
-            number if number > 1000 => write!(f, "refused ({number})"),
-            number => write!(f, "{}", io::Error::from_raw_os_error(number)),
+        match text(|out, len| unsafe { sys::wt_error_text(-i64::from(self.0), out, len) }) {
+            Ok(text) => f.write_str(&text),
+            Err(_) => write!(f, "unknown error {}", self.0),
         }
     }
 }
@@ -41,4 +41,16 @@ impl From<Error> for io::Error {
 /// The answer of a call below zero is an error.
 pub(crate) fn answer(number: i64) -> Result<u64, Error> {
     u64::try_from(number).map_err(|_| Error(number.unsigned_abs().try_into().unwrap_or(i32::MAX)))
+}
+
+/// A text of the library, each of which fits into 128 bytes.
+fn text(call: impl FnOnce(*mut c_void, usize) -> i64) -> Result<String, Error> {
+    let mut out = [0; 128];
+    let len = answer(call(out.as_mut_ptr().cast(), out.len()))? as usize;
+    Ok(String::from_utf8_lossy(&out[..len]).into_owned())
+}
+
+/// The version of the library, as `1.0.0`.
+pub fn version() -> Result<String, Error> {
+    text(|out, len| unsafe { sys::wt_version(out, len) })
 }

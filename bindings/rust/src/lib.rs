@@ -27,11 +27,13 @@ mod sys_threads;
 mod tree;
 
 pub use calls::Stat;
-pub use error::Error;
+pub use error::{version, Error};
 pub use events::{Event, EventIter, Events};
 pub use shared::{SharedInstance, SharedTree};
 pub use tree::{Instance, Tree};
 
+/// The usual limit of a queue, as fs.inotify.max_queued_events of Linux.
+pub const QUEUE: u32 = 16384;
 /// The flag of `rename2` by which nothing may be at the new path.
 pub const RENAME_NOREPLACE: u32 = 1;
 /// The flag of `rename2` by which the two files are exchanged.

@@ -1,12 +1,11 @@
 //! A tree that threads share.
-use crate::calls::{all_of, calls, text};
+use crate::calls::{all_of, calls, names, text};
 use crate::error::answer;
 use crate::sys::RawStat;
 use crate::sys_threads::{self as sys, RawShared};
 use crate::{Error, Events, Stat};
 use std::ffi::OsString;
 use std::os::raw::c_int;
-use std::os::unix::ffi::OsStringExt;
 use std::os::unix::io::{AsFd, AsRawFd, BorrowedFd, FromRawFd, OwnedFd, RawFd};
 use std::path::Path;
 use std::ptr;
@@ -70,7 +69,8 @@ impl SharedTree {
     }
 
     calls!([&self], self, sys, raw: wtt_cut wtt_mkdir wtt_create wtt_write wtt_pread wtt_truncate wtt_chmod wtt_link
-        wtt_unlink wtt_rmdir wtt_rename wtt_rename2 wtt_stat wtt_list);
+        wtt_unlink wtt_rmdir wtt_rename wtt_rename2 wtt_stat wtt_list wtt_peek_stat
+        wtt_peek_list wtt_peek_pread);
 
     /// Closes the tree now, for all clones and instances: every call is [`Error::CLOSED`] from then on, also one that
     /// waits in another thread.
@@ -165,6 +165,11 @@ impl SharedInstance {
     /// How many records wait.
     pub fn waiting(&self) -> Result<u64, Error> {
         answer(unsafe { sys::wtt_waiting(self.tree.raw(), self.number) })
+    }
+
+    /// How many bytes the waiting records take.
+    pub fn bytes_waiting(&self) -> Result<u64, Error> {
+        answer(unsafe { sys::wtt_bytes_waiting(self.tree.raw(), self.number) })
     }
 
     /// Closes the instance now. Threads that wait for its records return [`Error::CLOSED`].

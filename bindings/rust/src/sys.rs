@@ -68,6 +68,24 @@ extern "C" {
     pub fn wt_read(tree: *mut RawTree, instance: u32, out: *mut c_void, out_len: usize) -> i64;
     pub fn wt_waiting(tree: *mut RawTree, instance: u32) -> i64;
     pub fn wt_inotify_close(tree: *mut RawTree, instance: u32) -> i64;
+    pub fn wt_bytes_waiting(tree: *mut RawTree, instance: u32) -> i64;
+    pub fn wt_ready(tree: *mut RawTree, out: *mut u32, out_len: usize) -> i64;
+    pub fn wt_peek_stat(tree: *mut RawTree, path: *const c_char, path_len: usize, out: *mut RawStat) -> i64;
+    pub fn wt_peek_list(
+        tree: *mut RawTree,
+        path: *const c_char,
+        path_len: usize,
+        out: *mut c_void,
+        out_len: usize,
+    ) -> i64;
+    pub fn wt_peek_pread(
+        tree: *mut RawTree,
+        path: *const c_char,
+        path_len: usize,
+        offset: u64,
+        out: *mut c_void,
+        out_len: usize,
+    ) -> i64;
     pub fn wt_line(
         tree: *mut RawTree,
         queue: u32,
@@ -77,4 +95,6 @@ extern "C" {
         out_len: usize,
     ) -> i64;
     pub fn wt_text(tree: *mut RawTree, out: *mut c_void, out_len: usize) -> i64;
+    pub fn wt_version(out: *mut c_void, out_len: usize) -> i64;
+    pub fn wt_error_text(number: i64, out: *mut c_void, out_len: usize) -> i64;
 }

@@ -72,6 +72,23 @@ extern "C" {
     pub fn wtt_fd(tree: *mut RawShared, instance: u32) -> i64;
     pub fn wtt_waiting(tree: *mut RawShared, instance: u32) -> i64;
     pub fn wtt_inotify_close(tree: *mut RawShared, instance: u32) -> i64;
+    pub fn wtt_bytes_waiting(tree: *mut RawShared, instance: u32) -> i64;
+    pub fn wtt_peek_stat(tree: *mut RawShared, path: *const c_char, path_len: usize, out: *mut RawStat) -> i64;
+    pub fn wtt_peek_list(
+        tree: *mut RawShared,
+        path: *const c_char,
+        path_len: usize,
+        out: *mut c_void,
+        out_len: usize,
+    ) -> i64;
+    pub fn wtt_peek_pread(
+        tree: *mut RawShared,
+        path: *const c_char,
+        path_len: usize,
+        offset: u64,
+        out: *mut c_void,
+        out_len: usize,
+    ) -> i64;
     pub fn wtt_line(
         tree: *mut RawShared,
         queue: u32,

@@ -1,10 +1,9 @@
 //! A tree for one thread at a time.
-use crate::calls::{all_of, calls, text};
+use crate::calls::{all_of, calls, names, text};
 use crate::error::answer;
 use crate::sys::{self, RawStat, RawTree};
 use crate::{Error, Events, Stat};
 use std::ffi::OsString;
-use std::os::unix::ffi::OsStringExt;
 use std::path::Path;
 use std::ptr;
 
@@ -42,7 +41,8 @@ impl Tree {
     }
 
     calls!([&mut self], self, sys, raw: wt_cut wt_mkdir wt_create wt_write wt_pread wt_truncate wt_chmod wt_link
-        wt_unlink wt_rmdir wt_rename wt_rename2 wt_stat wt_list);
+        wt_unlink wt_rmdir wt_rename wt_rename2 wt_stat wt_list wt_peek_stat wt_peek_list
+        wt_peek_pread);
 
     /// Makes an instance with a queue of so many records.
     pub fn inotify(&mut self, limit: u32) -> Result<Instance, Error> {
@@ -70,6 +70,23 @@ impl Tree {
     /// How many records wait.
     pub fn waiting(&mut self, instance: Instance) -> Result<u64, Error> {
         answer(unsafe { sys::wt_waiting(&mut self.raw, instance.0) })
+    }
+
+    /// How many bytes the waiting records take.
+    pub fn bytes_waiting(&mut self, instance: Instance) -> Result<u64, Error> {
+        answer(unsafe { sys::wt_bytes_waiting(&mut self.raw, instance.0) })
+    }
+
+    /// The open instances that have a record waiting, by their numbers, rising.
+    pub fn ready(&mut self) -> Result<Vec<Instance>, Error> {
+        let mut out = vec![0; 128];
+        loop {
+            let count = answer(unsafe { sys::wt_ready(&mut self.raw, out.as_mut_ptr(), out.len()) })? as usize;
+            if count <= out.len() {
+                return Ok(out[..count].iter().map(|&it| Instance(it)).collect());
+            }
+            out.resize(count, 0);
+        }
     }
 
     pub fn close(&mut self, instance: Instance) -> Result<(), Error> {

@@ -50,7 +50,10 @@ fn calls_answer() -> Result<(), Error> {
     }
     assert_eq!(tree.list("/d")?.len(), 32);
     assert_eq!(tree.line("list /d", 64)?.len(), 6 + 30 * 205 + 2 * 4);
-    assert!(tree.cut()? > 40);
+    let place = tree.cut()?;
+    assert!(place > 40);
+    assert_eq!((tree.peek_stat("/d/h")?.number, tree.peek_list("/d")?.len()), (3, 32));
+    assert_eq!((tree.peek_pread("/d/h", 0, &mut out)?, &out[..2], tree.cut()?), (2, &b"he"[..], place));
     Ok(())
 }
 
@@ -64,7 +67,7 @@ fn an_instance_is_read_and_closed() -> Result<(), Error> {
     assert_eq!(instance.add_watch("/", mask::CREATE)?, 1);
     assert_eq!(instance.try_read(4096), Err(Error::AGAIN));
     tree.create("/f", 0o644)?;
-    assert_eq!((instance.waiting()?, instance.try_read(31)), (1, Err(Error(22))));
+    assert_eq!((instance.waiting()?, instance.bytes_waiting()?, instance.try_read(31)), (1, 32, Err(Error(22))));
     assert_eq!(instance.read(4096)?.as_bytes().len(), 32);
     instance.rm_watch(1)?;
     let events = instance.try_read(4096)?;

@@ -3,13 +3,13 @@ use std::ffi::{OsStr, OsString};
 use std::os::unix::ffi::OsStrExt;
 use std::path::Path;
 use std::thread;
-use watchtree::{mask, Error, Event, Instance, Stat, Tree, RENAME_EXCHANGE, RENAME_NOREPLACE};
+use watchtree::{mask, Error, Event, Instance, Stat, Tree, QUEUE, RENAME_EXCHANGE, RENAME_NOREPLACE};
 
 #[test]
 fn calls_answer() -> Result<(), Error> {
     let mut tree = Tree::open()?;
     assert_eq!((tree.mkdir("/d", 0o755)?, tree.create("/d/f", 0o600)?), (2, 3));
-    let instance = tree.inotify(16384)?;
+    let instance = tree.inotify(QUEUE)?;
     assert_eq!(tree.add_watch(instance, "/d", mask::ALL_EVENTS)?, 1);
     assert_eq!(tree.write("/d/f", 0, b"hello")?, 5);
     let mut out = [0; 9];
@@ -25,8 +25,14 @@ fn calls_answer() -> Result<(), Error> {
     tree.link("/d/f", "/d/g")?;
     assert_eq!(tree.list("/d")?, ["f", "g"]);
     tree.unlink("/d/g")?;
+    let place = tree.cut()?;
+    assert_eq!((tree.peek_stat("/d/f")?, tree.peek_list("/d")?), (wanted, vec!["f".into()]));
+    assert_eq!((tree.peek_pread("/d/f", 1, &mut out)?, out[0]), (1, b'e'));
+    assert_eq!((tree.cut()?, tree.ready()?), (place, vec![instance]));
+    let bytes = tree.bytes_waiting(instance)? as usize;
     let waiting = tree.waiting(instance)?;
-    assert_eq!(tree.read(instance, 65536)?.iter().count() as u64, waiting);
+    let all = tree.read(instance, 65536)?;
+    assert_eq!((all.iter().count() as u64, all.as_bytes().len(), tree.ready()?), (waiting, bytes, vec![]));
     let odd = OsStr::from_bytes(b"/d/\xff");
     tree.rename("/d/f", odd)?;
     let events = tree.read(instance, 4096)?;
@@ -61,7 +67,9 @@ fn refusals_are_errors() -> Result<(), Error> {
     assert_eq!(tree.read(instance, 31), Err(Error(22)));
     assert_eq!(tree.read(instance, 32)?.iter().next().and_then(|it| it.name), Some("f".as_ref()));
     assert_eq!(tree.line("nothing", 9), Err(Error(1102)));
-    assert_eq!(Error(1001).to_string(), "the journal is full");
+    assert_eq!(Error(1001).to_string(), "JournalFull: The journal is full");
+    assert_eq!(Error(2).to_string(), "ENOENT: No such file or directory");
+    assert_eq!(Error(3).to_string(), "unknown error 3");
     Ok(())
 }
 
@@ -76,6 +84,11 @@ fn what_does_not_fit_is_asked_for_again() -> Result<(), Error> {
     let text = tree.line("list /", 9)?;
     assert_eq!((text.len(), &text[..7]), (7 + 100 * 206, &b"ok 100\n"[..]));
     Ok(())
+}
+
+#[test]
+fn the_version_is_that_of_the_crate() {
+    assert_eq!(watchtree::version(), Ok(env!("CARGO_PKG_VERSION").to_string()));
 }
 
 #[test]

@@ -1,3 +1,4 @@
+pub mod BytesLemmas
 pub mod EventLemmas
 pub mod OfferLemmas
 pub mod ReadLemmas

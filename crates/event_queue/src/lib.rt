@@ -4,6 +4,7 @@
 //! overflow mark in it says so, once until that mark is read. Nothing else is ever dropped.
 #![tactic(auto)]
 
+mod bytes;
 mod fit;
 mod laws;
 mod offered;

@@ -92,12 +92,20 @@ impl Queue {
         Offered::Marked
     }
 
-    /// How many of the oldest records fit whole into `bytes` bytes, as read(2) gives them, as many as possible, and how
-    /// many bytes these take. 0 where none waits, or where the oldest does not fit.
+    /// How many of the oldest records fit whole into `bytes` bytes, as read(2) gives them, as many as possible. 0 where none
+    /// waits, or where the oldest does not fit.
+    pub fn fit(&self, bytes: usize) -> usize
+        ensures count { result ≡ fitting bytes self.now.waiting }
+        ensures greatest { IsGreatestFit bytes self.now.waiting result }
+    {
+        self.fit_len(bytes).count
+    }
+
+    /// What [`Queue::fit`] answers, and how many bytes those records take.
     ///
     /// It looks at those records and the next one alone.
     #[tactic(auto, using(crate::proofs::ReadLemmas::fitting_is_greatest))]
-    pub fn fit(&self, bytes: usize) -> Fit
+    pub fn fit_len(&self, bytes: usize) -> Fit
         ensures count { result.count ≡ fitting bytes self.now.waiting }
         ensures len { result.len ≡ length (spelling (take result.count self.now.waiting)) }
         ensures greatest { IsGreatestFit bytes self.now.waiting result.count }

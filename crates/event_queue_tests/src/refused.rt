@@ -76,7 +76,7 @@ fn fates(queue: &mut Queue, events: [Event; 7]) -> [Offered; 7] {
 
 // The descriptors of what waits, and how many records fit into 48 bytes.
 fn waiting(queue: &mut Queue) -> (usize, usize, i32, i32, bool) {
-    let fits = queue.fit(48).count;
+    let fits = queue.fit(48);
     let peeked = match queue.peek(0) {
         Some(event) => event.wd,
         None => 0,

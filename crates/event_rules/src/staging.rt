@@ -42,8 +42,8 @@ pub struct Staged {
     pub events: VecDeque<StagedEvent>,
     /// The watches that end, for each instance in order. [`Watches::remove`] of each in turn leaves the others.
     pub drops: Vec<StagedEnd>,
-    /// The descriptors of the watches that end of the instance that was staged last.
-    pub wds: Vec<i32>,
+    // The descriptors of the watches that end of the instance that was staged last.
+    wds: Vec<i32>,
 }
 
 impl Staged {

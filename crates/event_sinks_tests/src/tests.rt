@@ -2,6 +2,7 @@ ghost use Rattle.std.specs.Prelude.{◌≡◌, true};
 ghost use Rattle.event_sinks.specs.Writing.{is_open_of};
 
 mod audits;
+mod books;
 mod feeds;
 mod listeners;
 mod refused;

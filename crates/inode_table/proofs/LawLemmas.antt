@@ -1,5 +1,5 @@
 -- What is true of the world of a table.
-use Rattle.std.proofs.Common.{◌≡◌, ℕ, true, false, List, [], ◌∷◌, ◌++◌, Option, Some, None, IsSome, is_some, is_none, unwrap_or, refl, sym, ap, ◌∙◌, subst}
+use Rattle.std.proofs.Common.{◌≡◌, ◌↔◌, ℕ, true, false, List, [], ◌∷◌, ◌++◌, Option, Some, None, IsSome, is_some, is_none, unwrap_or, refl, sym, ap, ◌∙◌, subst}
 use Rattle.std.specs.Option.{option_and_then, option_map, option_map_or, IsSomeAnd}
 use Rattle.std.specs.FinMap as finmap
 use Rattle.inode_table.specs.Walk.{walk}
@@ -8,7 +8,7 @@ use Rattle.inode_table.specs.Kept.{is_directory, is_directory_row}
 use Rattle.inode_table.specs.Tree.{Tree, at, what_at}
 use Rattle.inode_table.specs.World as world
 use Rattle.inode_table.specs.World.{World, IsWorld, IsDirectoryAt, file_at}
-use Rattle.inode_table.specs.TableWorld.{kind_of, file_of}
+use Rattle.inode_table.specs.TableWorld.{IsNodeOf, kind_of, file_of}
 use Rattle.inode_table.specs.Stands.{Stands}
 use Rattle.inode_table.specs.declared.seen.Kind.TheVariants.{Directory}
 use Rattle.inode_table.proofs.TreeLemmas.{some_none, same_some}
@@ -95,3 +95,14 @@ module _ {t : Tree} {w : World} (stands : Stands t w) where
     one_path = one_path-of;
     no_bytes = no_bytes-of;
   }
+
+  pub files-are-nodes : (n : ℕ) (f : world.File) → (finmap.get w.files n ≡ Some f) ↔ IsNodeOf t n f
+  files-are-nodes n f = (to_node, of_node)
+    where
+      to_node : finmap.get w.files n ≡ Some f → IsNodeOf t n f
+      to_node is =
+          let found = stands.no_more n f is in
+          (found.0, found.1, found.2, found.3, same_some (file_of found.1) f (sym (stands.files found.0 found.1 found.2) ∙ ap (finmap.get w.files) found.3 ∙ is))
+
+      of_node : IsNodeOf t n f → finmap.get w.files n ≡ Some f
+      of_node node = ap (finmap.get w.files) (sym node.3) ∙ stands.files node.0 node.1 node.2 ∙ ap Some node.4

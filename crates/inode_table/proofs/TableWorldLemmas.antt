@@ -14,12 +14,12 @@ use Rattle.inode_table.specs.Walk.{walk}
 use Rattle.inode_table.specs.Rows.{Label, Body, File, Names, Row, Rows, What, row_under, child, what, shown, key_in, same_label}
 use Rattle.inode_table.specs.Kept.{is_directory, IsTable}
 use Rattle.inode_table.specs.Tree.{Tree, at, what_at}
-use Rattle.inode_table.specs.Flat.{names_in}
+use Rattle.inode_table.specs.Flat.{names_in, number_under}
 use Rattle.inode_table.specs.Paths.{path_cmp}
 use Rattle.inode_table.specs.World as world
 use Rattle.inode_table.specs.World.{World, look}
 use Rattle.inode_table.specs.TableWorld.{file_of, number_of, names_of_row, names_of, paths_up_to, with_number, paths_among, with_node, files_below, world_in, world_of, file_under}
-use Rattle.inode_table.specs.Stands.{look_in, number_at, Stands}
+use Rattle.inode_table.specs.Stands.{look_in, Stands}
 use Rattle.inode_table.proofs.TreeLemmas.{some_none, same_some, IsTree-live}
 use Rattle.inode_table.proofs.WalkLemmas.{walk-append, longer}
 use Rattle.inode_table.proofs.ChangeLemmas.{live-what, same_label-true}
@@ -156,25 +156,25 @@ module _ (rs : Rows) (table : IsTable rs) where
 
 -- ---- the paths
 
-paths-none : (t : Tree) (ps : List (List Label)) (p : List Label) → number_at t p ≡ None → map.get (paths_among t.rows ps) p ≡ None
+paths-none : (t : Tree) (ps : List (List Label)) (p : List Label) → number_under t.rows p ≡ None → map.get (paths_among t.rows ps) p ≡ None
 paths-none t [] p none = get-empty path_cmp p
 paths-none t (q ∷ ps) p none =
-    elim (number_at t q) as (λ o. number_at t q ≡ o → map.get (with_number (paths_among t.rows ps) q o) p ≡ None) [
+    elim (number_under t.rows q) as (λ o. number_under t.rows q ≡ o → map.get (with_number (paths_among t.rows ps) q o) p ≡ None) [
       | None ↦ λ _. paths-none t ps p none
-      | Some n ↦ λ is. get-insert_other path_total path_exact (paths_among t.rows ps) q n p (λ same. some_none (ap (number_at t) (sym same) ∙ none) is) ∙ paths-none t ps p none
+      | Some n ↦ λ is. get-insert_other path_total path_exact (paths_among t.rows ps) q n p (λ same. some_none (ap (number_under t.rows) (sym same) ∙ none) is) ∙ paths-none t ps p none
     ] refl
 
-paths-some : (t : Tree) (ps : List (List Label)) (p : List Label) (n : ℕ) → In ps p → number_at t p ≡ Some n → map.get (paths_among t.rows ps) p ≡ Some n
+paths-some : (t : Tree) (ps : List (List Label)) (p : List Label) (n : ℕ) → In ps p → number_under t.rows p ≡ Some n → map.get (paths_among t.rows ps) p ≡ Some n
 paths-some t [] p n has is = absurd has
 paths-some t (q ∷ ps) p n has is =
     elim (decide_path p q) [
       | inl same ↦
-          ap (λ o. map.get (with_number (paths_among t.rows ps) q o) p) (ap (number_at t) (sym same) ∙ is)
+          ap (λ o. map.get (with_number (paths_among t.rows ps) q o) p) (ap (number_under t.rows) (sym same) ∙ is)
           ∙ ap (map.get (map.insert (paths_among t.rows ps) q n)) same
           ∙ get-insert_here path_total path_exact (paths_among t.rows ps) q n
       | inr off ↦
           let rest = elim has as (λ _. In ps p) [ inl same ↦ absurd (off same) | inr r ↦ r ] in
-          skipped off (number_at t q) ∙ paths-some t ps p n rest is
+          skipped off (number_under t.rows q) ∙ paths-some t ps p n rest is
     ]
   where
     skipped : p ≢ q → (o : Option ℕ) → map.get (with_number (paths_among t.rows ps) q o) p ≡ map.get (paths_among t.rows ps) p
@@ -220,11 +220,11 @@ unfolding world_in
 Stands-world_of t table = record {
   table = table;
   paths = λ p.
-      elim (at t p) as (λ o. at t p ≡ o → map.get (paths_among t.rows (paths_up_to (length t.rows) (names_of t.rows))) p ≡ number_at t p) [
-        | None ↦ λ none. let absent : number_at t p ≡ None = ap (number_of t) none in paths-none t _ p absent ∙ sym absent
+      elim (at t p) as (λ o. at t p ≡ o → map.get (paths_among t.rows (paths_up_to (length t.rows) (names_of t.rows))) p ≡ number_under t.rows p) [
+        | None ↦ λ none. let absent : number_under t.rows p ≡ None = ap (number_of t) none in paths-none t _ p absent ∙ sym absent
         | Some k ↦ λ there.
             let v = is_value (what t.rows k) (sym (live-what t.rows k) ∙ IsTree-live table.tree p k there) in
-            let number : number_at t p ≡ Some v.0.number = ap (number_of t) there ∙ ap (option_map (λ (u : What). u.number)) v.1 in
+            let number : number_under t.rows p ≡ Some v.0.number = ap (number_of t) there ∙ ap (option_map (λ (u : What). u.number)) v.1 in
             paths-some t _ p v.0.number (In-paths t.rows (length t.rows) 0 k p there (length-walk t.rows table p k there)) number ∙ sym number
       ] refl;
   files = λ k v is. files-some t.rows table (length t.rows) k v is (within t.rows k v is);

@@ -1,5 +1,5 @@
 -- The world of a table: what contracts see of it.
-use Rattle.std.specs.Prelude.{ℕ, zero, suc, ◌<◌, IsSome, List, [], ◌∷◌, map, length, Option, Some, None, unwrap_or}
+use Rattle.std.specs.Prelude.{◌≡◌, ℕ, zero, suc, ◌<◌, IsSome, List, [], ◌∷◌, map, length, Option, Some, None, unwrap_or}
 use Rattle.std.specs.List.{flat_map}
 use Rattle.std.specs.Option.{option_and_then, option_map_or, option_map}
 use Rattle.std.specs.Ordering.{nat_cmp}
@@ -64,6 +64,10 @@ world_in rs = record {
 -- the world that contracts see of a table, however much room it has
 abbrev pub world_of : Tree → World
 world_of t = world_in t.rows
+
+-- a node of the table has this number, and is this file
+abbrev pub IsNodeOf : Tree → ℕ → File → Type 0
+IsNodeOf t n f = (k : ℕ) × (v : What) × (what_at t k ≡ Some v) × (v.number ≡ n) × (file_of v ≡ f)
 
 -- every number of a file is below this one
 abbrev pub HasNumbersBelow : World → ℕ → Type 0

@@ -1,7 +1,8 @@
 //! The table of nodes.
 
-ghost use Rattle.std.specs.Prelude.{◌≡◌, ◌≤◌, None, Some, IfOk, IfErr, OnOk, OnErr, IsSome, if◌then◌else◌};
-ghost use Rattle.inode_table.specs.Rows.{row_under};
+ghost use Rattle.std.specs.Prelude.{◌≡◌, ◌↔◌, ◌≤◌, ℕ, List, None, Some, IfOk, IfErr, OnOk, OnErr, IsSome, if◌then◌else◌};
+ghost use Rattle.std.specs.FinMap as finmap;
+ghost use Rattle.inode_table.specs.Rows.{Label, row_under};
 ghost use Rattle.inode_table.specs.Kept.{rows_of, is_directory, row_of};
 ghost use Rattle.inode_table.specs.Tree.{at, what_at};
 
@@ -58,11 +59,12 @@ impl Model for Table {
 }
 
 impl Table {
-    ghost use Rattle.inode_table.specs.World.{IsWorld, look, opening_world};
+    ghost use Rattle.inode_table.specs.World.{File, IsWorld, look, opening_world};
+    ghost use Rattle.inode_table.specs.Flat.{number_under};
     ghost use Rattle.inode_table.specs.Resolution.{ResolvedPath, IsResolved};
     ghost use Rattle.inode_table.specs.Refusals.{find};
     ghost use Rattle.inode_table.specs.Stands.{Stands, look_in};
-    ghost use Rattle.inode_table.specs.TableWorld.{number_of, world_of};
+    ghost use Rattle.inode_table.specs.TableWorld.{IsNodeOf, number_of, world_of};
     ghost use Rattle.inode_table.specs.Kept.{IsTable};
 
     /// The root alone: number 1, mode 0755.
@@ -94,9 +96,12 @@ impl Table {
         Ok(())
     }
 
-    /// What is true of the world of every table, for a caller's proof.
+    /// What is true of the world of every table, for a caller's proof: it is a world of files, its paths are those that lead to a
+    /// node, each with the node's number, and its files are the nodes under their numbers.
     pub fn law(&self)
-        ensures { IsWorld (world_of self.now) }
+        ensures world { IsWorld (world_of self.now) }
+        ensures paths { (p : List Label) → finmap.get (world_of self.now).paths p ≡ number_under self.now.rows p }
+        ensures files { (n : ℕ) (f : File) → (finmap.get (world_of self.now).files n ≡ Some f) ↔ IsNodeOf self.now n f }
     {
         let _ = &self.nodes;
     }

@@ -5,3 +5,4 @@ mod Rising
 mod Staged
 mod Waiting
 mod Watchers
+mod Readied

@@ -7,3 +7,4 @@ pub mod Views
 pub mod Staging
 pub mod Heard
 pub mod Rows
+pub mod Ready

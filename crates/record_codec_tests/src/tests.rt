@@ -340,6 +340,69 @@ fn reads_faults(rt: HostRuntime) -> Result<(), Fail> {
     Ok(())
 }
 
+/// The record of a file `f` that was made, with one byte of it another: the fault of each rule, and where the record begins.
+#[test]
+fn reads_the_faults_of_one_record(rt: HostRuntime) -> Result<(), Fail> {
+    let record = &SPELLED[..32];
+    equal(&rt, decode(rt.alloc(), &[])?.len(), 0);
+    for len in [15, 31] {
+        let read = decode(rt.alloc(), &record[..len]);
+        equal(&rt, (len, read.err()), (len, Some(CodecFault::Short(0))));
+    }
+    for (at, byte, fault) in [
+        (12, 0x18, CodecFault::BadLen(0)),
+        (16, 0x2f, CodecFault::BadName(0)),
+        (16, 0x00, CodecFault::BadName(0)),
+        (31, 0x01, CodecFault::BadPad(0)),
+    ] {
+        let mut bytes = record.to_vec(rt.alloc())?;
+        equal(&rt, bytes.len(), 32);
+        bytes[at] = byte;
+        let read = decode(rt.alloc(), &bytes);
+        equal(&rt, (at, byte, read.err()), (at, byte, Some(fault)));
+    }
+    let mut longer = record.to_vec(rt.alloc())?;
+    longer.extend_from_slice(&[0; 3])?;
+    equal(
+        &rt,
+        decode(rt.alloc(), &longer).err(),
+        Some(CodecFault::Short(32)),
+    );
+    Ok(())
+}
+
+/// A record whose name has 256 bytes, as some file systems of Linux have them: 288 bytes, of which the name field is 272.
+#[test]
+fn reads_no_name_of_256_bytes(rt: HostRuntime) -> Result<(), Fail> {
+    let mut bytes = SPELLED[..12].to_vec(rt.alloc())?;
+    bytes.extend_from_slice(&272u32.to_le_bytes())?;
+    bytes.resize(272, b'n')?;
+    bytes.resize(288, 0)?;
+    equal(&rt, bytes.len(), 288);
+    let read = decode(rt.alloc(), &bytes);
+    equal(&rt, read.err(), Some(CodecFault::BadLen(0)));
+    Ok(())
+}
+
+/// Each fault as it is printed.
+#[test]
+fn faults_have_their_texts(rt: HostRuntime) -> Result<(), Fail> {
+    for (fault, text) in [
+        (CodecFault::Short(16), "bytes end within the record at 16"),
+        (CodecFault::BadLen(32), "bad length of the name at 32"),
+        (CodecFault::BadName(48), "no name in the record at 48"),
+        (
+            CodecFault::BadPad(0),
+            "bad bytes behind the name in the record at 0",
+        ),
+        (CodecFault::Memory, "out of memory"),
+    ] {
+        let printed = format!(in rt.alloc(); "{fault}")?;
+        equal(&rt, printed.as_str(), text);
+    }
+    Ok(())
+}
+
 /// Gives and takes one byte at a time, and fails at one of its calls.
 #[derive(Drop)]
 struct Halting {

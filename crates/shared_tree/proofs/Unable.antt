@@ -31,7 +31,7 @@ unable s e (inl (is, full)) = ap (λ b. first_row (row b JournalFull ∷ Some En
 unable s e (inr (is, free)) = ap (λ b. first_row (row b JournalFull ∷ Some Enomem ∷ [])) (not-spent s free) ∙ ap Some (sym is)
 
 pub why-not : (s : Journaled) (c : Call) (e : Refusal) → IsLacking s e → IsWhyNot s c e
-why-not s c e h = record { is_full = false; for_pipe = λ no. absurd (cc); first = unable s e h }
+why-not s c e h = record { says_full = false; for_pipe = λ no. absurd (cc); first = unable s e h }
 
 pub why-full : (s : Journaled) (c : Call) (e : Refusal) → e ≡ PipeFull → IsForPipe (now s) c → IsWhyNot s c e
-why-full s c e is at = record { is_full = true; for_pipe = λ _. at; first = ap Some (sym is) }
+why-full s c e is at = record { says_full = true; for_pipe = λ _. at; first = ap Some (sym is) }

@@ -63,19 +63,20 @@ IsForPipe t _ = ⊥
 abbrev pub is_spent : Journaled → Bool
 is_spent s = nat_le s.start.limits.journal (length s.entries) || nat_le (2 ^ 64) (last_place s + 1)
 
--- why a call is not carried out: its pipe has no free place, the journal is full, or there is no memory
+-- why a call is not carried out: it says that its pipe has no free place, the journal is full, or there is no memory. Whether a
+-- pipe is full no contract knows, since its feed may free a place at any time
 abbrev pub unable_rows : Bool → Journaled → List (Option Refusal)
-unable_rows is_full old = row is_full PipeFull ∷ row (is_spent old) JournalFull ∷ Some Enomem ∷ []
+unable_rows says_full old = row says_full PipeFull ∷ row (is_spent old) JournalFull ∷ Some Enomem ∷ []
 
 -- a call for which no pipe is looked for
 abbrev pub IsUnable : Journaled → Refusal → Type 0
 IsUnable old e = first_row (unable_rows false old) ≡ Some e
 
--- a call for which one may be: what is full is the pipe of an open instance, which is pumped or closed
+-- a call for which one may be: what is said to be full is the pipe of an open instance, which is pumped or closed
 pub record IsWhyNot (old : Journaled) (c : Call) (e : Refusal) : Type 0 where
-  pub is_full : Bool
-  pub for_pipe : is_full ≡ true → IsForPipe (now old) c
-  pub first : first_row (unable_rows is_full old) ≡ Some e
+  pub says_full : Bool
+  pub for_pipe : says_full ≡ true → IsForPipe (now old) c
+  pub first : first_row (unable_rows says_full old) ≡ Some e
 
 -- what contracts see of a journal that has ended: the state, the place of its last entry, the numbers of its pipes, and what
 -- each was sent

@@ -41,6 +41,8 @@ enum Step {
     WatchesAt(u32, &'static str, Says),
     /// A file is made.
     Creates(&'static str, Says),
+    /// A directory is made.
+    Mkdirs(&'static str, Says),
     /// A file gets so many bytes.
     Truncates(&'static str, u64, Says),
     Links(&'static str, &'static str, Says),
@@ -49,12 +51,18 @@ enum Step {
     Reads(u32, Says),
     Closes(u32, Says),
     Pumps(u32, Says),
+    /// An instance is pumped of what fits into so many bytes.
+    PumpsAtMost(u32, u32, Says),
     /// A batch that the feed of an instance gives: its place and how many records it has.
     Gives(u32, u64, usize),
     /// The feed of an instance is there, and gives nothing.
     GivesNothing(u32),
+    /// The feed of an instance has come.
+    HasFeed(u32),
     /// No feed of an instance has come.
     HasNoFeed(u32),
+    /// The place of the last entry that a call made.
+    WasAt(u64),
     /// The feed of an instance is let go.
     Goes(u32),
     /// How many records wait in an instance.
@@ -81,13 +89,6 @@ enum Says {
     Fails(Refusal),
 }
 
-fn said(receipt: Result<Receipt, Refusal>) -> Says {
-    match receipt {
-        Ok(receipt) => answered(&receipt.reply),
-        Err(refusal) => Says::Fails(refusal),
-    }
-}
-
 fn answered(reply: &Reply) -> Says {
     match reply {
         Reply::File(_) => Says::File,
@@ -99,7 +100,7 @@ fn answered(reply: &Reply) -> Says {
     }
 }
 
-/// A tree with one seat, and the feeds of its instances 1 and 2.
+/// A tree with one seat, and the feeds of its instances 1 and 2. The place is that of the last call that made an entry.
 #[derive(Drop)]
 struct Stage<L: Ledger> {
     alloc: Global,
@@ -108,6 +109,7 @@ struct Stage<L: Ledger> {
     seat: Option<Seat<L>>,
     first: Option<Feed>,
     second: Option<Feed>,
+    place: u64,
 }
 
 impl<L: Ledger> Stage<L> {
@@ -123,6 +125,7 @@ impl<L: Ledger> Stage<L> {
             seat: None,
             first: None,
             second: None,
+            place: 0,
         })
     }
 
@@ -137,6 +140,17 @@ impl<L: Ledger> Stage<L> {
         Some((log.number, log.kept.as_slice().len()))
     }
 
+    // What a call came to. The place of its entry is kept.
+    fn said(&mut self, receipt: Result<Receipt, Refusal>) -> Says {
+        match receipt {
+            Ok(receipt) => {
+                self.place = receipt.place;
+                answered(&receipt.reply)
+            }
+            Err(refusal) => Says::Fails(refusal),
+        }
+    }
+
     fn calls(&mut self, call: Result<Call, Refusal>) -> Says
         requires { ForOk call (λ c. IsTrue (is_plain c)) }
     {
@@ -144,10 +158,11 @@ impl<L: Ledger> Stage<L> {
         let Some(seat) = seat else {
             return Says::Fails(Refusal::SeatsSpent);
         };
-        match call {
-            Ok(call) => said(held.call(seat, call)),
-            Err(refusal) => Says::Fails(refusal),
-        }
+        let told = match call {
+            Ok(call) => held.call(seat, call),
+            Err(refusal) => Err(refusal),
+        };
+        self.said(told)
     }
 
     // Makes a directory. The place of the call, and the number of the directory.
@@ -162,12 +177,13 @@ impl<L: Ledger> Stage<L> {
         }
     }
 
-    fn pumps(&mut self, instance: u32) -> Says {
+    fn pumps(&mut self, instance: u32, bytes: u32) -> Says {
         let Stage { held, seat, .. } = self;
-        match seat {
-            Some(seat) => said(held.pump(seat, instance, ALL)),
-            None => Says::Fails(Refusal::SeatsSpent),
-        }
+        let told = match seat {
+            Some(seat) => held.pump(seat, instance, bytes),
+            None => Err(Refusal::SeatsSpent),
+        };
+        self.said(told)
     }
 
     // Keeps the feed, under the number that it has.
@@ -179,7 +195,7 @@ impl<L: Ledger> Stage<L> {
         match held.open_piped(seat, limit, slots.clamp(1, 65_536)) {
             Ok((receipt, feed)) => {
                 self.keeps(feed);
-                said(Ok(receipt))
+                self.said(Ok(receipt))
             }
             Err(refusal) => Says::Fails(refusal),
         }
@@ -228,13 +244,15 @@ impl<L: Ledger> Stage<L> {
                 (self.calls(watch(alloc, instance, text)), wanted)
             }
             Step::Creates(text, wanted) => (self.calls(create(alloc, text)), wanted),
+            Step::Mkdirs(text, wanted) => (self.calls(mkdir(alloc, text)), wanted),
             Step::Truncates(text, len, wanted) => (self.calls(truncate(alloc, text, len)), wanted),
             Step::Links(old, new, wanted) => (self.calls(link(alloc, old, new)), wanted),
             Step::Renames(old, new, wanted) => (self.calls(rename(alloc, old, new)), wanted),
             Step::Unlinks(text, wanted) => (self.calls(unlink(alloc, text)), wanted),
             Step::Reads(instance, wanted) => (self.calls(Ok(read(instance))), wanted),
             Step::Closes(instance, wanted) => (self.calls(Ok(close(instance))), wanted),
-            Step::Pumps(instance, wanted) => (self.pumps(instance), wanted),
+            Step::Pumps(instance, wanted) => (self.pumps(instance, ALL), wanted),
+            Step::PumpsAtMost(instance, bytes, wanted) => (self.pumps(instance, bytes), wanted),
             _ => return None,
         })
     }
@@ -250,7 +268,9 @@ impl<L: Ledger> Stage<L> {
             Step::GivesNothing(instance) => {
                 self.has_feed(instance) && self.takes(instance).is_none()
             }
+            Step::HasFeed(instance) => self.has_feed(instance),
             Step::HasNoFeed(instance) => !self.has_feed(instance),
+            Step::WasAt(place) => self.place == place,
             Step::Goes(instance) => self.goes(instance),
             Step::Waits(instance, count) => self.held.state().waiting(instance) == count,
             Step::Counts(entries) => self.held.state().journal().len() == entries,

@@ -24,3 +24,5 @@ mod Descriptors
 mod Waiting
 pub mod Shown
 pub mod Soundness
+mod Peeked
+pub mod PathsFound

@@ -6,7 +6,6 @@ ghost use Rattle.record_codec.specs.Records.{AreEvents, spelling};
 ghost use Rattle.tree_paths.specs.Rows.{first_row};
 ghost use Rattle.tree_paths.specs.declared.refusal.Refusal.TheVariants.{Enomem};
 ghost use Rattle.tree_core.specs.Calls.{takes_memory};
-ghost use Rattle.inode_table.specs.Refusals.{is_directory_kind};
 ghost use Rattle.inode_table.specs.TableWorld.{world_of};
 ghost use Rattle.tree_ops.specs.ReadyCall.{IsReady};
 ghost use Rattle.tree_ops.specs.Refused.{cookies_of};
@@ -261,9 +260,10 @@ impl FileSystem {
             Ok(seen) => seen,
             Err(refusal) => return Ok(Replies::refused(refusal, keeps)),
         };
+        let is_directory = seen.kind == Kind::Directory;
         match self
             .instances
-            .watch(id, place, seen.number, mask, is_directory(seen.kind))
+            .watch(id, place, seen.number, mask, is_directory)
         {
             Ok(wd) => Replies::of(Reply::Wd(wd), keeps),
             Err(Refusal::Enomem) => Err(Refusal::Enomem),
@@ -326,7 +326,7 @@ impl FileSystem {
         let Some(instance) = self.instances.find(id, place) else {
             unreachable!()
         };
-        let fit = instance.queue.fit(bytes as usize);
+        let fit = instance.queue.fit_len(bytes as usize);
         let records = spelled(self.alloc, &instance.queue, fit)?;
         let replies = Replies::of(Reply::Records(records), keeps)?;
         self.instances.drop_oldest(id, *place, fit.count);
@@ -363,7 +363,7 @@ impl FileSystem {
         let Some(instance) = self.instances.find(id, place) else {
             unreachable!()
         };
-        let fit = instance.queue.fit(bytes as usize);
+        let fit = instance.queue.fit_len(bytes as usize);
         let spelled = spelled(self.alloc, &instance.queue, fit)?;
         let replies = Replies::of(Reply::Records(spelled), true)?;
         let mut records = Vec::with_capacity(self.alloc, fit.count)?;
@@ -409,12 +409,6 @@ fn note(
         return Ok(());
     }
     notices(table, ready, cookie, noted)
-}
-
-fn is_directory(kind: Kind) -> bool
-    ensures { result ≡ is_directory_kind kind }
-{
-    matches!(kind, Kind::Directory)
 }
 
 // Why no watch is ended.

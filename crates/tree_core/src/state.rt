@@ -23,6 +23,9 @@ use std::alloc::{AllocError, Global};
 use std::marker::Model;
 use tree_paths::{Limits, Refusal};
 
+mod paths;
+mod peeking;
+
 /// A tree of files with its instances, and the journal of the calls that it answered.
 ///
 /// Contracts see it as the tree at the last cut, the place of the last entry before it, and its journal, which are the

@@ -6,6 +6,8 @@ mod dice;
 mod instances;
 mod keeping;
 mod limits;
+mod paths;
+mod peeks;
 mod refusals;
 mod refused;
 

@@ -1,3 +1,4 @@
+pub mod Answering
 pub mod Rows
 pub mod Keys
 pub mod Fronts

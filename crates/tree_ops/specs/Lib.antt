@@ -3,3 +3,4 @@ pub mod Checked
 pub mod CallPaths
 pub mod ReadyCall
 pub mod After
+pub mod Answered

@@ -1,6 +1,7 @@
 //! Calls on files.
 
-ghost use Rattle.std.specs.Prelude.{◌≡◌, ◌↔◌, None, IfOk, IfErr, IfSome, IsTrue};
+ghost use Rattle.std.specs.Prelude.{◌≡◌, ◌↔◌, IfOk, IfErr, IsTrue};
+ghost use Rattle.std.specs.Option.{option_copied};
 
 use record_codec::Bytes;
 use tree_paths::{Path, Refusal};
@@ -90,7 +91,7 @@ pub enum FileCall {
 
 impl FileCall {
     ghost use Rattle.tree_paths.specs.declared.refusal.Refusal.TheVariants.{Enomem};
-    ghost use Rattle.tree_ops.specs.Checked.{path_of, other_path_of};
+    ghost use Rattle.tree_ops.specs.Checked.{path_of, new_path_of};
 
     /// The same call once more. `Err` is want of memory.
     pub fn copy(&self) -> Result<FileCall, Refusal>
@@ -154,10 +155,9 @@ impl FileCall {
         }
     }
 
-    /// The new path of a call that has two.
+    /// The new path of a call that has two, and `None` of any other.
     pub fn other_path(&self) -> Option<&Path>
-        ensures some { IfSome result (λ path. path.now ≡ other_path_of self.now) }
-        ensures none { result ≡ None → other_path_of self.now ≡ path_of self.now }
+        ensures { option_copied result ≡ new_path_of self.now }
     {
         match self {
             FileCall::Link { new, .. }

@@ -151,7 +151,7 @@ fn exchange(table: &mut Table, old: &Resolved, new: &Resolved) -> Answer
 }
 
 // What is told of a file.
-fn stat(table: &Table, path: &Resolved) -> Answer
+pub(crate) fn stat(table: &Table, path: &Resolved) -> Answer
     requires resolved { IsResolved table.now path.now }
     requires there { IsSome (look (world_of table.now) path.now.names) }
     ensures { result ≡ stat_of (world_of table.now) path.now.names }
@@ -167,7 +167,7 @@ fn stat(table: &Table, path: &Resolved) -> Answer
 }
 
 // The bytes from an index on.
-fn rest(bytes: &[u8], from: usize) -> &[u8]
+pub(crate) fn rest(bytes: &[u8], from: usize) -> &[u8]
     ensures { result.now ≡ drop from bytes.now }
 {
     if from < bytes.len() {
@@ -178,7 +178,7 @@ fn rest(bytes: &[u8], from: usize) -> &[u8]
 }
 
 // The first bytes, up to a count.
-fn front(bytes: &[u8], count: usize) -> &[u8]
+pub(crate) fn front(bytes: &[u8], count: usize) -> &[u8]
     ensures { result.now ≡ take count bytes.now }
 {
     if count < bytes.len() {
@@ -206,7 +206,7 @@ fn read(
 }
 
 // The names in a directory, in the order of their bytes.
-fn list(alloc: Global, table: &Table, path: &Resolved) -> Result<Names, AllocError>
+pub(crate) fn list(alloc: Global, table: &Table, path: &Resolved) -> Result<Names, AllocError>
     requires resolved { IsResolved table.now path.now }
     requires there { IsSome (look (world_of table.now) path.now.names) }
     requires directory { is_directory_seen (look (world_of table.now) path.now.names) ≡ true }

@@ -5,7 +5,7 @@ ghost use Rattle.inode_table.specs.Resolution.{IsResolved};
 ghost use Rattle.inode_table.specs.TableWorld.{world_of, HasNumbersBelow};
 ghost use Rattle.tree_paths.specs.Rows.{first_row};
 ghost use Rattle.inode_table.specs.Refusals.{is_directory_seen, find, parent};
-ghost use Rattle.tree_ops.specs.Refused.{is_root, make_rows, write_rows, read_rows, truncate_rows, chmod_rows, link_rows, unlink_rows, rmdir_rows, move_rows, rename_rows, noreplace_rows, swap_rows, exchange_rows, rename2_rows, find_rows, list_rows, refusal_seen, cookies_seen, refused, cookies_of, has_names_seen, are_same_seen};
+ghost use Rattle.tree_ops.specs.Refused.{is_root, make_rows, write_rows, read_rows, truncate_rows, chmod_rows, link_rows, unlink_rows, rmdir_rows, move_rows, rename_rows, noreplace_rows, swap_rows, exchange_rows, rename2_rows, list_rows, refusal_seen, cookies_seen, refused, cookies_of, has_names_seen, are_same_seen};
 ghost use Rattle.tree_ops.specs.CallPaths.{ArePathsOf};
 ghost use Rattle.tree_ops.specs.Checked.{path_of, other_path_of};
 ghost use Rattle.tree_ops.specs.ReadyCall.{IsReady};
@@ -77,7 +77,7 @@ impl<'a> Ready<'a> {
 }
 
 // Why nothing stands at a path, if nothing does.
-fn missing(table: &Table, path: &Resolved) -> Option<Refusal>
+pub(crate) fn missing(table: &Table, path: &Resolved) -> Option<Refusal>
     requires { IsResolved table.now path.now }
     ensures { result ≡ find (look (world_of table.now)) path.now.names }
 {
@@ -140,16 +140,8 @@ fn make_fault(
     None
 }
 
-#[tactic(auto, unfolding(crate::specs::Refused::find_rows))]
-fn find_fault(table: &Table, path: &Resolved) -> Option<Refusal>
-    requires resolved { IsResolved table.now path.now }
-    ensures { result ≡ first_row (find_rows (look (world_of table.now)) path.now.names) }
-{
-    missing(table, path)
-}
-
 #[tactic(auto, unfolding(crate::specs::Refused::read_rows))]
-fn read_fault(table: &Table, path: &Resolved) -> Option<Refusal>
+pub(crate) fn read_fault(table: &Table, path: &Resolved) -> Option<Refusal>
     requires resolved { IsResolved table.now path.now }
     ensures { result ≡ first_row (read_rows (look (world_of table.now)) path.now.names) }
 {
@@ -277,7 +269,7 @@ fn rmdir_fault(table: &Table, path: &Resolved) -> Option<Refusal>
 }
 
 #[tactic(auto, unfolding(crate::specs::Refused::list_rows))]
-fn list_fault(table: &Table, path: &Resolved) -> Option<Refusal>
+pub(crate) fn list_fault(table: &Table, path: &Resolved) -> Option<Refusal>
     requires resolved { IsResolved table.now path.now }
     ensures { result ≡ first_row (list_rows (look (world_of table.now)) path.now.names) }
 {
@@ -481,7 +473,7 @@ fn is_root(path: &Resolved) -> bool
 }
 
 // Why a call is refused, if it is.
-#[tactic(auto, unfolding(crate::specs::Refused::refusal_seen))]
+#[tactic(auto, unfolding(crate::specs::Refused::refusal_seen, crate::specs::Refused::find_rows))]
 fn fault(
     table: &Table,
     call: &FileCall,
@@ -513,7 +505,7 @@ fn fault(
         FileCall::Rename2 { flags, .. } => {
             rename2_fault(table, path, other_path, *flags, counts, limits)
         }
-        FileCall::Stat { .. } => find_fault(table, path),
+        FileCall::Stat { .. } => missing(table, path),
         FileCall::List { .. } => list_fault(table, path),
     }
 }

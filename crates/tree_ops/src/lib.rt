@@ -11,6 +11,7 @@ mod checking;
 mod laws;
 mod opening;
 mod paths;
+mod peeking;
 
 pub use answer::Answer;
 pub use call::{Counts, FileCall, MAX_MODE, RENAME_EXCHANGE, RENAME_NOREPLACE};
@@ -19,3 +20,4 @@ pub use checking::{Ready, are_same, check};
 pub use laws::{files_get_numbers, worlds_stay_worlds};
 pub use opening::opening_table;
 pub use paths::Paths;
+pub use peeking::{peek_bytes, peek_names, peek_stat};

@@ -28,9 +28,10 @@ fn run_storm<W: Write, R: Threads + Wait + Sync>(
 ) -> Result<(), Fault>
     requires { (1 ≤ calls) × (calls ≤ 1000) }
 {
-    let one: Box<dyn Sink> = Box::new(alloc, CountSink::new(alloc, MOST))?;
-    let other: Box<dyn Sink> = Box::new(alloc, CountSink::new(alloc, MOST))?;
-    let stormed = storm(rt, alloc, calls, &OpenGate, one, other)?;
+    let mut sinks: Vec<Box<dyn Sink>> = Vec::with_capacity(alloc, 2)?;
+    sinks.push_reserved(Box::new(alloc, CountSink::new(alloc, MOST))?);
+    sinks.push_reserved(Box::new(alloc, CountSink::new(alloc, MOST))?);
+    let stormed = storm(rt, alloc, calls, &OpenGate, sinks)?;
     tell(alloc, &stormed, output)
 }
 

@@ -74,7 +74,7 @@ read_call_fits text offset n = by (parsed text) where
   by (Ok p) = λ t. file_fits t p offset n
   by (Err refusal) = λ t. tt
 
-asked_within : (out : List ℕ) → asked_bytes out ≤ length out
+pub asked_within : (out : List ℕ) → asked_bytes out ≤ length out
 asked_within out = omega arith
 
 -- what is answered to a call whose replies fit into as many bytes as C gives

@@ -2,3 +2,5 @@ mod AsBox
 mod Fits
 mod Listing
 mod Opening
+mod Numbers
+mod Unmade

@@ -4,3 +4,5 @@ pub mod Calls
 pub mod Stats
 pub mod Listings
 pub mod Lines
+pub mod Meanings
+pub mod Peeks

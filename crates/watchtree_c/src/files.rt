@@ -200,7 +200,7 @@ pub extern "C" fn wt_stat(alloc: Global, tree: &mut Tree, path: &[u8], out: &mut
     reply_number(&reply)
 }
 
-fn stat_of(reply: &Reply) -> Option<Stat>
+pub(crate) fn stat_of(reply: &Reply) -> Option<Stat>
     ensures { result ≡ stat_of reply.now }
 {
     let Reply::File(
@@ -240,7 +240,7 @@ pub extern "C" fn wt_list(alloc: Global, tree: &mut Tree, path: &[u8], out: &mut
 
 /// Puts names at the front of `out`, each with a zero byte behind it, as many bytes as it has room for. It answers how many
 /// bytes all of them are.
-fn put_names(out: &mut [u8], names: &[Name]) -> i64
+pub(crate) fn put_names(out: &mut [u8], names: &[Name]) -> i64
     ensures number { result ≡ count_number (length (flat_map ended names.now)) }
     ensures bytes { out.new ≡ overlaid (flat_map ended names.now) out.old }
 {

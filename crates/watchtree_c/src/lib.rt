@@ -8,8 +8,10 @@ mod files;
 mod instances;
 mod life;
 mod line;
+mod meanings;
 mod opened;
 mod parts;
+mod peeking;
 mod tree;
 
 pub use files::{
@@ -22,5 +24,7 @@ pub use instances::{
 };
 pub use life::{wt_close, wt_cut, wt_open};
 pub use line::{wt_line, wt_text};
+pub use meanings::{wt_error_text, wt_version};
 pub use opened::Opened;
+pub use peeking::{wt_bytes_waiting, wt_peek_list, wt_peek_pread, wt_peek_stat, wt_ready};
 pub use tree::{Held, Tree};

@@ -8,7 +8,7 @@ use Rattle.event_sinks.specs.declared.audit.SettleFault.{SettleFault}
 use Rattle.event_sinks.specs.declared.audit.SettleFault.TheVariants as settle
 use Rattle.event_sinks.specs.declared.listener.Cause.{Cause}
 use Rattle.event_sinks.specs.declared.listener.Cause.TheVariants as cause
-use Rattle.watchtree_storm.specs.declared.course.StormReport.{StormReport}
+use Rattle.watchtree_storm.specs.declared.course.Stormed.{Stormed}
 use Rattle.watchtree_script.specs.declared.fault.RunFault.TheVariants as run
 use Rattle.watchtree_command.specs.declared.fault.Fault.{Fault}
 use Rattle.watchtree_command.specs.declared.fault.Fault.TheVariants.{CommandLine, Memory, Run, Settle}
@@ -30,12 +30,12 @@ abbrev pub settled_line : Result Settled SettleFault → List ℕ
 settled_line (Ok s) = codes "settled\n"
 settled_line (Err fault) = []
 
-abbrev pub report_of : StormReport → List ℕ
+abbrev pub report_of : Stormed → List ℕ
 report_of s = codes "entries " ++ decimal s.entries ++ codes "\n" ++ flat_map listener_line s.listeners.items ++ settled_line s.settled
 
 -- what each fault at the end of a storm says of the book and of what was written: the book's own fault, or want of memory to
 -- settle it, with all lines; a write that failed, with a front of them; want of memory for them, with none. There is no other
-abbrev pub EndTells : StormReport → Fault → Option (List ℕ) → Option (List ℕ) → Type 0
+abbrev pub EndTells : Stormed → Fault → Option (List ℕ) → Option (List ℕ) → Type 0
 EndTells s (Settle fault) old new = (s.settled ≡ Err fault) × (fault ≢ settle.Memory) × Appends old new (report_of s)
 EndTells s (Run run.Write) old new = (n : ℕ) × Appends old new (take n (report_of s))
 EndTells s (Run _) old new = ⊥

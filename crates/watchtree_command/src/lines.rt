@@ -13,7 +13,7 @@ use record_codec::Port;
 use std::alloc::{AllocError, Global};
 use std::io::Write;
 use watchtree_script::RunFault;
-use watchtree_storm::StormReport;
+use watchtree_storm::Stormed;
 
 /// Writes the lines of a storm, as [`report`] has them, and says how the program ends: well only where they were written
 /// whole and the book is settled.
@@ -22,11 +22,7 @@ use watchtree_storm::StormReport;
 /// The first that holds: [`Fault::Memory`], where there is no memory for the lines, and none is written;
 /// [`RunFault::Write`], where a write failed, and a front of them is written; [`Fault::Settle`] with the fault of the
 /// book, or [`Fault::Memory`], where there was no memory to settle it.
-pub fn tell<W: Write>(
-    alloc: Global,
-    stormed: &StormReport,
-    output: &mut Port<W>,
-) -> Result<(), Fault>
+pub fn tell<W: Write>(alloc: Global, stormed: &Stormed, output: &mut Port<W>) -> Result<(), Fault>
     ensures settled { OnOk result (IsOk stormed.now.settled) }
     ensures lines { OnOk result (Appends (W.contents (inner_of output.old)) (W.contents (inner_of output.new)) (report_of stormed.now)) }
     ensures err { IfErr result (λ fault. EndTells stormed.now fault (W.contents (inner_of output.old)) (W.contents (inner_of output.new))) }
@@ -47,7 +43,7 @@ pub fn tell<W: Write>(
 ///
 /// # Errors
 /// `AllocError`, where there is no memory for them.
-pub fn report(alloc: Global, stormed: &StormReport) -> Result<Vec<u8>, AllocError>
+pub fn report(alloc: Global, stormed: &Stormed) -> Result<Vec<u8>, AllocError>
     ensures { IfOk result (λ text. text.items ≡ report_of stormed.now) }
 {
     let mut text = Vec::new(alloc);

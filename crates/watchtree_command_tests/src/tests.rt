@@ -2,7 +2,7 @@
 
 ghost use Rattle.std.specs.Prelude.{◌≡◌, ◌≤◌};
 
-use event_sinks::{CountSink, SettleFault};
+use event_sinks::{CountSink, SettleFault, Sink};
 use record_codec::Port;
 use std::alloc::Global;
 use std::fmt::Debug;
@@ -164,9 +164,10 @@ fn script_faults_have_lines(rt: HostRuntime) -> Result<(), Fail> {
 
 // What the program writes of a storm of three calls whose sinks take so many records, and its exit status.
 fn told<R: Threads + Wait + Sync>(rt: &R, alloc: Global, most: u64) -> Result<(Vec<u8>, u8), Fail> {
-    let one = CountSink::new(alloc, most);
-    let other = CountSink::new(alloc, most);
-    let stormed = storm(rt, alloc, 3, &OpenGate, one, other)?;
+    let mut sinks: Vec<Box<dyn Sink>> = Vec::with_capacity(alloc, 2)?;
+    sinks.push_reserved(Box::new(alloc, CountSink::new(alloc, most))?);
+    sinks.push_reserved(Box::new(alloc, CountSink::new(alloc, most))?);
+    let stormed = storm(rt, alloc, 3, &OpenGate, sinks)?;
     let mut output = Port::new(Vec::new(alloc));
     let status = match tell(alloc, &stormed, &mut output) {
         Ok(()) => 0,

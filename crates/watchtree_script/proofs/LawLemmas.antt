@@ -14,23 +14,24 @@ use Rattle.tree_core.specs.declared.reply.Reply.TheVariants as replies
 use Rattle.watchtree_script.specs.declared.line.Line.{Line}
 use Rattle.watchtree_script.specs.declared.line.Line.TheVariants.{Silent, Cut, Run}
 use Rattle.watchtree_script.specs.declared.line.LineError.{LineError}
-use Rattle.watchtree_script.specs.declared.line.LineError.TheVariants.{Fault, Refused, Memory}
+use Rattle.watchtree_script.specs.declared.line.LineError.TheVariants.{Fault, Refused, PathMemory, Memory}
 use Rattle.watchtree_script.specs.declared.line.OutputFormat.{OutputFormat}
 use Rattle.watchtree_script.specs.declared.line.OutputFormat.TheVariants as format
 use Rattle.watchtree_script.specs.Replies.{AreEventsIn, IsReadText, IsReplyText, event_line, ok_line}
 use Rattle.watchtree_script.specs.Commands.{line_of}
-use Rattle.watchtree_script.specs.Script.{caller, Prints, PrintsLine, Replies, Cuts, PrintsLineBy, PrintsBy, AmpleReplies, AmpleCuts}
+use Rattle.watchtree_script.specs.Script.{caller, Prints, PrintsLine, RepliesToLine, Cuts, PrintsLineBy, PrintsBy, AmpleReplies, AmpleCuts}
 use Rattle.watchtree_script.specs.Laws.{JournalsAreLawful, TextsAreOne}
 
 -- a state as a script leaves it: its entries are lawful, and so are those that were cut off
 abbrev IsLawfulState : Journaled → Type 0
 IsLawfulState s = IsLawfulFrom s.start s.entries × HasPast s.start s.place
 
-reply-lawful : (old : Journaled) (call : Call) (reply : Reply) (new : Journaled) → IsLawfulState old → Replies old call reply new → IsLawfulState new
-reply-lawful old call reply new h (inl (inl answered)) =
+reply-lawful : (old : Journaled) (call : Call) (reply : Reply) (new : Journaled) → IsLawfulState old → RepliesToLine old call reply new → IsLawfulState new
+reply-lawful old call reply new h (inl (inl (inl answered))) =
     subst IsLawfulState (sym answered.entry) (lawful-entry old (record { caller = caller; call = call; reply = reply }) h.0 answered.answer, h.1)
-reply-lawful old call reply new h (inl (inr full)) = subst IsLawfulState (sym full.same) h
-reply-lawful old call reply new h (inr spent) = subst IsLawfulState (sym spent.same) h
+reply-lawful old call reply new h (inl (inl (inr full))) = subst IsLawfulState (sym full.same) h
+reply-lawful old call reply new h (inl (inr spent)) = subst IsLawfulState (sym spent.same) h
+reply-lawful old call reply new h (inr lacking) = subst IsLawfulState (sym lacking.same) h
 
 cut-lawful : TreesAreSound → (old : Journaled) (text : List ℕ) (new : Journaled) → IsLawfulState old → Cuts old text new → IsLawfulState new
 cut-lawful sound old text new h (inl cut) = subst IsLawfulState (sym cut.1) (tt, HasPast-cut sound old h.1 h.0)
@@ -42,6 +43,7 @@ line-lawful sound old (Ok Cut) text new h printed = cut-lawful sound old text ne
 line-lawful sound old (Ok (Run call how)) text new h printed = reply-lawful old call printed.0 new h printed.1
 line-lawful sound old (Err (Refused refusal)) text new h printed = subst IsLawfulState (sym printed.1) h
 line-lawful sound old (Err (Fault fault)) text new h printed = absurd printed
+line-lawful sound old (Err PathMemory) text new h printed = subst IsLawfulState (sym printed.1) h
 line-lawful sound old (Err Memory) text new h printed = absurd printed
 
 lines-lawful : TreesAreSound → (queue : ℕ) (old new : Journaled) (lines : List (List ℕ)) (text : List ℕ) → IsLawfulState old → Prints queue old lines text new → IsLawfulState new
@@ -91,6 +93,7 @@ line-one old (Ok (Run call how)) text other new after p q =
     (text-one how p.0 text other p.2 (subst P (sym one.0) q.2), one.1)
 line-one old (Err (Refused refusal)) text other new after p q = (p.0 ∙ sym q.0, p.1 ∙ sym q.1)
 line-one old (Err (Fault fault)) text other new after p q = absurd p
+line-one old (Err PathMemory) text other new after p q = (p.0 ∙ sym q.0, p.1 ∙ sym q.1)
 line-one old (Err Memory) text other new after p q = absurd p
 
 pub texts_are_one : TextsAreOne

@@ -97,14 +97,19 @@ a_path path = do
   text ← path_word path
   path_of text
 
+-- the names of two paths, of which the old one is read first
+unfoldable pub paths_of : List ℕ → List ℕ → Result (List (List ℕ) × List (List ℕ)) LineError
+paths_of old new = do
+  old_names ← path_of old
+  new_names ← path_of new
+  Ok (old_names, new_names)
+
 -- OLD NEW
 unfoldable pub old_and_new : List ℕ → List ℕ → Result (List (List ℕ) × List (List ℕ)) LineError
 old_and_new old new = do
   old_text ← path_word old
   new_text ← path_word new
-  old_names ← path_of old_text
-  new_names ← path_of new_text
-  Ok (old_names, new_names)
+  paths_of old_text new_text
 
 -- PATH MODE
 unfoldable pub path_and_mode : List ℕ → List ℕ → Result (List (List ℕ) × ℕ) LineError
@@ -155,9 +160,8 @@ rename2_call old new flags = do
   old_text ← path_word old
   new_text ← path_word new
   bits ← u32_word flags
-  old_names ← path_of old_text
-  new_names ← path_of new_text
-  Ok (call.File (file.Rename2 old_names new_names bits))
+  names ← paths_of old_text new_text
+  Ok (call.File (file.Rename2 names.0 names.1 bits))
 
 -- watch ID PATH MASK watches a file for the events of a mask
 unfoldable pub watch_call : List ℕ → List ℕ → List ℕ → Result Call LineError

@@ -5,6 +5,7 @@ use Rattle.record_codec.specs.Ports.{one_more}
 use Rattle.tree_paths.specs.Bounds.{full}
 use Rattle.tree_paths.specs.declared.refusal.Refusal.TheVariants.{Enomem, JournalFull}
 use Rattle.tree_core.specs.declared.call.Call.{Call}
+use Rattle.tree_core.specs.declared.call.Call.TheVariants as call
 use Rattle.tree_core.specs.declared.reply.Reply.{Reply}
 use Rattle.tree_core.specs.declared.reply.Reply.TheVariants as replies
 use Rattle.tree_core.specs.Tree.{reply_of}
@@ -15,7 +16,7 @@ use Rattle.watchtree_script.specs.declared.fault.RunFault.TheVariants as faults
 use Rattle.watchtree_script.specs.declared.line.Line.{Line}
 use Rattle.watchtree_script.specs.declared.line.Line.TheVariants.{Silent, Cut, Run}
 use Rattle.watchtree_script.specs.declared.line.LineError.{LineError}
-use Rattle.watchtree_script.specs.declared.line.LineError.TheVariants.{Fault, Refused, Memory}
+use Rattle.watchtree_script.specs.declared.line.LineError.TheVariants.{Fault, Refused, PathMemory, Memory}
 use Rattle.watchtree_script.specs.Lines.{lines_of}
 use Rattle.watchtree_script.specs.Commands.{line_of}
 use Rattle.watchtree_script.specs.Replies.{IsReplyText, ok_line, refusal_text}
@@ -50,6 +51,26 @@ AmpleReplies old call reply new = IsAnswered old call reply new ⊎ IsFull old r
 abbrev pub Replies : Journaled → Call → Reply → Journaled → Type 0
 Replies old call reply new = AmpleReplies old call reply new ⊎ IsOutOfMemory old reply new
 
+-- the call has a path
+abbrev pub HasPath : Call → Type 0
+HasPath (call.File file) = ⊤
+HasPath (call.Init limit is_piped) = ⊥
+HasPath (call.AddWatch instance path mask) = ⊤
+HasPath (call.RmWatch instance wd) = ⊥
+HasPath (call.Read instance bytes) = ⊥
+HasPath (call.Pump instance bytes) = ⊥
+HasPath (call.Close instance) = ⊥
+
+-- want of memory for a path of a call, which is read before it is known whether the journal has room, leaves the journal as it is
+pub record LacksPath (old : Journaled) (call : Call) (reply : Reply) (new : Journaled) : Type 0 where
+  pub path : HasPath call
+  pub answer : reply ≡ replies.Refused Enomem
+  pub same : new ≡ old
+
+-- what the call of a line may be replied, where memory may be spent for it or for a path of it
+abbrev pub RepliesToLine : Journaled → Call → Reply → Journaled → Type 0
+RepliesToLine old call reply new = Replies old call reply new ⊎ LacksPath old call reply new
+
 -- where memory is ample, a cut may print this and lead from the old journal to the new one. It is no entry itself
 abbrev pub AmpleCuts : Journaled → List ℕ → Journaled → Type 0
 AmpleCuts old text new = (text ≡ ok_line (decimal (last_place old))) × (new ≡ cut_off old)
@@ -65,6 +86,7 @@ PrintsLineBy R C old (Ok Cut) text new = C old text new
 PrintsLineBy R C old (Ok (Run call format)) text new = (reply : Reply) × R old call reply new × IsReplyText format reply text
 PrintsLineBy R C old (Err (Refused refusal)) text new = (text ≡ refusal_text refusal) × (new ≡ old)
 PrintsLineBy R C old (Err (Fault fault)) text new = ⊥
+PrintsLineBy R C old (Err PathMemory) text new = (text ≡ refusal_text Enomem) × (new ≡ old)
 PrintsLineBy R C old (Err Memory) text new = ⊥
 
 -- the line was run: its call joined the journal, or it cut the journal
@@ -86,10 +108,10 @@ PrintsBy R C queue old (line ∷ lines) text new =
     × (text ≡ first ++ rest)
 
 abbrev pub PrintsLine : Journaled → Result Line LineError → List ℕ → Journaled → Type 0
-PrintsLine = PrintsLineBy Replies Cuts
+PrintsLine = PrintsLineBy RepliesToLine Cuts
 
 abbrev pub Prints : ℕ → Journaled → List (List ℕ) → List ℕ → Journaled → Type 0
-Prints = PrintsBy Replies Cuts
+Prints = PrintsBy RepliesToLine Cuts
 
 -- a tree of the greatest limits, with no journal yet
 abbrev pub opening : Journaled

@@ -4,7 +4,7 @@ ghost use Rattle.std.specs.Prelude.{◌≡◌};
 ghost use Rattle.std.specs.List.{list_all};
 ghost use Rattle.watchtree_script.specs.Lines.{is_silent, is_line_byte};
 ghost use Rattle.watchtree_script.specs.Commands.{command_of, file_command_of, path_command_of, instance_command_of, words_line, line_of};
-ghost use Rattle.watchtree_script.specs.Reading.{Gives};
+ghost use Rattle.watchtree_script.specs.Reading.{GivesLine};
 
 use crate::fault::ScriptFault;
 use crate::lines::ScriptLine;
@@ -88,7 +88,9 @@ pub enum LineError {
     Fault(ScriptFault),
     /// Its path is refused, which is printed as that of a call.
     Refused(Refusal),
-    /// There is no memory to read it, and the run ends.
+    /// Its words were read, and there is no memory for a path of its call, which is printed as the call's `ENOMEM`.
+    PathMemory,
+    /// There is no memory to read its words, and the run ends.
     Memory,
 }
 
@@ -96,7 +98,7 @@ pub enum LineError {
 #[tactic(auto, unfolding(crate::specs::Commands::line_of))]
 pub(crate) fn read_line(alloc: Global, queue: u32, line: ScriptLine<'_>) -> Result<Line, LineError>
     requires { line.is_printable ≡ list_all is_line_byte line.bytes.now }
-    ensures { Gives result (line_of queue line.entry.bytes.now) }
+    ensures { GivesLine result (line_of queue line.entry.bytes.now) }
 {
     if is_silent(line.bytes) {
         return Ok(Line::Silent);
@@ -122,7 +124,7 @@ fn is_silent(line: &[u8]) -> bool
 /// What a command's word and the words behind it ask for.
 #[tactic(auto, unfolding(crate::specs::Commands::words_line))]
 fn read_words(alloc: Global, queue: u32, mut words: Runs<'_>) -> Result<Line, LineError>
-    ensures { Gives result (words_line queue words.entry) }
+    ensures { GivesLine result (words_line queue words.entry) }
 {
     let Some(command) = words.next_run().and_then(command_named) else {
         return Err(LineError::Fault(ScriptFault::UnknownCommand));

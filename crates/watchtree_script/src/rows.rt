@@ -1,8 +1,8 @@
 //! The rows of the table of commands: the words behind a command, and the call that they ask for.
 
-ghost use Rattle.std.specs.Prelude.{◌≡◌, ◌==◌, ◌∷◌, [], length, false, MatchResult};
-ghost use Rattle.watchtree_script.specs.Commands.{one, two, three, path_of, a_path, old_and_new, path_and_mode, id_and_bytes, write_call, cat_call, truncate_call, rename2_call, watch_call, unwatch_call, asking, line_asked};
-ghost use Rattle.watchtree_script.specs.Reading.{Gives};
+ghost use Rattle.std.specs.Prelude.{◌≡◌, ◌==◌, ◌∷◌, [], length, false, Err, MatchResult};
+ghost use Rattle.watchtree_script.specs.Commands.{one, two, three, path_of, paths_of, a_path, old_and_new, path_and_mode, id_and_bytes, write_call, cat_call, truncate_call, rename2_call, watch_call, unwatch_call, asking, line_asked};
+ghost use Rattle.watchtree_script.specs.Reading.{GivesPath, GivesLine};
 ghost use Rattle.tree_core.specs.declared.call.Call.TheVariants as call;
 
 use crate::fault::ScriptFault;
@@ -38,7 +38,7 @@ impl<'a> Parser<'a> {
     /// What a command asks for with the words behind it, as the table of commands says.
     #[inline(never)]
     pub fn line_asked(&self, command: Command) -> Result<Line, LineError>
-        ensures { Gives result (line_asked self.now.queue command self.now.words) }
+        ensures { GivesLine result (line_asked self.now.queue command self.now.words) }
     {
         match command {
             Command::Mkdir => self.mkdir(),
@@ -65,14 +65,14 @@ impl<'a> Parser<'a> {
     }
 
     fn mkdir(&self) -> Result<Line, LineError>
-        ensures { Gives result (line_asked self.now.queue Command.Mkdir self.now.words) }
+        ensures { GivesLine result (line_asked self.now.queue Command.Mkdir self.now.words) }
     {
         let (path, mode) = self.path_and_mode()?;
         Ok(plain(Call::File(FileCall::Mkdir { path, mode })))
     }
 
     fn create(&self) -> Result<Line, LineError>
-        ensures { Gives result (line_asked self.now.queue Command.Create self.now.words) }
+        ensures { GivesLine result (line_asked self.now.queue Command.Create self.now.words) }
     {
         let (path, mode) = self.path_and_mode()?;
         Ok(plain(Call::File(FileCall::Create { path, mode })))
@@ -80,7 +80,7 @@ impl<'a> Parser<'a> {
 
     #[tactic(auto, unfolding(crate::specs::Commands::write_call))]
     fn write(&self) -> Result<Line, LineError>
-        ensures { Gives result (line_asked self.now.queue Command.Write self.now.words) }
+        ensures { GivesLine result (line_asked self.now.queue Command.Write self.now.words) }
     {
         let (path, offset, bytes) = self.three()?;
         let text = path_word(self.alloc, path)?;
@@ -96,7 +96,7 @@ impl<'a> Parser<'a> {
 
     #[tactic(auto, unfolding(crate::specs::Commands::cat_call))]
     fn cat(&self) -> Result<Line, LineError>
-        ensures { Gives result (line_asked self.now.queue Command.Cat self.now.words) }
+        ensures { GivesLine result (line_asked self.now.queue Command.Cat self.now.words) }
     {
         let (path, offset, count) = self.three()?;
         let text = path_word(self.alloc, path)?;
@@ -112,7 +112,7 @@ impl<'a> Parser<'a> {
 
     #[tactic(auto, unfolding(crate::specs::Commands::truncate_call))]
     fn truncate(&self) -> Result<Line, LineError>
-        ensures { Gives result (line_asked self.now.queue Command.Truncate self.now.words) }
+        ensures { GivesLine result (line_asked self.now.queue Command.Truncate self.now.words) }
     {
         let (path, len) = self.two()?;
         let text = path_word(self.alloc, path)?;
@@ -122,35 +122,35 @@ impl<'a> Parser<'a> {
     }
 
     fn chmod(&self) -> Result<Line, LineError>
-        ensures { Gives result (line_asked self.now.queue Command.Chmod self.now.words) }
+        ensures { GivesLine result (line_asked self.now.queue Command.Chmod self.now.words) }
     {
         let (path, mode) = self.path_and_mode()?;
         Ok(plain(Call::File(FileCall::Chmod { path, mode })))
     }
 
     fn link(&self) -> Result<Line, LineError>
-        ensures { Gives result (line_asked self.now.queue Command.Link self.now.words) }
+        ensures { GivesLine result (line_asked self.now.queue Command.Link self.now.words) }
     {
         let (old, new) = self.old_and_new()?;
         Ok(plain(Call::File(FileCall::Link { old, new })))
     }
 
     fn unlink(&self) -> Result<Line, LineError>
-        ensures { Gives result (line_asked self.now.queue Command.Unlink self.now.words) }
+        ensures { GivesLine result (line_asked self.now.queue Command.Unlink self.now.words) }
     {
         let path = self.a_path()?;
         Ok(plain(Call::File(FileCall::Unlink { path })))
     }
 
     fn rmdir(&self) -> Result<Line, LineError>
-        ensures { Gives result (line_asked self.now.queue Command.Rmdir self.now.words) }
+        ensures { GivesLine result (line_asked self.now.queue Command.Rmdir self.now.words) }
     {
         let path = self.a_path()?;
         Ok(plain(Call::File(FileCall::Rmdir { path })))
     }
 
     fn rename(&self) -> Result<Line, LineError>
-        ensures { Gives result (line_asked self.now.queue Command.Rename self.now.words) }
+        ensures { GivesLine result (line_asked self.now.queue Command.Rename self.now.words) }
     {
         let (old, new) = self.old_and_new()?;
         Ok(plain(Call::File(FileCall::Rename { old, new })))
@@ -158,33 +158,32 @@ impl<'a> Parser<'a> {
 
     #[tactic(auto, unfolding(crate::specs::Commands::rename2_call))]
     fn rename2(&self) -> Result<Line, LineError>
-        ensures { Gives result (line_asked self.now.queue Command.Rename2 self.now.words) }
+        ensures { GivesLine result (line_asked self.now.queue Command.Rename2 self.now.words) }
     {
         let (old, new, flags) = self.three()?;
         let old_text = path_word(self.alloc, old)?;
         let new_text = path_word(self.alloc, new)?;
         let flags = u32_word(flags)?;
-        let old = path_of(self.alloc, old_text.as_slice())?;
-        let new = path_of(self.alloc, new_text.as_slice())?;
+        let (old, new) = paths_of(self.alloc, old_text.as_slice(), new_text.as_slice())?;
         Ok(plain(Call::File(FileCall::Rename2 { old, new, flags })))
     }
 
     fn stat(&self) -> Result<Line, LineError>
-        ensures { Gives result (line_asked self.now.queue Command.Stat self.now.words) }
+        ensures { GivesLine result (line_asked self.now.queue Command.Stat self.now.words) }
     {
         let path = self.a_path()?;
         Ok(plain(Call::File(FileCall::Stat { path })))
     }
 
     fn list(&self) -> Result<Line, LineError>
-        ensures { Gives result (line_asked self.now.queue Command.List self.now.words) }
+        ensures { GivesLine result (line_asked self.now.queue Command.List self.now.words) }
     {
         let path = self.a_path()?;
         Ok(plain(Call::File(FileCall::List { path })))
     }
 
     fn init(&self) -> Result<Line, LineError>
-        ensures { Gives result (line_asked self.now.queue Command.Init self.now.words) }
+        ensures { GivesLine result (line_asked self.now.queue Command.Init self.now.words) }
     {
         let limit = if self.words.is_empty() {
             self.queue
@@ -199,7 +198,7 @@ impl<'a> Parser<'a> {
 
     #[tactic(auto, unfolding(crate::specs::Commands::watch_call))]
     fn watch(&self) -> Result<Line, LineError>
-        ensures { Gives result (line_asked self.now.queue Command.Watch self.now.words) }
+        ensures { GivesLine result (line_asked self.now.queue Command.Watch self.now.words) }
     {
         let (id, path, mask) = self.three()?;
         let instance = u32_word(id)?;
@@ -215,7 +214,7 @@ impl<'a> Parser<'a> {
 
     #[tactic(auto, unfolding(crate::specs::Commands::unwatch_call))]
     fn unwatch(&self) -> Result<Line, LineError>
-        ensures { Gives result (line_asked self.now.queue Command.Unwatch self.now.words) }
+        ensures { GivesLine result (line_asked self.now.queue Command.Unwatch self.now.words) }
     {
         let (id, wd) = self.two()?;
         let instance = u32_word(id)?;
@@ -226,7 +225,7 @@ impl<'a> Parser<'a> {
     /// `read` and `hex`, which show the records so.
     #[tactic(auto, unfolding(crate::specs::Commands::id_and_bytes))]
     fn read(&self, format: OutputFormat) -> Result<Line, LineError>
-        ensures { Gives result (asking format (λ w. call.Read w.0 w.1) (two self.now.words id_and_bytes)) }
+        ensures { GivesLine result (asking format (λ w. call.Read w.0 w.1) (two self.now.words id_and_bytes)) }
     {
         let (id, bytes) = self.two()?;
         let instance = u32_word(id)?;
@@ -238,14 +237,14 @@ impl<'a> Parser<'a> {
     }
 
     fn close(&self) -> Result<Line, LineError>
-        ensures { Gives result (line_asked self.now.queue Command.Close self.now.words) }
+        ensures { GivesLine result (line_asked self.now.queue Command.Close self.now.words) }
     {
         let instance = u32_word(self.one()?)?;
         Ok(plain(Call::Close { instance }))
     }
 
     fn cut(&self) -> Result<Line, LineError>
-        ensures { Gives result (line_asked self.now.queue Command.Cut self.now.words) }
+        ensures { GivesLine result (line_asked self.now.queue Command.Cut self.now.words) }
     {
         if self.words.is_empty() {
             Ok(Line::Cut)
@@ -258,7 +257,7 @@ impl<'a> Parser<'a> {
     #[tactic(auto, unfolding(crate::specs::Commands::a_path))]
     #[inline(always)]
     fn a_path(&self) -> Result<Path, LineError>
-        ensures { Gives result (one self.now.words a_path) }
+        ensures { GivesPath result (one self.now.words a_path) }
     {
         let text = path_word(self.alloc, self.one()?)?;
         path_of(self.alloc, text.as_slice())
@@ -268,7 +267,7 @@ impl<'a> Parser<'a> {
     #[tactic(auto, unfolding(crate::specs::Commands::path_and_mode))]
     #[inline(always)]
     fn path_and_mode(&self) -> Result<(Path, u32), LineError>
-        ensures { Gives result (two self.now.words path_and_mode) }
+        ensures { GivesPath result (two self.now.words path_and_mode) }
     {
         let (path, mode) = self.two()?;
         let text = path_word(self.alloc, path)?;
@@ -281,14 +280,12 @@ impl<'a> Parser<'a> {
     #[tactic(auto, unfolding(crate::specs::Commands::old_and_new))]
     #[inline(always)]
     fn old_and_new(&self) -> Result<(Path, Path), LineError>
-        ensures { Gives result (two self.now.words old_and_new) }
+        ensures { GivesPath result (two self.now.words old_and_new) }
     {
         let (old, new) = self.two()?;
         let old = path_word(self.alloc, old)?;
         let new = path_word(self.alloc, new)?;
-        let old = path_of(self.alloc, old.as_slice())?;
-        let new = path_of(self.alloc, new.as_slice())?;
-        Ok((old, new))
+        paths_of(self.alloc, old.as_slice(), new.as_slice())
     }
 
     /// The only word.
@@ -326,12 +323,40 @@ impl<'a> Parser<'a> {
 #[tactic(auto, unfolding(crate::specs::Commands::path_of))]
 #[inline(always)]
 fn path_of(alloc: Global, text: &[u8]) -> Result<Path, LineError>
-    ensures { Gives result (path_of text.now) }
+    ensures { GivesPath result (path_of text.now) }
 {
     match Path::parse(alloc, text) {
         Ok(path) => Ok(path),
-        Err(Refusal::Enomem) => Err(LineError::Memory),
+        Err(Refusal::Enomem) => Err(LineError::PathMemory),
         Err(refusal) => Err(LineError::Refused(refusal)),
+    }
+}
+
+/// The paths of two texts, of which the old one is read first. A text that is no path is refused as such even where there is
+/// no memory for the other one.
+#[tactic(auto, unfolding(crate::specs::Commands::paths_of))]
+#[inline(always)]
+fn paths_of(alloc: Global, old: &[u8], new: &[u8]) -> Result<(Path, Path), LineError>
+    ensures { GivesPath result (paths_of old.now new.now) }
+{
+    let old = match path_of(alloc, old) {
+        Ok(path) => path,
+        Err(LineError::PathMemory) => return Err(error_behind(alloc, new)),
+        Err(error) => return Err(error),
+    };
+    let new = path_of(alloc, new)?;
+    Ok((old, new))
+}
+
+/// Why a text is no path, or that there is no memory for the one before it.
+#[cold]
+#[inline(never)]
+fn error_behind(alloc: Global, text: &[u8]) -> LineError
+    ensures { GivesPath (Err result) (path_of text.now) }
+{
+    match path_of(alloc, text) {
+        Ok(_) => LineError::PathMemory,
+        Err(error) => error,
     }
 }
 

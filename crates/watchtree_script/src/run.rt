@@ -18,7 +18,7 @@ use record_codec::Port;
 use std::alloc::{AllocError, Global};
 use std::io::{Read, Write};
 use tree_core::{Call, Reply, State};
-use tree_paths::Limits;
+use tree_paths::{Limits, Refusal};
 
 /// The most bytes of a script.
 pub const SCRIPT_MAX: usize = 1_048_576;
@@ -33,7 +33,7 @@ const CALLER: u32 = 1;
 ///
 /// `queue` is the limit of each instance that names none. The whole script is read before its first line is run; a
 /// read of nothing ends it, and once more than [`SCRIPT_MAX`] bytes were read there is no further read. A refusal
-/// is a reply like any other, also `ENOMEM`, and the run goes on.
+/// is a reply like any other, also `ENOMEM`, and the run goes on; so it does where there is no memory for a path of a call.
 ///
 /// # Errors
 /// [`RunFault`] says why the run ended before its script. What the lines before printed stays written.
@@ -132,7 +132,7 @@ fn run_line<W: Write>(
 ///
 /// # Errors
 /// - [`RunFault::Script`], with the line's number: nothing was done.
-/// - [`RunFault::Memory`]: there was none to read the line or for its text. Nothing was done, or all that the line asks for.
+/// - [`RunFault::Memory`]: there was none to read its words or for its text. Nothing was done, or all that the line asks for.
 pub fn print_line(
     text: &mut Vec<u8>,
     state: &mut State,
@@ -148,6 +148,7 @@ pub fn print_line(
 }
 
 /// Runs a line whose bytes were looked at, as [`print_line`] does.
+#[tactic(auto, using(crate::proofs::PathLemmas::path_answered))]
 #[inline(always)]
 fn print_script_line(
     text: &mut Vec<u8>,
@@ -165,6 +166,7 @@ fn print_script_line(
     match read_line(*text.allocator(), queue, line) {
         Ok(line) => Ok(push_line(text, state, line)?),
         Err(LineError::Refused(refusal)) => Ok(push_refusal(text, refusal)?),
+        Err(LineError::PathMemory) => Ok(push_refusal(text, Refusal::Enomem)?),
         Err(LineError::Memory) => Err(RunFault::Memory),
         Err(LineError::Fault(fault)) => Err(RunFault::Script {
             line: number,

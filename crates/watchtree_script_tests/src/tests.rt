@@ -1,3 +1,5 @@
+mod refused;
+
 use record_codec::Port;
 use std::alloc::Global;
 use std::fmt::Debug;

@@ -1,2 +1,4 @@
 pub mod Turns
+pub mod HeldBack
+pub mod NextIds
 pub mod Listening

@@ -1,5 +1,5 @@
 -- What the seats of a storm do, and what is told of it.
-use Rattle.std.specs.Prelude.{◌≡◌, ◌⊎◌, ◌%◌, ◌++◌, ⊤, ℕ, zero, suc, Bool, true, codes, if◌then◌else◌, nat_eq, List, [], ◌∷◌, length, Some, None, Result, Ok, Err}
+use Rattle.std.specs.Prelude.{◌≡◌, ◌<◌, ◌⊎◌, ◌%◌, ◌++◌, ⊤, ℕ, zero, suc, Bool, true, false, codes, if◌then◌else◌, nat_eq, List, [], ◌∷◌, length, Some, None, Result, Ok, Err}
 use Rattle.record_codec.specs.declared.event.Event.{Event}
 use Rattle.tree_paths.specs.Paths.{parsed}
 use Rattle.tree_ops.specs.declared.call.FileCall.{FileCall}
@@ -10,16 +10,17 @@ use Rattle.tree_core.specs.declared.reply.Kept.{Kept}
 use Rattle.tree_core.specs.declared.reply.Reply.TheVariants as reply
 use Rattle.shared_tree.specs.declared.seat.SeatLog.{SeatLog}
 use Rattle.shared_tree.specs.Handed.{records_of}
-use Rattle.shared_tree.specs.Pipes.{Fed}
+use Rattle.shared_tree.specs.Pipes.{fed}
 use Rattle.shared_tree.specs.Seats.{Seated, seated}
 use Rattle.event_sinks.specs.declared.audit.Settled.{Settled}
 use Rattle.event_sinks.specs.declared.audit.SettleFault.{SettleFault}
 use Rattle.event_sinks.specs.declared.audit.SettleFault.TheVariants.{CountDiffers}
 use Rattle.event_sinks.specs.declared.listener.Cause.{Cause}
+use Rattle.event_sinks.specs.declared.listener.Cause.TheVariants.{Turns}
 use Rattle.event_sinks.specs.declared.listener.Ended.{Ended}
 use Rattle.event_sinks.specs.declared.listener.Listening.{Listening}
-use Rattle.event_sinks.specs.Listeners.{listener_state, state_of_listener}
-use Rattle.event_sinks.specs.Pages.{Page, Writes}
+use Rattle.event_sinks.specs.Listeners.{IsSoundListener, ListenerState, Reaches, ended_by, listener_state, state_of_ended, state_of_listener}
+use Rattle.event_sinks.specs.Pages.{Page, Writes, WritesBatches}
 use Rattle.watchtree_storm.specs.declared.writer.Writer.{Writer}
 
 -- ---- the writers
@@ -54,6 +55,17 @@ turn_at path moved number =
 abbrev pub IsCallAt : Part → ℕ → Call → Type 0
 IsCallAt w number c = (path : List (List ℕ)) × (moved : List (List ℕ)) × (parsed w.file ≡ Ok path) × (parsed w.moved ≡ Ok moved) × (c ≡ call.File (turn_at path moved number))
 
+-- ---- the gate
+
+-- a gate lets a worker through at this turn, one of so many, and at none before. `passes` says what the gate may answer to
+-- the worker at a turn
+abbrev pub IsLetThrough : (ℕ → Bool → Type 0) → ℕ → ℕ → Type 0
+IsLetThrough passes turns turn = (turn < turns) × passes turn true × ((earlier : ℕ) → earlier < turn → passes earlier false)
+
+-- it lets the worker through at none of so many turns
+abbrev pub IsHeldBack : (ℕ → Bool → Type 0) → ℕ → Type 0
+IsHeldBack passes turns = (turn : ℕ) → turn < turns → passes turn false
+
 -- ---- what the seats keep
 
 -- the seat keeps its number, and keeps this call more; or it stays as it was, where the call was not carried out
@@ -77,17 +89,22 @@ unfoldable pub AreTurns : Part → ℕ → Seated → Seated → Type 0
 AreTurns w zero old new = new ≡ old
 AreTurns w (suc n) old new = (between : Seated) × AreTurns w n old between × IsTurn w n between new
 
+-- what a writer's seat keeps more at a gate of so many turns: the writer's own turns if the gate lets it through, and nothing
+-- if not. `passes` says what the gate may answer to a number at a turn
+abbrev pub IsWriting : (ℕ → ℕ → Bool → Type 0) → ℕ → Part → ℕ → Seated → Seated → Type 0
+IsWriting passes turns w calls old new = (((turn : ℕ) × IsLetThrough (passes w.who) turns turn) × AreTurns w calls old new) ⊎ (IsHeldBack (passes w.who) turns × (new ≡ old))
+
 -- the path of the directory in which all happens
 abbrev pub IsDirectory : List (List ℕ) → Type 0
 IsDirectory path = parsed (codes "/s") ≡ Ok path
 
--- an instance with a pipe is made, and one of that number is told of all in the directory
-abbrev pub IsListening : Seated → Seated → Type 0
-IsListening old new = (path : List (List ℕ)) × (made : Kept) × (told : Kept) × (id : ℕ) × IsDirectory path × (made.call ≡ call.Init 16384 true) × (made.reply ≡ reply.Instance id) × (told.call ≡ call.AddWatch id path 4095) × (new ≡ seated old.number (old.kept ++ made ∷ told ∷ []))
+-- the instance of this number is made, with a pipe, and a watch of all events of the directory is added to it
+abbrev pub IsListening : ℕ → Seated → Seated → Type 0
+IsListening id old new = (path : List (List ℕ)) × (made : Kept) × (told : Kept) × IsDirectory path × (made.call ≡ call.Init 16384 true) × (made.reply ≡ reply.Instance id) × (told.call ≡ call.AddWatch id path 4095) × (new ≡ seated old.number (old.kept ++ made ∷ told ∷ []))
 
--- what the first seat begins with: the directory, and two instances
+-- what the first seat begins with: the directory, and instances 1 and 2
 abbrev pub HasBegun : Seated → Type 0
-HasBegun s = (path : List (List ℕ)) × (made : Kept) × (between : Seated) × IsDirectory path × (made.call ≡ call.File (file.Mkdir path 493)) × IsListening (seated 1 (made ∷ [])) between × IsListening between s
+HasBegun s = (path : List (List ℕ)) × (made : Kept) × (between : Seated) × IsDirectory path × (made.call ≡ call.File (file.Mkdir path 493)) × IsListening 1 (seated 1 (made ∷ [])) between × IsListening 2 between s
 
 -- both instances are pumped once more, and closed
 abbrev pub IsClosing : Seated → Seated → Type 0
@@ -100,17 +117,35 @@ IsWhole s = (begun : Seated) × HasBegun begun × IsClosing begun s
 abbrev pub seat_of : SeatLog → Seated
 seat_of l = seated l.number l.kept
 
--- the logs are those of seats 1, 2 and 3: of the one that begins and ends, and of the writers. They keep nothing else
-abbrev pub AreStormLogs : ℕ → List SeatLog → Type 0
-AreStormLogs calls logs = (main : SeatLog) × (first : SeatLog) × (second : SeatLog) × (logs ≡ main ∷ first ∷ second ∷ [])
+-- the logs are those of seats 1, 2 and 3: of the one that begins and ends, and of the writers at a gate of so many turns. They
+-- keep nothing else
+abbrev pub AreStormLogs : (ℕ → ℕ → Bool → Type 0) → ℕ → ℕ → List SeatLog → Type 0
+AreStormLogs passes turns calls logs = (main : SeatLog) × (first : SeatLog) × (second : SeatLog) × (logs ≡ main ∷ first ∷ second ∷ [])
     × (main.number ≡ 1) × IsWhole (seat_of main)
-    × AreTurns first_part calls (seated 2 []) (seat_of first) × AreTurns second_part calls (seated 3 []) (seat_of second)
+    × IsWriting passes turns first_part calls (seated 2 []) (seat_of first) × IsWriting passes turns second_part calls (seated 3 []) (seat_of second)
 
 -- ---- the listeners
 
--- a listener under this number that has yet taken nothing, with this sink
-abbrev pub Begins : {S : Type 0} → (S → List Event) → (S → Bool) → ℕ → S → Listening S → Type 0
-Begins record_list is_open number sink l = (feed : Fed) × (l.intake.sink ≡ sink) × (state_of_listener record_list is_open l ≡ listener_state number feed [] (length (record_list sink)) (record_list sink) true None)
+-- two sinks that are open
+abbrev pub AreTwoOpen : {S : Type 0} → (S → Bool) → List S → Type 0
+AreTwoOpen {S} is_open sinks = (one : S) × (other : S) × (sinks ≡ one ∷ other ∷ []) × (is_open one ≡ true) × (is_open other ≡ true)
+
+-- a listener under this number, at the pipe of so many places of this instance, that has yet taken nothing. Its sink took
+-- these records before
+abbrev pub beginning : ℕ → ℕ → ℕ → List Event → ListenerState
+beginning number instance slots before = listener_state number (fed instance [] slots) [] (length before) before true None
+
+-- the same, with this sink
+abbrev pub Begins : {S : Type 0} → (S → List Event) → (S → Bool) → ℕ → ℕ → ℕ → S → Listening S → Type 0
+Begins record_list is_open number instance slots sink l = (l.intake.sink ≡ sink) × (state_of_listener record_list is_open l ≡ beginning number instance slots (record_list sink))
+
+-- a listener takes all the turns that a gate has, unless it ends before
+abbrev pub RunsAt : (ℕ → ℕ → Bool → Type 0) → ℕ → ListenerState → ListenerState → Type 0
+RunsAt passes turns begun ended = (last : ListenerState) × Reaches passes turns begun last × (ended ≡ ended_by last Turns)
+
+-- what became of a listener in its thread: it ran, and what it was handed was put into its sink, which is closed
+abbrev pub HasRun : {S : Type 0} → (S → List Event) → (S → Bool) → (S → Page) → (ℕ → ℕ → Bool → Type 0) → ℕ → Listening S → Ended S → Type 0
+HasRun record_list is_open page passes turns l e = IsSoundListener (state_of_ended record_list is_open e) × RunsAt passes turns (state_of_listener record_list is_open l) (state_of_ended record_list is_open e) × (l.cause ≡ None → WritesBatches record_list page l.intake e.intake (Some e.cause))
 
 -- the sink of a listener that has ended is what became of this one: the records that the listener was handed were put into it,
 -- and it was closed

@@ -1,6 +1,7 @@
 //! What stands before a storm begins.
 
 ghost use Rattle.std.specs.Prelude.{◌≡◌, ◌+◌, ◌≤◌, [], true, IfOk, OnOk};
+ghost use Rattle.tree_core.specs.Journal.{now};
 ghost use Rattle.shared_tree.specs.Seats.{seated};
 ghost use Rattle.event_sinks.specs.Listeners.{IsSoundListener, state_of_listener};
 ghost use Rattle.watchtree_storm.specs.Storm.{Begins, HasBegun, IsListening};
@@ -40,7 +41,7 @@ pub struct ReadyStorm<L: Ledger, S> {
     pub other: Listening<S>,
 }
 
-// Makes an instance with a pipe that is told of all in the directory, and a listener at its other end.
+// Makes the next instance, with a pipe and a watch of all events of the directory, and a listener at its other end.
 fn listen<L: Ledger, S: Sink>(
     alloc: Global,
     held: &mut Held<L>,
@@ -52,8 +53,9 @@ fn listen<L: Ledger, S: Sink>(
     requires slots { (1 ≤ slots) × (slots ≤ 65536) }
     requires is_open { S.is_open sink ≡ true }
     ensures number { OnOk result (seat.new.number ≡ seat.old.number) }
-    ensures kept { OnOk result (IsListening seat.old seat.new) }
-    ensures begins { IfOk result (λ l. Begins S.record_list S.is_open number sink l) }
+    ensures next { OnOk result ((now held.new.state).next_id ≡ (now held.old.state).next_id + 1) }
+    ensures kept { OnOk result (IsListening (now held.old.state).next_id seat.old seat.new) }
+    ensures begins { IfOk result (λ l. Begins S.record_list S.is_open number (now held.old.state).next_id slots sink l) }
     ensures sound { IfOk result (λ l. IsSoundListener (state_of_listener S.record_list S.is_open l)) }
 {
     let (_, feed) = held.open_piped(seat, QUEUE, slots)?;
@@ -72,7 +74,8 @@ fn listen<L: Ledger, S: Sink>(
     Ok(Listening::new(alloc, number, feed, sink))
 }
 
-/// Makes the tree, its seats 1 to 3, its directory, and both instances with a pipe of `calls + 2` places and a listener.
+/// Makes the tree, its seats 1 to 3, its directory, and instances 1 and 2, each with a pipe of `calls + 2` places and the
+/// listener of its number.
 ///
 /// # Errors
 /// [`StormFault::Memory`]; both sinks are then closed.
@@ -90,7 +93,7 @@ pub fn begin<L: Ledger, S: Sink>(
     ensures shares { IfOk result (λ b. (b.pass.parts + 3 ≡ L.parts) × (b.pass.amount ≡ 0)) }
     ensures seats { IfOk result (λ b. (b.main.number ≡ 1) × (b.first ≡ seated 2 []) × (b.second ≡ seated 3 [])) }
     ensures begun { IfOk result (λ b. HasBegun b.main) }
-    ensures sinks { IfOk result (λ b. Begins S.record_list S.is_open 1 one b.one × Begins S.record_list S.is_open 2 other b.other) }
+    ensures listeners { IfOk result (λ b. Begins S.record_list S.is_open 1 1 (calls + 2) one b.one × Begins S.record_list S.is_open 2 2 (calls + 2) other b.other) }
     ensures sound { IfOk result (λ b. IsSoundListener (state_of_listener S.record_list S.is_open b.one) × IsSoundListener (state_of_listener S.record_list S.is_open b.other)) }
 {
     let (mut held, mut pass) = Held::<L>::new(alloc, blank, Limits::full())?;

@@ -1,10 +1,10 @@
 //! What the writers of a storm do.
 
-ghost use Rattle.std.specs.Prelude.{◌≡◌, ◌⊎◌, ℕ, IfOk, IsTrue, OnSome, true};
-ghost use Rattle.std.specs.Bool.{OnTrue};
+ghost use Rattle.std.specs.Prelude.{◌≡◌, ℕ, IfOk, IsTrue, OnSome};
+ghost use Rattle.std.specs.Bool.{OnFalse, OnTrue};
 ghost use Rattle.tree_core.specs.Calls.{is_plain};
 ghost use Rattle.tree_core.specs.declared.call.Call.TheVariants.{Close};
-ghost use Rattle.watchtree_storm.specs.Storm.{AreTurns, IsCallAt, IsClosing, IsTurn, KeepsOrNot, KeepsTurn, first_part, part_of, pump_all, second_part};
+ghost use Rattle.watchtree_storm.specs.Storm.{IsCallAt, IsClosing, IsHeldBack, IsLetThrough, IsTurn, IsWriting, KeepsOrNot, KeepsTurn, first_part, part_of, pump_all, second_part};
 
 use event_sinks::Gate;
 use record_codec::Bytes;
@@ -121,8 +121,9 @@ impl Writer {
         let _ = make(rt, tree, seat, call);
     }
 
-    /// Waits until the gate lets it through, and then makes so many calls, with a pump of its instance after each. Where
-    /// the turns of the gate are over first, it makes none. What wants memory is passed over.
+    /// Asks the gate at turn 0, 1 and so on until it is let through, and then makes so many calls, with a pump of its
+    /// instance after each. A writer that is let through at none of the gate's turns makes none. A call or a pump that
+    /// runs out of memory is passed over.
     pub fn write<L: Ledger, G: Gate>(
         &self,
         rt: &impl Wait,
@@ -132,8 +133,7 @@ impl Writer {
         gate: &G,
         calls: u32,
     ) -> Seat<L>
-        ensures turns { AreTurns (part_of self.now) calls seat result }
-        ensures gate { (result ≡ seat) ⊎ ((turn : ℕ) × G.may_pass gate.now self.now.who turn true) }
+        ensures turns { IsWriting (G.may_pass gate.now) (G.most_turns gate.now) (part_of self.now) calls seat result }
     {
         let mut seat = seat;
         if !is_let_through(gate, self.who) {
@@ -146,9 +146,10 @@ impl Writer {
     }
 }
 
-// Whether the gate lets a worker through before its turns are over.
+// Asks the gate at each turn until it lets the worker through. Whether it did.
 fn is_let_through<G: Gate>(gate: &G, who: u32) -> bool
-    ensures { OnTrue result ((turn : ℕ) × G.may_pass gate.now who turn true) }
+    ensures yes { OnTrue result ((turn : ℕ) × IsLetThrough (G.may_pass gate.now who) (G.most_turns gate.now) turn) }
+    ensures no { OnFalse result (IsHeldBack (G.may_pass gate.now who) (G.most_turns gate.now)) }
 {
     for turn in 0..gate.turns() {
         if gate.pass(who, turn) {

@@ -60,6 +60,8 @@ impl Four {
 impl Gate for Four {
     ghost may_pass = { λ _ _ _ _. ⊤ };
 
+    ghost most_turns = { λ gate. gate.turns };
+
     fn pass(&self, who: u32, _turn: u64) -> bool {
         if 0 < who && who < 5 {
             self.asked[who as usize - 1].store(1, Ordering::SeqCst);
@@ -77,19 +79,24 @@ impl Gate for Four {
     }
 }
 
-// A storm with boxed sinks that have room for a million records each.
+// A storm whose sinks take so many records at most.
 fn stormed<G: Gate, R: Threads + Wait + Sync>(
     rt: &R,
     alloc: Global,
     calls: u32,
     gate: &G,
-) -> Result<StormReport, Fail>
+    most: (u64, u64),
+) -> Result<Stormed, Fail>
     requires { (1 ≤ calls) × (calls ≤ 1000) }
 {
-    let one: Box<dyn Sink> = Box::new(alloc, CountSink::new(alloc, 1_000_000))?;
-    let other: Box<dyn Sink> = Box::new(alloc, CountSink::new(alloc, 1_000_000))?;
-    Ok(storm(rt, alloc, calls, gate, one, other)?)
+    let mut sinks: Vec<Box<dyn Sink>> = Vec::with_capacity(alloc, 2)?;
+    sinks.push_reserved(Box::new(alloc, CountSink::new(alloc, most.0))?);
+    sinks.push_reserved(Box::new(alloc, CountSink::new(alloc, most.1))?);
+    Ok(storm(rt, alloc, calls, gate, sinks)?)
 }
+
+/// Sinks that are never full.
+const LARGE: (u64, u64) = (1_000_000, 1_000_000);
 
 // Whether both listeners ended by the end batch, with so many records each.
 fn are_last(listeners: &[(u32, Cause, u64)], taken: u64) -> bool {
@@ -98,7 +105,7 @@ fn are_last(listeners: &[(u32, Cause, u64)], taken: u64) -> bool {
         && listeners[1] == (2, Cause::Last, taken)
 }
 
-fn is_settled(stormed: &StormReport, entries: u64, taken: u64) -> bool {
+fn is_settled(stormed: &Stormed, entries: u64, taken: u64) -> bool {
     stormed.entries == entries
         && stormed.settled
             == Ok(Settled {
@@ -111,19 +118,19 @@ fn is_settled(stormed: &StormReport, entries: u64, taken: u64) -> bool {
 #[test]
 fn a_storm_has_its_figures(rt: HostRuntime) -> Result<(), Fail> {
     let alloc = rt.alloc();
-    let calm = stormed(&rt, alloc, 1, &OpenGate)?;
+    let calm = stormed(&rt, alloc, 1, &OpenGate, LARGE)?;
     holds(&rt, "is_settled(&calm, 13, 6)", is_settled(&calm, 13, 6));
-    let calm = stormed(&rt, alloc, 2, &OpenGate)?;
+    let calm = stormed(&rt, alloc, 2, &OpenGate, LARGE)?;
     holds(&rt, "is_settled(&calm, 17, 12)", is_settled(&calm, 17, 12));
-    let calm = stormed(&rt, alloc, 3, &OpenGate)?;
+    let calm = stormed(&rt, alloc, 3, &OpenGate, LARGE)?;
     holds(&rt, "is_settled(&calm, 21, 16)", is_settled(&calm, 21, 16));
-    let calm = stormed(&rt, alloc, 100, &OpenGate)?;
+    let calm = stormed(&rt, alloc, 100, &OpenGate, LARGE)?;
     holds(
         &rt,
         "is_settled(&calm, 409, 450)",
         is_settled(&calm, 409, 450),
     );
-    let calm = stormed(&rt, alloc, 1000, &OpenGate)?;
+    let calm = stormed(&rt, alloc, 1000, &OpenGate, LARGE)?;
     holds(
         &rt,
         "is_settled(&calm, 4009, 4500)",
@@ -132,16 +139,10 @@ fn a_storm_has_its_figures(rt: HostRuntime) -> Result<(), Fail> {
     Ok(())
 }
 
-// A storm of three calls each, whose first sink has room for three records.
-fn half_full<R: Threads + Wait + Sync>(rt: &R, alloc: Global) -> Result<StormReport, StormFault> {
-    let one = CountSink::new(alloc, 3);
-    let other = CountSink::new(alloc, 99);
-    storm(rt, alloc, 3, &OpenGate, one, other)
-}
-
+/// A storm of three calls each, whose first sink is full after three records.
 #[test]
 fn each_listener_has_its_own_sink(rt: HostRuntime) -> Result<(), Fail> {
-    let ended = half_full(&rt, rt.alloc())?;
+    let ended = stormed(&rt, rt.alloc(), 3, &OpenGate, (3, 99))?;
     let listeners = ended.listeners.as_slice();
     let full = Some(&(1, Cause::Sink(SinkFault::Full), 3));
     let last = Some(&(2, Cause::Last, 16));
@@ -153,7 +154,7 @@ fn each_listener_has_its_own_sink(rt: HostRuntime) -> Result<(), Fail> {
 #[test]
 fn four_run_at_once(rt: HostRuntime) -> Result<(), Fail> {
     let alloc = rt.alloc();
-    let calm = stormed(&rt, alloc, 4, &Four::closed(100_000_000))?;
+    let calm = stormed(&rt, alloc, 4, &Four::closed(100_000_000), LARGE)?;
     assert!(rt; is_settled(&calm, 25, 18));
     Ok(())
 }
@@ -189,9 +190,10 @@ fn counted(alloc: Global, count: &Arc<AtomicU64, Global>) -> Result<LineSink<Clo
 fn a_storm_closes_both_sinks(rt: HostRuntime) -> Result<(), Fail> {
     let alloc = rt.alloc();
     let count = Arc::new(alloc, AtomicU64::new(0))?;
-    let one = counted(alloc, &count)?;
-    let other = counted(alloc, &count)?;
-    let stormed = storm(&rt, alloc, 4, &OpenGate, one, other)?;
+    let mut sinks: Vec<Box<dyn Sink>> = Vec::with_capacity(alloc, 2)?;
+    sinks.push_reserved(Box::new(alloc, counted(alloc, &count)?)?);
+    sinks.push_reserved(Box::new(alloc, counted(alloc, &count)?)?);
+    let stormed = storm(&rt, alloc, 4, &OpenGate, sinks)?;
     holds(
         &rt,
         "is_settled(&stormed, 25, 18)",
@@ -361,6 +363,8 @@ struct Only {
 impl Gate for Only {
     ghost may_pass = { λ _ _ _ _. ⊤ };
 
+    ghost most_turns = { λ _. 2 };
+
     fn pass(&self, who: u32, _turn: u64) -> bool {
         who == self.who
     }
@@ -423,50 +427,38 @@ fn another_trees_seat_is_stray(rt: HostRuntime) -> Result<(), Fail> {
     Ok(())
 }
 
-// A storm of four calls each, one writer after the other, whose journal is cut before they write.
-fn cut_before_it<L: Ledger>(
-    rt: &impl Wait,
+// A storm whose journal is cut before its four threads begin.
+fn cut_before_it<L: Ledger + Send + Sync, R: Threads + Wait + Sync>(
+    rt: &R,
     alloc: Global,
     blank: Blank,
-) -> Result<StormReport, Fail>
+    calls: u32,
+) -> Result<Stormed, Fail>
     requires name { blank.name ≡ L.name }
     requires parts { (blank.parts ≡ L.parts) × (blank.parts ≡ 65537) }
+    requires calls { calls ≤ 1000 }
 {
     let sinks = (CountSink::new(alloc, 99), CountSink::new(alloc, 99));
-    let ReadyStorm {
-        mut held,
-        mut pass,
-        main,
-        first,
-        second,
-        one,
-        other,
-    } = begin::<L, CountSink>(alloc, blank, 4, sinks.0, sinks.1)?;
-    if held.cut()? != 5 {
-        return Err(Fail::from(StormFault::Memory));
+    let mut ready = begin::<L, CountSink>(alloc, blank, calls, sinks.0, sinks.1)?;
+    if ready.held.cut()? != 5 {
+        return Err(Fail::from("a cut after another entry"));
     }
-    let tree: Tree<L> = Mutex::new(held);
-    let first = Writer::first().write(rt, alloc, &tree, first, &OpenGate, 4);
-    let second = Writer::second().write(rt, alloc, &tree, second, &OpenGate, 4);
-    let main = close_both(rt, &tree, main);
-    let mut logs = Vec::with_capacity(alloc, 3)?;
-    logs.push(pass.join(main))?;
-    logs.push(pass.join(first))?;
-    logs.push(pass.join(second))?;
-    let ended = (one.run(&OpenGate, 9), other.run(&OpenGate, 9));
-    let book = tree.into_inner().dissolve(pass);
-    Ok(FinishedStorm { book, logs, ended }.settle(alloc)?)
+    Ok(ready.run(rt, alloc, calls, &OpenGate)?.settle(alloc)?)
 }
 
+fn cut_storm<R: Threads + Wait + Sync>(rt: &R, alloc: Global, calls: u32) -> Result<Stormed, Fail>
+    requires { calls ≤ 1000 }
+{
+    cut_before_it::<Brand, R>(rt, alloc, Blank::new(65537), calls)
+}
+
+/// Of 4 to 7 calls of each writer, and so with each of them as its last.
 #[test]
 fn a_storm_that_was_cut_is_settled(rt: HostRuntime) -> Result<(), Fail> {
-    let alloc = rt.alloc();
-    let stormed = cut_before_it::<Brand>(&rt, alloc, Blank::new(65537))?;
-    holds(
-        &rt,
-        "is_settled(&stormed, 25, 18)",
-        is_settled(&stormed, 25, 18),
-    );
+    for (calls, entries, taken) in [(4, 25, 18), (5, 29, 24), (6, 33, 30), (7, 37, 34)] {
+        let stormed = cut_storm(&rt, rt.alloc(), calls)?;
+        holds(&rt, "is_settled", is_settled(&stormed, entries, taken));
+    }
     Ok(())
 }
 

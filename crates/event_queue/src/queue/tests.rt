@@ -50,9 +50,11 @@ fn limit_two(rt: HostRuntime) -> Result<(), Refusal> {
     equal(&rt, queue.limit(), 2);
     holds(&rt, "!queue.is_empty()", !queue.is_empty());
     // The mark takes 16 bytes, and a record with a short name 32.
-    let fits = [15, 16, 47, 48, 1000].map(|bytes| queue.fit(bytes));
+    let fits = [15, 16, 47, 48, 1000].map(|bytes| queue.fit_len(bytes));
     let counted = [(0, 0), (1, 16), (1, 16), (2, 48), (2, 48)];
     equal(&rt, fits, counted.map(|(count, len)| Fit { count, len }));
+    let fits = [15, 16, 47, 48, 1000].map(|bytes| queue.fit(bytes));
+    equal(&rt, fits, counted.map(|(count, _)| count));
     equal(
         &rt,
         [15, 16].map(|bytes| queue.any_fits(bytes)),
@@ -109,7 +111,7 @@ fn greatest_limit(rt: HostRuntime) -> Result<(), Refusal> {
         count: 65_535,
         len: 1_048_560,
     };
-    equal(&rt, queue.fit(1_048_575), fit);
+    equal(&rt, queue.fit_len(1_048_575), fit);
     for cookie in 0..limit {
         equal(&rt, queue.take(), Some(touched(cookie)));
     }

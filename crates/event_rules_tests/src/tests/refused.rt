@@ -155,7 +155,8 @@ fn each_growth_of_each_call(rt: HostRuntime) -> Result<(), Fail> {
         let told = notices_refused(&calls, &call)?;
         let raised = stage_refused(alloc, &watches, noticed(&calls, &call)?.as_slice())?;
         let grows = has_refuser && which < 11;
-        let is_well = told.is_some() && matches!(raised, Some(count) if (count > 0) == grows);
+        let is_well = matches!(told, Some(count) if (count > 0) == grows)
+            && matches!(raised, Some(count) if (count > 0) == grows);
         assert!(rt; is_well, "call {which}: {told:?}, {raised:?}");
     }
     Ok(())

@@ -2,15 +2,14 @@
 
 ghost use Rattle.std.specs.Prelude.{◌≡◌, ◌≤◌, IfOk, IsTrue, true};
 ghost use Rattle.tree_core.specs.Calls.{is_plain};
+ghost use Rattle.event_sinks.specs.Listeners.{IsSoundListener, state_of_listener};
 
 use super::feeds::{tells, watches};
+use super::listeners::{steps, told};
 use super::*;
-use shared_tree::{Book, Feed, Held, KeptCalls, Pass, Seat, SeatLog, Tree};
+use shared_tree::{Book, Feed, Held, KeptCalls, Seat, SeatLog};
 use std::marker::Brand;
 use std::sync::ledger::{Blank, Ledger};
-use std::sync::{Mutex, Wait};
-use std::thread;
-use std::thread::Threads;
 use tree_core::Call;
 use tree_ops::FileCall;
 use tree_paths::{Limits, Path, Refusal};
@@ -19,10 +18,12 @@ pub(super) type End = Ended<MemorySink>;
 
 /// Lets each turn through.
 #[derive(Drop)]
-struct Open;
+pub(super) struct Open;
 
 impl Gate for Open {
     ghost may_pass = { λ _ _ _ answer. answer ≡ true };
+
+    ghost most_turns = { λ _. 9 };
 
     fn pass(&self, _who: u32, _turn: u64) -> bool {
         true
@@ -34,7 +35,7 @@ impl Gate for Open {
 }
 
 /// What `settle` answers.
-type Answer = Result<Settled, SettleFault>;
+pub(super) type Answer = Result<Settled, SettleFault>;
 
 // A book with these logs and listeners, settled.
 fn settles(
@@ -55,7 +56,7 @@ fn settles(
 }
 
 // An answer, unless it is want of memory, which ends a test.
-fn answered(answer: Answer) -> Result<Answer, Fail> {
+pub(super) fn answered(answer: Answer) -> Result<Answer, Fail> {
     match answer {
         Err(SettleFault::Memory) => Err(Fail::from(SettleFault::Memory)),
         answer => Ok(answer),
@@ -63,14 +64,14 @@ fn answered(answer: Answer) -> Result<Answer, Fail> {
 }
 
 // A listener that has ended, unless it did for want of memory, which ends a test.
-fn ended(end: End) -> Result<End, Refusal> {
+pub(super) fn ended(end: End) -> Result<End, Refusal> {
     match end.cause() {
         Cause::Memory | Cause::Sink(SinkFault::Memory) => Err(Refusal::Enomem),
         _ => Ok(end),
     }
 }
 
-fn mkdir(alloc: Global, path: &[u8]) -> Result<Call, Refusal>
+pub(super) fn mkdir(alloc: Global, path: &[u8]) -> Result<Call, Refusal>
     ensures { IfOk result (λ call. IsTrue (is_plain call)) }
 {
     let path = Path::parse(alloc, path)?;
@@ -159,22 +160,49 @@ pub(super) fn heard_out(
     Ok((book, log, ended(listener.run(&Open, steps))?))
 }
 
+// The book of a tree in which one seat made two directories, and its log.
+fn one_seat<L: Ledger>(alloc: Global, blank: Blank) -> Result<(Book, SeatLog), Refusal>
+    requires name { blank.name ≡ L.name }
+    requires parts { (blank.parts ≡ L.parts) × (blank.parts ≡ 65537) }
+{
+    let (mut held, mut pass) = Held::<L>::new(alloc, blank, Limits::full())?;
+    let mut seat = pass.seat()?;
+    held.call(&mut seat, mkdir(alloc, b"/a")?)?;
+    held.call(&mut seat, mkdir(alloc, b"/b")?)?;
+    let log = pass.join(seat);
+    Ok((held.dissolve(pass), log))
+}
+
+// The same, where the two kept calls are exchanged or not.
+fn exchanged(alloc: Global, is_exchanged: bool) -> Result<Answer, Fail> {
+    let (book, log) = one_seat::<Brand>(alloc, Blank::new(65537))?;
+    let SeatLog { number, kept } = log;
+    let mut kept = kept.into_vec();
+    if kept.len() != 2 {
+        return Err(Fail::from(Refusal::Ebadf));
+    }
+    if is_exchanged {
+        kept.swap(0, 1);
+    }
+    let kept = KeptCalls::from_vec(kept);
+    let log = SeatLog { number, kept };
+    settles(alloc, book, [Some(log), None], [None, None])
+}
+
 #[test]
 fn a_log_out_of_order_is_stray(rt: HostRuntime) -> Result<(), Fail> {
     let alloc = rt.alloc();
-    let (book, log, end) = heard_out(alloc, "f!.", 2)?;
-    let SeatLog { number, kept } = log;
-    let mut kept = kept.into_vec();
-    if kept.len() < 2 {
-        return Err(Fail::from(Refusal::Ebadf));
-    }
-    kept.swap(0, 1);
-    let log = SeatLog {
-        number,
-        kept: KeptCalls::from_vec(kept),
-    };
-    let stray = settles(alloc, book, [Some(log), None], [Some(end), None])?;
-    assert_eq!(rt; stray, Err(SettleFault::Stray(1)));
+    let whole = exchanged(alloc, false)?;
+    equal(
+        &rt,
+        whole,
+        Ok(Settled {
+            entries: 2,
+            calls: 2,
+        }),
+    );
+    let stray = exchanged(alloc, true)?;
+    equal(&rt, stray, Err(SettleFault::Stray(1)));
     Ok(())
 }
 
@@ -225,6 +253,39 @@ fn books_of_other_listeners(rt: HostRuntime) -> Result<(), Fail> {
             place: 0,
         }),
     );
+    Ok(())
+}
+
+// The book of a tree with one instance, which has a pipe and was never closed, and the log.
+fn opened_alone<L: Ledger>(alloc: Global, blank: Blank) -> Result<(Book, SeatLog), Refusal>
+    requires name { blank.name ≡ L.name }
+    requires parts { (blank.parts ≡ L.parts) × (blank.parts ≡ 65537) }
+{
+    let (mut held, mut pass) = Held::<L>::new(alloc, blank, Limits::full())?;
+    let mut seat = pass.seat()?;
+    held.open_piped(&mut seat, 16, 1)?;
+    let log = pass.join(seat);
+    Ok((held.dissolve(pass), log))
+}
+
+#[test]
+fn a_listener_that_was_handed_less(rt: HostRuntime) -> Result<(), Fail> {
+    let alloc = rt.alloc();
+    let (book, log, _) = heard_out(alloc, "f!.", 2)?;
+    let (_, _, another) = heard_out(alloc, ".", 1)?;
+    equal(&rt, another.cause(), Cause::Last);
+    let differs = settles(alloc, book, [Some(log), None], [Some(another), None])?;
+    equal(
+        &rt,
+        differs,
+        Err(SettleFault::HandedDiffers {
+            instance: 1,
+            place: 4,
+        }),
+    );
+    let (book, log) = opened_alone::<Brand>(alloc, Blank::new(65537))?;
+    let none = settles(alloc, book, [Some(log), None], [None, None])?;
+    equal(&rt, none, Err(SettleFault::NotEnded(1)));
     Ok(())
 }
 
@@ -350,12 +411,48 @@ fn sizes(end: &End) -> Option<(usize, usize, usize)> {
     }
 }
 
+// Steps of a listener whose sink takes one record of three, at a pipe of two places. Whether it takes no batch then, so that one
+// place is free, and no second one.
+fn keeps_the_next<L: Ledger>(
+    alloc: Global,
+    held: &mut Held<L>,
+    seat: &mut Seat<L>,
+    listener: &mut Listening<CountSink>,
+) -> Result<bool, Refusal>
+    requires { IsSoundListener (state_of_listener ⟦<CountSink as Sink>⟧.record_list ⟦<CountSink as Sink>⟧.is_open listener.old) }
+    ensures { IsSoundListener (state_of_listener ⟦<CountSink as Sink>⟧.record_list ⟦<CountSink as Sink>⟧.is_open listener.new) }
+{
+    tells(alloc, held, seat, b"fgh!i!")?;
+    let as_wanted = steps(listener, &[Step::Took, Step::Over, Step::Over]);
+    tells(alloc, held, seat, b"j!k")?;
+    let more = tells(alloc, held, seat, b"!");
+    Ok(as_wanted && more == Err(Refusal::PipeFull))
+}
+
+// The book of that tree, the log, and the listener; and whether it was so.
+fn filled<L: Ledger>(
+    alloc: Global,
+    blank: Blank,
+) -> Result<(Book, SeatLog, Ended<CountSink>, bool), Refusal>
+    requires name { blank.name ≡ L.name }
+    requires parts { (blank.parts ≡ L.parts) × (blank.parts ≡ 65537) }
+{
+    let (mut held, mut pass) = Held::<L>::new(alloc, blank, Limits::full())?;
+    let mut seat = pass.seat()?;
+    let feed = watches(alloc, &mut held, &mut seat, 16, 2)?;
+    let mut listener = Listening::new(alloc, 7, feed, CountSink::new(alloc, 1));
+    let kept = keeps_the_next(alloc, &mut held, &mut seat, &mut listener)?;
+    let log = pass.join(seat);
+    Ok((held.dissolve(pass), log, listener.finish(), kept))
+}
+
 #[test]
 fn a_full_sink_is_not_ended(rt: HostRuntime) -> Result<(), Fail> {
     let alloc = rt.alloc();
-    let (book, log, feed) = story_told::<Brand>(alloc, Blank::new(65537), b"fg!.")?;
-    let end = Listening::new(alloc, 7, feed, CountSink::new(alloc, 1)).run(&Open, 9);
-    equal(&rt, end.cause(), Cause::Sink(SinkFault::Full));
+    let (book, log, end, kept) = filled::<Brand>(alloc, Blank::new(65537))?;
+    holds(&rt, "the next batch stays in the pipe", kept);
+    equal(&rt, told(&end), (Cause::Sink(SinkFault::Full), 1, 1, false));
+    equal(&rt, size_of_first(&end), Some(3));
     let mut logs = Vec::new(alloc);
     logs.push(log)?;
     let mut ended = Vec::new(alloc);
@@ -363,6 +460,12 @@ fn a_full_sink_is_not_ended(rt: HostRuntime) -> Result<(), Fail> {
     let settled = answered(settle(alloc, book, logs, ended))?;
     equal(&rt, settled, Err(SettleFault::NotEnded(1)));
     Ok(())
+}
+
+// How many records the first batch has.
+fn size_of_first(end: &Ended<CountSink>) -> Option<usize> {
+    let first = end.handed().first()?;
+    Some(first.records.as_slice().len())
 }
 
 /// How many batches a large book hands over before the end batch.
@@ -379,7 +482,7 @@ fn turns<L: Ledger>(alloc: Global, held: &mut Held<L>, seat: &mut Seat<L>) -> Re
     Ok(())
 }
 
-fn create(alloc: Global) -> Result<Call, Refusal>
+pub(super) fn create(alloc: Global) -> Result<Call, Refusal>
     ensures { IfOk result (λ call. IsTrue (is_plain call)) }
 {
     let path = Path::parse(alloc, b"/f")?;
@@ -418,77 +521,6 @@ fn a_large_book_is_settled(rt: HostRuntime) -> Result<(), Fail> {
         Ok(Settled {
             entries: count,
             calls: count,
-        }),
-    );
-    Ok(())
-}
-
-// Makes a directory a hundred times over: all but the first of these calls are refused, and all are entries.
-fn insists<L: Ledger>(
-    rt: &impl Wait,
-    alloc: Global,
-    tree: &Tree<L>,
-    seat: Seat<L>,
-    name: u8,
-) -> Seat<L> {
-    let mut seat = seat;
-    for _ in 0..100 {
-        if let Ok(call) = mkdir(alloc, &[b'/', name]) {
-            let _ = tree.lock(rt).call(&mut seat, call);
-        }
-    }
-    seat
-}
-
-// The book of a tree on which two threads made calls, with no pump and no gate, and the logs. Its law is called through a
-// guard.
-fn written<L: Ledger + Send + Sync, R: Threads + Wait + Sync>(
-    rt: &R,
-    alloc: Global,
-    blank: Blank,
-) -> Result<(Book, Vec<SeatLog>), Refusal>
-    requires name { blank.name ≡ L.name }
-    requires parts { (blank.parts ≡ L.parts) × (blank.parts ≡ 65537) }
-{
-    let (mut held, mut pass): (Held<L>, Pass<L>) = Held::<L>::new(alloc, blank, Limits::full())?;
-    let mut main = pass.seat()?;
-    let first = pass.seat()?;
-    let second = pass.seat()?;
-    let mut logs = Vec::with_capacity(alloc, 3)?;
-    held.call(&mut main, mkdir(alloc, b"/d")?)?;
-    let tree: Tree<L> = Mutex::new(held);
-    let shared = &tree;
-    let (first, second) = thread::join(
-        rt,
-        move || insists(rt, alloc, shared, first, b'a'),
-        move || insists(rt, alloc, shared, second, b'b'),
-    );
-    tree.lock(rt).law();
-    logs.push_reserved(pass.join(main));
-    logs.push_reserved(pass.join(first));
-    logs.push_reserved(pass.join(second));
-    Ok((tree.into_inner().dissolve(pass), logs))
-}
-
-fn both_written<R: Threads + Wait + Sync>(
-    rt: &R,
-    alloc: Global,
-) -> Result<(Book, Vec<SeatLog>), Refusal> {
-    written::<Brand, R>(rt, alloc, Blank::new(65537))
-}
-
-#[test]
-fn two_threads_without_pumps_are_settled(rt: HostRuntime) -> Result<(), Fail> {
-    let alloc = rt.alloc();
-    let (book, logs) = both_written(&rt, alloc)?;
-    let none: Vec<End> = Vec::new(alloc);
-    let whole = answered(settle(alloc, book, logs, none))?;
-    equal(
-        &rt,
-        whole,
-        Ok(Settled {
-            entries: 201,
-            calls: 201,
         }),
     );
     Ok(())

@@ -9,11 +9,9 @@ ghost use Rattle.event_sinks.specs.Lines.{closing_line, line_of};
 ghost use Rattle.event_sinks.specs.Writing.{port_of};
 ghost use Rattle.event_sinks.specs.Listeners.{IsSoundListener, listener_state, state_of_listener};
 
-use super::feeds::{feed_of, opens, tells};
+use super::feeds::feed_of;
 use super::*;
 use shared_tree::Feed;
-use std::marker::Brand;
-use std::sync::ledger::{Blank, Ledger};
 use std::thread;
 use std::thread::Threads;
 use tree_paths::Refusal;
@@ -27,6 +25,8 @@ pub(super) struct Lets {
 
 impl Gate for Lets {
     ghost may_pass = { λ _ _ _ _. ⊤ };
+
+    ghost most_turns = { λ _. 9 };
 
     fn pass(&self, who: u32, turn: u64) -> bool {
         who == self.who && turn >= self.from
@@ -70,7 +70,7 @@ fn ran<S: Sink>(
 }
 
 /// Whether the next steps of a listener are these.
-fn steps<S: Sink>(listener: &mut Listening<S>, wanted: &[Step]) -> bool
+pub(super) fn steps<S: Sink>(listener: &mut Listening<S>, wanted: &[Step]) -> bool
     requires { IsSoundListener (state_of_listener S.record_list S.is_open listener.old) }
     ensures { IsSoundListener (state_of_listener S.record_list S.is_open listener.new) }
 {
@@ -168,6 +168,28 @@ fn stopped_sinks_take_the_first_records(rt: HostRuntime) -> Result<(), Fail> {
     Ok(())
 }
 
+/// The lines of the records of batches of two and of three, and where they begin.
+const FIVE: &[u8] =
+    b"1 00000100 0 f\n1 00000100 0 g\n1 00000100 0 h\n1 00000100 0 i\n1 00000100 0 j\n";
+
+const LINE: usize = 15;
+
+#[test]
+fn stopped_sinks_take_no_other_records(rt: HostRuntime) -> Result<(), Fail> {
+    let alloc = rt.alloc();
+    for most in 0..6u8 {
+        let mut text = Vec::with_capacity(alloc, 99)?;
+        let sink = StopSink::new(LineSink::new(alloc, &mut text), u64::from(most));
+        let (_, _, taken, _) = ran(alloc, "fg!hij!", sink, &EACH, 9)?;
+        equal(&rt, taken, u64::from(most));
+        let mut wanted = Vec::from_slice(alloc, &FIVE[..LINE * usize::from(most)])?;
+        wanted.extend_from_slice(b"closed ")?;
+        wanted.extend_from_slice(&[b'0' + most, b'\n'])?;
+        equal(&rt, text.as_slice(), wanted.as_slice());
+    }
+    Ok(())
+}
+
 #[test]
 fn gates_hold_turns_back(rt: HostRuntime) -> Result<(), Fail> {
     let alloc = rt.alloc();
@@ -183,27 +205,6 @@ fn gates_hold_turns_back(rt: HostRuntime) -> Result<(), Fail> {
         let told = ran(alloc, "f!g!.", MemorySink::new(alloc), &gate, turns)?;
         assert_eq!(rt; told, ends, "{who} {from} {turns}");
     }
-    Ok(())
-}
-
-/// Whether the batch behind one with a refused record stays in a pipe of two places: there is room for one more, once.
-fn keeps_the_next<L: Ledger>(alloc: Global, blank: Blank) -> Result<bool, Refusal>
-    requires name { blank.name ≡ L.name }
-    requires parts { (blank.parts ≡ L.parts) × (blank.parts ≡ 65537) }
-{
-    let (mut held, mut seat, feed) = opens::<L>(alloc, blank, 2)?;
-    tells(alloc, &mut held, &mut seat, b"fgh!i!")?;
-    let mut listener = Listening::new(alloc, 7, feed, CountSink::new(alloc, 1));
-    let as_wanted = steps(&mut listener, &[Step::Took, Step::Over, Step::Over]);
-    tells(alloc, &mut held, &mut seat, b"j!k")?;
-    let more = tells(alloc, &mut held, &mut seat, b"!");
-    Ok(as_wanted && more == Err(Refusal::PipeFull))
-}
-
-#[test]
-fn a_listener_that_ended_takes_no_batch(rt: HostRuntime) -> Result<(), Fail> {
-    let kept = keeps_the_next::<Brand>(rt.alloc(), Blank::new(65537))?;
-    assert!(rt; kept);
     Ok(())
 }
 

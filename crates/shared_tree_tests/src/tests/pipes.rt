@@ -7,14 +7,20 @@ fn instances_are_asked_in_their_way(rt: HostRuntime) {
     let steps = [
         Step::Sits(Ok(())),
         Step::Opens(0, 1, Says::Refused(Refusal::Einval)),
+        Step::WasAt(1),
         Step::HasNoFeed(1),
         Step::Opens(16, 1, Says::Instance(1)),
+        Step::WasAt(2),
+        Step::HasFeed(1),
         Step::Reads(1, Says::Refused(Refusal::Piped)),
         Step::Inits(Says::Instance(2)),
+        Step::HasNoFeed(2),
         Step::Pumps(2, Says::Refused(Refusal::NotPiped)),
         Step::Pumps(9, Says::Refused(Refusal::Ebadf)),
         Step::Pumps(1, Says::Refused(Refusal::Eagain)),
+        Step::WasAt(7),
         Step::Counts(7),
+        Step::Stands(1, 7),
     ];
     assert_eq!(rt;
         plays(rt.alloc(), Limits::full(), &steps),
@@ -46,6 +52,62 @@ fn a_full_pipe_is_not_pumped(rt: HostRuntime) {
     );
 }
 
+// The pump is not carried out: there is no entry of it, and so it is not EAGAIN.
+#[test]
+fn a_full_pipe_is_found_where_nothing_waits(rt: HostRuntime) {
+    let steps = [
+        Step::Sits(Ok(())),
+        Step::Opens(16, 1, Says::Instance(1)),
+        Step::Watches(1, Says::Wd(1)),
+        Step::Creates("/f", Says::File),
+        Step::Pumps(1, Says::Records),
+        Step::Waits(1, Some(0)),
+        Step::Pumps(1, Says::Fails(Refusal::PipeFull)),
+        Step::Counts(4),
+        Step::Gives(1, 4, 1),
+        Step::Pumps(1, Says::Refused(Refusal::Eagain)),
+        Step::Counts(5),
+        Step::GivesNothing(1),
+        Step::Stands(1, 5),
+    ];
+    assert_eq!(rt;
+        plays(rt.alloc(), Limits::full(), &steps),
+        Some(steps.len())
+    );
+}
+
+// The record that waits takes 32 bytes. Where the pipe has a place, a pump of fewer is an entry, and reads nothing.
+#[test]
+fn a_full_pipe_is_found_where_no_record_fits(rt: HostRuntime) {
+    let steps = [
+        Step::Sits(Ok(())),
+        Step::Opens(16, 1, Says::Instance(1)),
+        Step::Watches(1, Says::Wd(1)),
+        Step::Creates("/f", Says::File),
+        Step::PumpsAtMost(1, 15, Says::Refused(Refusal::Einval)),
+        Step::Counts(4),
+        Step::Waits(1, Some(1)),
+        Step::GivesNothing(1),
+        Step::PumpsAtMost(1, 32, Says::Records),
+        Step::Creates("/g", Says::File),
+        Step::PumpsAtMost(1, 15, Says::Fails(Refusal::PipeFull)),
+        Step::PumpsAtMost(1, 0, Says::Fails(Refusal::PipeFull)),
+        Step::PumpsAtMost(1, 31, Says::Fails(Refusal::PipeFull)),
+        Step::Counts(6),
+        Step::Waits(1, Some(1)),
+        Step::Gives(1, 5, 1),
+        Step::PumpsAtMost(1, 31, Says::Refused(Refusal::Einval)),
+        Step::Counts(7),
+        Step::Waits(1, Some(1)),
+        Step::GivesNothing(1),
+        Step::Stands(1, 7),
+    ];
+    assert_eq!(rt;
+        plays(rt.alloc(), Limits::full(), &steps),
+        Some(steps.len())
+    );
+}
+
 #[test]
 fn the_end_batch_wants_a_place(rt: HostRuntime) {
     let steps = [
@@ -59,6 +121,7 @@ fn the_end_batch_wants_a_place(rt: HostRuntime) {
         Step::Waits(1, Some(0)),
         Step::Gives(1, 4, 1),
         Step::Closes(1, Says::Done),
+        Step::WasAt(5),
         Step::Waits(1, None),
         Step::Gives(1, 5, 0),
         Step::GivesNothing(1),

@@ -39,7 +39,7 @@ fn a_cut_makes_room(rt: HostRuntime) {
         Step::Sits(Ok(())),
         Step::Makes("/a", 1, 2),
         Step::Makes("/b", 2, 3),
-        Step::Creates("/c", Says::Fails(Refusal::JournalFull)),
+        Step::Mkdirs("/c", Says::Fails(Refusal::JournalFull)),
         Step::HasRoomFor(0),
         Step::Cuts(2),
         Step::HasRoomFor(2),

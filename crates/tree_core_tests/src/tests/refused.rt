@@ -2,6 +2,8 @@
 //! as if nothing had happened. Where nobody refuses growths each call is made once.
 
 use super::*;
+use inode_table::FileRow;
+use instance_table::InstanceRow;
 use refuser::{refuse, refuse_from, was_refused};
 use std::test::Fail;
 
@@ -277,16 +279,50 @@ fn each_growth_of_each_step(rt: HostRuntime) -> Result<(), Fail> {
     Ok(())
 }
 
-// The counts of a tree's snapshot.
-fn snapshot_of(tree: &State) -> (u64, usize, usize, usize, u32) {
-    let kept = tree.snapshot();
-    (
-        kept.place,
-        kept.paths.len(),
-        kept.files.len(),
-        kept.instances.len(),
-        kept.next_number,
-    )
+// Whether two lists of files are the same.
+fn files_alike(some: &[FileRow], others: &[FileRow]) -> bool {
+    let are_same = some.iter().zip(others).all(|(one, other)| {
+        one.number == other.number
+            && one.kind == other.kind
+            && one.mode == other.mode
+            && one.bytes == other.bytes
+    });
+    some.len() == others.len() && are_same
+}
+
+// Whether two lists of instances are the same, with their watches and what waits.
+fn instances_alike(some: &[InstanceRow], others: &[InstanceRow]) -> bool {
+    let are_same = some.iter().zip(others).all(|(one, other)| {
+        one.id == other.id
+            && one.limit == other.limit
+            && one.piped == other.piped
+            && one.watches.as_slice() == other.watches.as_slice()
+            && one.next_wd == other.next_wd
+            && one.waiting == other.waiting
+    });
+    some.len() == others.len() && are_same
+}
+
+// Whether both trees kept the same at their last cuts.
+fn kept_alike(one: &State, other: &State) -> bool {
+    let (one, other) = (one.snapshot(), other.snapshot());
+    one.place == other.place
+        && one.paths == other.paths
+        && files_alike(&one.files, &other.files)
+        && instances_alike(&one.instances, &other.instances)
+        && one.next_number == other.next_number
+        && one.next_cookie == other.next_cookie
+        && one.next_id == other.next_id
+}
+
+// A tree after so many steps, which was cut after half of them.
+fn after_a_cut(alloc: Global, steps: u32) -> Result<State, Refusal> {
+    let mut tree = after(alloc, steps / 2)?;
+    tree.cut()?;
+    for which in steps / 2..steps {
+        tree.apply(CALLER, step_of(alloc, which)?)?;
+    }
+    Ok(tree)
 }
 
 // What comes of a cut of which growth `k` is refused. The twin is such a tree too.
@@ -299,14 +335,14 @@ fn cut_refused_at(
     let _ = refuse(alloc, k);
     let told = tree.cut();
     if !was_refused(alloc) {
-        let is_done = told == twin.cut() && snapshot_of(tree) == snapshot_of(twin);
+        let is_done = told == twin.cut() && kept_alike(tree, twin);
         return Ok(if is_done { Came::Done } else { Came::Wrong });
     }
     let is_as_before = told == Err(Refusal::Enomem)
-        && snapshot_of(tree) == snapshot_of(twin)
+        && kept_alike(tree, twin)
         && are_alike(tree, twin, alloc)?
         && tree.cut()? == twin.cut()?
-        && snapshot_of(tree) == snapshot_of(twin)
+        && kept_alike(tree, twin)
         && are_alike(tree, twin, alloc)?;
     Ok(if is_as_before {
         Came::Refused
@@ -318,8 +354,8 @@ fn cut_refused_at(
 // How many growths a cut has after so many steps, each of which was refused with all well. None where one was not.
 fn cut_refused_in_turn(alloc: Global, steps: u32) -> Result<Option<u32>, Refusal> {
     for k in 1..10 * MOST {
-        let mut tree = after(alloc, steps)?;
-        let mut twin = after(alloc, steps)?;
+        let mut tree = after_a_cut(alloc, steps)?;
+        let mut twin = after_a_cut(alloc, steps)?;
         match cut_refused_at(alloc, &mut tree, &mut twin, k)? {
             Came::Refused => {}
             Came::Done => return Ok(Some(k - 1)),
@@ -344,13 +380,16 @@ fn each_growth_of_a_cut(rt: HostRuntime) -> Result<(), Fail> {
 #[test]
 fn what_a_tree_says_of_itself_takes_no_memory(rt: HostRuntime) -> Result<(), Fail> {
     let alloc = rt.alloc();
-    let (tree, twin) = (after(alloc, STEPS)?, after(alloc, STEPS)?);
+    let (tree, twin) = (after_a_cut(alloc, STEPS)?, after_a_cut(alloc, STEPS)?);
     let _ = refuse_from(alloc, 1);
-    let is_told = look_alike(&tree, &twin) && snapshot_of(&tree) == snapshot_of(&twin);
+    let is_told = look_alike(&tree, &twin) && kept_alike(&tree, &twin);
     let is_refused = was_refused(alloc);
     holds(&rt, "is_told && !is_refused", is_told && !is_refused);
     Ok(())
 }
+
+/// What the names of a thousand files begin with, so that each takes memory of its own.
+const LONG: &[u8] = b"/a-name-that-is-not-in-place-";
 
 // The path of a file in a tree of a thousand, or of the first directories on its way.
 fn path_of(alloc: Global, number: u32, names: u32) -> Result<Path, Refusal> {
@@ -360,14 +399,14 @@ fn path_of(alloc: Global, number: u32, names: u32) -> Result<Path, Refusal> {
         text.extend_from_slice(b"/e")?;
     }
     if names > 2 {
-        text.push(b'/')?;
+        text.extend_from_slice(LONG)?;
         text.push(b'0' + (number / 10 % 10) as u8)?;
         text.push(b'0' + (number % 10) as u8)?;
     }
     Path::parse(alloc, text.as_slice())
 }
 
-// Makes a file of a tree of a thousand, and its directories where it is their first.
+// Makes a file of a tree of a thousand, which has a byte, and its directories where it is their first.
 fn add_file(tree: &mut State, alloc: Global, number: u32) -> Result<(), Refusal> {
     if number % 100 == 0 {
         for names in 1..3 {
@@ -377,10 +416,21 @@ fn add_file(tree: &mut State, alloc: Global, number: u32) -> Result<(), Refusal>
     }
     let path = path_of(alloc, number, 3)?;
     tree.apply(CALLER, Call::File(FileCall::Create { path, mode: 0o644 }))?;
+    let path = path_of(alloc, number, 3)?;
+    let bytes = bytes(alloc, b"x")?;
+    tree.apply(
+        CALLER,
+        Call::File(FileCall::Write {
+            path,
+            offset: 0,
+            bytes,
+        }),
+    )?;
     Ok(())
 }
 
-// A thousand files in ten directories, and one instance, which watches the last directory.
+// A thousand files in ten directories, and one instance, which watches the last directory. A copy of such a table takes two
+// allocations for each file, one for its name and one for its byte.
 fn large(alloc: Global) -> Result<State, Refusal> {
     let mut tree = State::new(alloc, Limits::full())?;
     for number in 0..1000 {
@@ -395,17 +445,17 @@ fn in_large(alloc: Global, which: u32) -> Result<Call, Refusal> {
     match which {
         0 => create(alloc, "/d9/e/new"),
         1 => mkdir(alloc, "/d9/e/dir"),
-        2 => write(alloc, "/d9/e/00", 5, b"xyz"),
-        3 => read_file(alloc, "/d9/e/00", 0, 99),
-        4 => truncate(alloc, "/d9/e/00", 99),
+        2 => write(alloc, "/d9/e/a-name-that-is-not-in-place-00", 5, b"xyz"),
+        3 => read_file(alloc, "/d9/e/a-name-that-is-not-in-place-00", 0, 99),
+        4 => truncate(alloc, "/d9/e/a-name-that-is-not-in-place-00", 99),
         5 => chmod(alloc, "/d9/e", 0o700),
-        6 => link(alloc, "/d9/e/00", "/d8/e/new"),
-        7 => unlink(alloc, "/d9/e/01"),
+        6 => link(alloc, "/d9/e/a-name-that-is-not-in-place-00", "/d8/e/new"),
+        7 => unlink(alloc, "/d9/e/a-name-that-is-not-in-place-01"),
         8 => rmdir(alloc, "/d9/e/dir"),
         9 => rename(alloc, "/d9/e", "/d8/f"),
-        10 => stat(alloc, "/d8/f/00"),
+        10 => stat(alloc, "/d8/f/a-name-that-is-not-in-place-00"),
         11 => init(10),
-        12 => watch(alloc, 1, "/d8/f/02", 0xfff),
+        12 => watch(alloc, 1, "/d8/f/a-name-that-is-not-in-place-02", 0xfff),
         13 => unwatch(1, 2),
         14 => exchange(alloc, "/d8/f", "/d7/e"),
         _ => close(1),

@@ -28,5 +28,5 @@ returns-clause-whole c whole =
     let w = world_of c.args.table.now in
     let ready = c.requires.ready in
     either_way c.perform.result
-    (on_ok_weaker c.perform.result (λ is. subst IsWhole (sym is) (IsWhole-after w ready.limits c.args.ready.now.counts c.law.ensures whole c.args.ready.now.call ready.accepted (next-free w c.args.ready.now.counts.next_number ready.numbers))) c.perform.ensures.world)
+    (on_ok_weaker c.perform.result (λ is. subst IsWhole (sym is) (IsWhole-after w ready.limits c.args.ready.now.counts c.law.ensures.world whole c.args.ready.now.call ready.accepted (next-free w c.args.ready.now.counts.next_number ready.numbers))) c.perform.ensures.world)
     (on_err_weaker c.perform.result (λ e. subst IsWhole (sym (ap world_in e)) whole) c.perform.ensures.err)

@@ -7,10 +7,10 @@ use Rattle.tree_ops.proofs.carrying.exchange.Goals as goal
 
 pub returns-then-is_one-clause-world : goal.returns-then-is_one-clause-world
 returns-then-is_one-clause-world c =
-    sym (exchanged-nothing (world_of c.args.table.now) c.law.ensures c.args.old.now.names c.args.new.now.names ((λ i. are_same_seen (sym c.seen.ensures i) (sym c.seen-2.ensures i)) ∙ sym c.are_same-is_one.ensures ∙ c.if-is_one.true))
+    sym (exchanged-nothing (world_of c.args.table.now) c.law.ensures.world c.args.old.now.names c.args.new.now.names ((λ i. are_same_seen (sym c.seen.ensures i) (sym c.seen-2.ensures i)) ∙ sym c.are_same-is_one.ensures ∙ c.if-is_one.true))
 
 pub returns-clause-world : goal.returns-clause-world
 returns-clause-world c =
     let w = world_of c.args.table.now in
     let other : are_same_seen (look w c.args.old.now.names) (look w c.args.new.now.names) ≡ false = (λ i. are_same_seen (sym c.seen.ensures i) (sym c.seen-2.ensures i)) ∙ sym c.are_same-is_one.ensures ∙ c.if-is_one.false in
-    c.swap_names.ensures.world ∙ sym (exchanged-swapped w c.law.ensures c.args.old.now.names c.args.new.now.names other)
+    c.swap_names.ensures.world ∙ sym (exchanged-swapped w c.law.ensures.world c.args.old.now.names c.args.new.now.names other)

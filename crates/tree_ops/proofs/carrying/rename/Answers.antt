@@ -20,13 +20,13 @@ replace_name-requires-clause-empty c = nameless (look (world_of c.args.table.now
 
 pub returns-then-is_same-clause-world : goal.returns-then-is_same-clause-world
 returns-then-is_same-clause-world c =
-    sym (renamed-nothing (world_of c.args.table.now) c.law.ensures c.args.old.now.names c.args.new.now.names ((λ i. are_same_seen (sym c.seen.ensures i) (sym c.seen-2.ensures i)) ∙ sym c.are_same-is_same.ensures ∙ c.if-is_same.true))
+    sym (renamed-nothing (world_of c.args.table.now) c.law.ensures.world c.args.old.now.names c.args.new.now.names ((λ i. are_same_seen (sym c.seen.ensures i) (sym c.seen-2.ensures i)) ∙ sym c.are_same-is_same.ensures ∙ c.if-is_same.true))
 
 pub returns-clause-world : goal.returns-clause-world
 returns-clause-world c =
     let w = world_of c.args.table.now in
     let other : are_same_seen (look w c.args.old.now.names) (look w c.args.new.now.names) ≡ false = (λ i. are_same_seen (sym c.seen.ensures i) (sym c.seen-2.ensures i)) ∙ sym c.are_same-is_same.ensures ∙ c.if-is_same.false in
-    c.in_ok-replace_name.ensures.world ∙ sym (renamed-moved w c.law.ensures c.args.old.now.names c.args.new.now.names other)
+    c.in_ok-replace_name.ensures.world ∙ sym (renamed-moved w c.law.ensures.world c.args.old.now.names c.args.new.now.names other)
 
 pub returns-in_err-replace_name-clause-err : goal.returns-in_err-replace_name-clause-err
 returns-in_err-replace_name-clause-err c =

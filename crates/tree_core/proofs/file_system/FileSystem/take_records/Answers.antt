@@ -11,5 +11,5 @@ returns-clause-ok c =
     let i = c.in-Some.instance.now in
     ap (λ (x : Instances). record m { instances = x })
     (c.drop_oldest.ensures
-    ∙ changed-same m.instances c.args.id (after_read c.fit-fit.result.count) (after_reading c.args.bytes) i (sym c.in-Some.ensures)
-    (ap (λ n. after_read n i) c.fit-fit.ensures.count))
+    ∙ changed-same m.instances c.args.id (after_read c.fit_len-fit.result.count) (after_reading c.args.bytes) i (sym c.in-Some.ensures)
+    (ap (λ n. after_read n i) c.fit_len-fit.ensures.count))

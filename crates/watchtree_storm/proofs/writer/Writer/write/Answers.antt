@@ -1,5 +1,5 @@
 use Rattle.watchtree_storm.specs.Storm.{part_of}
-use Rattle.watchtree_storm.proofs.Turns.{first-turn, more-turns, no-turns}
+use Rattle.watchtree_storm.proofs.Turns.{first-turn, more-turns}
 use Rattle.watchtree_storm.proofs.writer.Writer.write.Goals as goal
 
 pub loop-number-init : goal.loop-number-init
@@ -7,6 +7,3 @@ loop-number-init g c = first-turn (part_of c.args.self.now) c.args.seat
 
 pub loop-number-preserved : goal.loop-number-preserved
 loop-number-preserved g c = more-turns (part_of c.args.self.now) c.loop-number.number c.args.seat c.loop-number.seat c.turn.new.seat c.loop-number.invariant c.turn.ensures
-
-pub returns-then-not-is_let_through-clause-turns : goal.returns-then-not-is_let_through-clause-turns
-returns-then-not-is_let_through-clause-turns g c = no-turns (part_of c.args.self.now) c.args.calls c.args.seat

@@ -1,0 +1,218 @@
+/* The inotify instances. No request waits but a read(2) that may: a poll is always answered at once, as the kernel holds
+ * locks of an epoll descriptor meanwhile. */
+#include "instances.h"
+#include "nodes.h"
+#include "options.h"
+#include "trace.h"
+#include "tree.h"
+#include "turn.h"
+#include <errno.h>
+#include <fcntl.h>
+#include <linux/fuse.h>
+#include <poll.h>
+#include <stdlib.h>
+
+enum { INSTANCES = 128, LARGEST_READ = 1 << 20, FIRST_OUTSIDE = 1 << 30 };
+
+struct reader { fuse_req_t req; size_t size; };
+struct instance {
+    bool is_open, was_asked, was_polled;    /* asked: it was asked for a record, and had none since */
+    uint32_t id;
+    int64_t waiting;                        /* how many records waited when somebody was last woken */
+    struct fuse_pollhandle *poller;
+    struct reader *readers;                 /* that wait, the first one first */
+    int reader_count, reader_capacity;
+    int32_t next_outside;                   /* descriptors of watches outside the mount */
+};
+static struct instance instances[INSTANCES];
+static char buffer[LARGEST_READ];
+struct instance_counts instance_counts;
+
+static struct instance *instance_of(const struct fuse_file_info *file) { return instances + file->fh; }
+
+static int64_t waiting_in(const struct instance *it) { return wt_waiting(&tree, it->id); }
+
+/* ---- open and close */
+
+void open_instance(fuse_req_t req, struct fuse_file_info *file) {
+    (void)file;
+    if (!by_supervisor(req)) {              /* by /proc/self/fd */
+        fuse_reply_err(req, ENXIO);
+        return;
+    }
+    work_count++;
+    run_lines_before_request();
+    int i = 0;
+    while (i < INSTANCES && instances[i].is_open) i++;
+    int64_t id = i < INSTANCES ? CALL(0, wt_inotify_init(&tree, options.queue)) : -EMFILE;
+    if (is_refused(req, id)) return;
+    instances[i] = (struct instance){ .is_open = true, .id = (uint32_t)id, .next_outside = FIRST_OUTSIDE };
+    instance_counts.open++;
+    instance_counts.made++;
+    instance_counts.calls++;
+    trace("# instance %d\n", (int)id);
+    /* A stream has no lock of its position, so that a read that waits holds up no other. libfuse 3.14 cannot say so. */
+    struct fuse_open_out out = { .fh = (uint64_t)i,
+        .open_flags = FOPEN_DIRECT_IO | FOPEN_NONSEEKABLE | FOPEN_STREAM | FOPEN_NOFLUSH };
+    fuse_reply_buf(req, (char *)&out, sizeof out);
+}
+
+void close_instance(struct fuse_file_info *file) {
+    struct instance *it = instance_of(file);
+    trace("# close %u\n", it->id);
+    CALL(0, wt_inotify_close(&tree, it->id));
+    if (it->poller) fuse_pollhandle_destroy(it->poller);
+    free(it->readers);
+    *it = (struct instance){ 0 };
+    instance_counts.open--;
+}
+
+/* ---- read and poll */
+
+static bool add_reader(struct instance *it, struct reader reader) {
+    if (it->reader_count == it->reader_capacity) {
+        int capacity = it->reader_capacity ? it->reader_capacity * 2 : 4;
+        struct reader *all = realloc(it->readers, (size_t)capacity * sizeof *all);
+        if (!all) return false;
+        it->readers = all;
+        it->reader_capacity = capacity;
+    }
+    it->readers[it->reader_count++] = reader;
+    return true;
+}
+
+static void drop_reader(struct instance *it, int i) {
+    it->reader_count--;
+    for (; i < it->reader_count; i++) it->readers[i] = it->readers[i + 1];
+}
+
+/* Answers a read: false if it has to wait. */
+static bool answer_read(struct instance *it, fuse_req_t req, size_t size) {
+    if (waiting_in(it) <= 0) return false;
+    if (size > sizeof buffer) size = sizeof buffer;
+    int64_t bytes = wt_bytes_waiting(&tree, it->id);
+    int64_t count = CALL(bytes < (int64_t)size ? (uint64_t)bytes : size, wt_read(&tree, it->id, buffer, size));
+    it->waiting = waiting_in(it);
+    it->was_asked = false;
+    work_count++;
+    if (is_refused(req, count)) return true;
+    instance_counts.reads++;
+    trace_records(it->id, buffer, (size_t)count);
+    fuse_reply_buf(req, buffer, (size_t)count);
+    return true;
+}
+
+static void on_interrupt(fuse_req_t req, void *data) {
+    struct instance *it = data;
+    for (int i = 0; i < it->reader_count; i++) {
+        if (it->readers[i].req != req) continue;
+        drop_reader(it, i);
+        fuse_reply_err(req, EINTR);
+        return;
+    }
+}
+
+void read_instance(fuse_req_t req, size_t size, struct fuse_file_info *file) {
+    struct instance *it = instance_of(file);
+    if (!file->lock_owner) {                /* no read(2), but a page of mmap(2) or readahead(2) */
+        fuse_reply_err(req, EIO);
+        return;
+    }
+    if (waiting_in(it) > 0) run_lines_before_request();
+    if (answer_read(it, req, size)) return;
+    it->was_asked = true;
+    if (file->flags & O_NONBLOCK) fuse_reply_err(req, EAGAIN);
+    else if (!add_reader(it, (struct reader){ req, size })) fuse_reply_err(req, ENOMEM);
+    else fuse_req_interrupt_func(req, on_interrupt, it);
+}
+
+void poll_instance(fuse_req_t req, struct fuse_file_info *file, struct fuse_pollhandle *handle) {
+    struct instance *it = instance_of(file);
+    if (handle) {
+        if (it->poller) fuse_pollhandle_destroy(it->poller);
+        it->poller = handle;
+        it->was_polled = true;
+    }
+    bool is_ready = waiting_in(it) > 0;
+    if (!is_ready) it->was_asked = true;
+    fuse_reply_poll(req, is_ready ? POLLIN | POLLRDNORM : 0);
+}
+
+/* ---- the supervisor's calls */
+
+static int64_t add_watch(struct instance *it, const struct watch_call *call) {
+    char path[PATH_SIZE] = "";
+    struct wt_stat is;
+    int64_t reply;
+    if (!call->number) reply = options.ignores_outside ? it->next_outside++ : -EACCES;
+    else if (call->number == INSTANCE || !find_file(call->number, path, &is)) reply = -ENOENT;
+    else reply = CALL(0, wt_inotify_add_watch(&tree, it->id, PATH(path), call->mask));
+    char shown[3 * PATH_SIZE] = "";
+    spell(path, shown);
+    trace("# watch %u %s 0x%x: %lld\n", it->id, *shown ? shown : call->number ? "gone" : "outside", call->mask,
+          (long long)reply);
+    return reply;
+}
+
+static int64_t remove_watch(struct instance *it, int32_t wd) {
+    int64_t reply = wd >= FIRST_OUTSIDE && wd < it->next_outside ? 0
+                  : CALL(0, wt_inotify_rm_watch(&tree, it->id, wd));
+    trace("# unwatch %u %d: %lld\n", it->id, wd, (long long)reply);
+    return reply;
+}
+
+void call_instance(fuse_req_t req, unsigned command, struct fuse_file_info *file, const void *in, size_t in_size) {
+    struct instance *it = instance_of(file);
+    int64_t reply = -ENOTTY;
+    if (command == CALL_BYTES) reply = wt_bytes_waiting(&tree, it->id);
+    else {
+        work_count++;
+        instance_counts.calls++;
+        run_lines_before_request();
+    }
+    if (command == CALL_WATCH && in_size == sizeof(struct watch_call)) {
+        struct watch_call call;
+        memcpy(&call, in, sizeof call);
+        reply = add_watch(it, &call);
+    }
+    if (command == CALL_UNWATCH && in_size == sizeof(int32_t)) {
+        int32_t wd;
+        memcpy(&wd, in, sizeof wd);
+        reply = remove_watch(it, wd);
+    }
+    if (is_refused(req, reply)) return;
+    fuse_reply_ioctl(req, (int)reply, NULL, 0);
+    deliver();
+}
+
+/* ---- who waits */
+
+void deliver(void) {
+    for (int i = 0; i < INSTANCES && instance_counts.open; i++) {
+        struct instance *it = instances + i;
+        if (!it->is_open) continue;
+        int64_t waiting = waiting_in(it);
+        bool has_more = waiting > it->waiting;
+        it->waiting = waiting;
+        while (it->reader_count && waiting_in(it) > 0) {
+            struct reader first = it->readers[0];
+            drop_reader(it, 0);
+            answer_read(it, first.req, first.size);
+            if (it->reader_count) it->was_asked = true;
+        }
+        if (has_more && it->poller && it->waiting > 0) fuse_lowlevel_notify_poll(it->poller);
+    }
+}
+
+struct asking who_asks(void) {
+    struct asking all = { 0 };
+    for (int i = 0; i < INSTANCES; i++) {
+        struct instance *it = instances + i;
+        if (!it->is_open) continue;
+        bool is_empty = waiting_in(it) <= 0;
+        all.in_vain |= is_empty && (it->was_asked || it->reader_count);
+        all.polled |= is_empty && it->was_polled;
+        all.unread |= !is_empty;
+    }
+    return all;
+}

@@ -1,0 +1,77 @@
+/* The processes of a run: the program, and the supervisor of its calls. */
+#include "program.h"
+#include "filter.h"
+#include "needs.h"
+#include "options.h"
+#include "rest.h"
+#include "supervisor.h"
+#include <errno.h>
+#include <fcntl.h>
+#include <signal.h>
+#include <stdio.h>
+#include <sys/prctl.h>
+#include <sys/socket.h>
+#include <sys/wait.h>
+#include <unistd.h>
+
+pid_t supervisor_pid, program_pid;
+
+static void redirect(const char *name, int to) {
+    char path[PATH_SIZE];
+    snprintf(path, sizeof path, "%s/%s", options.out, name);
+    int fd = open(path, O_CREAT | O_WRONLY | O_TRUNC | O_CLOEXEC, 0644);
+    if (fd < 0 || dup2(fd, to) < 0) fail(path);
+}
+
+_Noreturn static void become_program(const char *here, int to_supervisor) {
+    sigset_t none;
+    prctl(PR_SET_PDEATHSIG, SIGKILL);
+    sigemptyset(&none);
+    sigprocmask(SIG_SETMASK, &none, NULL);
+    if (chdir(here) < 0) fail(here);        /* again, as it may be below the mount */
+    if (!strcmp(options.script, "-")) {
+        int nothing = open("/dev/null", O_RDONLY | O_CLOEXEC);
+        if (nothing < 0 || dup2(nothing, 0) < 0) fail("/dev/null");
+    }
+    if (options.out) {
+        redirect("stdout", 1);
+        redirect("stderr", 2);
+    }
+    int listener = install_filter();
+    if (listener < 0) lack_filter(errno);
+    send_fd(to_supervisor, listener);
+    close(listener);
+    /* The supervisor looks at the root first: until then the kernel takes it for a file of somebody else. */
+    char is_ready;
+    if (read(to_supervisor, &is_ready, 1) != 1) fault("the supervisor of the system calls did not start");
+    execvp(*options.program, options.program);
+    say("%s: %s", *options.program, strerror(errno));
+    _exit(errno == ENOENT || errno == ENOTDIR ? STATUS_NOT_FOUND : STATUS_NOT_EXECUTABLE);
+}
+
+void start_program(const char *here) {
+    int pair[2];
+    if (socketpair(AF_UNIX, SOCK_STREAM | SOCK_CLOEXEC, 0, pair) < 0) fail("socketpair");
+    pid_t tool = getpid();
+    if ((supervisor_pid = fork()) < 0) fail("fork");
+    if (supervisor_pid == 0) {
+        close(pair[1]);
+        supervise(pair[0], tool);
+    }
+    if ((program_pid = fork()) < 0) fail("fork");
+    if (program_pid == 0) become_program(here, pair[1]);
+    close(pair[0]);
+    close(pair[1]);
+}
+
+void end_processes(void (*serve)(void)) {
+    enum { POLITE = 20, PATIENT = 400 };
+    for (int i = 0; i < PATIENT && signal_all(i < POLITE ? SIGTERM : SIGKILL, supervisor_pid); i++) {
+        serve();
+        usleep(5000);
+        while (waitpid(-1, NULL, WNOHANG) > 0) {}
+    }
+    serve();
+    kill(supervisor_pid, SIGKILL);
+    serve();
+}

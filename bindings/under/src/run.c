@@ -1,0 +1,286 @@
+/* A run: mounts the tree, starts the program, and gives turns until it ends. One thread does it all. */
+#include "run.h"
+#include "files.h"
+#include "instances.h"
+#include "mount.h"
+#include "needs.h"
+#include "options.h"
+#include "program.h"
+#include "rest.h"
+#include "script.h"
+#include "trace.h"
+#include "tree.h"
+#include "turn.h"
+#include <errno.h>
+#include <limits.h>
+#include <poll.h>
+#include <sched.h>
+#include <signal.h>
+#include <stdio.h>
+#include <stdlib.h>
+#include <sys/prctl.h>
+#include <sys/signalfd.h>
+#include <sys/wait.h>
+#include <unistd.h>
+
+/* A program that wakes for less (a JVM does, 20 times a second) is quiet all the same. */
+enum { QUIET_NS = 3000000 };
+/* After a request more may come soon, and would wait until all tasks were looked at. */
+enum { REST_US = 100, LONGEST_US = 2000 };
+/* How long a program may take to end, and how much longer than quiet a stall without rest may be. */
+enum { ENDING_MS = 10000, BUSY_STALLS = 6 };
+
+enum ending { RUNNING, OVER, STALLED, BROKEN };
+
+static struct fuse_session *session;
+static int signals;
+static enum ending ending;
+static int64_t ended_at;            /* when the program was asked to end */
+static int64_t worked_at;           /* when it last worked */
+static int64_t progress_at;         /* when a record was taken or a line ran */
+static bool has_ended;
+static int wait_status;
+
+/* ---- what comes in */
+
+static bool serve_one(void) {
+    static struct fuse_buf buffer;
+    int count = fuse_session_receive_buf(session, &buffer);
+    if (count == -EAGAIN || count == -EINTR) return false;
+    if (count <= 0) fault("/dev/fuse: %s", count ? strerror(-count) : "the mount is gone");
+    fuse_session_process_buf(session, &buffer);
+    return true;
+}
+
+static void serve(void) {
+    while (serve_one()) {}
+}
+
+/* Whether another processor is likely to have nothing to do. */
+static bool has_idle_processor(void) {
+    static int64_t asked_at;
+    static bool is_idle;
+    cpu_set_t set;
+    double load;
+    if (asked_at && clock_ms() - asked_at < 1000) return is_idle;
+    asked_at = clock_ms();
+    int count = sched_getaffinity(0, sizeof set, &set) < 0 ? 1 : CPU_COUNT(&set);
+    return is_idle = count > 1 && getloadavg(&load, 1) == 1 && load < count;
+}
+
+/* Whoever was answered often asks again at once. If the program runs on another processor, to look for that a little longer
+ * costs less than to sleep and be woken; if it is on this one, it gets it by the yield. */
+static void serve_burst(void) {
+    enum { BURST_NS = 40000, MOST_REQUESTS = 256 };
+    struct timespec start, now;
+    int count = 0;
+    while (count < MOST_REQUESTS && serve_one()) count++;
+    if (!has_idle_processor()) return;
+    clock_gettime(CLOCK_MONOTONIC, &start);
+    while (count < MOST_REQUESTS) {
+        sched_yield();
+        clock_gettime(CLOCK_MONOTONIC, &now);
+        if (serve_one()) {
+            start = now;
+            count++;
+        } else if ((now.tv_sec - start.tv_sec) * 1000000000 + now.tv_nsec - start.tv_nsec >= BURST_NS) break;
+    }
+}
+
+static void take_signals(void) {
+    struct signalfd_siginfo it;
+    while (read(signals, &it, sizeof it) == sizeof it) {
+        /* A terminal sends its signals to the program too. */
+        if (it.ssi_signo != SIGCHLD && it.ssi_code <= 0) kill(program_pid, (int)it.ssi_signo);
+    }
+    int status;
+    for (pid_t pid; (pid = waitpid(-1, &status, WNOHANG)) > 0;) {
+        if (pid == supervisor_pid) ending = BROKEN;
+        if (pid != program_pid) continue;
+        wait_status = status;
+        has_ended = true;
+    }
+}
+
+/* ---- the end */
+
+static void ask_to_end(enum ending why) {
+    ending = why;
+    ended_at = clock_ms();
+    if (why == STALLED) kill(program_pid, SIGTERM);
+    else if (options.end_signal) kill(program_pid, options.end_signal);
+}
+
+static bool was_asked_to_end(void) { return ending == STALLED || (ending == OVER && options.end_signal); }
+
+static void insist(void) {
+    static bool is_said;
+    if (clock_ms() - ended_at <= ENDING_MS) return;
+    kill(program_pid, SIGKILL);
+    if (!is_said) say("the program did not end by the signal, and was killed");
+    is_said = true;
+}
+
+static void note_progress(void) {
+    static uint64_t last_work, last_progress;
+    uint64_t progress = line_count + instance_counts.reads + instance_counts.calls;
+    if (work_count != last_work) worked_at = clock_ms();
+    if (progress != last_progress) progress_at = clock_ms();
+    last_work = work_count;
+    last_progress = progress;
+}
+
+/* Nothing happens any more, though lines are left or the program has watched. A program that works goes on: while lines are
+ * left for some time, and without lines for as long as it likes. */
+static bool is_stalled(void) {
+    int64_t now = clock_ms(), since = now - progress_at, quiet = now - worked_at;
+    if (since < options.stall_ms) return false;
+    if (quiet < options.stall_ms && (!lines_left() || since < (int64_t)BUSY_STALLS * options.stall_ms)) return false;
+    if (is_waiting_for_lines()) progress_at = now;
+    return progress_at != now && (instance_counts.made || lines_left());
+}
+
+/* ---- turns */
+
+/* Whether the program is at rest, by two looks of which this is one. Sets how long to wait for the next, in microseconds. */
+static bool is_at_rest(int64_t *wait_us) {
+    static struct tasks last;
+    static uint64_t counted_time, last_work;
+    struct tasks now = look_at_tasks();
+    if (now.time < counted_time) counted_time = now.time;   /* a task ended */
+    if (now.time > counted_time + QUIET_NS || now.set != last.set) {
+        worked_at = clock_ms();
+        counted_time = now.time;
+    }
+    bool is_same = last.all_sleep && now.runs == last.runs && work_count == last_work;
+    last = now;
+    last_work = work_count;
+    if (!now.all_sleep) *wait_us = *wait_us < REST_US ? REST_US : *wait_us * 2 < LONGEST_US ? *wait_us * 2 : LONGEST_US;
+    else if (!is_same) *wait_us = 0;
+    return now.all_sleep && is_same;
+}
+
+/* The program is at rest. Sets how long it may stay so before the next look. */
+static void give_turn(int64_t *wait_us) {
+    uint64_t before = work_count;
+    announce_all();
+    deliver();
+    *wait_us = 0;
+    if (work_count != before) return;
+    int64_t quiet = clock_ms() - worked_at;
+    switch (take_turn(quiet)) {
+    case TURN_WAITS: *wait_us = quiet < 1000 ? 5000 : 20000; break;
+    case TURN_TAKEN: worked_at = clock_ms(); break;
+    case TURN_OVER: ask_to_end(OVER); break;
+    }
+}
+
+static void loop(void) {
+    int64_t wait_us = 0;
+    worked_at = progress_at = clock_ms();
+    while (!has_ended && ending != BROKEN) {
+        struct timespec limit = { .tv_sec = wait_us / 1000000, .tv_nsec = wait_us % 1000000 * 1000 };
+        struct pollfd fds[] = { { fuse_session_fd(session), POLLIN, 0 }, { signals, POLLIN, 0 },
+                                { live_script(), POLLIN, 0 } };
+        if (ppoll(fds, 3, &limit, NULL) < 0 && errno != EINTR) fail("poll");
+        if (fds[1].revents) take_signals();
+        if (fds[2].revents) read_live_script();
+        if (fds[0].revents) serve_burst();
+        note_progress();
+        if (was_asked_to_end()) {
+            insist();
+            wait_us = 10000;
+        } else if (is_stalled()) {
+            say("stalled: for %d ms no record was taken and no line ran", options.stall_ms);
+            ask_to_end(STALLED);
+        } else if (fds[0].revents) wait_us = REST_US;
+        else if (ending) wait_us = 10000;
+        else if (is_at_rest(&wait_us)) {
+            struct pollfd request = { fuse_session_fd(session), POLLIN, 0 };
+            if (poll(&request, 1, 0) == 0) give_turn(&wait_us);
+        }
+    }
+    serve();                        /* its files were closed before its end was known */
+}
+
+/* ---- before and after */
+
+static int block_signals(void) {
+    sigset_t set;
+    sigemptyset(&set);
+    sigaddset(&set, SIGCHLD);
+    sigaddset(&set, SIGTERM);
+    sigaddset(&set, SIGINT);
+    sigaddset(&set, SIGHUP);
+    sigprocmask(SIG_BLOCK, &set, NULL);
+    int fd = signalfd(-1, &set, SFD_CLOEXEC | SFD_NONBLOCK);
+    if (fd < 0) fail("signalfd");
+    return fd;
+}
+
+static int status_of_program(void) {
+    if (WIFSIGNALED(wait_status)) {
+        bool was_asked = ending == OVER && (WTERMSIG(wait_status) == options.end_signal || WTERMSIG(wait_status) == SIGKILL);
+        return was_asked ? 0 : 128 + WTERMSIG(wait_status);
+    }
+    int status = WEXITSTATUS(wait_status);
+    return ending == OVER && options.end_signal && status == 128 + options.end_signal ? 0 : status;
+}
+
+static int exit_status(void) {
+    long left = lines_left();
+    if (ending == BROKEN && !has_ended) {
+        say("the supervisor of the system calls was ended");
+        return STATUS_FAULT;
+    }
+    if (WIFEXITED(wait_status)) trace("# ended %d\n", WEXITSTATUS(wait_status));
+    else trace("# ended by signal %d\n", WTERMSIG(wait_status));
+    if (left) say("%ld line%s did not happen", left, left == 1 ? "" : "s");
+    if (ending == STALLED) return STATUS_STALLED;
+    int status = status_of_program();
+    if (status) return status;
+    if (left) return STATUS_LINES_LEFT;
+    if (!lines_after_first_mark() || instance_counts.reads) return 0;
+    say("nothing was delivered: %s", instance_counts.made ? "the program took no record" : "the program made no instance");
+    return STATUS_NOTHING_DELIVERED;
+}
+
+static void prepare_out(void) {
+    char path[PATH_SIZE], dir[PATH_MAX];
+    if (!options.out) return;
+    if (mkdir(options.out, 0755) < 0 && errno != EEXIST) fail(options.out);
+    if (!(options.out = realpath(options.out, NULL))) fail("--out");
+    size_t length = realpath(options.dir, dir) ? strlen(dir) : 0;
+    if (length && !strncmp(options.out, dir, length) && (!options.out[length] || options.out[length] == '/'))
+        fault("--out: %s is below the mount", options.out);
+    if ((size_t)snprintf(path, sizeof path, "%s/tree", options.out) >= sizeof path) fault("--out: the path is too long");
+    if (access(path, F_OK) == 0) fault("--out: %s is there already, of another run", path);
+}
+
+int run(void) {
+    char here[PATH_MAX];
+    if (!getcwd(here, sizeof here)) fail("the working directory");
+    check_needs();
+    prepare_out();
+    open_script();
+    open_trace();
+    session = mount_tree(here);
+    open_tree();
+    make_nursery();
+    stamp(ROOT, MODIFIED);
+    run_first_lines();
+    signals = block_signals();
+    prctl(PR_SET_CHILD_SUBREAPER, 1);
+    start_program(here);
+    loop();
+    end_processes(serve);
+    commit_all();
+    int status = exit_status();
+    if (options.out) write_tree(options.out);
+    close_trace();
+    unmount_tree(session);
+    close_tree();
+    free_nodes();
+    close_script();
+    return status;
+}

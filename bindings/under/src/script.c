@@ -1,0 +1,143 @@
+/* The script: what stands next in it. */
+#include "script.h"
+#include "options.h"
+#include "trace.h"
+#include <errno.h>
+#include <fcntl.h>
+#include <poll.h>
+#include <stdlib.h>
+#include <sys/stat.h>
+#include <unistd.h>
+
+enum { LONGEST = 1 << 20 };
+static char *text;
+static size_t at, end, capacity;
+static long number, refused, happened_after_mark;
+static int fd = -1;
+static bool is_ended, had_mark;
+
+static void read_some(void) {
+    if (at && end == capacity) {
+        memmove(text, text + at, end - at);
+        end -= at;
+        at = 0;
+    }
+    if (end == capacity) {
+        capacity = capacity ? capacity * 2 : 1 << 16;
+        if (capacity > 2 * LONGEST) fault("%s: a line is too long", options.script);
+        if (!(text = realloc(text, capacity))) fail("realloc");
+    }
+    ssize_t count = read(fd, text + end, capacity - end);
+    if (count < 0 && (errno == EINTR || errno == EAGAIN)) return;
+    if (count < 0) fail(options.script);
+    if (count == 0) is_ended = true;
+    end += (size_t)count;
+}
+
+/* The next line that is whole: its length, or -1. */
+static ssize_t line_length(void) {
+    char *stop = at < end ? memchr(text + at, '\n', end - at) : NULL;
+    if (stop) return stop - (text + at);
+    return is_ended && at < end ? (ssize_t)(end - at) : -1;
+}
+
+static void pass(size_t length) {
+    at += length;
+    if (at < end) at++;
+    number++;
+}
+
+static bool is_empty(const char *line, size_t length) {
+    while (length && *line == ' ') line++, length--;
+    return !length || *line == '#';
+}
+
+enum next next_in_script(void) {
+    for (;;) {
+        ssize_t length = line_length();
+        if (length < 0) return is_ended ? NEXT_END : NEXT_NOT_YET;
+        if (length == 2 && !memcmp(text + at, "--", 2)) return NEXT_MARK;
+        if (!is_empty(text + at, (size_t)length)) return NEXT_LINE;
+        pass((size_t)length);
+    }
+}
+
+void run_line(void) {
+    char line[1 << 12], *copy = line;
+    size_t length = (size_t)line_length();
+    if (length > sizeof line && !(copy = malloc(length))) fail("malloc");
+    memcpy(copy, text + at, length);        /* the line may be moved by a read */
+    pass(length);
+    if (!run_text(copy, length, number)) refused++;
+    else if (had_mark) happened_after_mark++;
+    if (copy != line) free(copy);
+}
+
+void pass_mark(void) {
+    pass(2);
+    had_mark = true;
+    trace("> --\n");
+}
+
+void run_first_lines(void) {
+    for (;;) {
+        enum next next = next_in_script();
+        if (next == NEXT_LINE) run_line();
+        else if (next == NEXT_NOT_YET) read_some();
+        else break;
+    }
+    if (next_in_script() == NEXT_MARK) pass_mark();
+}
+
+long lines_left(void) {
+    long count = refused;
+    size_t saved_at = at;
+    long saved_number = number;
+    for (ssize_t length; (length = line_length()) >= 0; pass((size_t)length)) {
+        bool is_mark = length == 2 && !memcmp(text + at, "--", 2);
+        count += !is_mark && !is_empty(text + at, (size_t)length);
+    }
+    at = saved_at;
+    number = saved_number;
+    return count;
+}
+
+long lines_after_first_mark(void) { return happened_after_mark; }
+
+int live_script(void) { return is_ended ? -1 : fd; }
+
+void read_live_script(void) {
+    struct pollfd one = { fd, POLLIN, 0 };
+    while (!is_ended && poll(&one, 1, 0) > 0) read_some();
+}
+
+/* A script that is read at once has no fault in its middle. */
+static void try_all(void) {
+    struct wt_tree scratch = WT_TREE_INIT;
+    if (wt_open(&scratch) < 0) fault("wt_open");
+    for (ssize_t length; (length = line_length()) >= 0; pass((size_t)length)) {
+        bool is_mark = length == 2 && !memcmp(text + at, "--", 2);
+        if (!is_mark && !is_empty(text + at, (size_t)length)) try_text(&scratch, text + at, (size_t)length, number + 1);
+    }
+    wt_close(&scratch);
+    at = 0;
+    number = 0;
+}
+
+void open_script(void) {
+    struct stat is;
+    fd = strcmp(options.script, "-") ? open(options.script, O_RDONLY | O_CLOEXEC) : fcntl(0, F_DUPFD_CLOEXEC, 3);
+    if (fd < 0 || fstat(fd, &is) < 0) fail(options.script);
+    if (!S_ISREG(is.st_mode) && strcmp(options.script, "/dev/null")) return;
+    if (is.st_size > LONGEST) fault("%s: script too long", options.script);
+    while (!is_ended) read_some();
+    if (end > LONGEST) fault("%s: script too long", options.script);
+    try_all();
+}
+
+void close_script(void) {
+    free(text);
+    if (fd >= 0) close(fd);
+    text = NULL;
+    free_text();
+}

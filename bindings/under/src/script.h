@@ -1,0 +1,31 @@
+/* The script: a file that is read at once, or a pipe or terminal whose lines come while the program runs. */
+#ifndef SCRIPT_H
+#define SCRIPT_H
+#include "under.h"
+
+enum next { NEXT_LINE, NEXT_MARK, NEXT_NOT_YET, NEXT_END };
+
+void open_script(void);
+void close_script(void);
+/* What stands next. Empty lines and comments are passed over. */
+enum next next_in_script(void);
+/* Runs the next line, or passes over the next mark, which has to be there. */
+void run_line(void);
+void pass_mark(void);
+/* Runs the lines before the first mark, and waits for them if the script is live. */
+void run_first_lines(void);
+/* How many lines did not happen. */
+long lines_left(void);
+/* How many lines stood or stand after the first mark and happened so far. */
+long lines_after_first_mark(void);
+
+/* The descriptor that more lines come from: -1 if none do. */
+int live_script(void);
+void read_live_script(void);
+
+/* line.c: runs a line on the tree. False if it is no line of a script, which is said. */
+bool run_text(const char *line, size_t length, long number);
+void free_text(void);
+/* Each line of a script that is read at once is tried on a tree of its own before the program starts. */
+void try_text(struct wt_tree *scratch, const char *line, size_t length, long number);
+#endif

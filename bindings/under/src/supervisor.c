@@ -1,0 +1,232 @@
+/* The supervisor: a process of its own, as it opens and calls files of the mount, which the tool answers meanwhile. It knows
+ * nothing of the tree: each of its answers is an ioctl(2) of an instance. */
+#include "supervisor.h"
+#include "caller.h"
+#include "filter.h"
+#include "instances.h"
+#include "options.h"
+#include <ctype.h>
+#include <dirent.h>
+#include <errno.h>
+#include <fcntl.h>
+#include <linux/magic.h>
+#include <poll.h>
+#include <signal.h>
+#include <stdio.h>
+#include <stdlib.h>
+#include <sys/inotify.h>
+#include <sys/mount.h>
+#include <sys/prctl.h>
+#include <sys/resource.h>
+#include <sys/stat.h>
+#include <sys/syscall.h>
+#include <sys/vfs.h>
+#include <unistd.h>
+
+static int root = -1;
+static dev_t device;
+
+/* An answer that is the kernel's own: the call goes on as if nobody had held it. */
+enum { GOES_ON = INT32_MIN, IS_ANSWERED = INT32_MIN + 1 };
+
+/* ---- the calls */
+
+/* The caller's instance; -EINVAL if the descriptor is of another kind. */
+static int borrow_instance(const struct seccomp_notif *call, int fd) {
+    struct stat is;
+    int mine = borrow(call, fd);
+    if (mine < 0) return mine;
+    if (fstat(mine, &is) == 0 && is.st_dev == device && is.st_ino == INSTANCE) return mine;
+    close(mine);
+    return -EINVAL;
+}
+
+/* A new instance goes into the caller before the call is answered, and is closed here before that too: what the caller does
+ * next finds one descriptor of it. The call was received, so only a fatal signal can come between. */
+static int init(const struct seccomp_notif *call) {
+    int flags = call->data.nr == SYS_inotify_init ? 0 : (int)call->data.args[0];
+    if (flags & ~(IN_CLOEXEC | IN_NONBLOCK)) return -EINVAL;
+    int mine = openat(root, INSTANCE_NAME, O_RDONLY | O_CLOEXEC | (flags & IN_NONBLOCK));
+    if (mine < 0) return -errno;
+    struct seccomp_notif_addfd add = { .id = call->id, .srcfd = (uint32_t)mine,
+                                       .newfd_flags = flags & IN_CLOEXEC ? O_CLOEXEC : 0 };
+    int number = ioctl(listener, SECCOMP_IOCTL_NOTIF_ADDFD, &add), error = errno;
+    close(mine);
+    return number >= 0 ? number : error == ENOENT ? IS_ANSWERED : -error;
+}
+
+/* The number of the file that a path names: 0 if it is outside the mount; -errno. */
+static int64_t number_for(const struct seccomp_notif *call, const char *path, bool follows) {
+    struct stat is;
+    int fd = open_for(call, path, follows);
+    if (fd < 0) return fd;
+    int64_t number = fstat(fd, &is) < 0 ? -errno : is.st_dev == device ? (int64_t)is.st_ino : 0;
+    close(fd);
+    return number;
+}
+
+static int add_watch(const struct seccomp_notif *call) {
+    char path[PATH_MAX];
+    struct watch_call watch = { .mask = (uint32_t)call->data.args[2] };
+    int mine = borrow_instance(call, (int)call->data.args[0]);
+    if (mine < 0) return mine;
+    int64_t number = read_path(call, call->data.args[1], path);
+    if (number == 0) number = number_for(call, path, !(watch.mask & IN_DONT_FOLLOW));
+    int reply = (int)number;
+    if (number >= 0) {
+        watch.number = (uint64_t)number;
+        reply = ioctl(mine, CALL_WATCH, &watch);
+        if (reply < 0) reply = -errno;
+    }
+    close(mine);
+    return reply;
+}
+
+static int remove_watch(const struct seccomp_notif *call) {
+    int mine = borrow_instance(call, (int)call->data.args[0]);
+    int32_t wd = (int32_t)call->data.args[1];
+    if (mine < 0) return mine;
+    int reply = ioctl(mine, CALL_UNWATCH, &wd) < 0 ? -errno : 0;
+    close(mine);
+    return reply;
+}
+
+/* The kernel answers FIONREAD of a regular file by itself, so it never comes to FUSE. */
+static int bytes_waiting(const struct seccomp_notif *call) {
+    int mine = borrow_instance(call, (int)call->data.args[0]);
+    if (mine < 0) return GOES_ON;
+    int count = ioctl(mine, CALL_BYTES);
+    close(mine);
+    return write_memory(call, call->data.args[2], &count, sizeof count);
+}
+
+/* FUSE counts as a network file system, on which tail(1) and others do without inotify: the tree says it is a tmpfs. */
+static int file_system(const struct seccomp_notif *call) {
+    char path[PATH_MAX];
+    struct statfs is;
+    struct stat seen;
+    int fd = call->data.nr == SYS_fstatfs ? borrow(call, (int)call->data.args[0])
+           : read_path(call, call->data.args[0], path) == 0 ? open_for(call, path, true) : -1;
+    if (fd < 0) return GOES_ON;
+    bool is_ours = fstat(fd, &seen) == 0 && seen.st_dev == device && fstatfs(fd, &is) == 0;
+    close(fd);
+    if (!is_ours) return GOES_ON;
+    is.f_type = TMPFS_MAGIC;
+    return write_memory(call, call->data.args[1], &is, sizeof is);
+}
+
+/* A file of FUSE sends no SIGIO, and the kernel would take the wish for it without a word. */
+static int refuse_signals(const struct seccomp_notif *call) {
+    int mine = borrow_instance(call, (int)call->data.args[0]);
+    if (mine < 0) return GOES_ON;
+    close(mine);
+    return -EINVAL;
+}
+
+static int answer(const struct seccomp_notif *call) {
+    switch (call->data.nr) {
+    case SYS_inotify_init:
+    case SYS_inotify_init1: return init(call);
+    case SYS_inotify_add_watch: return add_watch(call);
+    case SYS_inotify_rm_watch: return remove_watch(call);
+    case SYS_statfs:
+    case SYS_fstatfs: return file_system(call);
+    case SYS_fcntl: return refuse_signals(call);
+    default: return (unsigned)call->data.args[1] == FIONREAD ? bytes_waiting(call) : refuse_signals(call);
+    }
+}
+
+/* ---- when the tool is gone without its end (SIGKILL), nothing of the run stays */
+
+static bool is_in_namespace(const char *pid, const char *namespace) {
+    char name[300], other[64];
+    snprintf(name, sizeof name, "/proc/%s/ns/mnt", pid);
+    ssize_t length = readlink(name, other, sizeof other - 1);
+    other[length > 0 ? length : 0] = 0;
+    return !strcmp(other, namespace);
+}
+
+_Noreturn static void end_run(void) {
+    enum { ROUNDS = 50 };
+    char namespace[64];
+    ssize_t length = readlink("/proc/self/ns/mnt", namespace, sizeof namespace - 1);
+    umount2(options.dir, MNT_DETACH);
+    if (length <= 0) _exit(STATUS_FAULT);
+    namespace[length] = 0;
+    for (int i = 0, found = 1; i < ROUNDS && found; i++) {
+        DIR *proc = opendir("/proc");
+        struct dirent *it;
+        found = 0;
+        while (proc && (it = readdir(proc))) {
+            pid_t pid = isdigit((unsigned char)*it->d_name) ? atoi(it->d_name) : 0;
+            if (pid <= 0 || pid == getpid() || !is_in_namespace(it->d_name, namespace)) continue;
+            found += kill(pid, SIGKILL) == 0;
+        }
+        if (proc) closedir(proc);
+        usleep(2000);
+    }
+    _exit(STATUS_FAULT);
+}
+
+static void on_signal(int number) { (void)number; }
+
+#ifndef SECCOMP_IOCTL_NOTIF_SET_FLAGS           /* Linux 6.6 */
+#define SECCOMP_USER_NOTIF_FD_SYNC_WAKE_UP (1UL << 0)
+#define SECCOMP_IOCTL_NOTIF_SET_FLAGS SECCOMP_IOW(4, __u64)
+#endif
+
+/* Until the supervisor has a call, a signal interrupts it, so it takes calls as soon as it can. Each of these may fail. */
+static void take_calls_soon(void) {
+    ioctl(listener, SECCOMP_IOCTL_NOTIF_SET_FLAGS, SECCOMP_USER_NOTIF_FD_SYNC_WAKE_UP);
+    setpriority(PRIO_PROCESS, 0, -20);
+}
+
+static void prepare(int from, pid_t tool) {
+    struct stat is;
+    struct sigaction ends = { .sa_handler = on_signal }, ignored = { .sa_handler = SIG_IGN };
+    sigset_t none;
+    sigaction(SIGTERM, &ends, NULL);
+    sigaction(SIGINT, &ignored, NULL);
+    sigaction(SIGHUP, &ignored, NULL);
+    sigaction(SIGQUIT, &ignored, NULL);
+    sigemptyset(&none);
+    sigprocmask(SIG_SETMASK, &none, NULL);
+    prctl(PR_SET_PDEATHSIG, SIGTERM);
+    /* The tool's descriptors are not for here: while one of /dev/fuse is open the mount lives. */
+    if (dup2(from, 3) < 0 || close_range(4, ~0u, 0) < 0) fail("close_range");
+    if (getppid() != tool || (listener = take_fd(3)) < 0) _exit(0);
+    if ((root = open(options.dir, O_PATH | O_DIRECTORY | O_CLOEXEC)) < 0 || fstat(root, &is) < 0) fail(options.dir);
+    device = is.st_dev;
+    take_calls_soon();
+    if (write(3, "", 1) != 1) fail("socketpair");
+    close(3);
+}
+
+static bool is_unused(void) {
+    struct pollfd one = { listener, POLLIN, 0 };
+    return poll(&one, 1, 0) == 1 && (one.revents & POLLHUP);
+}
+
+void supervise(int from, pid_t tool) {
+    prepare(from, tool);
+    for (;;) {
+        struct seccomp_notif call;
+        struct seccomp_notif_resp reply;
+        memset(&call, 0, sizeof call);
+        memset(&reply, 0, sizeof reply);
+        if (getppid() != tool) end_run();
+        if (ioctl(listener, SECCOMP_IOCTL_NOTIF_RECV, &call) < 0) {
+            if (errno != EINTR && errno != ENOENT) fail("seccomp");
+            /* Nobody is left to call: the tool ends this process. */
+            while (is_unused() && getppid() == tool) poll(NULL, 0, 100);
+            continue;
+        }
+        int value = answer(&call);
+        if (value == IS_ANSWERED) continue;
+        reply.id = call.id;
+        if (value == GOES_ON) reply.flags = SECCOMP_USER_NOTIF_FLAG_CONTINUE;
+        else if (value < 0) reply.error = value;
+        else reply.val = value;
+        ioctl(listener, SECCOMP_IOCTL_NOTIF_SEND, &reply);
+    }
+}

@@ -1,0 +1,8 @@
+/* The supervisor: answers the calls that the filter holds. */
+#ifndef SUPERVISOR_H
+#define SUPERVISOR_H
+#include "under.h"
+
+/* Takes the listener from a socket and serves it until nobody is left. `tool` is the process that owns the tree. */
+_Noreturn void supervise(int from, pid_t tool);
+#endif

@@ -1,0 +1,21 @@
+/* The tree, and its journal, which is cut before it is full. */
+#ifndef TREE_H
+#define TREE_H
+#include "under.h"
+
+extern struct wt_tree tree;
+
+/* Cuts the journal if it has no entry left for a call that keeps so many bytes. */
+void reserve_entry(uint64_t bytes);
+/* A call of the tree that its journal keeps. */
+#define CALL(bytes, call) (reserve_entry(bytes), (call))
+
+/* The errno of a reply below zero. */
+int errno_of(int64_t reply);
+
+/* All names of a directory, each ended by a zero byte, for free(3). How many bytes they are; a reply below zero. */
+int64_t names_below(const char *path, char **names);
+
+void open_tree(void);
+void close_tree(void);
+#endif

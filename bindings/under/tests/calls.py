@@ -1,0 +1,142 @@
+#!/usr/bin/python3
+"""Calls by their answers: calls.py DIRECTORY instance|refused. A line for each.
+
+`instance` makes calls of an inotify instance, which are answered as on a disk; `refused` makes calls that a tree does not
+have, as docs/UNDER.md lists them."""
+import ctypes
+import errno
+import fcntl
+import mmap
+import os
+import socket
+import struct
+import sys
+import termios
+
+LIBRARY = ctypes.CDLL(None, use_errno=True)
+AT_FDCWD, RENAME_WHITEOUT, F_NOTIFY, FIOASYNC = -100, 4, 1026, 0x5452
+IN_CREATE, IN_DONT_FOLLOW, IN_ONLYDIR, IN_MASK_CREATE, IN_MASK_ADD = 0x100, 0x2000000, 0x1000000, 0x10000000, 0x20000000
+
+
+def asked(answer):
+    if answer < 0:
+        raise OSError(ctypes.get_errno(), "")
+    return answer
+
+
+def line(name, call):
+    try:
+        answer = call()
+    except OSError as refused:
+        answer = errno.errorcode[refused.errno]
+    print(f"{name}: {answer}", flush=True)
+
+
+def make(path, text=b""):
+    with open(path, "wb") as it:
+        it.write(text)
+
+
+def flags_of(handle):
+    return sorted(name for name, bit in (("nonblock", os.O_NONBLOCK), ("async", 0o20000)) if fcntl.fcntl(handle, fcntl.F_GETFL) & bit)
+
+
+def instance_calls():
+    """Calls of instances, and of what is none."""
+    plain, none = asked(LIBRARY.inotify_init1(os.O_NONBLOCK)), os.open("/dev/null", os.O_RDONLY)
+    os.mkdir("d")
+    make("d/f")
+    os.symlink(os.path.abspath("d"), os.environ["OUTSIDE"] + "/link")
+
+    def watch(path, mask=IN_CREATE, handle=plain):
+        return asked(LIBRARY.inotify_add_watch(handle, path, ctypes.c_uint(mask)))
+
+    line("init with bad flags", lambda: asked(LIBRARY.inotify_init1(1)))
+    line("flags", lambda: flags_of(plain))
+    line("close on exec", lambda: os.get_inheritable(asked(LIBRARY.inotify_init1(os.O_CLOEXEC))))
+    line("watch", lambda: watch(b"d"))
+    line("watch again", lambda: watch(b"d/."))
+    line("watch a file", lambda: watch(b"d/f"))
+    line("watch by ..", lambda: watch(b"d/../d"))
+    line("watch an absolute path", lambda: watch(os.fsencode(os.path.abspath("d"))))
+    line("watch by a link elsewhere", lambda: watch(os.fsencode(os.environ["OUTSIDE"] + "/link")))
+    line("watch by a descriptor", lambda: watch(b"/proc/self/fd/%d" % os.open("d", os.O_RDONLY)))
+    line("watch by /proc/self/cwd", lambda: watch(b"/proc/self/cwd/d"))
+    line("watch with IN_MASK_CREATE", lambda: watch(b"d", IN_CREATE | IN_MASK_CREATE))
+    line("watch with both IN_MASK", lambda: watch(b"d", IN_CREATE | IN_MASK_CREATE | IN_MASK_ADD))
+    line("watch a file with IN_ONLYDIR", lambda: watch(b"d/f", IN_CREATE | IN_ONLYDIR))
+    line("watch what is not there", lambda: watch(b"d/none"))
+    line("watch below a file", lambda: watch(b"d/f/x"))
+    line("watch no path", lambda: watch(b""))
+    line("watch a path that is too long", lambda: watch(b"x" * 5000))
+    line("watch a name that is too long", lambda: watch(b"x" * 300))
+    line("watch at a bad address", lambda: watch(ctypes.c_void_p(8)))
+    line("watch by no instance", lambda: watch(b"d", handle=none))
+    line("watch by no descriptor", lambda: watch(b"d", handle=999))
+    line("watch without a mask", lambda: watch(b"d", 0))
+    line("unwatch what is not watched", lambda: asked(LIBRARY.inotify_rm_watch(plain, 77)))
+    line("unwatch by no instance", lambda: asked(LIBRARY.inotify_rm_watch(none, 1)))
+    line("read nothing", lambda: os.read(plain, 100))
+    line("FIONREAD of nothing", lambda: struct.unpack("i", fcntl.ioctl(plain, termios.FIONREAD, b"\0\0\0\0"))[0])
+    make("d/name")
+    line("FIONREAD", lambda: struct.unpack("i", fcntl.ioctl(plain, termios.FIONREAD, b"\0\0\0\0"))[0])
+    line("a short read", lambda: os.read(plain, 15))
+    line("a read of a header", lambda: os.read(plain, 16))
+    line("readv", lambda: os.readv(plain, [bytearray(100), bytearray(8)]))
+    make("d/more")
+    line("pread", lambda: os.pread(plain, 100, 0))
+    line("lseek", lambda: os.lseek(plain, 0, os.SEEK_CUR))
+    line("write", lambda: os.write(plain, b"x"))
+    line("truncate", lambda: os.ftruncate(plain, 0))
+    line("read", lambda: os.read(plain, 100).hex())
+    line("unwatch", lambda: asked(LIBRARY.inotify_rm_watch(plain, 1)))
+    line("read what is ignored", lambda: os.read(plain, 100).hex())
+    line("mmap", lambda: mmap.mmap(plain, 4096, prot=mmap.PROT_READ))
+    line("fsync", lambda: os.fsync(plain))
+    line("dup", lambda: LIBRARY.inotify_add_watch(os.dup(plain), b"d", IN_CREATE))
+    line("128 instances", lambda: [asked(LIBRARY.inotify_init()) for _ in range(200)] and "more")
+
+
+def refused_calls():
+    """What a tree does not have."""
+    make("f", b"text")
+    file = os.open("f", os.O_RDWR)
+    instance = asked(LIBRARY.inotify_init1(0))
+    line("chown to another", lambda: os.chown("f", 12345, 12345))
+    line("symlink", lambda: os.symlink("f", "s"))
+    line("mkfifo", lambda: os.mkfifo("p"))
+    line("bind", lambda: socket.socket(socket.AF_UNIX).bind("socket"))
+    line("setxattr", lambda: os.setxattr("f", "user.x", b"y"))
+    line("getxattr", lambda: os.getxattr("f", "user.x"))
+    line("mmap shared", lambda: mmap.mmap(file, 4))
+    line("fallocate", lambda: asked(LIBRARY.fallocate(file, 0, ctypes.c_long(0), ctypes.c_long(100))))
+    line("O_TMPFILE", lambda: os.open(".", os.O_TMPFILE | os.O_RDWR))
+    line("RENAME_WHITEOUT", lambda: asked(LIBRARY.renameat2(AT_FDCWD, b"f", AT_FDCWD, b"g", RENAME_WHITEOUT)))
+    line("truncate past 16 MiB", lambda: os.truncate("f", (1 << 24) + 1))
+    line("write past 16 MiB", lambda: os.pwrite(file, b"xx", (1 << 24) - 1))
+    line("write up to 16 MiB", lambda: os.pwrite(file, b"x", (1 << 24) - 1))
+    line("watch outside", lambda: asked(LIBRARY.inotify_add_watch(instance, b"/etc", IN_CREATE)))
+    line("O_ASYNC", lambda: fcntl.fcntl(instance, fcntl.F_SETFL, 0o20000))
+    line("FIOASYNC", lambda: fcntl.ioctl(instance, FIOASYNC, struct.pack("i", 1)))
+    line("F_NOTIFY", lambda: fcntl.fcntl(os.open(".", os.O_RDONLY), F_NOTIFY, 4))
+    line("fanotify_init", lambda: asked(LIBRARY.fanotify_init(0, 0)))
+    line("instances", lambda: all_of(lambda _: asked(LIBRARY.inotify_init1(os.O_CLOEXEC))))
+    os.mkdir("many")
+    for at in range(8300):
+        os.mkdir(f"many/{at}")
+    line("watches", lambda: all_of(lambda at: asked(LIBRARY.inotify_add_watch(instance, b"many/%d" % at, IN_CREATE))))
+
+
+def all_of(call):
+    """How often a call can be made."""
+    for at in range(8300):
+        try:
+            call(at)
+        except OSError as refused:
+            return f"{at}, then {errno.errorcode[refused.errno]}"
+    return "all"
+
+
+os.chdir(sys.argv[1])
+os.umask(0o022)
+{"instance": instance_calls, "refused": refused_calls}[sys.argv[2]]()

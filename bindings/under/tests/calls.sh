@@ -1,0 +1,24 @@
+#!/bin/sh
+# Calls of an instance, beside a disk, and calls that a tree does not have: calls.sh UNDER ROOM
+set -u
+tests=$(dirname -- "$0")
+under=$1
+room=$2
+mkdir "$room/disk" "$room/one" "$room/two"
+: >"$room/empty"
+OUTSIDE=$room/one /usr/bin/python3 "$tests/calls.py" "$room/disk" instance >"$room/there" 2>&1
+OUTSIDE=$room/two "$under" "$room/empty" -- /usr/bin/python3 "$tests/calls.py" /wt instance >"$room/here" 2>&1
+diff "$room/there" "$room/here" | grep '^[<>]' >"$room/differs"
+if diff "$tests/calls.known" "$room/differs" >"$room/unknown"; then
+    echo "ok $(grep -c . "$room/here") calls of an instance are answered as on a disk, but for $(grep -c '^>' "$room/differs")"
+else
+    echo "FAILED other differences from a disk than calls.known has:"
+    cat "$room/unknown"
+fi
+"$under" "$room/empty" -- /usr/bin/python3 "$tests/calls.py" /wt refused >"$room/here" 2>&1
+if diff "$tests/calls.refused" "$room/here" >"$room/unknown"; then
+    echo "ok $(grep -c . "$room/here") calls that a tree does not have are refused as docs/UNDER.md says"
+else
+    echo "FAILED calls that a tree does not have:"
+    cat "$room/unknown"
+fi

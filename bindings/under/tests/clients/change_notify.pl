@@ -1,0 +1,9 @@
+# Prints what File::ChangeNotify tells of a directory, recursively.
+use strict;
+use warnings;
+use File::ChangeNotify;
+$| = 1;
+my $watcher = File::ChangeNotify->instantiate_watcher(directories => [$ARGV[0]]);
+while (my @events = $watcher->wait_for_events) {
+    printf "%s %s\n", $_->type, $_->path for @events;
+}

@@ -1,0 +1,6 @@
+"""Prints what the module inotify tells of a directory, recursively, by its InotifyTree."""
+import sys
+import inotify.adapters
+
+for header, names, path, name in inotify.adapters.InotifyTree(sys.argv[1]).event_gen(yield_nones=False):
+    print("|".join(names), path, name, flush=True)

@@ -1,0 +1,6 @@
+# Prints what listen tells of a directory, recursively.
+require 'listen'
+$stdout.sync = true
+listener = Listen.to(ARGV[0]) { |modified, added, removed| puts "modified #{modified.sort} added #{added.sort} removed #{removed.sort}" }
+listener.start
+sleep

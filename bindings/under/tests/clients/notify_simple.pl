@@ -1,0 +1,7 @@
+# Prints what Filesys::Notify::Simple tells of a directory, recursively.
+use strict;
+use warnings;
+use Filesys::Notify::Simple;
+$| = 1;
+my $watcher = Filesys::Notify::Simple->new([$ARGV[0]]);
+$watcher->wait(sub { print "$_->{path}\n" for @_ }) while 1;

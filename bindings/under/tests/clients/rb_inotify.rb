@@ -1,0 +1,6 @@
+# Prints what rb-inotify tells of a directory, recursively.
+require 'rb-inotify'
+$stdout.sync = true
+notifier = INotify::Notifier.new
+notifier.watch(ARGV[0], :create, :delete, :modify, :move, :attrib, :recursive) { |event| puts "#{event.flags.join(',')} #{event.absolute_name}" }
+notifier.run

@@ -1,0 +1,14 @@
+#!/bin/sh
+# The same again gives the same trace: determinism.sh UNDER ROOM [LONG]
+set -u
+tests=$(dirname -- "$0")
+under=$1
+room=$2
+if ! cc -O1 "$tests/waits.c" -luring -lpthread -o "$room/waits" || ! cc -O1 -static "$tests/recursive.c" -o "$room/recursive"; then
+    echo "left out all of it: it wants a C compiler with liburing (liburing-dev)"
+    exit 0
+fi
+/usr/bin/python3 "$tests/determinism.py" --jobs 3 --count 20 "$under" "$room"
+busy=4
+[ -z "${3-}" ] || busy=20
+/usr/bin/python3 "$tests/determinism.py" --jobs 3 --count "$busy" --busy 8 "$under" "$room"

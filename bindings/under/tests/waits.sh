@@ -1,0 +1,26 @@
+#!/bin/sh
+# Each way to wait for an instance, on the tree and on a disk: waits.sh UNDER ROOM
+set -u
+tests=$(dirname -- "$0")
+under=$1
+room=$2
+if ! cc -O1 -Wall -Wextra -Werror "$tests/waits.c" -luring -lpthread -o "$room/waits" 2>"$room/error"; then
+    echo "left out each way to wait: it wants a C compiler with liburing (liburing-dev)"
+    exit 0
+fi
+for mode in $("$room/waits" --list); do
+    disk=$(mktemp -d -p "$room")
+    timeout 100 /usr/bin/python3 "$tests/disk.py" "$tests/waits.script" "$disk" -- "$room/waits" "$mode" "$disk/d" \
+        >"$room/disk" 2>"$room/error"
+    timeout 100 "$under" --settle 1500 "$tests/waits.script" -- "$room/waits" "$mode" /wt/d >"$room/tree" 2>>"$room/error"
+    rm -r "$disk"
+    if ! grep -q '^100 end$' "$room/disk"; then
+        echo "FAILED $mode: on a disk: $(tail -n 2 "$room/disk" "$room/error" | tr '\n' ' ')"
+    elif cmp -s "$room/disk" "$room/tree"; then
+        echo "ok $mode"
+    elif grep -q "^$mode: $(tail -n 1 "$room/tree")$" "$tests/waits.known"; then
+        echo "ok $mode: $(tail -n 1 "$room/tree"), as is known"
+    else
+        echo "FAILED $mode: it printed $(tr '\n' ';' <"$room/tree"), and said $(tail -n 2 "$room/error" | tr '\n' ' ')"
+    fi
+done

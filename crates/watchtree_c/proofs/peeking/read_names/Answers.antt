@@ -1,0 +1,16 @@
+use Rattle.std.proofs.Common.{◌≡◌, ℕ, List, Some, refl, sym, subst, rules, inl, inr, arith, length, ap, ◌∙◌}
+use Rattle.tree_ops.specs.declared.call.FileCall.TheVariants as file
+use Rattle.tree_ops.specs.declared.answer.Answer.TheVariants as answer
+use Rattle.tree_core.specs.declared.call.Call.TheVariants as call
+use Rattle.tree_core.specs.declared.reply.Reply.{Reply}
+use Rattle.tree_core.specs.declared.reply.Reply.TheVariants as reply
+use Rattle.watchtree_c.specs.Calls.{asked_bytes, list_call, read_call, stat_call}
+use Rattle.watchtree_c.specs.Peeks.{IsPeeked}
+use Rattle.watchtree_c.proofs.Unmade.{asked, unasked, refused-may, lists-of}
+use Rattle.watchtree_c.proofs.peeking.read_names.Goals as goal
+
+pub returns-in-Ok : goal.returns-in-Ok
+returns-in-Ok c = lists-of _ _ c.names_at.result _ _ _ (search rules) (λ r may. asked c.args.state.now (λ p. call.File (file.List p)) c.args.path.now c.in-Ok.path r c.in-Ok.ensures.ok may) c.names_at.ensures
+
+pub returns-in-Err : goal.returns-in-Err
+returns-in-Err c = record { r = reply.Refused c.in-Err.refusal; made = unasked c.args.state.now (λ p. call.File (file.List p)) c.args.path.now c.in-Err.refusal c.in-Err.ensures.err; is_listed = search rules }

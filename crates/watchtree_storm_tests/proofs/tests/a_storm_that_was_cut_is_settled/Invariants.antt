@@ -1,4 +1,0 @@
-use Rattle.watchtree_storm_tests.proofs.tests.a_storm_that_was_cut_is_settled.Given as goal
-
-abbrev pub ghosts-cut_before_it : goal.ghosts-cut_before_it
-ghosts-cut_before_it g a = record { name = a.blank.name; parts = a.blank.parts }
