@@ -1,4 +1,4 @@
-/* A directory is watched, and what is told of it is read as from an inotify descriptor. */
+/* Watches a directory, and reads its events as from an inotify descriptor. */
 #include "watchtree.h"
 #include <errno.h>
 #include <stdio.h>

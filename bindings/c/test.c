@@ -1,4 +1,4 @@
-/* Each call of watchtree.h, and each refusal that it can answer but for want of memory, which memory.c tries. */
+/* Each call of watchtree.h, and each error that it can return except -ENOMEM, which memory.c tests. */
 #include "watchtree.h"
 #include <errno.h>
 #include <inttypes.h>
@@ -60,7 +60,7 @@ static void files(struct wt_tree *t) {
     IS(wt_rename(t, PATH("/d/g"), PATH("/d/f")), 0), IS(wt_unlink(t, PATH("/d/g")), 0);
     IS(wt_rename(t, PATH("/d/f"), PATH("/d/a name")), 0), IS(wt_stat(t, PATH("/d"), &s), 0);
     HOLDS(s.number == 2 && s.is_directory == 1);
-    /* A room that is too small: the names are cut, and how much is wanted is told. */
+    /* A short buffer: the names are truncated, and the length of all is returned. */
     memset(out, '-', sizeof out);
     IS(wt_create(t, PATH("/d/b"), 0644), 4), IS(wt_list(t, PATH("/d"), out, 4), 9);
     HOLDS(!memcmp(out, "a na----", 8));
@@ -119,7 +119,7 @@ static void instances(struct wt_tree *t) {
     IS(wt_inotify_add_watch(t, 1, PATH("/"), IN_CREATE | IN_MASK_CREATE), -EEXIST);
     IS(wt_inotify_add_watch(t, 1, PATH("/"), IN_CREATE | IN_MASK_CREATE | IN_MASK_ADD), -EINVAL);
     IS(wt_mkdir(t, PATH("/e"), 0755), 6), IS(wt_rename(t, PATH("/e"), PATH("/g")), 0), IS(wt_waiting(t, 1), 3);
-    /* A room that is too small loses nothing. */
+    /* A short buffer loses nothing. */
     for (size_t room = 0; room < 32; room++) IS(wt_read(t, 1, out, room), -EINVAL);
     IS(wt_waiting(t, 1), 3), IS(wt_read(t, 1, out, 47), 32);
     HOLDS(event->wd == 1 && event->mask == (IN_CREATE | IN_ISDIR) && event->cookie == 0 && !strcmp(event->name, "e"));
