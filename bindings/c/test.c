@@ -135,7 +135,8 @@ static void instances(struct wt_tree *t) {
     for (uint32_t i = 2; i < 130; i++) IS(wt_inotify_close(t, i), 0);
 }
 
-/* What is no call of the tree: it answers as the call would, the journal keeps none of it, and no event is raised. */
+/* Functions that are not calls of the tree: they return what the call would, leave no entry in the journal, and raise no
+ * event. */
 static void peeks(struct wt_tree *t) {
     struct wt_stat s, told;
     char out[8], told_out[8];
@@ -205,7 +206,7 @@ static void lines(struct wt_tree *t) {
     HOLDS(!memcmp(out, "err ENOENT 2\n", 13));
 }
 
-/* What a tree has most of: links, watches, calls between cuts, and numbers of files. */
+/* The limits of a tree: links, watches, calls between cuts, and numbers of files. */
 static void limits(struct wt_tree *t) {
     char path[32];
     int64_t number = 0, cuts = 0, place = 0;
