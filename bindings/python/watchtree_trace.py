@@ -3,12 +3,12 @@
     python3 watchtree_trace.py run.script >run.html
     python3 watchtree_trace.py --queue 16 <run.script >run.html
 
-The page is one file that needs no network. Down its side stand the calls with their replies. Each instance has a lane:
+The page is one file that needs no network. Its first columns have the calls with their replies. Each instance has a lane:
 a mark for each record that was raised, which says whether it joined the queue, was merged into an equal record that
 waited last, or was lost to a full queue; a line that fills as the queue does; and a bracket over what one read took.
 
-A second tree shows what was raised: its instances are read empty after each call. What joins of it is computed
-here by the rule of inotify(7), and compared after each call with how many records wait in the tree itself.
+A second tree shows what was raised: its instances are read empty after each call. Which of them join the queue is
+computed here by the rule of inotify(7), and compared after each call with how many records wait in the tree itself.
 """
 
 import argparse
