@@ -73,7 +73,7 @@ int64_t wt_read(struct wt_tree *tree, uint32_t instance, void *out, size_t out_l
 int64_t wt_waiting(struct wt_tree *tree, uint32_t instance);
 int64_t wt_inotify_close(struct wt_tree *tree, uint32_t instance);
 
-/* From here to wt_peek_pread: not calls of the tree. They have no entry in the journal, and raise no event. */
+/* From here to wt_path_of: not calls of the tree. They have no entry in the journal, and raise no event. */
 /* Returns the length of all waiting records in bytes, as ioctl(2) with FIONREAD on an inotify descriptor. */
 int64_t wt_bytes_waiting(struct wt_tree *tree, uint32_t instance);
 /* The numbers of the open instances that have a record waiting, in ascending order, as many as fit: out_len counts
@@ -84,6 +84,9 @@ int64_t wt_peek_stat(struct wt_tree *tree, const char *path, size_t path_len, st
 int64_t wt_peek_list(struct wt_tree *tree, const char *path, size_t path_len, void *out, size_t out_len);
 int64_t wt_peek_pread(struct wt_tree *tree, const char *path, size_t path_len, uint64_t offset, void *out,
                       size_t out_len);
+/* The first path, in the order of names, of the file with this number (wt_stat's), truncated to out_len bytes. Returns
+ * the length of the path in bytes, and -ENOENT if no file has this number. It looks at each path of the tree. */
+int64_t wt_path_of(struct wt_tree *tree, uint64_t number, void *out, size_t out_len);
 
 /* Runs a line of a script, such as `mkdir /d 755`, and stores its text, truncated to out_len bytes. Returns the length
  * of the text in bytes: if it is more than out_len, wt_text returns the text again. queue is the limit of an instance
