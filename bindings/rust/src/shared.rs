@@ -6,8 +6,9 @@ use crate::sys_threads::{self as sys, RawShared};
 use crate::{Error, Events, Stat};
 use std::ffi::OsString;
 use std::os::raw::c_int;
+use std::os::unix::ffi::OsStringExt;
 use std::os::unix::io::{AsFd, AsRawFd, BorrowedFd, FromRawFd, OwnedFd, RawFd};
-use std::path::Path;
+use std::path::{Path, PathBuf};
 use std::ptr;
 use std::sync::{Arc, Mutex, PoisonError};
 use std::time::{Duration, Instant};
@@ -70,7 +71,7 @@ impl SharedTree {
 
     calls!([&self], self, sys, raw: wtt_cut wtt_mkdir wtt_create wtt_write wtt_pread wtt_truncate wtt_chmod wtt_link
         wtt_unlink wtt_rmdir wtt_rename wtt_rename2 wtt_stat wtt_list wtt_peek_stat
-        wtt_peek_list wtt_peek_pread);
+        wtt_peek_list wtt_peek_pread wtt_path_of);
 
     /// Closes the tree now, for all clones and instances: every call is [`Error::CLOSED`] from then on, also one that
     /// waits in another thread.
@@ -78,7 +79,7 @@ impl SharedTree {
         unsafe { sys::wtt_shutdown(self.raw()) }
     }
 
-    /// Makes an instance with a queue of so many records.
+    /// Makes an instance whose queue holds at most `limit` records, 1 to 65,535.
     pub fn inotify(&self, limit: u32) -> Result<SharedInstance, Error> {
         let number = answer(unsafe { sys::wtt_inotify_init(self.raw(), limit) })? as u32;
         let fd = answer(unsafe { sys::wtt_fd(self.raw(), number) });
@@ -95,7 +96,7 @@ impl SharedTree {
         }
     }
 
-    /// Runs a line of a script, as `mkdir /d 755`, and returns the text that it prints. `queue` is the limit of an
+    /// Runs a line of a script, such as `mkdir /d 755`, and returns the text that it prints. `queue` is the limit of an
     /// instance that names none.
     pub fn line(&self, line: impl AsRef<[u8]>, queue: u32) -> Result<Vec<u8>, Error> {
         let (line, mut has_run) = (line.as_ref(), false);
