@@ -50,7 +50,7 @@ def exported(text):
 
 
 def fields(text, name):
-    """Returns the fields of a struct of the crate as C has them; what takes no bytes is left out."""
+    """Returns the fields of a struct of the crate as C has them; a field without bytes is skipped."""
     body = re.search(r"#\[repr\(C\)\]\s*(?:#\[[^\]]*\]\s*)*pub struct " + name + r" \{(.*?)\n\}", text, re.S)
     if not body:
         return None

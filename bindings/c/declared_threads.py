@@ -3,7 +3,7 @@
 usage: declared_threads.py HEADER HEADER-FOR-THREADS FOLDER-OF-RUST-SOURCES LIBRARY.so
 
 Each call wt_X of a tree has a call wtt_X with the same parameters; `wtt_read` has a time limit more, `wtt_open` stores
-its tree, `wtt_fd` is new. The calls that are left out are listed here, by their names. The bits of a mask are those of
+its tree, `wtt_fd` is new. The calls without a counterpart are listed here, by their names. The bits of a mask are those of
 <sys/inotify.h>, by name and value, in Rust and in Python. Afterwards each declaration and each bit is changed, a word at
 a time, and each change must be seen.
 """

@@ -18,7 +18,7 @@ METADATA = """\
 Metadata-Version: 2.1
 Name: watchtree
 Version: {version}
-Summary: A file tree in memory, watched in the manner of Linux inotify
+Summary: A file tree in memory with inotify
 License: MIT OR Apache-2.0
 Requires-Python: >=3.8
 Provides-Extra: watchdog

@@ -1,4 +1,4 @@
-"""watchtree from Python: a file tree in memory, watched in the manner of inotify(7).
+"""watchtree from Python: a file tree in memory with inotify(7).
 
     >>> from watchtree import Tree, Mask
     >>> with Tree() as tree, tree.inotify() as instance:
