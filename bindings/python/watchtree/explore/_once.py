@@ -1,0 +1,96 @@
+"""Runs a consumer once, under one plan."""
+
+import inspect
+from typing import Any, Callable, List, NamedTuple, Optional, Sequence, Tuple
+
+from .._library import default_library
+from .._tree import Tree
+from ._plans import Fixed, Plan
+from ._player import EndOfRun, Player, TooManyRequests, encode
+from ._schedule import Schedule
+from ._timeline import Timeline
+from ._tree import ExploredTree
+
+Consumer = Callable[[Tree], Any]
+Check = Callable[[Tree, Any], Optional[bool]]
+
+
+class Outcome(NamedTuple):
+    """What became of a run."""
+
+    error: Optional[BaseException]
+    """What the consumer or the check raised; None if the run did not fail."""
+    where: str
+    """Who raised it: `consumer` or `check`."""
+    schedule: Schedule
+    requests: int
+    reads: int
+    timeline: str
+
+    @property
+    def kind(self) -> Tuple[str, type]:
+        """Two failures are of one kind if the same function failed with the same type of exception."""
+        return self.where, type(self.error)
+
+
+def believed_by(consumer: Consumer, tree: Tree) -> Any:
+    """Runs a consumer to its end. What it believes is what it returns, or, of a generator, what it yielded last."""
+    believed = None
+    try:
+        believed = consumer(tree)
+        if inspect.isgenerator(believed):
+            generator, believed = believed, None
+            while True:
+                try:
+                    believed = next(generator)
+                except StopIteration as end:
+                    return believed if end.value is None else end.value
+        if inspect.iscoroutine(believed):
+            believed.close()
+            raise TypeError("a consumer is a function or a generator, not a coroutine")
+    except EndOfRun:
+        pass
+    return believed
+
+
+class Program:
+    """A script, a consumer and a check, ready to run many times."""
+
+    def __init__(self, setup: Sequence[str], changes: Sequence[str], consumer: Consumer, check: Check, limit: int) -> None:
+        self.setup, self.changes = tuple(setup), tuple(changes)
+        self._consumer, self._check, self._limit = consumer, check, limit
+        self._setup, self._lines = encode(setup), encode(changes)
+        self._library = default_library()
+
+    def with_lines(self, setup: Sequence[str], changes: Sequence[str]) -> "Program":
+        """Returns the program with another script."""
+        return Program(setup, changes, self._consumer, self._check, self._limit)
+
+    def run(self, plan: Plan, has_timeline: bool = False) -> Outcome:
+        """Makes one run in a new tree."""
+        timeline = Timeline(self.setup) if has_timeline else None
+        tree = Tree(self._library)
+        player = Player(tree, plan, self._lines, self._limit, timeline)
+        player.set_up(self._setup)
+        error, where = self._judge(tree, player)
+        if timeline and error:
+            timeline.failed(where, error)
+        schedule = player.schedule(self.setup, self.changes)
+        return Outcome(error, where, schedule, player.requests, player.reads, str(timeline or ""))
+
+    def _judge(self, tree: Tree, player: Player) -> Tuple[Optional[BaseException], str]:
+        try:
+            believed = believed_by(self._consumer, ExploredTree(tree, player))
+        except (Exception, TooManyRequests) as fault:
+            return fault, "consumer"
+        try:
+            if self._check(tree, believed) is False:
+                raise AssertionError("the check returned False")
+        except Exception as fault:
+            return fault, "check"
+        return None, ""
+
+    def replay(self, schedule: Schedule, has_timeline: bool = False) -> Outcome:
+        """Makes the run of a schedule, whose script may be another one."""
+        lines: List[str] = [it.line for it in schedule.changes]
+        return self.with_lines(schedule.setup, lines).run(Fixed(schedule), has_timeline)
