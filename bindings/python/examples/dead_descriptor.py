@@ -19,7 +19,7 @@ unlink /d/x
 create /d/a/g 644
 """
 # Each queue is short: without an overflow nothing is lost.
-OPTIONS = {"queues": (1, 2, 3)}
+QUEUES = (1, 2, 3)
 
 
 class Watcher:
@@ -83,4 +83,4 @@ def check(tree: Tree, known: Set[str]) -> None:
 
 
 if __name__ == "__main__":
-    print(explore.run(SCRIPT, naive, check, **OPTIONS))
+    print(explore.run(SCRIPT, naive, check, queues=QUEUES))

@@ -16,7 +16,7 @@ mkdir /d/c 755
 create /d/c/i 644
 """
 # No queue overflows here: that is another bug.
-OPTIONS = {"queues": (16384,)}
+QUEUES = (16384,)
 
 
 def follow(tree: Tree, looks_into_new: bool) -> Set[str]:
@@ -56,4 +56,4 @@ def check(tree: Tree, known: Set[str]) -> None:
 
 
 if __name__ == "__main__":
-    print(explore.run(SCRIPT, naive, check, **OPTIONS))
+    print(explore.run(SCRIPT, naive, check, queues=QUEUES))

@@ -13,7 +13,7 @@ rename /d/a /d/c
 rename /d/b /d/a
 rename /d/c /d/b
 """
-OPTIONS = {"queues": (16384,)}
+QUEUES = (16384,)
 Tags = Dict[str, str]
 
 
@@ -54,4 +54,4 @@ def check(tree: Tree, tags: Tags) -> None:
 
 
 if __name__ == "__main__":
-    print(explore.run(SCRIPT, naive, check, **OPTIONS))
+    print(explore.run(SCRIPT, naive, check, queues=QUEUES))

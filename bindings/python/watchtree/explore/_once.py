@@ -1,7 +1,7 @@
 """Runs a consumer once, under one plan."""
 
 import inspect
-from typing import Any, Callable, List, NamedTuple, Optional, Sequence, Tuple
+from typing import TYPE_CHECKING, Any, Callable, List, NamedTuple, Optional, Sequence, Tuple
 
 from .._library import default_library
 from .._tree import Tree
@@ -10,6 +10,9 @@ from ._player import EndOfRun, Player, TooManyRequests, encode
 from ._schedule import Schedule
 from ._timeline import Timeline
 from ._tree import ExploredTree
+
+if TYPE_CHECKING:
+    from ._player import Buffer
 
 Consumer = Callable[[Tree], Any]
 Check = Callable[[Tree, Any], Optional[bool]]
@@ -61,18 +64,22 @@ class Program:
         self._consumer, self._check, self._limit = consumer, check, limit
         self._setup, self._lines = encode(setup), encode(changes)
         self._library = default_library()
+        self._buffer: Optional["Buffer"] = None
 
     def with_lines(self, setup: Sequence[str], changes: Sequence[str]) -> "Program":
         """Returns the program with another script."""
-        return Program(setup, changes, self._consumer, self._check, self._limit)
+        program = Program(setup, changes, self._consumer, self._check, self._limit)
+        program._buffer = self._buffer
+        return program
 
     def run(self, plan: Plan, has_timeline: bool = False) -> Outcome:
         """Makes one run in a new tree."""
         timeline = Timeline(self.setup) if has_timeline else None
         tree = Tree(self._library)
-        player = Player(tree, plan, self._lines, self._limit, timeline)
+        player = Player(tree, plan, self._lines, self._limit, timeline, self._buffer)
         player.set_up(self._setup)
         error, where = self._judge(tree, player)
+        self._buffer = player.buffer
         if timeline and error:
             timeline.failed(where, error)
         schedule = player.schedule(self.setup, self.changes)

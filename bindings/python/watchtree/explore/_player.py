@@ -3,7 +3,7 @@
 import ctypes
 import errno
 import os
-from typing import Callable, Dict, List, Optional, Sequence, Set, Tuple
+from typing import TYPE_CHECKING, Callable, Dict, List, Optional, Sequence, Set, Tuple
 
 from .._errors import fail
 from .._tree import Tree
@@ -11,9 +11,11 @@ from ._plans import Plan
 from ._schedule import PAUSE, Change, Schedule
 from ._timeline import Timeline
 
-# The first number of a fault of a line, and the step by which the sizes of records differ.
-_FAULTS, _STEP = 1101, 16
-_BUFFER = ctypes.create_string_buffer
+if TYPE_CHECKING:
+    Buffer = ctypes.Array[ctypes.c_char]
+new_buffer = ctypes.create_string_buffer
+# The first number of a fault of a line, the step by which the sizes of records differ, and the size of a first buffer.
+_FAULTS, _STEP, _LEAST = 1101, 16, 65536
 
 
 class EndOfRun(OSError):
@@ -29,12 +31,20 @@ class TooManyRequests(BaseException):
 
 
 class Player:
-    """One run. It owns no tree: the caller opens and closes that."""
+    """One run. The caller opens and closes its tree, and may use its buffer for the next run."""
 
-    def __init__(self, tree: Tree, plan: Plan, lines: Sequence[bytes], limit: int, timeline: Optional[Timeline]) -> None:
+    def __init__(
+        self,
+        tree: Tree,
+        plan: Plan,
+        lines: Sequence[bytes],
+        limit: int,
+        timeline: Optional[Timeline] = None,
+        buffer: Optional["Buffer"] = None,
+    ) -> None:
         self._tree, self._library, self._at = tree, tree._library, tree._at
         self._plan, self._lines, self._limit, self.timeline = plan, lines, limit, timeline
-        self._buffer = _BUFFER(4096)
+        self.buffer: Buffer = buffer or new_buffer(_LEAST)
         self._asked: Set[int] = set()
         self.requests = 0
         self.reads = 0
@@ -58,7 +68,7 @@ class Player:
         return Schedule(tuple(setup), tuple(map(Change, changes, before)), tuple(self.limits.items()), self.queue)
 
     def _line(self, line: bytes) -> bytes:
-        out = self._buffer
+        out = self.buffer
         count: int = self._library.wtt_line(self._at, self._plan.queue, line, len(line), out, len(out))
         if count < 0:
             if -count >= _FAULTS:
@@ -146,16 +156,24 @@ class Player:
             self.timeline.read(request, instance, data, limit)
         return data
 
+    def text(self, name: str, *words: object) -> bytes:
+        """Makes a call that returns how many bytes its text has. (As Tree._text, with one buffer for all.)"""
+        while True:
+            wanted = self._tree._call(name, *words, self.buffer, len(self.buffer))
+            if wanted <= len(self.buffer):
+                return ctypes.string_at(self.buffer, wanted)
+            self.buffer = new_buffer(wanted)
+
     def _take(self, instance: int, size: int) -> Optional[bytes]:
         """Takes as many records as fit. None if the first does not fit."""
-        if len(self._buffer) < size:
-            self._buffer = _BUFFER(size)
-        count: int = self._library.wtt_read(self._at, instance, self._buffer, size, 0)
+        if len(self.buffer) < size:
+            self.buffer = new_buffer(size)
+        count: int = self._library.wtt_read(self._at, instance, self.buffer, size, 0)
         if count < 0:
             if count == -errno.EINVAL:
                 return None
             fail(-count)
-        return ctypes.string_at(self._buffer, count)
+        return ctypes.string_at(self.buffer, count)
 
     def _take_records(self, instance: int, size: int, limit: int) -> bytes:
         """Takes so many records at most: each by the shortest buffer that it fits, which fits no other after it."""

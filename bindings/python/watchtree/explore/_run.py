@@ -20,7 +20,7 @@ class Failure(NamedTuple):
     """A failing schedule, shrunk. `str(failure)` is what happened in it, and how to replay it."""
 
     seed: Optional[int]
-    """The seed that found it; None if it was found by `moves`."""
+    """The seed that found it; None if it was found otherwise."""
     schedule: Schedule
     """The shrunk schedule. replay() runs it."""
     error: BaseException
@@ -32,10 +32,9 @@ class Failure(NamedTuple):
     """The schedule as it was found."""
 
     def __str__(self) -> str:
-        by = "moved lines" if self.seed is None else f"seed {self.seed}"
+        seed = "" if self.seed is None else f" (seed {self.seed})"
         lines = len(self.schedule.setup) + len(self.schedule.changes)
-        moves = sum(it.before is not None for it in self.schedule.changes) + len(self.schedule.reads)
-        head = f"found by {by}, shrunk to {lines} lines and {moves} choices: the {self.where} failed"
+        head = f"the {self.where} failed under a schedule of {lines} lines{seed}"
         return f"{head}\n\n{self.timeline}\n\nthe schedule, for explore.replay():\n\n{self.schedule}"
 
     def save(self, path: str) -> None:
@@ -111,7 +110,7 @@ def run(
     for seed, outcome in _outcomes(program, seeds, moves, queues, batches):
         runs, reads = runs + 1, reads + outcome.reads
         if outcome.error:
-            failures.append(_failure(program, seed, outcome))
+            failures.append(failure_of(program, seed, outcome))
             if not keep_going:
                 break
     if runs and not reads and not failures:
@@ -143,7 +142,8 @@ def _outcomes(
         yield seed, program.run(Seeded(seed, queues, batches))
 
 
-def _failure(program: Program, seed: Optional[int], found: Outcome) -> Failure:
+def failure_of(program: Program, seed: Optional[int], found: Outcome) -> Failure:
+    """Shrinks a failure."""
     again = program.replay(found.schedule)
     if not again.error or again.kind != found.kind:
         raise NotDeterministic(f"{found.where} failed once, not again, under\n{found.schedule}") from found.error

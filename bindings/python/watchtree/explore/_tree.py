@@ -90,7 +90,7 @@ class ExploredTree(Tree):
     def _text(self, name: str, *words: object) -> bytes:
         if self._is_closed:
             fail(errno.EBADF)
-        answer = self._player.answer(name, words, self._tree._text)
+        answer = self._player.answer(name, words, self._player.text)
         assert isinstance(answer, bytes)
         return answer
 
