@@ -1,6 +1,7 @@
 """Runs a consumer once, under one plan."""
 
 import inspect
+import os
 from typing import TYPE_CHECKING, Any, Callable, List, NamedTuple, Optional, Sequence, Tuple
 
 from .._library import default_library
@@ -14,6 +15,7 @@ from ._tree import ExploredTree
 if TYPE_CHECKING:
     from ._player import Buffer
 
+_PACKAGE = os.path.dirname(os.path.dirname(os.path.abspath(__file__))) + os.sep
 Consumer = Callable[[Tree], Any]
 Check = Callable[[Tree, Any], Optional[bool]]
 
@@ -31,9 +33,21 @@ class Outcome(NamedTuple):
     timeline: str
 
     @property
-    def kind(self) -> Tuple[str, type]:
-        """Two failures are of one kind if the same function failed with the same type of exception."""
-        return self.where, type(self.error)
+    def kind(self) -> Tuple[object, ...]:
+        """Two failures are of one kind if the same line of a user raised the same type of exception."""
+        return self.where, type(self.error), _user_line(self.error)
+
+
+def _user_line(error: Optional[BaseException]) -> object:
+    """Returns the innermost line outside this package that an exception came through."""
+    found = None
+    trace = error.__traceback__ if error else None
+    while trace:
+        name = trace.tb_frame.f_code.co_filename
+        if not name.startswith(_PACKAGE):
+            found = name, trace.tb_lineno
+        trace = trace.tb_next
+    return found
 
 
 def believed_by(consumer: Consumer, tree: Tree) -> Any:

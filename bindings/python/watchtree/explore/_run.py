@@ -157,17 +157,17 @@ def _program(script: str, consumer: Consumer, check: Check, limit: int) -> Progr
     setup, changes = parse_script(script)
     with Tree(default_library()) as tree:
         for line in setup:
-            reply = tree.line(line)
+            reply = _reply(tree, line)
             if reply.startswith("err"):
                 raise ValueError(f"the line {line!r} before `--` is refused: {reply.strip()}")
         for line in changes:
             if line != PAUSE:
-                _is_line(tree, line)
+                _reply(tree, line)
     return Program(setup, changes, consumer, check, limit)
 
 
-def _is_line(tree: Tree, line: str) -> None:
+def _reply(tree: Tree, line: str) -> str:
     try:
-        tree.line(line)
+        return tree.line(line)
     except OSError as fault:
         raise ValueError(f"{line!r} is no line of a script: {fault.strerror}") from None
