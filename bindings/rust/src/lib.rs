@@ -20,6 +20,7 @@
 mod calls;
 mod error;
 mod events;
+pub mod explore;
 pub mod mask;
 mod shared;
 mod sys;
