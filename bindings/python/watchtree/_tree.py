@@ -11,6 +11,8 @@ from ._instance import Instance
 from ._library import QUEUE, StatBuffer, default_library, unsigned
 
 RENAME_NOREPLACE, RENAME_EXCHANGE = 1, 2
+# How many instances can be open at a time.
+INSTANCES = 128
 AnyPath = Union[str, bytes, "os.PathLike[str]", "os.PathLike[bytes]"]
 
 
@@ -144,9 +146,11 @@ class Tree:
         """As read(), but the journal has no entry of it, and it raises no events."""
         return self._read("wtt_peek_pread", path, count, offset)
 
-    def path_of(self, number: int) -> str:
-        """Returns a path of the file or directory with a number. The journal has no entry of it."""
-        return os.fsdecode(self._text("wtt_path_of", unsigned(number)))
+    def ready(self) -> List[int]:
+        """Returns the numbers of the open instances that have a record waiting in their queue, rising."""
+        out = (ctypes.c_uint32 * INSTANCES)()
+        count = self._call("wtt_ready", out, len(out))
+        return out[:count]
 
     def _read(self, name: str, path: AnyPath, count: int, offset: int) -> bytes:
         out = ctypes.create_string_buffer(max(unsigned(count), 1))

@@ -24,7 +24,6 @@ pub mod explore;
 pub mod mask;
 mod shared;
 mod sys;
-mod sys_threads;
 mod tree;
 
 pub use calls::Stat;

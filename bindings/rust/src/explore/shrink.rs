@@ -103,7 +103,7 @@ impl<B> Search<'_, '_, B> {
                 moved(&program, MOVES, queue, |outcome| {
                     runs += 1;
                     self.left = self.left.saturating_sub(1);
-                    found = outcome.is_like(&self.kind).then(|| outcome);
+                    found = outcome.is_like(&self.kind).then_some(outcome);
                     found.is_none() && runs < MOVED_RUNS && self.left > 0
                 });
                 if found.is_some() {
