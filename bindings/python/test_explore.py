@@ -8,6 +8,7 @@ import os
 import sys
 import tempfile
 import unittest
+from unittest import mock
 
 from watchtree import Mask, Tree, explore
 from watchtree._library import QUEUE, default_library
@@ -53,6 +54,15 @@ class Bugs(unittest.TestCase):
     def test_no_scan_after_an_overflow(self):
         failure = self.is_found("no_rescan")
         self.assertIn("Q_OVERFLOW", failure.timeline)
+
+    def test_a_scan_while_records_wait_behind_the_mark(self):
+        text = "#@ queue 2\nmkdir /d 755\n--\ncreate /d/b 644\n#@ before 4\ncreate /d/c 644\ncreate /d/e 644\n#@ read 4 2\n"
+        text += "#@ before 5\ncreate /d/a 644\nunlink /d/a\n#@ read 5 1\n"
+        module = importlib.import_module("no_rescan")
+        self.assertIsNone(explore.replay(text, module.corrected, module.check))
+        with mock.patch.object(module, "drain", lambda instance: None):
+            failure = explore.replay(text, module.corrected, module.check)
+        self.assertEqual((str(failure.schedule), failure.where), (text, "check"))
 
     def test_one_event_for_two_changes(self):
         failure = self.is_found("equal_changes")
@@ -135,6 +145,11 @@ class Schedules(unittest.TestCase):
     def test_what_seeds_draw(self):
         draws = Draws(1)
         self.assertEqual([draws.below(1000) for _ in range(4)], [465, 519, 590, 235])
+        # (the test of the Rust crate compares what its seeds draw with the same file)
+        it = program(SMALL + "create /d/c 644\ncreate /d/e 644\n")
+        texts = [f"# seed {n}\n{it.run(Seeded(n, explore.QUEUES, explore.BATCHES)).schedule}" for n in range(12)]
+        with open(os.path.join(os.path.dirname(os.path.realpath(__file__)), "seeds.expected")) as file:
+            self.assertEqual("".join(texts), file.read())
         module = importlib.import_module("no_rescan")
         it = program(module.SCRIPT, module.naive, module.check)
         schedules = [it.run(Seeded(seed, explore.QUEUES, explore.BATCHES)).schedule for seed in range(300)]
@@ -397,8 +412,17 @@ class Results(unittest.TestCase):
                 except Exception:
                     pass
 
-        failure = explore.run(SMALL, consumer, fine, max_requests=50).failure
-        self.assertEqual((failure.where, type(failure.error)), ("consumer", explore.TooManyRequests))
+        def polls(tree):
+            instance = tree.inotify()
+            while True:
+                try:
+                    instance.read()
+                except OSError:
+                    pass
+
+        for endless in (consumer, polls):
+            failure = explore.run(SMALL, endless, fine, max_requests=50).failure
+            self.assertEqual((failure.where, type(failure.error)), ("consumer", explore.TooManyRequests))
 
     def test_a_consumer_that_is_not_deterministic(self):
         calls = itertools.count()

@@ -46,6 +46,7 @@ class Player:
         self._plan, self._lines, self._limit, self.timeline = plan, lines, limit, timeline
         self.buffer: Buffer = buffer or new_buffer(_LEAST)
         self._asked: Set[int] = set()
+        self._asks = 0
         self.requests = 0
         self.reads = 0
         """How many reads returned records."""
@@ -112,6 +113,9 @@ class Player:
 
     def _rest(self, instance: int, timeout: Optional[float]) -> bool:
         """The consumer asks an instance in vain. A line happens; False if none does, as the timeout is over first."""
+        self._asks += 1
+        if self._asks > self._limit:
+            raise TooManyRequests(f"the consumer asked in vain more than {self._limit} times")
         is_first = instance not in self._asked
         self._asked.add(instance)
         if timeout == 0 and is_first:

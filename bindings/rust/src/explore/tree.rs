@@ -28,8 +28,9 @@ pub struct Tree {
     pub(crate) reads: u64,
     before: Vec<Option<u32>>,
     limits: Vec<(u32, u32)>,
-    /// The instances that were asked in vain since the last request.
+    /// The instances that were asked in vain since the last request, and how often any was.
     asked: Vec<Instance>,
+    asks: u32,
 }
 
 /// Writes the methods: the paths of each, and its other arguments.
@@ -65,6 +66,7 @@ impl Tree {
             before: Vec::new(),
             limits: Vec::new(),
             asked: Vec::new(),
+            asks: 0,
         })
     }
 
@@ -115,6 +117,10 @@ impl Tree {
 
     /// The consumer asks an instance in vain. A line happens; an error if none does.
     fn rest(&mut self, instance: Instance, waits: bool) -> Result<(), Error> {
+        self.asks += 1;
+        if self.asks > self.limit {
+            std::panic::panic_any(TooManyRequests);
+        }
         let is_first = !self.asked.contains(&instance);
         if is_first {
             self.asked.push(instance);
