@@ -44,7 +44,8 @@ def contents(path: str) -> bytes:
 def modules() -> List[str]:
     """Returns the files of the package, and the modules beside it that a user runs."""
     found = [it for it in os.listdir(HERE) if it.startswith("watchtree_") and it.endswith(".py")]
-    found += [f"watchtree/{it}" for it in os.listdir(f"{HERE}/watchtree") if it.endswith((".py", ".typed"))]
+    for folder in ("watchtree", "watchtree/explore"):
+        found += [f"{folder}/{it}" for it in os.listdir(f"{HERE}/{folder}") if it.endswith((".py", ".typed"))]
     return sorted(found)
 
 

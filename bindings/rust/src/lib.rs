@@ -16,14 +16,14 @@
 //!
 //! Each method returns what the system call of its name returns. A [`Tree`] is for one thread at a time: every call takes
 //! `&mut Tree`. A [`SharedTree`] is for several: its calls take `&self`, reads can wait, and an instance has a
-//! descriptor for event loops.
+//! descriptor for event loops. [`explore`] runs event code under many schedules, and shrinks one that breaks it.
 mod calls;
 mod error;
 mod events;
+pub mod explore;
 pub mod mask;
 mod shared;
 mod sys;
-mod sys_threads;
 mod tree;
 
 pub use calls::Stat;

@@ -1,8 +1,7 @@
 //! A tree that threads share.
-use crate::calls::{all_of, calls, names, text};
+use crate::calls::{all_of, calls, names, numbers, text};
 use crate::error::answer;
-use crate::sys::RawStat;
-use crate::sys_threads::{self as sys, RawShared};
+use crate::sys::{self, RawShared, RawStat};
 use crate::{Error, Events, Stat};
 use std::ffi::OsString;
 use std::os::raw::c_int;
@@ -94,6 +93,11 @@ impl SharedTree {
                 Err(error)
             }
         }
+    }
+
+    /// The numbers of the open instances that have a record waiting, rising.
+    pub fn ready(&self) -> Result<Vec<u32>, Error> {
+        numbers(|out| unsafe { sys::wtt_ready(self.raw(), out.as_mut_ptr(), out.len()) })
     }
 
     /// Runs a line of a script, such as `mkdir /d 755`, and returns the text that it prints. `queue` is the limit of an

@@ -1,5 +1,5 @@
 //! A tree for one thread at a time.
-use crate::calls::{all_of, calls, names, text};
+use crate::calls::{all_of, calls, names, numbers, text};
 use crate::error::answer;
 use crate::sys::{self, RawStat, RawTree};
 use crate::{Error, Events, Stat};
@@ -80,14 +80,8 @@ impl Tree {
 
     /// The open instances that have a record waiting, by their numbers, in ascending order.
     pub fn ready(&mut self) -> Result<Vec<Instance>, Error> {
-        let mut out = vec![0; 128];
-        loop {
-            let count = answer(unsafe { sys::wt_ready(&mut self.raw, out.as_mut_ptr(), out.len()) })? as usize;
-            if count <= out.len() {
-                return Ok(out[..count].iter().map(|&it| Instance(it)).collect());
-            }
-            out.resize(count, 0);
-        }
+        let found = numbers(|out| unsafe { sys::wt_ready(&mut self.raw, out.as_mut_ptr(), out.len()) })?;
+        Ok(found.into_iter().map(Instance).collect())
     }
 
     pub fn close(&mut self, instance: Instance) -> Result<(), Error> {
