@@ -4,6 +4,7 @@
 import argparse
 import os
 import shutil
+import signal
 import stat
 import sys
 import tempfile
@@ -127,12 +128,13 @@ def explore(said: argparse.Namespace, program: List[str], room: str) -> int:
         return 0
     out = said.out or os.path.basename(said.script) + ".failures"
     report.keep(found.failures, out)
-    report.shrink_one(bench, found.failures, out, said)
+    report.shrink_one(bench, found.failures, not base.fails, out, said)
     return 1
 
 
 def main(words: List[str]) -> int:
     """Runs the tool."""
+    signal.signal(signal.SIGPIPE, signal.SIG_DFL)
     said, program = read_words(words)
     room: Optional[str] = None
     try:

@@ -3,6 +3,7 @@
 import argparse
 import glob
 import os
+import shlex
 import shutil
 import sys
 from typing import List
@@ -14,8 +15,8 @@ from search import Found, in_parallel
 from shrink import Shrinker
 from timeline import timeline, write_page
 
-# So many failures are printed; all of them are kept.
-SHOWN = 10
+# So many failures are printed; all of them are kept. So many of them are shrunk.
+SHOWN, SHRUNK = 10, 3
 
 
 def many(count: int, what: str) -> str:
@@ -62,32 +63,33 @@ def _write(path: str, text: str) -> None:
         file.write(text)
 
 
-def simplest(failures: List[Result]) -> Result:
-    """Returns the failing run from which shrinking has the shortest way. One that took no record is told by its status."""
-    return min(failures, key=lambda it: (it.status == NOTHING_DELIVERED, it.schedule.moved() + it.schedule.short_reads()))
+def simplest(failures: List[Result]) -> List[Result]:
+    """Returns a few failing runs from which shrinking has the shortest way. One that took no record is the last choice."""
+    return sorted(failures, key=lambda it: (it.status == NOTHING_DELIVERED, it.schedule.changes()))[:SHRUNK]
 
 
-def shrink_one(bench: Bench, failures: List[Result], out: str, said: argparse.Namespace) -> None:
-    """Shrinks one failing schedule, replays it, and prints its timeline."""
-    first = simplest(failures)
-    shrinker = Shrinker(bench, first, said.jobs, said.shrink_runs)
-    best = shrinker.shrink()
-    if best is None:
-        print("The simplest one does not fail when it is replayed: the program's requests are not the same in each run.")
+def shrink_one(bench: Bench, failures: List[Result], is_race: bool, out: str, said: argparse.Namespace) -> None:
+    """Shrinks a few failing schedules, replays the smallest, and prints its timeline."""
+    shrinkers = [Shrinker(bench, it, is_race, said.jobs, said.shrink_runs // SHRUNK) for it in simplest(failures)]
+    shrunk = [it for it in (one.shrink() for one in shrinkers) if it]
+    if not shrunk:
+        print("none that was tried fails when it is replayed: the program does not ask the same in each run")
         return
-    lines, changes = best.schedule.size()
+    best = min(shrunk, key=lambda it: it.schedule.size())
+    lines, changes, _ = best.schedule.size()
     _write(f"{out}/shrunk.schedule", best.schedule.text())
-    print(f"shrunk by {many(shrinker.runs, 'run')}: {many(lines, 'line')}, {many(changes, 'move')}")
+    print(f"shrunk by {many(sum(it.runs for it in shrinkers), 'run')}: {many(lines, 'line')}, {many(changes, 'move')}")
     failed = replay(bench, best, said.replays, said.jobs)
-    print(f"replayed {said.replays} times, failed {failed} times")
+    print(f"replayed {many(said.replays, 'time')}, failed {many(failed, 'time')}")
     last = bench.replay(best.schedule, best.seed, f"{os.path.abspath(out)}/run")
     _write(f"{out}/timeline.txt", timeline(last.trace, is_whole=True))
     why = write_page(out, os.path.dirname(os.path.abspath(said.runner)), last.trace, best.schedule.queue)
     print_schedule(best.schedule)
     print("\n" + timeline(last.trace), end="")
-    print(f"\n{out}/timeline.txt has every request, {out}/run the files of the run" + (f"; no page: {why}" if why else
-          f", {out}/page.html its records"))
-    print(f"again: watchtree under --schedule {out}/shrunk.schedule -- {' '.join(bench.program)}")
+    page = f"no page: {why}" if why else f"{out}/page.html its records"
+    print(f"\n{out}/timeline.txt has every request, {out}/run the files of the run; {page}")
+    command = ["under", *bench.options, "--schedule", f"{out}/shrunk.schedule", "--", *bench.program]
+    print(f"again: ./watchtree {shlex.join(command)}")
 
 
 def replay(bench: Bench, best: Result, times: int, jobs: int) -> int:

@@ -58,10 +58,14 @@ class Schedule:
         """Counts the reads that hand over less than they could."""
         return sum(isinstance(it, ShortRead) for it in self.items)
 
-    def size(self) -> Tuple[int, int]:
-        """Returns what shrinking makes less: first the lines, then what is moved, short, or limited."""
-        limited = self.queue != USUAL_QUEUE
-        return len(self.setup) + len(self.lines()), self.moved() + self.short_reads() + limited
+    def changes(self) -> int:
+        """Counts what makes it another schedule than the script alone."""
+        return self.moved() + self.short_reads() + (self.queue != USUAL_QUEUE)
+
+    def size(self) -> Tuple[int, int, int]:
+        """Returns what shrinking makes less: the lines, the changes, the marks."""
+        marks = sum(isinstance(it, Mark) for it in self.items)
+        return len(self.setup) + len(self.lines()), self.changes(), marks
 
     def text(self) -> str:
         """Returns the text of its file."""

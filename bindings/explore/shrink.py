@@ -1,4 +1,8 @@
-"""Shrinking: lines, moves, short reads and the limit of the queues are dropped while the run still fails."""
+"""Shrinking: lines, moves, short reads and the limit of the queues are dropped while the run still fails.
+
+A candidate counts if it fails, ends with the status of the first run, and, unless the whole script fails with nothing moved,
+passes with nothing moved: otherwise lines would be dropped until the script is wrong for another reason.
+"""
 
 from concurrent.futures import ThreadPoolExecutor
 from dataclasses import replace
@@ -14,9 +18,9 @@ ATTEMPTS = 3
 class Shrinker:
     """Makes one failing schedule smaller. Each candidate is a run, several at once, and at most so many."""
 
-    def __init__(self, bench: Bench, failed: Result, jobs: int, budget: int) -> None:
+    def __init__(self, bench: Bench, failed: Result, is_race: bool, jobs: int, budget: int) -> None:
         self.bench, self.jobs, self.budget = bench, jobs, budget
-        self.seed, self.status = failed.seed, failed.status
+        self.seed, self.status, self.is_race = failed.seed, failed.status, is_race
         self.best = failed
         self.runs = 0
 
@@ -37,11 +41,15 @@ class Shrinker:
         return self.bench.replay(schedule, self.seed)
 
     def _takes(self, result: Result) -> bool:
-        """Keeps a run that fails as the first one did. One that ended otherwise fails for another reason."""
-        is_same = result.fails and result.status == self.status
-        if is_same:
-            self.best = result
-        return is_same
+        """Keeps a run that fails as the first one did."""
+        if not result.fails or result.status != self.status:
+            return False
+        if self.is_race:
+            self.runs += 1
+            if self._run(result.schedule.at_rest()).fails:
+                return False
+        self.best = result
+        return True
 
     def _improve(self, step: Callable[[Schedule], Iterator[Schedule]]) -> bool:
         """Tries the candidates of a step, the boldest first, and keeps the first that is smaller and fails."""
