@@ -1,9 +1,10 @@
 """Whether a client has what is there: check.py KIND, as a check of watchtree explore.
 
-A path that is there at the end, and that was made after the client's first watch, has to be one that the client said was made,
-and no path that is gone may be one that it has. What was made before its first watch is left out; KIND `whole` has no such
-path, as the client says at its start what is there; nor has `watchman`. A kind of that name or `inotifywait` is how the client
-prints its events.
+What the client said makes a set of paths: those that it said were made or moved in, without those that it said were deleted or
+moved away and all below them. At the end it has to be the paths that are there, below the watched directory.
+
+A client that says nothing of what was there before (every KIND but `whole` and `watchman`) is not judged by a run in which a
+line happened before its first watch. `watchman` and `inotifywait` are how these print their events.
 """
 
 import json
@@ -47,26 +48,27 @@ def there(name: str) -> Set[str]:
         return {MOUNT + line.split(" ")[0] for line in file}
 
 
-def made_before_first_watch() -> Set[str]:
-    """Returns the paths that lines made before the client had a watch."""
-    out: Set[str] = set()
+def is_too_early() -> bool:
+    """Whether a line happened before the client had a watch."""
+    has_started = False
     with open(f"{OUT}/trace", encoding="utf-8", errors="surrogateescape") as file:
         for line in file:
             if re.match(r"# watch .*: [0-9]", line):
-                break
-            found = re.match(r"(?:@\d+ )?> (?:mkdir|create|rename \S+) (\S+)", line)
-            if found:
-                out.add(MOUNT + found[1])
-    return out
+                return False
+            if has_started and re.match(r"(@[0-9]+ )?> ", line):
+                return True
+            has_started = has_started or line == "> --\n"
+    return True
 
 
 def main() -> int:
-    """Prints what is wrong."""
+    """Prints what is wrong with what the client has."""
     kind = sys.argv[1]
-    has, real, root = believed(kind), there("listing"), f"{MOUNT}/d"
-    early = set() if kind in ("whole", "watchman") else made_before_first_watch()
-    lost = {it for it in real - has - early if it.startswith(root + "/")}
-    stale = {it for it in has - real - early if it.startswith(root + "/")}
+    if kind not in ("whole", "watchman") and is_too_early():
+        return 0
+    has, real, root = believed(kind), there("listing"), f"{MOUNT}/d/"
+    lost = {it for it in real - has if it.startswith(root)}
+    stale = {it for it in has - real if it.startswith(root)}
     for path in sorted(lost):
         print("lost:", path, file=sys.stderr)
     for path in sorted(stale):
