@@ -1,6 +1,8 @@
 //! Fault injection: each allocation of a storm, and the start of each of its threads, fails in turn, with both sinks closed each
 //! time; and how often a close is tried. Without the shim each of these tests makes one storm.
 
+ghost use Rattle.std.specs.Prelude.{◌≡◌};
+
 use super::*;
 use refuser::{refuse, refuse_next, refuse_thread, was_refused};
 
