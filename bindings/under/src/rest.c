@@ -146,6 +146,11 @@ struct tasks look_at_tasks(void) {
     return all;
 }
 
+bool is_of_program(pid_t pid) {
+    find_ours();
+    return pid != getpid() && is_ours(pid);
+}
+
 int signal_all(int signal, pid_t but) {
     int count = 0;
     find_ours();

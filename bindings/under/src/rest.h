@@ -12,6 +12,8 @@ struct tasks {
 };
 /* All tasks slept at one moment if two looks in a row say that all sleep, with the same `runs`. */
 struct tasks look_at_tasks(void);
+/* Whether a process is below this one. */
+bool is_of_program(pid_t pid);
 /* Sends a signal to every process below this one but one. How many there were. */
 int signal_all(int signal, pid_t but);
 /* Whether the kernel keeps what all_sleep() reads. */

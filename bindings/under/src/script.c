@@ -68,8 +68,11 @@ void run_line(void) {
     if (length > sizeof line && !(copy = malloc(length))) fail("malloc");
     memcpy(copy, text + at, length);        /* the line may be moved by a read */
     pass(length);
-    if (!run_text(copy, length, number)) refused++;
-    else if (had_mark) happened_after_mark++;
+    happened_after_mark += had_mark;        /* before a record of it is taken */
+    if (!run_text(copy, length, number)) {
+        refused++;
+        happened_after_mark -= had_mark;
+    }
     if (copy != line) free(copy);
 }
 
