@@ -23,8 +23,9 @@ static void redirect(const char *name, int to) {
     if (fd < 0 || dup2(fd, to) < 0) fail(path);
 }
 
-_Noreturn static void become_program(const char *here, int to_supervisor, const sigset_t *blocked) {
+_Noreturn static void become_program(const char *here, pid_t tool, int to_supervisor, const sigset_t *blocked) {
     prctl(PR_SET_PDEATHSIG, SIGKILL);
+    if (getppid() != tool) _exit(STATUS_FAULT);
     sigprocmask(SIG_SETMASK, blocked, NULL);
     if (chdir(here) < 0) fail(here);        /* again, as it may be below the mount */
     if (!strcmp(options.script, "-")) {
@@ -50,7 +51,7 @@ _Noreturn static void become_program(const char *here, int to_supervisor, const 
     _exit(error == ENOENT || error == ENOTDIR ? STATUS_NOT_FOUND : STATUS_NOT_EXECUTABLE);
 }
 
-void start_program(const char *here, const sigset_t *blocked) {
+void start_program(const char *here, const sigset_t *blocked, int mount_fd) {
     int pair[2];
     if (socketpair(AF_UNIX, SOCK_STREAM | SOCK_CLOEXEC, 0, pair) < 0) fail("socketpair");
     pid_t tool = getpid();
@@ -60,7 +61,12 @@ void start_program(const char *here, const sigset_t *blocked) {
         supervise(pair[0], tool);
     }
     if ((program_pid = fork()) < 0) fail("fork");
-    if (program_pid == 0) become_program(here, pair[1], blocked);
+    if (program_pid == 0) {
+        /* Each waits for the other, and the supervisor for the tool: what tells of an end is open in nobody else. */
+        close(pair[0]);
+        close(mount_fd);
+        become_program(here, tool, pair[1], blocked);
+    }
     close(pair[0]);
     close(pair[1]);
 }

@@ -280,7 +280,7 @@ int run(void) {
     run_first_lines();
     signals = block_signals();
     prctl(PR_SET_CHILD_SUBREAPER, 1);
-    start_program(here, &first_mask);
+    start_program(here, &first_mask, fuse_session_fd(session));
     loop();
     end_processes(serve);
     commit_all();
