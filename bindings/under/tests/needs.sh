@@ -14,7 +14,7 @@ cd "$room" || exit 1
 expect() {
     name=$1 wanted=$2 pattern=$3
     shift 3
-    timeout 60 "$@" >out 2>err </dev/null
+    timeout 200 "$@" >out 2>err </dev/null
     status=$?
     if [ "$status" != "$wanted" ]; then
         echo "FAILED $name: status $status, not $wanted: $(head -n 3 err | tr '\n' ' ')"

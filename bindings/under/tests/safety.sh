@@ -11,9 +11,9 @@ check() {
     if [ "$?" = 0 ]; then echo "ok $1"; else echo "FAILED $1: $(printf '%s' "$2" | tr '\n' ' ' | cut -c 1-300)"; fi
 }
 
-# Waits until a command is right, for ten seconds at most. (What it waits for has no other sign.)
+# Waits until a command is right, for a minute at most. (What it waits for has no other sign.)
 await() {
-    end=$(($(date +%s) + 10))
+    end=$(($(date +%s) + 60))
     until "$@" >/dev/null 2>&1; do
         [ "$(date +%s)" -lt "$end" ] || return 1
     done
