@@ -86,6 +86,7 @@ extern "C" {
         out: *mut c_void,
         out_len: usize,
     ) -> i64;
+    pub fn wt_path_of(tree: *mut RawTree, number: u64, out: *mut c_void, out_len: usize) -> i64;
     pub fn wt_line(
         tree: *mut RawTree,
         queue: u32,

@@ -89,6 +89,7 @@ extern "C" {
         out: *mut c_void,
         out_len: usize,
     ) -> i64;
+    pub fn wtt_path_of(tree: *mut RawShared, number: u64, out: *mut c_void, out_len: usize) -> i64;
     pub fn wtt_line(
         tree: *mut RawShared,
         queue: u32,
