@@ -5,6 +5,8 @@
 #include "under.h"
 
 enum { ROOT = 1 };
+/* The runner's own directory in the root, which the program neither sees nor replaces (names.c). */
+#define NURSERY ".watchtree-new"
 
 struct content;                     /* files.h */
 

@@ -65,7 +65,7 @@ CASES = [
     case("Gio.FileMonitor", "python3-gi", PYTHON + "gio_monitor.py {d}"),
     # Node, Java, Go, Rust
     case("Node, fs.watch", "nodejs", "node {here}/fs_watch.js {d}"),
-    case("chokidar", "node-chokidar", "NODE_PATH=/usr/share/nodejs node {here}/chokidar.js {d}", tells="x end"),
+    case("chokidar", "node-chokidar", "NODE_PATH=/usr/share/nodejs node {here}/chokidar.js {d}", "parted", tells="x end"),
     case("Java, WatchService", "openjdk-17-jdk-headless", "java -cp {bin} Watch {d}", build="javac -d {bin} {here}/Watch.java"),
     case("Go, system calls", "golang-go", "{bin}/syscalls {d}", build=GO + "syscalls {here}/syscalls.go"),
     case("fsnotify", "golang-github-fsnotify-fsnotify-dev", "{bin}/fsnotify {d}", build=GO + "fsnotify {here}/fsnotify.go"),

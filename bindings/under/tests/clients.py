@@ -27,7 +27,9 @@ TABLE = os.path.join(TESTS, "../../../docs/UNDER-CLIENTS.md")
 CLASSES = {
     "list-events": re.compile(r"(?i)(open|access|close(_nowrite|_write)?)\S*[, |]+(in_)?is_?dir|is_?dir\S*[, |]+(open|access|close)"),
 }
-LIMIT = 60
+# Seconds that a client may take. It may be given several goes: the timers of many go by the clock of a machine that may be
+# busy, on a disk too.
+LIMIT, BUILD_LIMIT, GOES = 200, 900, 3
 Told = collections.namedtuple("Told", "status text")
 
 
@@ -56,13 +58,15 @@ class Bench:
         """Builds the client. What failed, or nothing."""
         if not case.build:
             return None
-        ran = subprocess.run(["sh", "-c", self.shell(case.build)], capture_output=True, text=True, timeout=200)
+        try:
+            ran = subprocess.run(["sh", "-c", self.shell(case.build)], capture_output=True, text=True, timeout=BUILD_LIMIT)
+        except subprocess.TimeoutExpired:
+            return f"not built after {BUILD_LIMIT} s"
         return f"not built: {ran.stdout} {ran.stderr}" if ran.returncode else None
 
     def side(self, case, name, words, root):
         """What the client prints when some words start it, and its status."""
-        room = os.path.join(self.room, f"{case.name.replace('/', '-')} {name}".replace(" ", "-"))
-        os.mkdir(room)
+        room = tempfile.mkdtemp(prefix=f"{case.name.replace('/', '-')} {name} ".replace(" ", "-"), dir=self.room)
         said = self.shell(case.start, d=root + "/d", root=root, room=room)
         try:
             ran = subprocess.run([*words, "sh", "-c", said], stdin=subprocess.DEVNULL, capture_output=True,
@@ -118,7 +122,10 @@ def run(bench, case):
     failed = bench.build(case)
     if failed:
         return case, found, False, failed
-    is_same, how = verdict(case, *bench.both(case))
+    for _ in range(GOES):
+        is_same, how = verdict(case, *bench.both(case))
+        if is_same:
+            break
     if is_same and case.options:
         how += f" (with `{' '.join(case.options)}`)"
     return case, found, is_same, how
