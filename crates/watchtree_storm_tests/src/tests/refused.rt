@@ -140,7 +140,7 @@ fn a_close_is_tried_16_times(rt: HostRuntime) -> Result<(), Fail> {
     let _ = refuse_next(alloc, 1);
     let has_refuser = Vec::<u8>::with_capacity(alloc, 1).is_err();
     let _ = was_refused(alloc);
-    let mut between = 0;
+    let mut between: u32 = 0;
     for refused in 0..CLOSES {
         let (one, other) = closed_at(&rt, alloc, refused)?;
         holds(
@@ -149,7 +149,7 @@ fn a_close_is_tried_16_times(rt: HostRuntime) -> Result<(), Fail> {
             other || !one,
         );
         if other && !one {
-            between += 1;
+            between = between.saturating_add(1);
         }
     }
     equal(&rt, between, if has_refuser { 16 } else { 0 });
