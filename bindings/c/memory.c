@@ -32,6 +32,7 @@ static void on_files(struct wt_tree *t, int k) {
     TRY(wt_rename2(t, PATH("/e/y"), PATH("/d"), 2)), TRY(wt_rename2(t, PATH("/e/y"), PATH("/d"), 2));
     TRY(wt_truncate(t, PATH("/e/y"), 1)), TRY(wt_chmod(t, PATH("/e/y"), 0600)), TRY(wt_stat(t, PATH("/e/y"), &s));
     TRY(wt_list(t, PATH("/e"), out, sizeof out)), TRY(wt_inotify_rm_watch(t, 2, 7));
+    TRY(wt_peek_list(t, PATH("/e/y"), out, sizeof out)), TRY(wt_path_of(t, 3, out, sizeof out));
     if (k == 3) TRY(wt_cut(t));
 }
 

@@ -41,6 +41,7 @@ static void closed_trees(void) {
         IS(wt_line(&t, 1, PATH("mkdir /d 755"), out, sizeof out), -EBADF), IS(wt_text(&t, out, sizeof out), -EBADF);
         IS(wt_bytes_waiting(&t, 1), -EBADF), IS(wt_ready(&t, &number, 1), -EBADF), HOLDS(number == 7);
         IS(wt_peek_stat(&t, PATH("/d"), &s), -EBADF), IS(wt_peek_list(&t, PATH("/"), out, sizeof out), -EBADF);
+        IS(wt_path_of(&t, 1, out, sizeof out), -EBADF);
         IS(wt_peek_pread(&t, PATH("/d"), 0, out, sizeof out), -EBADF);
         HOLDS(!strcmp(out, "before") && s.links == 7 && s.is_directory == 7);
         if (turn == 0) IS(wt_open(&t), 0), IS(wt_open(&t), -EBUSY);
@@ -159,6 +160,9 @@ static void peeks(struct wt_tree *t) {
     IS(wt_peek_pread(t, PATH("/d/a name"), 5, out, sizeof out), 0), IS(wt_peek_pread(t, PATH("/d"), 0, out, 1), -EISDIR);
     IS(wt_peek_list(t, PATH("/d"), out, 4), 7), HOLDS(!memcmp(out, "a na-", 5));
     IS(wt_peek_list(t, PATH("/d/a name"), out, sizeof out), -ENOTDIR), IS(wt_peek_list(t, PATH("/no"), out, 1), -ENOENT);
+    IS(wt_path_of(t, s.number, out, 4), 9), HOLDS(!memcmp(out, "/d/aa-lo", 4)), IS(wt_path_of(t, 1, out, sizeof out), 1);
+    HOLDS(!memcmp(out, "/d/a", 4)), IS(wt_path_of(t, 99999, out, sizeof out), -ENOENT), IS(wt_path_of(t, 0, out, 8), -ENOENT);
+    IS(wt_path_of(t, UINT64_MAX, NULL, 0), -ENOENT), IS(wt_path_of(t, (1ull << 32) + 1, NULL, 0), -ENOENT);
     IS(wt_bytes_waiting(t, 130), 96), IS(wt_bytes_waiting(t, 132), 48), IS(wt_cut(t), place);
     IS(wt_stat(t, PATH("/d/a name"), &told), 0), HOLDS(!memcmp(&s, &told, 32)), IS(wt_cut(t), place + 1);
     IS(wt_list(t, PATH("/d"), told_out, 4), 7), HOLDS(!memcmp(told_out, "a na-", 5)), HOLDS(wt_waiting(t, 130) > 3);

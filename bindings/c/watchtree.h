@@ -72,7 +72,7 @@ int64_t wt_read(struct wt_tree *tree, uint32_t instance, void *out, size_t out_l
 int64_t wt_waiting(struct wt_tree *tree, uint32_t instance);
 int64_t wt_inotify_close(struct wt_tree *tree, uint32_t instance);
 
-/* The calls from here to wt_peek_pread are no calls of the tree: its journal keeps none, and they raise no event. */
+/* The calls from here to wt_path_of are no calls of the tree: its journal keeps none, and they raise no event. */
 /* How many bytes all waiting records take: what ioctl(2) with FIONREAD gives of an inotify descriptor. */
 int64_t wt_bytes_waiting(struct wt_tree *tree, uint32_t instance);
 /* The numbers of the open instances that have a record waiting, rising, as many as fit: out_len counts numbers. It
@@ -83,6 +83,9 @@ int64_t wt_peek_stat(struct wt_tree *tree, const char *path, size_t path_len, st
 int64_t wt_peek_list(struct wt_tree *tree, const char *path, size_t path_len, void *out, size_t out_len);
 int64_t wt_peek_pread(struct wt_tree *tree, const char *path, size_t path_len, uint64_t offset, void *out,
                       size_t out_len);
+/* A path of the file with this number (wt_stat's): the first in the order of names, as many of its bytes as fit. It
+ * answers how many bytes the path has. -ENOENT if no file has this number. It looks at each path of the tree. */
+int64_t wt_path_of(struct wt_tree *tree, uint64_t number, void *out, size_t out_len);
 
 /* Runs a line of a script, as `mkdir /d 755`, and gives as much of its text as there is room for. It answers how many
  * bytes the text has: where that is more than out_len, wt_text gives it again. queue is the limit of an instance that

@@ -311,3 +311,4 @@ CALL(peek_list, (struct wtt *t, const char *path, size_t n, void *out, size_t m)
      wt_peek_list(tree_of(t), path, n, out, m))
 CALL(peek_pread, (struct wtt *t, const char *path, size_t n, uint64_t offset, void *out, size_t m),
      wt_peek_pread(tree_of(t), path, n, offset, out, m))
+CALL(path_of, (struct wtt *t, uint64_t file, void *out, size_t m), wt_path_of(tree_of(t), file, out, m))

@@ -73,6 +73,7 @@ int64_t wtt_ready(struct wtt *tree, uint32_t *out, size_t out_len);
 int64_t wtt_peek_stat(struct wtt *tree, const char *path, size_t path_len, struct wt_stat *out);
 int64_t wtt_peek_list(struct wtt *tree, const char *path, size_t path_len, void *out, size_t out_len);
 int64_t wtt_peek_pread(struct wtt *tree, const char *path, size_t path_len, uint64_t offset, void *out, size_t out_len);
+int64_t wtt_path_of(struct wtt *tree, uint64_t number, void *out, size_t out_len);
 int64_t wtt_line(struct wtt *tree, uint32_t queue, const char *line, size_t line_len, void *out, size_t out_len);
 
 #ifdef __cplusplus

@@ -25,6 +25,16 @@ class Peeks(unittest.TestCase):
             self.assertEqual(tree.stat("/d/f"), tree.peek_stat("/d/f"))
             self.assertEqual(tree.cut(), before + 1)
 
+    def test_the_path_of_a_number(self):
+        with Tree() as tree:
+            number = tree.mkdir("/d"), tree.create("/d/f")
+            before = tree.cut()
+            self.assertEqual([tree.path_of(it) for it in (1, *number)], ["/", "/d", "/d/f"])
+            for missing in (0, 99, 2**64 - 1):
+                with self.assertRaises(FileNotFoundError):
+                    tree.path_of(missing)
+            self.assertEqual(tree.cut(), before)
+
     def test_the_instances_that_are_ready(self):
         with Tree() as tree:
             instances = [tree.inotify() for _ in range(128)]

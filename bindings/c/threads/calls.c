@@ -43,6 +43,7 @@ static void call_on_files(unsigned which, const char *path, const char *other) {
     case 12: INTO_OUT(list, PATH(path)); break;
     case 13: both("peek_stat", wt_peek_stat(&plain, PATH(path), &stats[0]), wtt_peek_stat(shared, PATH(path), &stats[1])); break;
     case 14: INTO_OUT(peek_list, PATH(path)); break;
+    case 15: INTO_OUT(path_of, few); break;
     default: INTO_OUT(peek_pread, PATH(path), few); break;
     }
 }
@@ -81,8 +82,13 @@ int main(void) {
     unsigned answered = 0;
     for (int turn = 0; turn < CALLS; turn++) {
         const char *path = PATHS[choose(10)], *other = PATHS[choose(10)];
+<<<<<<< HEAD
         if (choose(2)) call_on_files(choose(16), path, other);
         else call_on_instances(choose(11), path, choose(12) + 1);
+=======
+        if (choose(2)) call_on_files(choose(17), path, other);
+        else call_on_instances(choose(10), path, choose(12) + 1);
+>>>>>>> next
         HOLDS(!memcmp(out[0], out[1], sizeof out[0]) && !memcmp(&stats[0], &stats[1], sizeof stats[0]));
         /* (a descriptor changes no answer) */
         if (turn % 1000 == 0) {

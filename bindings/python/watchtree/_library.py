@@ -52,6 +52,7 @@ CALLS = {
     "wtt_peek_stat": (*_BYTES, _STAT),
     "wtt_peek_list": (*_BYTES, *_OUT),
     "wtt_peek_pread": (*_BYTES, _U64, *_OUT),
+    "wtt_path_of": (_U64, *_OUT),
 }
 # The parameters of each function that takes no tree.
 PLAIN = {"wt_version": _OUT, "wt_error_text": (ctypes.c_int64, *_OUT)}

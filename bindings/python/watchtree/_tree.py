@@ -146,6 +146,13 @@ class Tree:
         """As read(), but the journal has no entry of it, and it raises no events."""
         return self._read("wtt_peek_pread", path, count, offset)
 
+    def path_of(self, number: int) -> str:
+        """Returns a path of the file or directory with a number: the first in the order of names.
+
+        It looks at each path of the tree, and the journal has no entry of it.
+        """
+        return os.fsdecode(self._text("wtt_path_of", unsigned(number, 64)))
+
     def ready(self) -> List[int]:
         """Returns the numbers of the open instances that have a record waiting in their queue, rising."""
         out = (ctypes.c_uint32 * INSTANCES)()

@@ -60,7 +60,8 @@ pub(crate) fn numbers(call: impl FnOnce(&mut [u32]) -> i64) -> Result<Vec<u32>, 
 macro_rules! calls {
     ([$($receiver:tt)+], $me:ident, $sys:ident, $prefix:ident: $cut:ident $mkdir:ident $create:ident $write:ident
      $pread:ident $truncate:ident $chmod:ident $link:ident $unlink:ident $rmdir:ident $rename:ident $rename2:ident
-     $stat:ident $list:ident $peek_stat:ident $peek_list:ident $peek_pread:ident) => {
+     $stat:ident $list:ident $peek_stat:ident $peek_list:ident $peek_pread:ident
+     $path_of:ident) => {
         /// Cuts the journal of calls, and returns the sequence number of the last one.
         pub fn cut($($receiver)+) -> Result<u64, Error> {
             answer(unsafe { $sys::$cut($me.$prefix()) })
@@ -168,6 +169,16 @@ macro_rules! calls {
             let (path, len) = text(path.as_ref());
             all_of(|out| unsafe { $sys::$peek_list($me.$prefix(), path, len, out.as_mut_ptr().cast(), out.len()) })
                 .map(names)
+        }
+
+        /// A path of the file or directory with a number: the first in the order of names. It looks at each path of the
+        /// tree, and the journal has no entry of it.
+        pub fn path_of($($receiver)+, number: u32) -> Result<PathBuf, Error> {
+            let path = all_of(|out| {
+                let buffer = out.as_mut_ptr().cast();
+                unsafe { $sys::$path_of($me.$prefix(), u64::from(number), buffer, out.len()) }
+            })?;
+            Ok(OsString::from_vec(path).into())
         }
     };
 }

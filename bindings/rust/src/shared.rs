@@ -5,8 +5,9 @@ use crate::sys::{self, RawShared, RawStat};
 use crate::{Error, Events, Stat};
 use std::ffi::OsString;
 use std::os::raw::c_int;
+use std::os::unix::ffi::OsStringExt;
 use std::os::unix::io::{AsFd, AsRawFd, BorrowedFd, FromRawFd, OwnedFd, RawFd};
-use std::path::Path;
+use std::path::{Path, PathBuf};
 use std::ptr;
 use std::sync::{Arc, Mutex, PoisonError};
 use std::time::{Duration, Instant};
@@ -69,7 +70,7 @@ impl SharedTree {
 
     calls!([&self], self, sys, raw: wtt_cut wtt_mkdir wtt_create wtt_write wtt_pread wtt_truncate wtt_chmod wtt_link
         wtt_unlink wtt_rmdir wtt_rename wtt_rename2 wtt_stat wtt_list wtt_peek_stat
-        wtt_peek_list wtt_peek_pread);
+        wtt_peek_list wtt_peek_pread wtt_path_of);
 
     /// Closes the tree now, for all clones and instances: every call is [`Error::CLOSED`] from then on, also one that
     /// waits in another thread.

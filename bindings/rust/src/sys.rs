@@ -61,6 +61,7 @@ calls_of_trees! {
     wt_peek_stat wtt_peek_stat(path: *const c_char, path_len: usize, out: *mut RawStat);
     wt_peek_list wtt_peek_list(path: *const c_char, path_len: usize, out: *mut c_void, out_len: usize);
     wt_peek_pread wtt_peek_pread(path: *const c_char, path_len: usize, offset: u64, out: *mut c_void, out_len: usize);
+    wt_path_of wtt_path_of(number: u64, out: *mut c_void, out_len: usize);
     wt_line wtt_line(queue: u32, line: *const c_char, line_len: usize, out: *mut c_void, out_len: usize);
     wt_text wtt_text(out: *mut c_void, out_len: usize);
 }

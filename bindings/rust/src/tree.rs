@@ -4,7 +4,8 @@ use crate::error::answer;
 use crate::sys::{self, RawStat, RawTree};
 use crate::{Error, Events, Stat};
 use std::ffi::OsString;
-use std::path::Path;
+use std::os::unix::ffi::OsStringExt;
+use std::path::{Path, PathBuf};
 use std::ptr;
 
 /// The number of an instance of inotify in a [`Tree`].
@@ -42,7 +43,7 @@ impl Tree {
 
     calls!([&mut self], self, sys, raw: wt_cut wt_mkdir wt_create wt_write wt_pread wt_truncate wt_chmod wt_link
         wt_unlink wt_rmdir wt_rename wt_rename2 wt_stat wt_list wt_peek_stat wt_peek_list
-        wt_peek_pread);
+        wt_peek_pread wt_path_of);
 
     /// Makes an instance with a queue of so many records.
     pub fn inotify(&mut self, limit: u32) -> Result<Instance, Error> {

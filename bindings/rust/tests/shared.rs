@@ -53,6 +53,7 @@ fn calls_answer() -> Result<(), Error> {
     let place = tree.cut()?;
     assert!(place > 40);
     assert_eq!((tree.peek_stat("/d/h")?.number, tree.peek_list("/d")?.len()), (3, 32));
+    assert_eq!(tree.path_of(3)?, std::path::Path::new("/d/h"));
     assert_eq!((tree.peek_pread("/d/h", 0, &mut out)?, &out[..2], tree.cut()?), (2, &b"he"[..], place));
     Ok(())
 }

@@ -1,7 +1,7 @@
 //! Each method once, what is refused, and a tree in another thread.
 use std::ffi::{OsStr, OsString};
 use std::os::unix::ffi::OsStrExt;
-use std::path::Path;
+use std::path::{Path, PathBuf};
 use std::thread;
 use watchtree::{mask, Error, Event, Instance, Stat, Tree, QUEUE, RENAME_EXCHANGE, RENAME_NOREPLACE};
 
@@ -27,6 +27,8 @@ fn calls_answer() -> Result<(), Error> {
     tree.unlink("/d/g")?;
     let place = tree.cut()?;
     assert_eq!((tree.peek_stat("/d/f")?, tree.peek_list("/d")?), (wanted, vec!["f".into()]));
+    assert_eq!((tree.path_of(1)?, tree.path_of(3)?), (PathBuf::from("/"), PathBuf::from("/d/f")));
+    assert_eq!(tree.path_of(99), Err(Error(2)));
     assert_eq!((tree.peek_pread("/d/f", 1, &mut out)?, out[0]), (1, b'e'));
     assert_eq!((tree.cut()?, tree.ready()?), (place, vec![instance]));
     let bytes = tree.bytes_waiting(instance)? as usize;

@@ -1,12 +1,13 @@
 -- Bytes that are put over the front of others, one part after another.
 use Rattle.std.proofs.Common.{◌≡◌, ℕ, ◌+◌, ◌-◌, ◌^◌, ◌≤◌, ◌<◌, List, [], ◌∷◌, ◌++◌, length, take, drop, get_or, refl, sym, ap, ◌∙◌, inl, inr, arith, length-append, append_assoc}
-use Rattle.std.specs.Prelude.{min, pos}
+use Rattle.std.specs.Prelude.{◌==◌, false, min, pos}
 use Rattle.std.specs.List.{flat_map}
 use Rattle.std.proofs.Math.Seq.{take-append-add}
-use Rattle.std.proofs.lemmas.Bool.{cases_lt}
+use Rattle.std.proofs.lemmas.Bool.{cases_lt, true≢false}
 use Rattle.std.proofs.lemmas.List.{append-nil, drop-drop, drop_all, length-drop, length-take, take_all, take_at, drop_at, take_more, take-append-drop, take-append-le}
 use Rattle.std.proofs.lemmas.Grind.{flat_map-append}
 use borrow.Rule.Slice.PartMut.{put_mid}
+use Rattle.tree_paths.specs.Paths.{pathname_of}
 use Rattle.watchtree_c.specs.Answers.{count_number, overlaid}
 use Rattle.watchtree_c.specs.Listings.{ended}
 
@@ -79,6 +80,22 @@ pub names_next : (names : List (List ℕ)) (i : ℕ) (x : List ℕ) → i < leng
 names_next names i x lt is =
     ap (flat_map ended) (take_more names i x lt ∙ ap (λ (y : List ℕ). take i names ++ y ∷ []) (sym is)) ∙ flat_map-append ended (take i names) (x ∷ [])
     ∙ ap (λ (t : List ℕ). flat_map ended (take i names) ++ t) (append-nil (ended x)) ∙ sym (append_assoc (flat_map ended (take i names)) x (0 ∷ []))
+
+-- a name behind a slash
+abbrev pub slashed : List ℕ → List ℕ
+slashed name = 47 ∷ name
+
+-- the names before one behind slashes, and it
+pub slashed_next : (names : List (List ℕ)) (i : ℕ) (x : List ℕ) → i < length names → x ≡ get_or names i x
+    → flat_map slashed (take (i + 1) names) ≡ (flat_map slashed (take i names) ++ 47 ∷ []) ++ x
+slashed_next names i x lt is =
+    ap (flat_map slashed) (take_more names i x lt ∙ ap (λ (y : List ℕ). take i names ++ y ∷ []) (sym is)) ∙ flat_map-append slashed (take i names) (x ∷ [])
+    ∙ ap (λ (t : List ℕ). flat_map slashed (take i names) ++ t) (append-nil (slashed x)) ∙ sym (append_assoc (flat_map slashed (take i names)) (47 ∷ []) x)
+
+-- the pathname of some names
+pub slashed_all : (names : List (List ℕ)) → (length names == 0) ≡ false → flat_map slashed names ≡ pathname_of names
+slashed_all [] some = absurd (true≢false some)
+slashed_all (name ∷ names) some = refl
 
 -- a count that stops at the greatest number tells as much
 pub count_same : (n : ℕ) → count_number (min n (2 ^ 64 - 1)) ≡ count_number n

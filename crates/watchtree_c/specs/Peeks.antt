@@ -1,13 +1,14 @@
 -- What C is told where no call is made.
 use Rattle.std.specs.Prelude.{◌≡◌, ◌⊎◌, ℕ, ℤ, List, length, Option, Some, None, Result, Ok, Err}
 use Rattle.tree_paths.specs.declared.refusal.Refusal.{Refusal}
-use Rattle.tree_paths.specs.declared.refusal.Refusal.TheVariants.{Ebadf, Enomem}
+use Rattle.tree_paths.specs.declared.refusal.Refusal.TheVariants.{Ebadf, Enoent, Enomem}
+use Rattle.tree_paths.specs.Paths.{pathname_of}
 use Rattle.instance_table.specs.Ready.{ready_in}
 use Rattle.tree_core.specs.declared.call.Call.{Call}
 use Rattle.tree_core.specs.declared.reply.Reply.{Reply}
 use Rattle.tree_core.specs.declared.reply.Reply.TheVariants as reply
 use Rattle.tree_core.specs.Journal.{Journaled, now}
-use Rattle.tree_core.specs.Peeks.{bytes_waiting_in}
+use Rattle.tree_core.specs.Peeks.{bytes_waiting_in, first_path}
 use Rattle.tree_core.specs.Tree.{reply_of}
 use Rattle.watchtree_c.specs.declared.opened.Opened.{Opened}
 use Rattle.watchtree_c.specs.Answers.{count_number, refused_number, waiting_count, overlaid}
@@ -39,3 +40,19 @@ WouldReply s (Err refusal) r = (r ≡ reply.Refused refusal) ⊎ (r ≡ reply.Re
 abbrev pub IsPeeked : Option Opened → Result Call Refusal → Reply → Type 0
 IsPeeked (Some content) call r = WouldReply content.state call r
 IsPeeked None call r = r ≡ reply.Refused Ebadf
+
+-- the pathname of a path, or that there is none
+abbrev pub IsPathname : Option (List (List ℕ)) → ℤ → List ℕ → List ℕ → Type 0
+IsPathname (Some path) number out filled = (number ≡ count_number (length (pathname_of path))) × (filled ≡ overlaid (pathname_of path) out)
+IsPathname None number out filled = (number ≡ refused_number Enoent) × (filled ≡ out)
+
+-- the pathname of the first path of the file of a number, or out of memory
+abbrev pub IsPathOf : Journaled → ℕ → ℤ → List ℕ → List ℕ → Type 0
+IsPathOf s file number out filled =
+    IsPathname (first_path (now s).world file) number out filled
+    ⊎ ((number ≡ refused_number Enomem) × (filled ≡ out))
+
+-- the same of a tree that may not be open, which answers EBADF
+abbrev pub IsPathGiven : Option Opened → ℕ → ℤ → List ℕ → List ℕ → Type 0
+IsPathGiven (Some content) file number out filled = IsPathOf content.state file number out filled
+IsPathGiven None file number out filled = (number ≡ refused_number Ebadf) × (filled ≡ out)

@@ -254,7 +254,7 @@ pub(crate) fn put_names(out: &mut [u8], names: &[Name]) -> i64
 
 /// Puts bytes behind the `len` bytes that were put at the front of `out`, as many as it has room for. It answers how many
 /// bytes all of them are, no more than a `usize` may be.
-fn put_more(out: &mut [u8], len: usize, bytes: &[u8]) -> usize
+pub(crate) fn put_more(out: &mut [u8], len: usize, bytes: &[u8]) -> usize
     ensures len { result ≡ min (len + length bytes.now) (2 ^ 64 - 1) }
     ensures bytes { (front old : List ℕ) → len ≡ min (length front) (2 ^ 64 - 1) → out.old ≡ overlaid front old → out.new ≡ overlaid (front ++ bytes.now) old }
 {

@@ -26,5 +26,7 @@ pub use life::{wt_close, wt_cut, wt_open};
 pub use line::{wt_line, wt_text};
 pub use meanings::{wt_error_text, wt_version};
 pub use opened::Opened;
-pub use peeking::{wt_bytes_waiting, wt_peek_list, wt_peek_pread, wt_peek_stat, wt_ready};
+pub use peeking::{
+    wt_bytes_waiting, wt_path_of, wt_peek_list, wt_peek_pread, wt_peek_stat, wt_ready,
+};
 pub use tree::{Held, Tree};

@@ -1,17 +1,19 @@
 //! What stands in a tree, for callers that make no call: the journal keeps nothing of it, and no event is raised.
 
-ghost use Rattle.std.specs.Prelude.{◌≡◌};
-ghost use Rattle.watchtree_c.specs.Answers.{AnswersBytes};
+ghost use Rattle.std.specs.Prelude.{◌≡◌, length};
+ghost use Rattle.tree_paths.specs.Paths.{pathname_of};
+ghost use Rattle.watchtree_c.specs.Answers.{AnswersBytes, count_number, overlaid};
 ghost use Rattle.watchtree_c.specs.Calls.{asked_bytes, list_call, read_call, stat_call};
 ghost use Rattle.watchtree_c.specs.Listings.{Lists};
-ghost use Rattle.watchtree_c.specs.Peeks.{IsPeeked, IsReadyTold, MayReply, WouldReply, bytes_waiting_number};
+ghost use Rattle.watchtree_c.specs.Peeks.{IsPathGiven, IsPathOf, IsPeeked, IsReadyTold, MayReply, WouldReply, bytes_waiting_number};
 ghost use Rattle.watchtree_c.specs.Stats.{Tells};
 ghost use Rattle.tree_core.specs.Journal.{now};
 ghost use Rattle.tree_core.specs.Tree.{reply_of};
 
 use crate::answers::{count_number, put, refused_number, reply_number};
-use crate::files::{Stat, put_names, stat_of};
+use crate::files::{Stat, put_more, put_names, stat_of};
 use crate::tree::Tree;
+use record_codec::Name;
 use std::alloc::Global;
 use tree_core::{Call, Reply, State};
 use tree_ops::FileCall;
@@ -163,4 +165,51 @@ fn bytes_at(state: &State, path: &Path, offset: u64, out: &mut [u8]) -> i64
         }
         Err(refusal) => refused_number(refusal),
     }
+}
+
+/// Writes a path of the file with this number over the front of `out`, as many of its bytes as fit: the first of its paths in
+/// the order of names. It answers how many bytes the path has. It looks at each path of the tree: its time and memory are in
+/// proportion to their number. No call is made for it.
+///
+/// # Errors
+/// `ENOENT`, where no file has this number; `ENOMEM`; `EBADF`, where the tree is not open.
+#[unsafe(no_mangle)]
+pub extern "C" fn wt_path_of(alloc: Global, tree: &mut Tree, number: u64, out: &mut [u8]) -> i64
+    ensures given { IsPathGiven tree.old.held.state number result out.old out.new }
+    ensures same { tree.new.held.state ≡ tree.old.held.state }
+{
+    let Some(opened) = tree.take(alloc) else {
+        return refused_number(Refusal::Ebadf);
+    };
+    let length = put_path_of(&opened.state, number, out);
+    *tree = Tree::of(opened);
+    length
+}
+
+fn put_path_of(state: &State, number: u64, out: &mut [u8]) -> i64
+    ensures { IsPathOf state.now number result out.old out.new }
+{
+    match state.path_of(number) {
+        Ok(Some(path)) => put_pathname(out, path.names()),
+        Ok(None) => refused_number(Refusal::Enoent),
+        Err(refusal) => refused_number(refusal),
+    }
+}
+
+// Puts the pathname of names at the front of `out`, as many bytes as it has room for. It answers how many bytes the pathname
+// has.
+fn put_pathname(out: &mut [u8], names: &[Name]) -> i64
+    ensures number { result ≡ count_number (length (pathname_of names.now)) }
+    ensures bytes { out.new ≡ overlaid (pathname_of names.now) out.old }
+{
+    if names.is_empty() {
+        put(out, b"/");
+        return 1;
+    }
+    let mut len = 0;
+    for name in names {
+        len = put_more(out, len, b"/");
+        len = put_more(out, len, name.bytes());
+    }
+    count_number(len as u64)
 }

@@ -126,10 +126,6 @@ AreStormLogs passes turns calls logs = (main : SeatLog) × (first : SeatLog) × 
 
 -- ---- the listeners
 
--- two sinks that are open
-abbrev pub AreTwoOpen : {S : Type 0} → (S → Bool) → List S → Type 0
-AreTwoOpen {S} is_open sinks = (one : S) × (other : S) × (sinks ≡ one ∷ other ∷ []) × (is_open one ≡ true) × (is_open other ≡ true)
-
 -- a listener under this number, at the pipe of so many places of this instance, that has yet taken nothing. Its sink took
 -- these records before
 abbrev pub beginning : ℕ → ℕ → ℕ → List Event → ListenerState

@@ -1,10 +1,11 @@
 //! A storm from its beginning to the settled book.
 
-ghost use Rattle.std.specs.Prelude.{◌≡◌, ◌+◌, ◌≤◌, ◌∷◌, [], true, IfOk, None, Some};
+ghost use Rattle.std.specs.List.{All};
+ghost use Rattle.std.specs.Prelude.{◌≡◌, ◌+◌, ◌≤◌, ◌∷◌, [], length, true, IfOk, None, Some};
 ghost use Rattle.event_sinks.specs.Audited.{Settles, calls_of, outcome_of};
 ghost use Rattle.event_sinks.specs.Listeners.{IsSoundListener, state_of_ended, state_of_listener};
 ghost use Rattle.shared_tree.specs.Seats.{seated};
-ghost use Rattle.watchtree_storm.specs.Storm.{AreStormLogs, AreTwoOpen, CountsAgree, HasBegun, HasRun, RunsAt, WritesHanded, beginning, told_of};
+ghost use Rattle.watchtree_storm.specs.Storm.{AreStormLogs, CountsAgree, HasBegun, HasRun, RunsAt, WritesHanded, beginning, told_of};
 
 use crate::beginning::{ReadyStorm, begin};
 use crate::fault::StormFault;
@@ -179,7 +180,8 @@ pub fn storm<G: Gate, R: Threads + Wait + Sync>(
     sinks: Vec<Box<dyn Sink>>,
 ) -> Result<Stormed, StormFault>
     requires calls { (1 ≤ calls) × (calls ≤ 1000) }
-    requires sinks { AreTwoOpen ⟦<Box<dyn Sink> as Sink>⟧.is_open sinks.items }
+    requires two { length sinks.items ≡ 2 }
+    requires is_open { All (λ sink. ⟦<Box<dyn Sink> as Sink>⟧.is_open sink ≡ true) sinks.items }
     ensures { IfOk result (λ s. CountsAgree s.settled) }
 {
     let mut sinks = sinks;
