@@ -82,13 +82,8 @@ int main(void) {
     unsigned answered = 0;
     for (int turn = 0; turn < CALLS; turn++) {
         const char *path = PATHS[choose(10)], *other = PATHS[choose(10)];
-<<<<<<< HEAD
-        if (choose(2)) call_on_files(choose(16), path, other);
-        else call_on_instances(choose(11), path, choose(12) + 1);
-=======
         if (choose(2)) call_on_files(choose(17), path, other);
-        else call_on_instances(choose(10), path, choose(12) + 1);
->>>>>>> next
+        else call_on_instances(choose(11), path, choose(12) + 1);
         HOLDS(!memcmp(out[0], out[1], sizeof out[0]) && !memcmp(&stats[0], &stats[1], sizeof stats[0]));
         /* (a descriptor changes no answer) */
         if (turn % 1000 == 0) {
