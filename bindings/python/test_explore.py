@@ -517,7 +517,7 @@ class Machines(unittest.TestCase):
 
     def test_a_bug_is_found(self):
         with self.assertRaises(explore.FoundFailure) as caught:
-            self.run_machine(self.machine("naive"), 300)
+            self.run_machine(self.machine("naive"), 200)
         text = str(caught.exception)
         self.assertIn("check failed: AssertionError: missed", text)
         module = importlib.import_module("naive_recursive")
@@ -526,7 +526,17 @@ class Machines(unittest.TestCase):
         self.assertIsNotNone(explore.replay(schedule, module.naive, module.check))
 
     def test_the_twin_survives(self):
-        self.run_machine(self.machine("corrected"), 60)
+        self.run_machine(self.machine("corrected"), 40)
+
+    def test_a_machine_that_fails(self):
+        machine = self.machine("naive")()
+        machine.come_to_rest()
+        machine.change("mkdir /d/a 755")
+        machine.go_on(1)
+        machine.change("create /d/a/f 644")
+        self.assertEqual([it.before for it in machine.schedule.changes], [None, 5])
+        with self.assertRaises(explore.FoundFailure):
+            machine.teardown()
 
     def test_the_steps_of_a_machine(self):
         machine = self.machine("naive")()

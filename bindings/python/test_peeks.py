@@ -30,9 +30,9 @@ class Peeks(unittest.TestCase):
             number = tree.mkdir("/d"), tree.create("/d/f")
             before = tree.cut()
             self.assertEqual([tree.path_of(it) for it in (1, *number)], ["/", "/d", "/d/f"])
-            for none in (0, 99, 2**32 + 1):
+            for missing in (0, 99, 2**32 + 1, 2**64 - 1):
                 with self.assertRaises(FileNotFoundError):
-                    tree.path_of(none)
+                    tree.path_of(missing)
             self.assertEqual(tree.cut(), before)
 
     def test_the_instances_that_are_ready(self):

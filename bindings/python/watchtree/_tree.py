@@ -147,9 +147,9 @@ class Tree:
         return self._read("wtt_peek_pread", path, count, offset)
 
     def path_of(self, number: int) -> str:
-        """Returns a path of the file or directory with a number, the first in the order of names.
+        """Returns a path of the file or directory with a number: the first in the order of names.
 
-        It looks at each path of the tree. The journal has no entry of it.
+        It looks at each path of the tree, and the journal has no entry of it.
         """
         return os.fsdecode(self._text("wtt_path_of", unsigned(number, 64)))
 
