@@ -29,6 +29,8 @@
 enum { QUIET_NS = 3000000 };
 /* After a request more may come soon, and would wait until all tasks were looked at. */
 enum { REST_US = 100, LONGEST_US = 2000 };
+/* The first look reads of every process of the machine, so it waits until the program has started. */
+enum { FIRST_LOOK_MS = 10 };
 /* How long a program may take to end, and how much longer than quiet a stall without rest may be. */
 enum { ENDING_MS = 10000, BUSY_STALLS = 6 };
 
@@ -180,8 +182,8 @@ static void give_turn(int64_t *wait_us) {
 }
 
 static void loop(void) {
-    int64_t wait_us = 0;
-    worked_at = progress_at = clock_ms();
+    int64_t wait_us = FIRST_LOOK_MS * 1000, started_at = clock_ms();
+    worked_at = progress_at = started_at;
     while (!has_ended && ending != BROKEN) {
         struct timespec limit = { .tv_sec = wait_us / 1000000, .tv_nsec = wait_us % 1000000 * 1000 };
         struct pollfd fds[] = { { fuse_session_fd(session), POLLIN, 0 }, { signals, POLLIN, 0 },
@@ -197,7 +199,7 @@ static void loop(void) {
         } else if (is_stalled()) {
             say("stalled: for %d ms no record was taken and no line ran", options.stall_ms);
             ask_to_end(STALLED);
-        } else if (fds[0].revents) wait_us = REST_US;
+        } else if (fds[0].revents) wait_us = clock_ms() - started_at < FIRST_LOOK_MS ? FIRST_LOOK_MS * 1000 : REST_US;
         else if (ending) wait_us = 10000;
         else if (is_at_rest(&wait_us)) {
             struct pollfd request = { fuse_session_fd(session), POLLIN, 0 };

@@ -156,8 +156,8 @@ waiting = fcntl.ioctl(file, termios.FIONREAD, b"\0\0\0\0")
 print("FIONREAD of a file", int.from_bytes(waiting, "little"), os.read(file, 100))
 print("watch outside", told(library.inotify_add_watch(instance, path, 0xfff)))
 print("statfs outside", os.statvfs(path).f_namemax > 0)
-for name, call in (("link", lambda: os.link("/proc/self/fd/%d" % instance, "/wt/link", follow_symlinks=True)),
-                   ("rename", lambda: os.rename("/wt/d", "/wt/.watchtree-new")),
+print("link", told(library.linkat(-100, b"/proc/self/fd/%d" % instance, -100, b"/wt/link", 0x400)))
+for name, call in (("rename", lambda: os.rename("/wt/d", "/wt/.watchtree-new")),
                    ("make", lambda: open("/wt/.watchtree-new", "w")),
                    ("instance", lambda: open("/wt/.watchtree-inotify")),
                    ("instance again", lambda: open("/proc/self/fd/%d" % instance))):
