@@ -192,7 +192,7 @@ class Schedules(unittest.TestCase):
 
 
 class Runs(unittest.TestCase):
-    """What the consumer is told, request by request."""
+    """What the consumer reads, request by request."""
 
     def test_lines_happen_before_a_request_and_at_rest(self):
         def consumer(tree):

@@ -31,7 +31,7 @@ class Watcher:
         self.known: Set[str] = set()
 
     def watch(self, folder: str) -> None:
-        """Watches a directory, and what is below it. It may be gone again."""
+        """Watches a directory and its descendants. It may be gone again."""
         if not (self.trusts and folder in self.folders.values()):
             self.folders[self.instance.add_watch(folder, Mask.CREATE | Mask.DELETE)] = folder
         for name in self.tree.listdir(folder):

@@ -72,7 +72,7 @@ pub fn corrected(tree: &mut Tree) -> Result<Known, Error> {
     follow(tree, true)
 }
 
-/// Adds what is below a directory.
+/// Adds the descendants of a directory.
 fn add_paths(tree: &mut watchtree::Tree, folder: &str, there: &mut Known) -> Result<(), Error> {
     for name in tree.peek_list(folder)? {
         let path = format!("{folder}/{}", name.to_string_lossy());

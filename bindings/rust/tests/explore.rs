@@ -1,4 +1,4 @@
-//! Schedules: known bugs are found and shrunk, their corrected twins survive, and what a seed draws is told.
+//! Schedules: known bugs are found and shrunk, their corrected twins survive, and what a seed draws is known.
 #[path = "../examples/naive_recursive.rs"]
 mod naive_recursive;
 #[path = "../examples/rename_halves.rs"]

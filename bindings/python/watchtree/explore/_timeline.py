@@ -1,4 +1,4 @@
-"""The text of a run: what the consumer asked, what happened, and what it was told."""
+"""The text of a run: what the consumer asked, what happened, and which events it read."""
 
 import ctypes
 import errno

@@ -26,7 +26,7 @@ impl fmt::Display for Part {
     }
 }
 
-/// How a run failed. Two failures with the same part and place are of one kind.
+/// How a run failed. Two failures with the same part and source line are of one kind.
 #[derive(Clone, Debug)]
 pub(crate) struct Failed {
     pub part: Part,
@@ -88,7 +88,7 @@ impl<'a, B> Program<'a, B> {
     /// Makes one run in a new tree.
     ///
     /// # Panics
-    /// If a tree cannot be opened for want of memory, or a line is none.
+    /// If a tree cannot be opened because it is out of memory, or a line is not a line of a script.
     pub fn run(&self, plan: Plan, has_timeline: bool) -> Outcome {
         let mut tree = Tree::new(plan, &self.lines, self.limit, has_timeline).expect("memory for a tree");
         for line in &self.setup {

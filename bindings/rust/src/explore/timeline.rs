@@ -1,4 +1,4 @@
-//! The text of a run: what the consumer asked, what happened, and what it was told.
+//! The text of a run: what the consumer asked, what happened, and which events it read.
 use crate::{mask, Error, Events, Instance};
 use std::fmt::{self, Debug, Write};
 
