@@ -313,6 +313,14 @@ fn what_is_refused() -> Result<(), Fault> {
     };
     let report = Explore::<()>::new(SMALL, endless, |_, _| Ok(()))?.max_requests(50).seeds(0..3)?;
     assert!(report.failure().expect("it does not end").message.contains("too many requests"));
+    let polls = |tree: &mut Tree| -> Result<(), Error> {
+        let instance = tree.inotify(QUEUE)?;
+        loop {
+            drop(tree.read(instance, 64));
+        }
+    };
+    let report = Explore::new(SMALL, polls, |_, _| Ok(()))?.max_requests(50).seeds(0..3)?;
+    assert!(report.failure().expect("it does not end").message.contains("too many requests"));
     Ok(())
 }
 
