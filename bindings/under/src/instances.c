@@ -1,8 +1,11 @@
 /* The inotify instances. No request waits but a read(2) that may: a poll is always answered at once, as the kernel holds
  * locks of an epoll descriptor meanwhile. */
 #include "instances.h"
+#include "asked.h"
 #include "nodes.h"
 #include "options.h"
+#include "record.h"
+#include "schedule.h"
 #include "script.h"
 #include "trace.h"
 #include "tree.h"
@@ -12,6 +15,7 @@
 #include <linux/fuse.h>
 #include <poll.h>
 #include <stdlib.h>
+#include <sys/inotify.h>
 
 enum { INSTANCES = 128, LARGEST_READ = 1 << 20, FIRST_OUTSIDE = 1 << 30 };
 
@@ -42,6 +46,7 @@ void open_instance(fuse_req_t req, struct fuse_file_info *file) {
         return;
     }
     work_count++;
+    ask("inotify_init");
     run_lines_before_request();
     int i = 0;
     while (i < INSTANCES && instances[i].is_open) i++;
@@ -88,21 +93,43 @@ static void drop_reader(struct instance *it, int i) {
     for (; i < it->reader_count; i++) it->readers[i] = it->readers[i + 1];
 }
 
-/* Answers a read: false if it has to wait. */
-static bool answer_read(struct instance *it, fuse_req_t req, size_t size) {
-    if (waiting_in(it) <= 0) return false;
+/* Takes the first record: as many bytes as it has, or -EINVAL if it has more than so many. */
+static int64_t take_record(struct instance *it, char *out, size_t size) {
+    enum { STEP = sizeof(struct inotify_event) };
+    int64_t count = -EINVAL;
+    for (size_t room = STEP; count == -EINVAL && room <= size; room += STEP)
+        count = CALL(room, wt_read(&tree, it->id, out, room));
+    return count;
+}
+
+/* Takes as many records as fit, and at most so many: 0 for all. */
+static int64_t take_records(struct instance *it, size_t size, uint64_t most) {
+    int64_t bytes = wt_bytes_waiting(&tree, it->id), taken = 0;
+    if (!most || (uint64_t)waiting_in(it) <= most)
+        return CALL(bytes < (int64_t)size ? (uint64_t)bytes : size, wt_read(&tree, it->id, buffer, size));
+    for (uint64_t i = 0; i < most; i++) {
+        int64_t count = take_record(it, buffer + taken, size - (size_t)taken);
+        if (count < 0) return taken ? taken : count;
+        taken += count;
+    }
+    return taken;
+}
+
+/* Answers a read, which is this request. If a schedule leaves records, they are as good as new ones, which come after it. */
+static void answer_read(struct instance *it, fuse_req_t req, size_t size, uint64_t request) {
     if (size > sizeof buffer) size = sizeof buffer;
-    int64_t bytes = wt_bytes_waiting(&tree, it->id);
-    int64_t count = CALL(bytes < (int64_t)size ? (uint64_t)bytes : size, wt_read(&tree, it->id, buffer, size));
-    it->waiting = waiting_in(it);
+    int64_t before = waiting_in(it);
+    uint64_t most = most_records(request);
+    int64_t count = take_records(it, size, most);
+    it->waiting = most ? 0 : waiting_in(it);    /* 0: whoever polls is woken again for those that are left */
     it->was_asked = false;
     work_count++;
-    if (is_refused(req, count)) return true;
+    if (is_refused(req, count)) return;
     instance_counts.reads++;
     instance_counts.reads_after_line += lines_after_first_mark() > 0;
+    if (waiting_in(it) && most && waiting_in(it) == before - (int64_t)most) record_short_read(request, most);
     trace_records(it->id, buffer, (size_t)count);
     fuse_reply_buf(req, buffer, (size_t)count);
-    return true;
 }
 
 static void on_interrupt(fuse_req_t req, void *data) {
@@ -121,8 +148,15 @@ void read_instance(fuse_req_t req, size_t size, struct fuse_file_info *file) {
         fuse_reply_err(req, EIO);
         return;
     }
-    if (waiting_in(it) > 0) run_lines_before_request();
-    if (answer_read(it, req, size)) return;
+    if (waiting_in(it) > 0) {
+        ask_instance("read", it->id);
+        uint64_t request = run_lines_before_request();
+        if (waiting_in(it) > 0) {
+            answer_read(it, req, size, request);
+            deliver();
+            return;
+        }
+    }
     it->was_asked = true;
     if (file->flags & O_NONBLOCK) fuse_reply_err(req, EAGAIN);
     else if (!add_reader(it, (struct reader){ req, size })) fuse_reply_err(req, ENOMEM);
@@ -180,16 +214,19 @@ void call_instance(fuse_req_t req, unsigned command, struct fuse_file_info *file
     else {
         work_count++;
         instance_counts.calls++;
-        run_lines_before_request();
     }
     if (command == CALL_WATCH && in_size == sizeof(struct watch_call)) {
         struct watch_call call;
         memcpy(&call, in, sizeof call);
+        ask_file("inotify_add_watch", call.number);
+        run_lines_before_request();
         reply = add_watch(it, &call);
     }
     if (command == CALL_UNWATCH && in_size == sizeof(int32_t)) {
         int32_t wd;
         memcpy(&wd, in, sizeof wd);
+        ask_instance("inotify_rm_watch", it->id);
+        run_lines_before_request();
         reply = remove_watch(it, wd);
     }
     if (is_refused(req, reply)) return;
@@ -199,21 +236,42 @@ void call_instance(fuse_req_t req, unsigned command, struct fuse_file_info *file
 
 /* ---- who waits */
 
-void deliver(void) {
-    for (int i = 0; i < INSTANCES && instance_counts.open; i++) {
-        struct instance *it = instances + i;
-        if (!it->is_open) continue;
-        int64_t waiting = waiting_in(it);
-        bool has_more = waiting > it->waiting;
-        it->waiting = waiting;
-        while (it->reader_count && waiting_in(it) > 0) {
-            struct reader first = it->readers[0];
-            drop_reader(it, 0);
-            answer_read(it, first.req, first.size);
-            if (it->reader_count) it->was_asked = true;
-        }
-        if (has_more && it->poller && it->waiting > 0) fuse_lowlevel_notify_poll(it->poller);
+/* Answers the reads of an instance that wait. Lines that a schedule lets happen before one are delivered with the rest. */
+static bool answer_readers(struct instance *it) {
+    bool is_any = false;
+    while (it->reader_count && waiting_in(it) > 0) {
+        ask_instance("read", it->id);
+        uint64_t request = run_lines_before_request();
+        struct reader first = it->readers[0];
+        drop_reader(it, 0);
+        answer_read(it, first.req, first.size, request);
+        it->waiting = 0;
+        if (it->reader_count) it->was_asked = true;
+        is_any = true;
     }
+    return is_any;
+}
+
+static void wake_poller(struct instance *it) {
+    int64_t waiting = waiting_in(it);
+    bool has_more = waiting > it->waiting;
+    it->waiting = waiting;
+    if (has_more && it->poller) fuse_lowlevel_notify_poll(it->poller);
+}
+
+static bool is_delivering, is_held;
+
+void hold_deliveries(bool holds) { is_held = holds; }
+
+void deliver(void) {
+    if (is_delivering || is_held || !instance_counts.open) return;
+    is_delivering = true;
+    for (bool is_any = true; is_any;) {
+        is_any = false;
+        for (int i = 0; i < INSTANCES; i++) is_any |= instances[i].is_open && answer_readers(instances + i);
+    }
+    for (int i = 0; i < INSTANCES; i++) if (instances[i].is_open) wake_poller(instances + i);
+    is_delivering = false;
 }
 
 struct asking who_asks(void) {

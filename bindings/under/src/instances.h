@@ -18,6 +18,8 @@ void call_instance(fuse_req_t req, unsigned command, struct fuse_file_info *file
 
 /* Answers the reads that wait for a record that is there now, and wakes who polls. */
 void deliver(void);
+/* While deliveries are held, deliver() does nothing. */
+void hold_deliveries(bool holds);
 
 /* What the open instances say of the program. */
 struct asking {

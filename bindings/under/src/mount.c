@@ -1,5 +1,6 @@
 /* The mount, in a mount namespace of its own; for others than root in a user namespace too. */
 #include "mount.h"
+#include "asked.h"
 #include "needs.h"
 #include "options.h"
 #include "requests.h"
@@ -110,7 +111,9 @@ struct fuse_session *mount_tree(const char *here) {
     if (mount("watchtree", options.dir, "fuse.watchtree", MS_NOSUID | MS_NODEV, text) < 0) lack_mount(options.dir, errno);
     char *words[] = { "under", NULL };
     struct fuse_args args = FUSE_ARGS_INIT(1, words);
-    struct fuse_session *session = fuse_session_new(&args, &requests, sizeof requests, NULL);
+    struct fuse_lowlevel_ops handlers = requests;
+    trace_handlers(&handlers);
+    struct fuse_session *session = fuse_session_new(&args, &handlers, sizeof handlers, NULL);
     fuse_opt_free_args(&args);
     snprintf(text, sizeof text, "/dev/fd/%d", fd);
     if (!session || fuse_session_mount(session, text) < 0) fault("libfuse3 takes no mounted descriptor: 3.3 is needed");

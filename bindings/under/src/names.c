@@ -8,8 +8,8 @@
 
 /* ---- new files
  * wt_create opens and closes, as a script's line does, so it raises IN_CREATE, IN_OPEN and IN_CLOSE_WRITE. A program's
- * file raises the latter when it is closed. So it is made in a directory that nobody can watch, and linked to its place,
- * which raises IN_CREATE alone. */
+ * file raises the latter when it is closed. So it is made in a directory that nobody can watch, and linked to its path,
+ * which raises only IN_CREATE. */
 
 static const char nursery[] = "/" NURSERY, newborn[] = "/" NURSERY "/new";
 

@@ -9,21 +9,25 @@
 #include <stdlib.h>
 
 struct options options = { .dir = "/wt", .queue = 16384, .debounce_ms = 100, .settle_ms = 300, .stall_ms = 10000,
-                           .end_signal = SIGTERM };
+                           .end_signal = SIGTERM, .vary = VARY_LINES | VARY_READS };
 
 static const char usage[] =
     "usage: watchtree under [OPTIONS] SCRIPT -- PROGRAM [ARGUMENT..]\n"
+    "       watchtree under [OPTIONS] --schedule FILE -- PROGRAM [ARGUMENT..]\n"
     "  --dir DIR          mount the tree at DIR (/wt)\n"
     "  --trace            print each line, watch and record on standard error\n"
-    "  --out DIR          write trace, stdout, stderr, listing and tree into DIR\n"
+    "  --out DIR          write trace, schedule, stdout, stderr, listing and tree into DIR\n"
     "  --queue N          the limit of each queue of records, 1 to 65535 (16384)\n"
     "  --seed N           lines also happen before requests are answered, by a generator\n"
+    "  --vary WORDS       what a seed decides: lines, reads, queue (lines,reads)\n"
+    "  --schedule FILE    replay what a run left in DIR/schedule\n"
     "  --seeds A..B       a run for each seed\n"
     "  --check COMMAND    what decides whether a run of --seeds passed\n"
     "  --outside=ignore   a watch outside the mount is taken and never fires (else EACCES)\n"
     "  --end SIGNAL       how the program is ended after the script: TERM, INT, .., none (TERM)\n"
     "  --debounce MS      how long quiet is for a line -- (100)\n"
     "  --settle MS        how long the program is quiet before it is ended (300)\n"
+    "  --quick            do not wait for --debounce and --settle if no task has a time limit\n"
     "  --stall MS         a run without a record or a line for so long is ended (10000)\n"
     "  --one-cpu          keep everything on one CPU\n";
 
@@ -75,6 +79,19 @@ static void outside(const char *word) {
     else refuse("outside", word);
 }
 
+static void vary(const char *list) {
+    static const char *const names[] = { "lines", "reads", "queue" };
+    options.vary = 0;
+    for (const char *at = list; at; at = strchr(at, ',')) {
+        at += at != list;
+        size_t length = strcspn(at, ",");
+        int i = 0;
+        while (i < 3 && (strlen(names[i]) != length || memcmp(at, names[i], length))) i++;
+        if (i == 3) refuse("vary", list);
+        options.vary |= 1 << i;
+    }
+}
+
 _Noreturn static void print_help(void) {
     fputs(usage, stdout);
     exit(0);
@@ -85,6 +102,7 @@ void read_options(int argc, char **argv) {
         { "dir", 1, NULL, 'd' }, { "trace", 0, NULL, 't' }, { "out", 1, NULL, 'o' }, { "seed", 1, NULL, 's' },
         { "seeds", 1, NULL, 'S' }, { "check", 1, NULL, 'c' }, { "queue", 1, NULL, 'q' }, { "settle", 1, NULL, 'e' },
         { "debounce", 1, NULL, 'b' }, { "stall", 1, NULL, 'l' }, { "refuse-outside", 0, NULL, 'n' },
+        { "vary", 1, NULL, 'v' }, { "schedule", 1, NULL, 'R' }, { "quick", 0, NULL, 'Q' },
         { "outside", 1, NULL, 'u' }, { "end", 1, NULL, 'E' }, { "one-cpu", 0, NULL, '1' }, { "help", 0, NULL, 'h' },
         { 0 } };
     for (int c; (c = getopt_long(argc, argv, "+h", words, NULL)) >= 0;) switch (c) {
@@ -94,6 +112,9 @@ void read_options(int argc, char **argv) {
         case 's': options.has_seed = true; options.seed = number("seed", optarg, 0, UINT64_MAX); break;
         case 'S': seeds(optarg); break;
         case 'c': options.check = optarg; break;
+        case 'v': vary(optarg); break;
+        case 'R': options.has_schedule = true; options.script = optarg; break;
+        case 'Q': options.is_quick = true; break;
         case 'q': options.queue = (uint32_t)number("queue", optarg, 1, 65535); break;
         case 'e': options.settle_ms = milliseconds("settle", optarg); break;
         case 'b': options.debounce_ms = milliseconds("debounce", optarg); break;
@@ -106,12 +127,16 @@ void read_options(int argc, char **argv) {
         default: fputs(usage, stderr); exit(STATUS_FAULT);
     }
     int at = optind;
-    if (at + 1 < argc) options.script = argv[at++];
-    if (options.script && !strcmp(argv[at], "--")) at++;
+    bool is_named = !options.has_schedule && at + 1 < argc;
+    if (is_named) options.script = argv[at++];
+    if (is_named && !strcmp(argv[at], "--")) at++;
     if (!options.script || at >= argc) {
         fputs(usage, stderr);
         exit(STATUS_FAULT);
     }
     options.program = argv + at;
     if (options.check && !options.many_seeds) fault("--check goes with --seeds");
+    if (options.has_schedule && options.has_seed) fault("--schedule and --seed are two schedules");
+    if (options.has_schedule && at + 1 < argc && !strcmp(argv[at + 1], "--"))
+        fault("--schedule has the script: %s is one more", argv[at]);
 }

@@ -3,6 +3,9 @@
 #define OPTIONS_H
 #include "under.h"
 
+/* What a seed decides. */
+enum vary { VARY_LINES = 1, VARY_READS = 2, VARY_QUEUE = 4 };
+
 struct options {
     const char *dir;            /* where the tree is mounted */
     const char *script;
@@ -11,10 +14,13 @@ struct options {
     char **program;             /* its words, NULL at the end */
     bool traces;
     bool has_seed;
+    bool has_schedule;          /* the script is that of --schedule */
+    bool is_quick;
     bool many_seeds;
     bool ignores_outside;
     uint64_t seed, last_seed;
     uint32_t queue;
+    int vary;
     int debounce_ms, settle_ms, stall_ms;
     int end_signal;             /* 0: none */
 };

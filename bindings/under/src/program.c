@@ -62,7 +62,7 @@ void start_program(const char *here, const sigset_t *blocked, int mount_fd) {
     }
     if ((program_pid = fork()) < 0) fail("fork");
     if (program_pid == 0) {
-        /* Each waits for the other, and the supervisor for the tool: what tells of an end is open in nobody else. */
+        /* Each waits for the other, and the supervisor for the tool: the descriptor that shows an end is open in nobody else. */
         close(pair[0]);
         close(mount_fd);
         become_program(here, tool, pair[1], blocked);

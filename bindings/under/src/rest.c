@@ -19,7 +19,7 @@ static size_t our_count, our_capacity;
 static ino_t *foreign;
 static size_t foreign_count;
 
-static bool read_file_into(const char *name, char *out, size_t size) {
+bool read_file_into(const char *name, char *out, size_t size) {
     int fd = open(name, O_RDONLY | O_CLOEXEC);
     ssize_t count = fd < 0 ? -1 : read(fd, out, size - 1);
     if (fd >= 0) close(fd);
@@ -144,6 +144,25 @@ struct tasks look_at_tasks(void) {
         if (tasks) closedir(tasks);
     }
     return all;
+}
+
+bool any_task(bool (*is_such)(pid_t pid, const char *task)) {
+    bool is_any = false;
+    for (size_t i = 0; i < our_count && !is_any; i++) {
+        char name[64];
+        struct state state;
+        struct dirent *it;
+        if (ours[i] == supervisor_pid) continue;
+        snprintf(name, sizeof name, "/proc/%d/task", ours[i]);
+        DIR *tasks = opendir(name);
+        while (tasks && !is_any && (it = readdir(tasks))) {
+            if (*it->d_name == '.') continue;
+            snprintf(name, sizeof name, "/proc/%d/task/%.20s/stat", ours[i], it->d_name);
+            is_any = read_state(name, &state) && state.letter != 'Z' && state.letter != 'X' && is_such(ours[i], it->d_name);
+        }
+        if (tasks) closedir(tasks);
+    }
+    return is_any;
 }
 
 bool is_of_program(pid_t pid) {

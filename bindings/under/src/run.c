@@ -6,7 +6,9 @@
 #include "needs.h"
 #include "options.h"
 #include "program.h"
+#include "record.h"
 #include "rest.h"
+#include "schedule.h"
 #include "script.h"
 #include "trace.h"
 #include "tree.h"
@@ -274,7 +276,9 @@ int run(void) {
     check_needs();
     prepare_out();
     open_script();
+    draw_queue();
     open_trace();
+    open_record();
     session = mount_tree(here);
     open_tree();
     make_nursery();
@@ -289,6 +293,8 @@ int run(void) {
     int status = exit_status();
     if (options.out) write_tree(options.out);
     close_trace();
+    record_rest();
+    close_record();
     unmount_tree(session);
     close_tree();
     free_nodes();

@@ -1,11 +1,28 @@
-/* What a schedule decides. Every decision of a run is a choice made here, in order, so the choices of a run, written down,
- * are its schedule. Without one the first alternative is taken each time. */
+/* A schedule: which lines happen before which request of the program, how many records a read hands over at most, and the
+ * limit of each queue. It comes from a generator (--seed) or from a file (--schedule). Requests count from 1. */
 #ifndef SCHEDULE_H
 #define SCHEDULE_H
 #include "under.h"
 
-/* Do lines happen before this request? */
-bool lines_before_request(void);
-/* A line happened. Does one more happen at once? */
-bool one_more_line(void);
+/* Whether the run has a schedule. Without one lines happen at rest alone, and reads take all they can. */
+bool has_schedule(void);
+/* Draws the limit of each queue if the seed has to. Before the tree is opened. */
+void draw_queue(void);
+
+/* Does the next line happen before this request? Lines that already did are counted. */
+bool line_comes_before(uint64_t request, uint64_t count);
+/* How many records the read that is this request hands over at most: 0 for all. */
+uint64_t most_records(uint64_t request);
+
+/* ---- directives: comments of a script that begin with #@ */
+
+/* Whether a comment is one, of a script that --schedule names. */
+bool is_directive(const char *line, size_t length);
+/* Looks at each directive before the program starts: reads of absolute requests and the queue's limit are kept. A fault
+ * if it is none that there is. `lines` lines stand above it. */
+void expect_directive(const char *line, size_t length, long number, long lines);
+/* Passes over a directive: it decides where the lines below it happen. */
+void pass_directive(const char *line, size_t length);
+/* A line happened, and this request is the next to be answered: directives count from it. */
+void line_happened(uint64_t next_request);
 #endif

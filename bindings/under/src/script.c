@@ -1,7 +1,10 @@
 /* The script: what stands next in it. */
 #include "script.h"
 #include "options.h"
+#include "record.h"
+#include "schedule.h"
 #include "trace.h"
+#include "turn.h"
 #include <errno.h>
 #include <fcntl.h>
 #include <poll.h>
@@ -58,6 +61,7 @@ enum next next_in_script(void) {
         if (length < 0) return is_ended ? NEXT_END : NEXT_NOT_YET;
         if (length == 2 && !memcmp(text + at, "--", 2)) return NEXT_MARK;
         if (!is_empty(text + at, (size_t)length)) return NEXT_LINE;
+        if (is_directive(text + at, (size_t)length)) pass_directive(text + at, (size_t)length);
         pass((size_t)length);
     }
 }
@@ -68,6 +72,8 @@ void run_line(void) {
     if (length > sizeof line && !(copy = malloc(length))) fail("malloc");
     memcpy(copy, text + at, length);        /* the line may be moved by a read */
     pass(length);
+    line_happened(next_request());
+    record_line(copy, length, request_of_line());
     happened_after_mark += had_mark;        /* before a record of it is taken */
     if (!run_text(copy, length, number)) {
         refused++;
@@ -79,6 +85,7 @@ void run_line(void) {
 void pass_mark(void) {
     pass(2);
     had_mark = true;
+    record_mark();
     trace("> --\n");
 }
 
@@ -105,6 +112,15 @@ long lines_left(void) {
     return count;
 }
 
+void record_rest(void) {
+    for (enum next next; (next = next_in_script()) == NEXT_LINE || next == NEXT_MARK;) {
+        size_t length = (size_t)line_length();
+        if (next == NEXT_MARK) record_mark();
+        else record_line(text + at, length, 0);
+        pass(length);
+    }
+}
+
 long lines_after_first_mark(void) { return happened_after_mark; }
 
 int live_script(void) { return is_ended ? -1 : fd; }
@@ -117,10 +133,15 @@ void read_live_script(void) {
 /* A script that is read at once has no fault in its middle. */
 static void try_all(void) {
     struct wt_tree scratch = WT_TREE_INIT;
+    long lines = 0;
     if (wt_open(&scratch) < 0) fault("wt_open");
     for (ssize_t length; (length = line_length()) >= 0; pass((size_t)length)) {
-        bool is_mark = length == 2 && !memcmp(text + at, "--", 2);
-        if (!is_mark && !is_empty(text + at, (size_t)length)) try_text(&scratch, text + at, (size_t)length, number + 1);
+        const char *line = text + at;
+        bool is_mark = length == 2 && !memcmp(line, "--", 2);
+        if (is_directive(line, (size_t)length)) expect_directive(line, (size_t)length, number + 1, lines);
+        if (is_mark || is_empty(line, (size_t)length)) continue;
+        try_text(&scratch, line, (size_t)length, number + 1);
+        lines++;
     }
     wt_close(&scratch);
     at = 0;
@@ -131,7 +152,10 @@ void open_script(void) {
     struct stat is;
     fd = strcmp(options.script, "-") ? open(options.script, O_RDONLY | O_CLOEXEC) : fcntl(0, F_DUPFD_CLOEXEC, 3);
     if (fd < 0 || fstat(fd, &is) < 0) fail(options.script);
-    if (!S_ISREG(is.st_mode) && strcmp(options.script, "/dev/null")) return;
+    if (!S_ISREG(is.st_mode) && strcmp(options.script, "/dev/null")) {
+        if (options.has_schedule) fault("--schedule: %s is no file", options.script);
+        return;
+    }
     if (is.st_size > LONGEST) fault("%s: script too long", options.script);
     while (!is_ended) read_some();
     if (end > LONGEST) fault("%s: script too long", options.script);

@@ -178,7 +178,7 @@ static void take_calls_soon(void) {
     setpriority(PRIO_PROCESS, 0, -20);
 }
 
-/* The descriptor that tells when the tool is gone. */
+/* The descriptor that shows when the tool is gone. */
 static int prepare(int from, pid_t tool) {
     struct stat is;
     sigset_t all;

@@ -1,10 +1,13 @@
 /* Whose turn is it? Lines happen at two kinds of points: when the program is at rest and asked an instance in vain, and, in
- * a run with a schedule, before a request is answered. What the schedule decides is asked of choose() alone. */
+ * a run with a schedule, before a request is answered. */
 #include "turn.h"
+#include "asked.h"
 #include "instances.h"
 #include "options.h"
+#include "record.h"
 #include "schedule.h"
 #include "script.h"
+#include "timers.h"
 #include "trace.h"
 
 /* After an edge-triggered event and a short read no poll follows, so 'was polled, and is empty' is enough after a while. */
@@ -14,30 +17,40 @@ enum { UNREAD_MS = 1000 };
 
 uint64_t line_count;
 static uint64_t request_count;
+static uint64_t answered_next;      /* the request before which lines happen now: 0 at rest */
 
-void run_lines_before_request(void) {
-    request_count++;
-    if (!options.has_seed || !lines_before_request()) return;
-    while (next_in_script() == NEXT_LINE) {
-        run_line();
-        if (!one_more_line()) break;
-    }
+uint64_t run_lines_before_request(void) {
+    uint64_t request = ++request_count, lines = 0;
+    if (!has_schedule()) return request;
+    answered_next = request;
+    hold_deliveries(true);
+    for (; next_in_script() == NEXT_LINE && line_comes_before(request, lines); lines++) run_line();
+    hold_deliveries(false);
+    answered_next = 0;
+    trace_asked(request);
+    if (lines) deliver();
+    return request;
 }
+
+uint64_t request_of_line(void) { return answered_next; }
+uint64_t next_request(void) { return answered_next ? answered_next : request_count + 1; }
 
 void trace_point(void) {
-    if (options.has_seed) trace("@%llu ", (unsigned long long)request_count);
+    if (answered_next) trace("@%llu ", (unsigned long long)answered_next);
 }
 
-/* Lines run until somebody has a record to take, and by a schedule perhaps a few more. */
+/* Lines run until somebody has a record to take. */
 static void run_lines(void) {
     uint64_t reads = instance_counts.reads;
     while (next_in_script() == NEXT_LINE) {
         run_line();
         struct asking who = who_asks();
-        bool has_effect = !who.in_vain || who.unread || instance_counts.reads != reads;
-        if (has_effect && !one_more_line()) break;
+        if (!who.in_vain || who.unread || instance_counts.reads != reads) break;
     }
 }
+
+/* The program is at rest. Without a time limit no task of it wakes up before a line happens. */
+static bool is_quiet_for_good(void) { return options.is_quick && !has_timer(); }
 
 enum turn take_turn(int64_t quiet_ms) {
     struct asking who = who_asks();
@@ -48,13 +61,13 @@ enum turn take_turn(int64_t quiet_ms) {
         run_lines();
         return TURN_TAKEN;
     case NEXT_MARK:
-        if (quiet_ms < options.debounce_ms) return TURN_WAITS;
+        if (quiet_ms < options.debounce_ms && !is_quiet_for_good()) return TURN_WAITS;
         pass_mark();
         return TURN_TAKEN;
     case NEXT_NOT_YET: return TURN_WAITS;
     case NEXT_END: break;
     }
-    return quiet_ms < options.settle_ms ? TURN_WAITS : TURN_OVER;
+    return quiet_ms < options.settle_ms && !is_quiet_for_good() ? TURN_WAITS : TURN_OVER;
 }
 
 bool is_waiting_for_lines(void) { return next_in_script() == NEXT_NOT_YET; }

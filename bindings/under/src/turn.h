@@ -6,9 +6,13 @@
 /* How many lines ran. */
 extern uint64_t line_count;
 
-/* Before a request of the program is answered: by a schedule, lines happen first. */
-void run_lines_before_request(void);
-/* In a trace of such a run, the number of the request before which the next line stands. */
+/* Before a request of the program is answered: by a schedule, lines happen first. The number of the request. */
+uint64_t run_lines_before_request(void);
+/* The request before which a line happens now: 0 if it happens at rest. */
+uint64_t request_of_line(void);
+/* The request that is answered next. */
+uint64_t next_request(void);
+/* In a trace, the request before which a line happens. */
 void trace_point(void);
 
 enum turn { TURN_WAITS, TURN_TAKEN, TURN_OVER };

@@ -1,6 +1,6 @@
 """The clients of inotify that `clients.py` starts, each beside its script.
 
-In the words of a start {d} is the watched directory, {root} the directory that stands for the root, {room} a folder of
+In the words of a start {d} is the watched directory, {root} the directory that stands for the root, `{room}` a folder of
 the run outside the tree, {here} the folder of the clients' sources, and {bin} that of what was built from them."""
 import collections
 
@@ -13,7 +13,7 @@ def case(name, packages, start, script="basic", tells="end", but="", varies=None
 
     packages   Debian's packages; the version is that of the first
     start      words of a shell
-    tells      words that must be in what it prints
+    `tells`    words that must be in what it prints
     but        classes of LINUX.md by which it may differ from a disk
     varies     a pattern of what no two runs print alike
     any_order  it has threads or processes of its own, whose lines come in any order

@@ -3,8 +3,8 @@
 
     clients.py [--only NAME] [--jobs N] [--rows] UNDER
 
-A client passes where it tells on the tree what it tells on the disk, but for classes of docs/LINUX.md, and what its case
-says that it must tell. It prints `ok NAME: HOW`, `FAILED NAME: WHY` or `left out NAME: WHY` for each; with --rows, the rows
+A client passes if it reports on the tree what it reports on the disk, except for classes of docs/LINUX.md, and what its
+case says that it must report. It prints `ok NAME: HOW`, `FAILED NAME: WHY` or `left out NAME: WHY` for each; with --rows, the rows
 of the table in docs/UNDER-CLIENTS.md.
 """
 import argparse
@@ -79,7 +79,7 @@ class Bench:
         return Told(ran.returncode, text if ran.returncode == 0 else text + ran.stderr.decode(errors="replace"))
 
     def both(self, case):
-        """What the client tells on the tree, and on a disk."""
+        """What the client reports on the tree, and on a disk."""
         script = os.path.join(HERE, "scripts", case.script)
         waits = ["--settle", str(case.settle), "--debounce", str(case.debounce)]
         disk = tempfile.mkdtemp(prefix="disk-", dir=self.room)
@@ -95,7 +95,7 @@ def verdict(case, here, there):
     for word in case.tells:
         for side, told in ("the tree", here), ("the disk", there):
             if word not in re.split(r"[^\w]+", told.text):
-                return False, f"not told on {side}: {word}\n{told.text}"
+                return False, f"not reported on {side}: {word}\n{told.text}"
     left, right = here.text.splitlines(), there.text.splitlines()
     kept = [line for line in right if not any(CLASSES[name].search(line) for name in case.but)]
     how = "same"
@@ -115,7 +115,7 @@ def is_in_table(case, how):
 
 
 def run(bench, case):
-    """The client, its version, whether it tells the same (or nothing, where it is left out), and how or why."""
+    """The client, its version, whether it reports the same (None if it is skipped), and how or why."""
     found = version(case)
     if found is None:
         return case, None, None, "wants " + " ".join(case.packages)

@@ -1,4 +1,4 @@
-/* Ways to wait for an instance of inotify, most of which no library has: waits MODE DIRECTORY. Each prints what it is told
+/* Ways to wait for an instance of inotify, most of which no library has: waits MODE DIRECTORY. Each prints its events
  * as `MASK NAME`, and ends after the name "end". `waits --list` prints the modes. */
 #define _GNU_SOURCE
 #include <aio.h>

@@ -1,0 +1,80 @@
+"""Whether a client has what is there: check.py KIND, as a check of watchtree explore.
+
+What the client said makes a set of paths: those that it said were made or moved in, without those that it said were deleted or
+moved away and all below them. At the end it has to be the paths that are there, below the watched directory.
+
+A client that says nothing of what was there before (every KIND but `whole` and `watchman`) is not judged by a run in which a
+line happened before its first watch. `watchman` and `inotifywait` are how these print their events.
+"""
+
+import json
+import os
+import re
+import sys
+from typing import Iterator, Set, Tuple
+
+OUT, MOUNT = os.environ["WT_OUT"], "/wt"
+
+
+def said(kind: str) -> Iterator[Tuple[str, str]]:
+    """Yields what the client said: + or -, and a path."""
+    with open(f"{OUT}/stdout", encoding="utf-8", errors="surrogateescape") as file:
+        for line in file:
+            if kind == "inotifywait":
+                path, events = line.rstrip("\n").split("|")
+                yield "-" if re.search("DELETE|MOVED_FROM", events) else "+", path
+            elif kind == "watchman":
+                for it in json.loads(line).get("files", []):
+                    yield "+" if it["exists"] else "-", f"{MOUNT}/d/{it['name']}"
+            elif line[:2] in ("+ ", "- "):
+                yield line[0], line[2:].rstrip("\n")
+
+
+def believed(kind: str) -> Set[str]:
+    """Returns the paths that the client has at the end."""
+    has: Set[str] = set()
+    for sign, path in said(kind):
+        path = path.rstrip("/")
+        if sign == "+":
+            has.add(path)
+        else:
+            has = {it for it in has if it != path and not it.startswith(path + "/")}
+    return has
+
+
+def there(name: str) -> Set[str]:
+    """Returns the paths that were there at the end."""
+    with open(f"{OUT}/{name}", encoding="utf-8") as file:
+        return {MOUNT + line.split(" ")[0] for line in file}
+
+
+def is_too_early() -> bool:
+    """Whether a line happened before the client had a watch."""
+    has_started = False
+    with open(f"{OUT}/trace", encoding="utf-8", errors="surrogateescape") as file:
+        for line in file:
+            if re.match(r"# watch .*: [0-9]", line):
+                return False
+            if has_started and re.match(r"(@[0-9]+ )?> ", line):
+                return True
+            has_started = has_started or line == "> --\n"
+    return True
+
+
+def main() -> int:
+    """Prints what is wrong with what the client has."""
+    kind = sys.argv[1]
+    if kind not in ("whole", "watchman") and is_too_early():
+        return 0
+    has, real, root = believed(kind), there("listing"), f"{MOUNT}/d/"
+    lost = {it for it in real - has if it.startswith(root)}
+    stale = {it for it in has - real if it.startswith(root)}
+    for path in sorted(lost):
+        print("lost:", path, file=sys.stderr)
+    for path in sorted(stale):
+        print("is gone:", path, file=sys.stderr)
+    return 1 if lost or stale or os.environ["WT_STATUS"] not in ("0", "122") else 0
+
+
+if __name__ == "__main__":
+    sys.exit(main())

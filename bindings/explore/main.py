@@ -1,0 +1,159 @@
+#!/usr/bin/python3
+"""watchtree explore: runs a program under many schedules, says which break it, and shrinks one. docs/EXPLORE.md says how."""
+
+import argparse
+import os
+import shutil
+import signal
+import stat
+import sys
+import tempfile
+from typing import List, NoReturn, Optional, Tuple
+
+sys.dont_write_bytecode = True
+sys.path.insert(0, os.path.dirname(os.path.abspath(__file__)))
+import report  # noqa: E402
+import search  # noqa: E402
+from runs import NOT_EXECUTABLE, NOT_FOUND, TOOL_FAULT, Bench, Result  # noqa: E402
+from schedules import Fault, parse  # noqa: E402
+
+USAGE = "watchtree explore [OPTIONS] SCRIPT --check COMMAND -- PROGRAM [ARGUMENT..]"
+VARIED = ("lines", "reads", "queue")
+
+
+class Words(argparse.ArgumentParser):
+    """A command line whose faults are those of the tool."""
+
+    def error(self, message: str) -> NoReturn:
+        self.print_usage(sys.stderr)
+        self.exit(TOOL_FAULT, f"watchtree explore: {message}\n")
+
+
+def _range(word: str) -> range:
+    first, dots, last = word.partition("..")
+    if not dots or not first.isdecimal() or not last.isdecimal() or int(last) < int(first):
+        raise argparse.ArgumentTypeError(f"not A..B: {word}")
+    return range(int(first), int(last) + 1)
+
+
+def _vary(word: str) -> str:
+    if not word or any(it not in VARIED for it in word.split(",")):
+        raise argparse.ArgumentTypeError(f"not of {', '.join(VARIED)}: {word}")
+    return word
+
+
+def _count(word: str) -> int:
+    if not word.isdecimal() or int(word) < 1:
+        raise argparse.ArgumentTypeError(f"no count: {word}")
+    return int(word)
+
+
+def read_words(words: List[str]) -> Tuple[argparse.Namespace, List[str]]:
+    """Reads the command line: the options, and the program."""
+    parser = Words(prog="watchtree explore", usage=USAGE, allow_abbrev=False)
+    parser.add_argument("script", metavar="SCRIPT")
+    parser.add_argument("--check", required=True, metavar="COMMAND", help="fails if the run is wrong")
+    how = parser.add_mutually_exclusive_group()
+    how.add_argument("--seeds", type=_range, metavar="A..B", help="a run for each seed (1..200)")
+    how.add_argument("--moves", type=int, choices=(1, 2), help="every schedule with at most so many moves")
+    parser.add_argument("--vary", type=_vary, default="lines,reads", metavar="WORDS", help="lines, reads, queue (lines,reads)")
+    parser.add_argument("--first", action="store_true", help="stop at the first failure")
+    parser.add_argument("--out", metavar="DIR", help="where failing schedules are left (SCRIPT.failures)")
+    parser.add_argument("--jobs", type=_count, default=len(os.sched_getaffinity(0)), help="runs at once (one a CPU)")
+    parser.add_argument("--shrink-runs", type=int, default=1000, metavar="N", help="the most runs that shrinking takes (1000)")
+    parser.add_argument("--replays", type=_count, default=20, metavar="N", help="how often the shrunk one is replayed (20)")
+    parser.add_argument("--timers", action="store_true", help="always wait for --debounce and --settle")
+    for name, what in (("queue", "N"), ("settle", "MS"), ("debounce", "MS"), ("stall", "MS"), ("dir", "DIR"),
+                       ("end", "SIGNAL"), ("outside", "HOW")):
+        parser.add_argument(f"--{name}", metavar=what, help="as of watchtree under")
+    parser.add_argument("--runner", required=True, help=argparse.SUPPRESS)
+    parser.add_argument("--library", help=argparse.SUPPRESS)  # where Python finds watchtree_trace, if not beside the runner
+    if "--" not in words:
+        parser.error("there is no -- and program") if not {"-h", "--help"} & set(words) else parser.parse_args(words)
+    at = words.index("--")
+    said = parser.parse_args(words[:at])
+    if not words[at + 1 :]:
+        parser.error("there is no program")
+    if said.moves and "queue" in said.vary:
+        parser.error("--moves does not vary the queue: give --queue N")
+    return said, words[at + 1 :]
+
+
+def runner_options(said: argparse.Namespace) -> List[str]:
+    """Returns the options of the runner."""
+    out = [] if said.timers else ["--quick"]
+    for name in ("queue", "settle", "debounce", "stall", "dir", "end", "outside"):
+        value = getattr(said, name)
+        if value is not None:
+            out.append(f"--{name}={value}")
+    return out
+
+
+def check_script(path: str) -> None:
+    """Looks at the script before anything runs."""
+    try:
+        mode = os.stat(path).st_mode
+        if not stat.S_ISREG(mode):
+            raise Fault(f"{path}: a script that is read for each run is a file")
+        with open(path, encoding="utf-8", errors="surrogateescape") as file:
+            schedule = parse(file.read())
+    except OSError as fault:
+        raise Fault(f"{path}: {fault.strerror}") from fault
+    if not schedule.lines():
+        raise Fault(f"{path}: no line happens after --")
+
+
+def base_run(bench: Bench) -> Result:
+    """Runs the script with nothing moved, which shows that the program, the check and the script go together."""
+    base = bench.base()
+    if base.status in (NOT_EXECUTABLE, NOT_FOUND) and not base.delivered:
+        raise Fault(f"{bench.program[0]}: status {base.status}: it cannot be run")
+    if not base.delivered:
+        raise Fault(f"with every line at rest nothing was delivered (status {base.status}): the program takes no record")
+    return base
+
+
+def explore(said: argparse.Namespace, program: List[str], room: str) -> int:
+    """Searches, and reports what was found. Returns the exit status."""
+    bench = Bench(said.runner, runner_options(said), said.script, said.check, program, room)
+    base = base_run(bench)
+    report.say_base(base)
+    if said.moves:
+        found = search.by_moves(bench, base, said.moves, said.vary, said.jobs, said.first)
+    else:
+        found = search.by_seeds(bench, said.seeds or range(1, 201), said.vary, said.jobs, said.first)
+    if base.fails:
+        found.failures.insert(0, base)
+    report.say_found(found, said.jobs)
+    if not found.failures:
+        return 0
+    out = said.out or os.path.basename(said.script) + ".failures"
+    report.keep(found.failures, out)
+    report.shrink_one(bench, found.failures, not base.fails, out, said)
+    return 1
+
+
+def main(words: List[str]) -> int:
+    """Runs the tool."""
+    signal.signal(signal.SIGPIPE, signal.SIG_DFL)
+    said, program = read_words(words)
+    room: Optional[str] = None
+    try:
+        check_script(said.script)
+        room = tempfile.mkdtemp(prefix="watchtree-explore-")
+        return explore(said, program, room)
+    except Fault as fault:
+        print(f"watchtree explore: {fault}", file=sys.stderr)
+        return TOOL_FAULT
+    except OSError as fault:
+        print(f"watchtree explore: {fault.filename or ''}: {fault.strerror}", file=sys.stderr)
+        return TOOL_FAULT
+    except KeyboardInterrupt:
+        return 130
+    finally:
+        if room:
+            shutil.rmtree(room, ignore_errors=True)
+
+
+if __name__ == "__main__":
+    sys.exit(main(sys.argv[1:]))

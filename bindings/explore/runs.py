@@ -1,0 +1,106 @@
+"""One run of the program under the runner, and what the check says of it."""
+
+import os
+import shutil
+import subprocess
+import tempfile
+from dataclasses import dataclass
+from typing import Dict, List, Optional
+
+import traces
+from schedules import Fault, Schedule, parse
+
+# Exit statuses of the runner, and of a shell that cannot run a command.
+NOTHING_DELIVERED, LINES_LEFT, STALLED, TOOL_FAULT = 122, 123, 124, 125
+NOT_EXECUTABLE, NOT_FOUND = 126, 127
+# No run takes so long: the runner ends one that stalls.
+LONGEST_RUN = 900
+
+
+@dataclass
+class Result:
+    """A run: the status of the runner, whether the check failed, and what happened."""
+
+    seed: Optional[int]
+    status: int
+    fails: bool
+    delivered: bool
+    schedule: Schedule
+    trace: List[traces.Entry]
+
+    def places(self) -> List[int]:
+        """Returns, for each line after the first mark, the request that was next when it had happened."""
+        return traces.places(self.trace)
+
+
+@dataclass
+class Bench:
+    """What each run has in common: the runner and its options, the script, the check and the program."""
+
+    runner: str
+    options: List[str]
+    script: str
+    check: str
+    program: List[str]
+    room: str
+
+    def seed(self, number: int, vary: str) -> Result:
+        """Runs the script by a seed."""
+        return self._run(["--seed", str(number), "--vary", vary, self.script, "--"], number)
+
+    def base(self, kept: Optional[str] = None) -> Result:
+        """Runs the script with every line at rest."""
+        with tempfile.NamedTemporaryFile("w", dir=self.room, suffix=".schedule") as file:
+            with open(self.script, encoding="utf-8", errors="surrogateescape") as script:
+                shutil.copyfileobj(script, file)
+            file.flush()
+            return self._run(["--schedule", file.name, "--"], None, kept)
+
+    def replay(self, schedule: Schedule, seed: Optional[int] = None, kept: Optional[str] = None) -> Result:
+        """Runs a schedule. The files of the run are left in `kept`."""
+        with tempfile.NamedTemporaryFile("w", dir=self.room, suffix=".schedule", errors="surrogateescape") as file:
+            file.write(schedule.text())
+            file.flush()
+            return self._run(["--schedule", file.name, "--"], seed, kept)
+
+    def _run(self, words: List[str], seed: Optional[int], kept: Optional[str] = None) -> Result:
+        out = kept or tempfile.mkdtemp(dir=self.room, prefix="run-")
+        try:
+            said = self._program([self.runner, *self.options, "--out", out, *words, *self.program])
+            return self._judge(out, said.returncode, seed)
+        finally:
+            if not kept:
+                shutil.rmtree(out, ignore_errors=True)
+
+    def _program(self, command: List[str]) -> "subprocess.CompletedProcess[bytes]":
+        try:
+            said = subprocess.run(command, stdin=subprocess.DEVNULL, stdout=subprocess.DEVNULL, stderr=subprocess.PIPE,
+                                  timeout=LONGEST_RUN, check=False)
+        except subprocess.TimeoutExpired as late:
+            raise Fault(f"a run was not over after {LONGEST_RUN} seconds") from late
+        if said.returncode == TOOL_FAULT:
+            raise Fault("the runner: " + _last_line(said.stderr, f"status {TOOL_FAULT}"))
+        return said
+
+    def _judge(self, out: str, status: int, seed: Optional[int]) -> Result:
+        fails = self._check(out, status, seed)
+        with open(f"{out}/trace", encoding="utf-8", errors="surrogateescape") as file:
+            trace = traces.read_trace(file)
+        with open(f"{out}/schedule", encoding="utf-8", errors="surrogateescape") as file:
+            schedule = parse(file.read())
+        delivered = any(isinstance(it, traces.Told) for it in trace)
+        return Result(seed, status, fails, delivered, schedule, trace)
+
+    def _check(self, out: str, status: int, seed: Optional[int]) -> bool:
+        """Whether the check fails."""
+        more: Dict[str, str] = {"WT_OUT": out, "WT_STATUS": str(status), "WT_SEED": "" if seed is None else str(seed)}
+        said = subprocess.run(["/bin/sh", "-c", self.check], env={**os.environ, **more}, stdin=subprocess.DEVNULL,
+                              stdout=subprocess.DEVNULL, stderr=subprocess.PIPE, check=False)
+        if said.returncode in (NOT_EXECUTABLE, NOT_FOUND):
+            raise Fault("the check cannot be run: " + _last_line(said.stderr, f"status {said.returncode}"))
+        return said.returncode != 0
+
+
+def _last_line(text: bytes, otherwise: str) -> str:
+    lines = text.decode(errors="replace").strip().splitlines()
+    return lines[-1] if lines else otherwise

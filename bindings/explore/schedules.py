@@ -1,0 +1,148 @@
+"""A schedule: a script, and where its lines happen. docs/EXPLORE.md has the format of its file."""
+
+import re
+from dataclasses import dataclass, replace
+from typing import List, Optional, Sequence, Tuple, Union
+
+USUAL_QUEUE = 16384
+
+
+class Fault(Exception):
+    """What stops the search: a fault of the tool, the script, the check or the machine."""
+
+
+@dataclass(frozen=True)
+class Line:
+    """A line after the first mark. It happens at rest, or before a request: its number, or how many requests follow the one
+    that was next when the line above had happened."""
+
+    text: str
+    before: Optional[int] = None
+    is_relative: bool = False
+
+
+@dataclass(frozen=True)
+class Mark:
+    """A further line `--`."""
+
+
+@dataclass(frozen=True)
+class ShortRead:
+    """A read that hands over at most so many records. Its request is counted as that of a line."""
+
+    request: int
+    records: int
+    is_relative: bool = False
+
+
+Item = Union[Line, Mark, ShortRead]
+
+
+@dataclass(frozen=True)
+class Schedule:
+    """The limit of each queue, the lines that set the tree up, and what happens then, in order."""
+
+    queue: int
+    setup: Tuple[str, ...]
+    items: Tuple[Item, ...]
+
+    def lines(self) -> List[Line]:
+        """Returns the lines after the first mark."""
+        return [it for it in self.items if isinstance(it, Line)]
+
+    def moved(self) -> int:
+        """Counts the lines that do not happen at rest."""
+        return sum(it.before is not None for it in self.lines())
+
+    def short_reads(self) -> int:
+        """Counts the reads that hand over less than they could."""
+        return sum(isinstance(it, ShortRead) for it in self.items)
+
+    def changes(self) -> int:
+        """Counts what makes it another schedule than the script alone."""
+        return self.moved() + self.short_reads() + (self.queue != USUAL_QUEUE)
+
+    def size(self) -> Tuple[int, int, int]:
+        """Returns what shrinking makes less: the lines, the changes, the marks."""
+        marks = sum(isinstance(it, Mark) for it in self.items)
+        return len(self.setup) + len(self.lines()), self.changes(), marks
+
+    def text(self) -> str:
+        """Returns the text of its file."""
+        out = [] if self.queue == USUAL_QUEUE else [f"#@ queue {self.queue}"]
+        out += [*self.setup, "--"]
+        now = "#@ at rest"
+        for it in self.items:
+            if isinstance(it, Mark):
+                out.append("--")
+            elif isinstance(it, ShortRead):
+                out.append(f"#@ read {_request(it.request, it.is_relative)} {it.records}")
+            else:
+                place = "#@ at rest" if it.before is None else f"#@ before {_request(it.before, it.is_relative)}"
+                # A relative position counts from the line above, so each line needs its own.
+                if place != now or it.is_relative:
+                    out.append(place)
+                now = place
+                out.append(it.text)
+        return "\n".join(out) + "\n"
+
+    def at_rest(self) -> "Schedule":
+        """Returns the script with nothing moved."""
+        kept = (replace(it, before=None, is_relative=False) if isinstance(it, Line) else it for it in self.items)
+        return Schedule(self.queue, self.setup, tuple(it for it in kept if not isinstance(it, ShortRead)))
+
+
+def _request(number: int, is_relative: bool) -> str:
+    return f"+{number}" if is_relative else str(number)
+
+
+def _parse_request(word: str) -> Tuple[int, bool]:
+    return int(word), word.startswith("+")
+
+
+def parse(text: str) -> Schedule:
+    """Reads a script, or the file of a schedule."""
+    queue, setup, items = USUAL_QUEUE, [], []  # type: int, List[str], List[Item]
+    is_setup, place, is_relative = True, None, False  # type: bool, Optional[int], bool
+    for number, line in enumerate(text.splitlines(), 1):
+        if line == "--":
+            if not is_setup:
+                items.append(Mark())
+            is_setup = False
+        elif line.startswith("#@"):
+            found = re.fullmatch(r"#@ (?:queue (\d+)|(at rest)|before (\+?\d+)|read (\+?\d+) (\d+))\s*", line)
+            if not found:
+                raise Fault(f"line {number}: no directive of a schedule: {line}")
+            limit, rest, before, read, records = found.groups()
+            if limit:
+                queue = int(limit)
+            elif read:
+                request, read_is_relative = _parse_request(read)
+                items.append(ShortRead(request, int(records), read_is_relative))
+            elif rest:
+                place, is_relative = None, False
+            else:
+                place, is_relative = _parse_request(before)
+        elif not line.strip(" ") or line.lstrip(" ").startswith("#"):
+            continue
+        elif is_setup:
+            setup.append(line)
+        else:
+            items.append(Line(line, place, is_relative))
+    return Schedule(queue, tuple(setup), tuple(items))
+
+
+def relative(schedule: Schedule, places: Sequence[int]) -> Schedule:
+    """Returns the same schedule with each request counted from the line above it. `places` has, for each line after the first
+    mark, the request that was next when it had happened."""
+    items, origin, at = [], 1, 0  # type: List[Item], int, int
+    for it in schedule.items:
+        if isinstance(it, ShortRead) and not it.is_relative:
+            it = replace(it, request=max(it.request - origin, 0), is_relative=True)
+        if isinstance(it, Line):
+            if it.before is not None and not it.is_relative:
+                it = replace(it, before=max(it.before - origin, 0), is_relative=True)
+            origin = places[at]
+            at += 1
+        items.append(it)
+    return Schedule(schedule.queue, schedule.setup, tuple(items))

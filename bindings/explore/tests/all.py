@@ -1,0 +1,78 @@
+"""Runs the tests: all.py RUNNER [CLASS..]. Two go at once. The last line is 'explore: N passed, M failed'."""
+
+import importlib
+import os
+import subprocess
+import sys
+import tempfile
+import traceback
+import unittest
+from concurrent.futures import ThreadPoolExecutor
+from typing import List, Optional, Tuple
+
+HERE = os.path.dirname(os.path.abspath(__file__))
+sys.path[:0] = [HERE, os.path.dirname(HERE)]
+MODULES = ("units", "replays", "found", "faults", "quiet")
+EXAMPLES = ("recursive", "renames", "overflow", "follow", "reload")
+AT_ONCE = 2
+
+
+def build(room: str) -> Optional[str]:
+    """Builds the examples and the programs of the tests. Returns what failed."""
+    sources = [f"{HERE}/../examples/{name}.c" for name in EXAMPLES]
+    sources += [f"{HERE}/{name}" for name in sorted(os.listdir(HERE)) if name.endswith(".c")]
+    for source in sources:
+        name = os.path.basename(source)[:-2]
+        command = ["cc", "-O1", "-Wall", "-Wextra", "-Werror", source, "-pthread", "-o", f"{room}/{name}"]
+        try:
+            built = subprocess.run(command, capture_output=True, text=True, check=False)
+        except FileNotFoundError:
+            return "there is no cc"
+        if built.returncode:
+            return f"{name}: {built.stderr}"
+    return None
+
+
+def run(test: unittest.TestCase) -> Tuple[str, str]:
+    """Runs a test: its name, and why it failed or was skipped."""
+    name = test.id()
+    result = unittest.TestResult()
+    try:
+        test.run(result)
+    except Exception:  # pylint: disable=broad-except
+        return name, "FAILED " + traceback.format_exc()
+    if result.skipped:
+        return name, "left out: " + result.skipped[0][1]
+    wrong = [text for _, text in result.errors + result.failures]
+    return name, "FAILED " + wrong[0] if wrong else ""
+
+
+def chosen(names: List[str]) -> List[unittest.TestCase]:
+    """Returns the tests of some classes, or all."""
+    out: List[unittest.TestCase] = []
+    for module in MODULES:
+        for suite in unittest.defaultTestLoader.loadTestsFromModule(importlib.import_module(module)):
+            out += [it for it in suite if not names or type(it).__name__ in names]
+    return out
+
+
+def main() -> int:
+    """Runs the tests."""
+    passed = failed = 0
+    with tempfile.TemporaryDirectory(prefix="watchtree-explore-test-") as room:
+        os.environ.update(RUNNER=os.path.abspath(sys.argv[1]), ROOM=room)
+        wrong = build(room)
+        if wrong:
+            print(f"explore: FAILED: not built: {wrong}\nexplore: 0 passed, 1 failed")
+            return 1
+        with ThreadPoolExecutor(AT_ONCE) as pool:
+            for name, said in pool.map(run, chosen(sys.argv[2:])):
+                passed += not said
+                failed += said.startswith("FAILED")
+                print(f"explore: {name}" + (f": {said}" if said else ""), flush=True)
+    print(f"explore: {passed} passed, {failed} failed")
+    return 1 if failed or not passed else 0
+
+
+if __name__ == "__main__":
+    sys.exit(main())

@@ -1,0 +1,37 @@
+/* Writes down the schedule that a run takes. */
+#include "record.h"
+#include "options.h"
+#include <stdio.h>
+
+static FILE *file;
+static uint64_t before;             /* the request of the last directive: 0 at rest */
+
+void open_record(void) {
+    enum { USUAL_QUEUE = 16384 };
+    char path[PATH_SIZE];
+    if (!options.out) return;
+    snprintf(path, sizeof path, "%s/schedule", options.out);
+    if (!(file = fopen(path, "we"))) fail(path);
+    if (options.queue != USUAL_QUEUE) fprintf(file, "#@ queue %u\n", options.queue);
+}
+
+void close_record(void) {
+    if (file && fclose(file)) fail("schedule");
+    file = NULL;
+}
+
+void record_line(const char *line, size_t length, uint64_t request) {
+    if (!file) return;
+    if (request != before && request) fprintf(file, "#@ before %llu\n", (unsigned long long)request);
+    else if (request != before) fprintf(file, "#@ at rest\n");
+    before = request;
+    fprintf(file, "%.*s\n", (int)length, line);
+}
+
+void record_mark(void) {
+    if (file) fprintf(file, "--\n");
+}
+
+void record_short_read(uint64_t request, uint64_t records) {
+    if (file) fprintf(file, "#@ read %llu %llu\n", (unsigned long long)request, (unsigned long long)records);
+}
