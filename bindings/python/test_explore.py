@@ -459,6 +459,8 @@ class Results(unittest.TestCase):
         ):
             with self.assertRaisesRegex(ValueError, text):
                 explore.run(script, small, fine)
+        # (a change may be refused)
+        self.assertGreater(explore.run(f"{SMALL}mkdir /d 755\n", small, fine).reads, 0)
         with self.assertRaisesRegex(RuntimeError, "no read returned a record"):
             explore.run(SMALL, lambda tree: None, fine)
 

@@ -297,9 +297,11 @@ fn what_is_refused() -> Result<(), Fault> {
     let faults = [
         ("mkdir /d 755\n", "a line `--`"),
         ("mkdir /d/e 755\n--\n", "is refused: err ENOENT"),
-        ("--\nnothing\n", "\"nothing\": "),
-        ("nothing\n--\n", "\"nothing\": "),
+        ("--\nnothing\n", "\"nothing\" is no line"),
+        ("nothing\n--\n", "\"nothing\" is no line"),
     ];
+    // (a change may be refused)
+    assert!(Explore::new("mkdir /d 755\n--\nmkdir /d 755\n", small, |_, _| Ok(())).is_ok());
     for (script, text) in faults {
         let fault = Explore::new(script, small, |_, _| Ok(())).err().expect(script);
         assert!(fault.to_string().contains(text), "{fault}");
@@ -310,6 +312,14 @@ fn what_is_refused() -> Result<(), Fault> {
         tree.stat("/d")?;
     };
     let report = Explore::<()>::new(SMALL, endless, |_, _| Ok(()))?.max_requests(50).seeds(0..3)?;
+    assert!(report.failure().expect("it does not end").message.contains("too many requests"));
+    let polls = |tree: &mut Tree| -> Result<(), Error> {
+        let instance = tree.inotify(QUEUE)?;
+        loop {
+            drop(tree.read(instance, 64));
+        }
+    };
+    let report = Explore::new(SMALL, polls, |_, _| Ok(()))?.max_requests(50).seeds(0..3)?;
     assert!(report.failure().expect("it does not end").message.contains("too many requests"));
     Ok(())
 }

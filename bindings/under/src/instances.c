@@ -177,11 +177,20 @@ void poll_instance(fuse_req_t req, struct fuse_file_info *file, struct fuse_poll
 
 /* ---- the supervisor's calls */
 
+/* The reply to a watch outside the mount. Programs say of EACCES that it is for want of a permission, so it is said once why. */
+static int64_t watch_outside(struct instance *it) {
+    static bool is_said;
+    if (options.ignores_outside) return it->next_outside++;
+    if (!is_said) say("a watch outside %s is refused by EACCES; --outside=ignore accepts it, and it never fires", options.dir);
+    is_said = true;
+    return -EACCES;
+}
+
 static int64_t add_watch(struct instance *it, const struct watch_call *call) {
     char path[PATH_SIZE] = "";
     struct wt_stat is;
     int64_t reply;
-    if (!call->number) reply = options.ignores_outside ? it->next_outside++ : -EACCES;
+    if (!call->number) reply = watch_outside(it);
     else if (call->number == INSTANCE || !find_file(call->number, path, &is)) reply = -ENOENT;
     else reply = CALL(0, wt_inotify_add_watch(&tree, it->id, PATH(path), call->mask));
     char shown[3 * PATH_SIZE] = "";

@@ -37,7 +37,7 @@ def once(under, words, script, options, room):
     """The trace and the output of a run."""
     out = tempfile.mkdtemp(dir=room)
     try:
-        ran = subprocess.run([under, *options, "--settle", "100", "--out", f"{out}/o", f"{TESTS}/{script}", "--", *words],
+        ran = subprocess.run([under, *options, "--debounce", "30", "--settle", "60", "--out", f"{out}/o", f"{TESTS}/{script}", "--", *words],
                              stdin=subprocess.DEVNULL, capture_output=True, timeout=LIMIT, text=True)
         with open(f"{out}/o/trace") as trace, open(f"{out}/o/stdout") as printed:
             return trace.read(), printed.read() + f"status {ran.returncode}\n{ran.stderr}"

@@ -131,7 +131,7 @@ echo text >outside/file
 chmod 640 outside/file
 before=$(stat -c '%a %u %g %s %Y %Z' outside/file)
 "$under" script -- sh -c 'inotifywait -q -e create /wt/d >/dev/null; inotifywait -e open "$0"' "$room/outside" >out 2>&1
-grep -q 'Permission denied\|Couldn.t watch' out
+grep -q 'Permission denied\|Couldn.t watch' out && [ "$(grep -c 'a watch outside /wt is refused by EACCES' out)" = 1 ]
 check 'a watch outside is EACCES' "$(cat out)"
 "$under" --outside=ignore script -- inotifywait -q -m -e create /wt/d "$room/outside" >out 2>&1 && [ "$(cat out)" = '/wt/d/ CREATE f' ]
 check 'unless it is to be ignored' "$(cat out)"

@@ -73,7 +73,9 @@ def believed_by(consumer: Consumer, tree: Tree) -> Any:
 class Program:
     """A script, a consumer and a check, ready to run many times."""
 
-    def __init__(self, setup: Sequence[str], changes: Sequence[str], consumer: Consumer, check: Check, limit: int) -> None:
+    def __init__(
+        self, setup: Sequence[str], changes: Sequence[str], consumer: Consumer, check: Check, limit: int
+    ) -> None:
         self.setup, self.changes = tuple(setup), tuple(changes)
         self._consumer, self._check, self._limit = consumer, check, limit
         self._setup, self._lines = encode(setup), encode(changes)

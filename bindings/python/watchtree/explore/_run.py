@@ -91,18 +91,16 @@ def run(
 ) -> Result:
     """Runs a consumer under one schedule for each seed, until one fails.
 
-    `script` has lines of `watchtree run`: those before the line `--` happen first, the others are changes. A further `--`
-    ends a timeout. `consumer(tree)` is a function, which returns what it believes, or a generator, which yields it. A
-    run fails if the consumer raises an exception, or if `check(tree, believed)` raises one or returns False.
+    The lines of `script` before `--` happen first, the others are changes; a further `--` ends a timeout.
+    `consumer(tree)` is a function, which returns what it believes, or a generator, which yields it. A run fails if the
+    consumer raises an exception, or if `check(tree, believed)` raises one or returns False.
 
-    A seed takes the limit of all queues from `queues`, and how many records a read returns at most from `batches`, where
-    None is without a limit. With `moves` all schedules are run in which so many lines at most happen before an earlier
-    request than they would at rest; queues then have the first limit of `queues`, and seeds are not used.
+    A seed takes the limit of all queues from `queues`, and how many records a read returns at most from `batches`; None
+    is without a limit. With `moves` all schedules are run in which so many lines at most happen before an earlier
+    request than at rest; queues then have the first limit of `queues`, and seeds are not used. With `keep_going` all
+    schedules are run. A consumer that makes more than `max_requests` requests fails.
 
-    With `keep_going` it runs all schedules, and each failure has an entry. A consumer that makes more than `max_requests`
-    requests fails.
-
-    ValueError if a line is no line, or a line of the set-up is refused. RuntimeError if no read of any run returned a record.
+    ValueError for a script that is none, or whose set-up is refused; RuntimeError if no read returned a record.
     """
     program = _program(script, consumer, check, max_requests)
     begin, runs, reads = time.monotonic(), 0, 0
@@ -118,7 +116,9 @@ def run(
     return Result(runs, reads, time.monotonic() - begin, failures)
 
 
-def replay(schedule: AnySchedule, consumer: Consumer, check: Check, *, max_requests: int = REQUESTS) -> Optional[Failure]:
+def replay(
+    schedule: AnySchedule, consumer: Consumer, check: Check, *, max_requests: int = REQUESTS
+) -> Optional[Failure]:
     """Runs a consumer under one schedule, or the text of one. Returns how it failed; None if it did not."""
     it = schedule if isinstance(schedule, Schedule) else parse_schedule(schedule)
     outcome = Program((), (), consumer, check, max_requests).replay(it, has_timeline=True)

@@ -112,8 +112,8 @@ impl Report {
 }
 
 impl<'a, B: 'a> Explore<'a, B> {
-    /// Takes a script: lines that happen first, the line `--`, and changes. A run fails if the consumer returns an error
-    /// or panics, or if the check does.
+    /// Takes a script: lines that happen first, the line `--`, and changes. A run fails if the consumer returns an
+    /// error or panics, or if the check does.
     pub fn new(
         script: &str,
         consumer: impl Fn(&mut Tree) -> Result<B, Error> + 'a,
@@ -127,8 +127,8 @@ impl<'a, B: 'a> Explore<'a, B> {
         Ok(Explore { program, queues: QUEUES.to_vec(), batches: Rc::new(BATCHES), keeps_going: false })
     }
 
-    /// The limits of queues that a seed chooses from, [`QUEUES`] unless they are set. [`moves`](Explore::moves) takes the
-    /// first.
+    /// The limits of queues that a seed chooses from, [`QUEUES`] unless they are set. [`moves`](Explore::moves) takes
+    /// the first.
     ///
     /// # Panics
     /// If there is none.

@@ -75,14 +75,17 @@ impl<'a, B> Program<'a, B> {
     /// Looks whether each line is one, and whether what happens first is accepted.
     pub fn try_script(&self) -> Result<(), Fault> {
         let mut tree = crate::Tree::open().map_err(|error| Fault(error.to_string()))?;
-        for line in self.setup.iter().chain(self.lines.iter().filter(|it| *it != PAUSE)) {
-            let reply = tree.line(line, crate::QUEUE).map_err(|error| Fault(format!("{line:?}: {error}")))?;
-            if self.setup.contains(line) && reply.starts_with(b"err") {
+        let mut reply_to = |line: &String| {
+            tree.line(line, crate::QUEUE).map_err(|error| Fault(format!("{line:?} is no line of a script: {error}")))
+        };
+        for line in &self.setup {
+            let reply = reply_to(line)?;
+            if reply.starts_with(b"err") {
                 let reply = String::from_utf8_lossy(&reply);
                 return Err(Fault(format!("the line {line:?} before `--` is refused: {}", reply.trim_end())));
             }
         }
-        Ok(())
+        self.lines.iter().filter(|it| *it != PAUSE).try_for_each(|line| reply_to(line).map(drop))
     }
 
     /// Makes one run in a new tree.

@@ -171,8 +171,8 @@ impl Tree {
             if self.tree.waiting(instance)? == 0 {
                 break;
             }
-            let room = bytes - taken.len();
-            let sizes = (1..=room / STEP).map(|it| it * STEP);
+            let left = bytes - taken.len();
+            let sizes = (1..=left / STEP).map(|it| it * STEP);
             let tried = sizes.map(|size| self.tree.read(instance, size)).find(|it| *it != Err(INVALID));
             match tried {
                 Some(events) => taken.extend_from_slice(events?.as_bytes()),
@@ -185,15 +185,15 @@ impl Tree {
         Ok(Events::new(taken))
     }
 
-    /// Waits for records and reads as many as fit into 65,536 bytes. Lines happen until there is one. `None` is the end
-    /// of the run: no record waits, and no line is left.
+    /// Waits for records, and reads as many as fit into 65,536 bytes. Lines happen until there is one. `None` is the
+    /// end of the run: no record waits, and no line is left.
     pub fn wait(&mut self, instance: Instance) -> Result<Option<Events>, Error> {
         self.take(instance, 65536, true)
     }
 
-    /// As [`Tree::read`](crate::Tree::read), without waiting: [`Error::AGAIN`] if no record waits. If it is called again
-    /// without another request in between, the consumer polls, so the next line happens first; [`Error::CLOSED`] if no
-    /// line is left.
+    /// As [`Tree::read`](crate::Tree::read), without waiting: [`Error::AGAIN`] if no record waits. If it is called
+    /// again without another request in between, the consumer polls, so the next line happens first;
+    /// [`Error::CLOSED`] if no line is left.
     pub fn read(&mut self, instance: Instance, bytes: usize) -> Result<Events, Error> {
         self.take(instance, bytes, false).map(|it| it.expect("a read that does not wait has no end"))
     }
