@@ -2,6 +2,7 @@
 #include "watchtree.h"
 #include <errno.h>
 #include <inttypes.h>
+#include <stddef.h>
 #include <stdio.h>
 #include <stdlib.h>
 #include <string.h>
@@ -165,7 +166,9 @@ static void peeks(struct wt_tree *t) {
     HOLDS(!memcmp(out, "/d/a", 4)), IS(wt_path_of(t, 99999, out, sizeof out), -ENOENT), IS(wt_path_of(t, 0, out, 8), -ENOENT);
     IS(wt_path_of(t, UINT64_MAX, NULL, 0), -ENOENT), IS(wt_path_of(t, (1ull << 32) + 1, NULL, 0), -ENOENT);
     IS(wt_bytes_waiting(t, 130), 96), IS(wt_bytes_waiting(t, 132), 48), IS(wt_cut(t), place);
-    IS(wt_stat(t, PATH("/d/a name"), &told), 0), HOLDS(!memcmp(&s, &told, 32)), IS(wt_cut(t), place + 1);
+    IS(wt_stat(t, PATH("/d/a name"), &told), 0), IS(wt_cut(t), place + 1);
+    /* (behind the last field there are four bytes of padding) */
+    HOLDS(!memcmp(&s, &told, offsetof(struct wt_stat, is_directory) + sizeof s.is_directory));
     IS(wt_list(t, PATH("/d"), told_out, 4), 7), HOLDS(!memcmp(told_out, "a na-", 5)), IS(wt_waiting(t, 130), 3);
     for (uint32_t i = 130; i < 133; i++) IS(wt_inotify_close(t, i), 0);
 }
