@@ -1,4 +1,4 @@
-# A file that is made, written, renamed and unlinked in a watched directory, with a read of what was told.
+# A file that is made, written, renamed and unlinked in a watched directory, with a read of its events.
 echo 'mkdir /d 755'
 echo 'init'
 echo 'watch 1 /d 0xfff'

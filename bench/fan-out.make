@@ -1,4 +1,4 @@
-# Changes of two files that 128 instances are told of, each of which is then read.
+# Changes of two files that 128 instances watch, each of which is then read.
 echo 'mkdir /d 755'
 echo 'create /d/f 644'
 echo 'create /d/g 644'

@@ -1,6 +1,6 @@
-"""Prints the instructions that a file of callgrind tells of, and how often memory was grown in it.
+"""Prints the instructions and the number of allocations that a file of callgrind reports.
 
-A growth is a call of malloc, calloc, realloc or aligned_alloc from a function that is none of these.
+An allocation is a call of malloc, calloc, realloc or aligned_alloc from a function that is none of these.
 """
 
 import re
@@ -10,7 +10,7 @@ GROWING = {"malloc", "calloc", "realloc", "aligned_alloc", "posix_memalign"}
 
 
 def name_in(names, text):
-    """The name that is meant by '(12) name', or by '(12)' where it was told before."""
+    """The name that is meant by '(12) name', or by '(12)' where it was given before."""
     found = re.match(r"\((\d+)\)(?: (.*))?", text)
     if found.group(2) is not None:
         names[found.group(1)] = found.group(2)

@@ -274,7 +274,7 @@ impl Tree {
         if self.is_directory(key) { IN_ISDIR } else { 0 }
     }
 
-    /// Tells the directory of a path, and what stands there.
+    /// Returns the directory of a path, and what is there.
     fn tell_both(&mut self, path: &[u8], key: usize, all: &[u32]) {
         let place = self.place(path).ok().flatten();
         let name = place.as_ref().and_then(|place| self.rc(place.name, &[place.directory]));

@@ -15,11 +15,11 @@ import subprocess
 import sys
 from pathlib import Path
 
+from declarations import in_c, in_rust, plain
+
 PLAIN = {"u32": "uint32_t", "i32": "int32_t", "u64": "uint64_t", "i64": "int64_t", "bool": "bool", "*mut u8": "void *"}
 STRUCTS = {"Tree": "wt_tree", "Stat": "wt_stat"}
 SIZES = {"void *": ctypes.c_void_p, "bool": ctypes.c_bool, "uint64_t": ctypes.c_uint64, "uint32_t": ctypes.c_uint32}
-RUST = {"*mut RawTree": "struct wt_tree *", "*mut RawStat": "struct wt_stat *", "usize": "size_t", **PLAIN}
-RUST |= {"*const c_char": "const char *", "*const c_void": "const void *", "*mut c_void": "void *", "*mut u32": "uint32_t *"}
 # What the layout of C gives each struct: its size in bytes.
 WANTED_SIZES = {"wt_tree": 16, "wt_stat": 32}
 
@@ -50,7 +50,7 @@ def exported(text):
 
 
 def fields(text, name):
-    """Returns the fields of a struct of the crate as C has them; what takes no bytes is left out."""
+    """Returns the fields of a struct of the crate as C has them; a field without bytes is skipped."""
     body = re.search(r"#\[repr\(C\)\]\s*(?:#\[[^\]]*\]\s*)*pub struct " + name + r" \{(.*?)\n\}", text, re.S)
     if not body:
         return None
@@ -65,14 +65,11 @@ def fields(text, name):
 
 def declared(header):
     """Returns the declarations and the structs of the header, with one space between words."""
-    text = re.sub(r"/\*.*?\*/", " ", header, flags=re.S)
-    text = re.sub(r"\s+", " ", text)
-    calls = {it[1]: f"{it[0]} {it[1]}({it[2]})" for it in re.findall(r"(int64_t|void) (wt_\w+)\(([^)]*)\);", text)}
     structs = {}
-    for name, body in re.findall(r"struct (wt_\w+) \{([^}]*)\};", text):
+    for name, body in re.findall(r"struct (wt_\w+) \{([^}]*)\};", plain(header)):
         pairs = re.findall(r"(void \*|\w+ )(\w+);", body)
         structs[name] = [(kind if kind == "void *" else kind.strip(), field) for kind, field in pairs]
-    return calls, structs
+    return in_c(header), structs
 
 
 def differences(header, source):
@@ -93,20 +90,12 @@ def differences(header, source):
     return found
 
 
-def in_rust(text):
-    """Returns the declarations of C that those in Rust stand for."""
-    found = {}
-    for name, words, result in re.findall(r"pub fn (wt_\w+)\((.*?)\)(?: -> (\w+))?;", text, re.S):
-        pairs = [[side.strip() for side in it.split(":")] for it in words.split(",") if it.strip()]
-        taken = [f"{RUST[kind]}{'' if RUST[kind].endswith('*') else ' '}{word}" for word, kind in pairs]
-        found[name] = f"{PLAIN[result] if result else 'void'} {name}({', '.join(taken)})"
-    return found
-
-
 def bound(header, rust, library):
     """Returns what differs between the header and the declarations in Rust, and in WT_QUEUE."""
-    calls, _ = declared(header)
-    found = [f"in Rust: {it} differs" for it in calls | in_rust(rust) if calls.get(it) != in_rust(rust).get(it)]
+    calls = in_c(header)
+    # (declared_threads.py looks at the calls with a lock)
+    there = {name: call for name, call in in_rust(rust).items() if name.startswith("wt_")}
+    found = [f"in Rust: {it} differs" for it in calls | there if calls.get(it) != there.get(it)]
     queue = re.search(r"#define WT_QUEUE (\d+)\n", header)
     if not queue or f"pub const QUEUE: u32 = {queue[1]};" not in library:
         found.append("in Rust: WT_QUEUE differs")

@@ -3,9 +3,8 @@
 usage: declared_threads.py HEADER HEADER-FOR-THREADS FOLDER-OF-RUST-SOURCES LIBRARY.so
 
 Each call wt_X of a tree has a call wtt_X with the same parameters; `wtt_read` has a time limit more, `wtt_open` stores
-its tree, `wtt_fd` is new. The calls that are left out are listed here, by their names. The bits of a mask are those of
-<sys/inotify.h>, by name and value, in Rust and in Python. Afterwards each declaration and each bit is changed, a word at
-a time, and each change must be seen.
+its tree, `wtt_fd` is new. The bits of a mask are those of <sys/inotify.h>, by name and value, in Rust and in Python.
+Afterwards each declaration and each bit is changed, a word at a time, and each change must be seen.
 """
 import re
 import shutil
@@ -14,6 +13,7 @@ import sys
 from pathlib import Path
 
 import watchtree
+from declarations import IN_RUST, ROW, in_c, in_rust
 
 OWN = {
     "wtt_open": "int64_t wtt_open(struct wtt **tree)",
@@ -21,37 +21,15 @@ OWN = {
     "wtt_shutdown": "void wtt_shutdown(struct wtt *tree)",
     "wtt_fd": "int64_t wtt_fd(struct wtt *tree, uint32_t instance)",
 }
-# wtt_fd says what wt_ready says.
-LEFT_OUT = {"wt_ready"}
-RUST = {"*mut *mut RawShared": "struct wtt **", "*mut RawShared": "struct wtt *", "*mut RawStat": "struct wt_stat *"}
-RUST |= {"*const c_char": "const char *", "*const c_void": "const void *", "*mut c_void": "void *", "c_int": "int"}
-RUST |= {"usize": "size_t", "u32": "uint32_t", "i32": "int32_t", "u64": "uint64_t", "i64": "int64_t"}
-
-
-def declared(header):
-    """Returns the declarations of a header by their names, with one space between words."""
-    text = re.sub(r"\s+", " ", re.sub(r"/\*.*?\*/", " ", header, flags=re.S))
-    found = re.findall(r"(int64_t|void) (wtt?_\w+)\(([^)]*)\);", text)
-    return {name: f"{kind} {name}({words})" for kind, name, words in found}
 
 
 def wanted(header):
     """Returns the declarations that the header for threads is to have."""
     found = dict(OWN)
-    for name, call in declared(header).items():
-        if "struct wt_tree *tree" in call and name not in LEFT_OUT and f"wtt_{name[3:]}" not in found:
+    for name, call in in_c(header).items():
+        if "struct wt_tree *tree" in call and f"wtt_{name[3:]}" not in found:
             own = call.replace(f" {name}(", f" wtt_{name[3:]}(").replace("struct wt_tree *tree", "struct wtt *tree")
             found[f"wtt_{name[3:]}"] = own.replace(")", ", int milliseconds)") if name == "wt_read" else own
-    return found
-
-
-def in_rust(text):
-    """Returns the declarations of C that those in Rust stand for."""
-    found = {}
-    for name, words, result in re.findall(r"pub fn (wtt_\w+)\((.*?)\)(?: -> (\w+))?;", text, re.S):
-        pairs = [[side.strip() for side in it.split(":")] for it in words.split(",") if it.strip()]
-        taken = [f"{RUST.get(kind, kind)}{'' if RUST.get(kind, kind).endswith('*') else ' '}{word}" for word, kind in pairs]
-        found[name] = f"{RUST.get(result, result) if result else 'void'} {name}({', '.join(taken)})"
     return found
 
 
@@ -79,9 +57,10 @@ def bits_of_linux(text):
 
 def differences(header, threads, rust, mask, linux):
     """Returns what differs."""
-    there, asked, bound = declared(threads), wanted(header), in_rust(rust)
+    there, asked, bound = in_c(threads), wanted(header), in_rust(rust)
     there = {name: call for name, call in there.items() if name.startswith("wtt_")}
     found = [f"in C: {there.get(it)} is to be {asked.get(it)}" for it in asked | there if there.get(it) != asked.get(it)]
+    asked = {**in_c(header), **asked}
     found += [f"in Rust: {bound.get(it)} is to be {asked.get(it)}" for it in asked | bound if bound.get(it) != asked.get(it)]
     bits = bits_of(r"^pub const (\w+): u32 = ([^;]+);", mask)
     found += [f"in Rust: bit {it} differs" for it in bits | linux if bits.get(it) != linux.get(it)]
@@ -97,7 +76,7 @@ def words_of(text, pattern):
 def unseen(header, threads, rust, mask, linux):
     """Changes one word at a time in the header for threads and in Rust; returns how many, and the changes that pass."""
     texts = [re.sub(r"/\*.*?\*/", "", threads, flags=re.S), rust, mask]
-    patterns = [r"(?:int64_t|void) wtt_\w+\([^)]*\);", r"pub fn wtt_\w+\(.*?;", r"pub const \w+: u32 = [^;]+;"]
+    patterns = [r"(?:int64_t|void) wtt_\w+\([^)]*\);", f"{IN_RUST}|(?m:{ROW})", r"pub const \w+: u32 = [^;]+;"]
     passed, count = [], 0
     for which, pattern in enumerate(patterns):
         for low, high in words_of(texts[which], pattern):
@@ -120,7 +99,7 @@ def unseen(header, threads, rust, mask, linux):
 def main():
     header, threads = (Path(it).read_text() for it in sys.argv[1:3])
     sources = Path(sys.argv[3])
-    rust, mask = ((sources / it).read_text() for it in ("sys_threads.rs", "mask.rs"))
+    rust, mask = ((sources / it).read_text() for it in ("sys.rs", "mask.rs"))
     ran = subprocess.run(
         ["cc", "-E", "-dD", "-xc", "-"], input="#include <sys/inotify.h>\n", capture_output=True, text=True, check=True
     )

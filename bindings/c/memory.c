@@ -67,6 +67,6 @@ int main(void) {
             return 1;
         }
     } while (refused > before);
-    printf("%ld allocations refused in turn, each told as -ENOMEM once\n", n - 1);
+    printf("each of %ld allocations failed once, and was returned as -ENOMEM\n", n - 1);
     return n < 100;
 }

@@ -1,7 +1,8 @@
-/* Each call of watchtree.h, and each refusal that it can answer but for want of memory, which memory.c tries. */
+/* Each call of watchtree.h, and each error that it can return except -ENOMEM, which memory.c tests. */
 #include "watchtree.h"
 #include <errno.h>
 #include <inttypes.h>
+#include <stddef.h>
 #include <stdio.h>
 #include <stdlib.h>
 #include <string.h>
@@ -61,7 +62,7 @@ static void files(struct wt_tree *t) {
     IS(wt_rename(t, PATH("/d/g"), PATH("/d/f")), 0), IS(wt_unlink(t, PATH("/d/g")), 0);
     IS(wt_rename(t, PATH("/d/f"), PATH("/d/a name")), 0), IS(wt_stat(t, PATH("/d"), &s), 0);
     HOLDS(s.number == 2 && s.is_directory == 1);
-    /* A room that is too small: the names are cut, and how much is wanted is told. */
+    /* A short buffer: the names are truncated, and the length of all is returned. */
     memset(out, '-', sizeof out);
     IS(wt_create(t, PATH("/d/b"), 0644), 4), IS(wt_list(t, PATH("/d"), out, 4), 9);
     HOLDS(!memcmp(out, "a na----", 8));
@@ -120,7 +121,7 @@ static void instances(struct wt_tree *t) {
     IS(wt_inotify_add_watch(t, 1, PATH("/"), IN_CREATE | IN_MASK_CREATE), -EEXIST);
     IS(wt_inotify_add_watch(t, 1, PATH("/"), IN_CREATE | IN_MASK_CREATE | IN_MASK_ADD), -EINVAL);
     IS(wt_mkdir(t, PATH("/e"), 0755), 6), IS(wt_rename(t, PATH("/e"), PATH("/g")), 0), IS(wt_waiting(t, 1), 3);
-    /* A room that is too small loses nothing. */
+    /* A short buffer loses nothing. */
     for (size_t room = 0; room < 32; room++) IS(wt_read(t, 1, out, room), -EINVAL);
     IS(wt_waiting(t, 1), 3), IS(wt_read(t, 1, out, 47), 32);
     HOLDS(event->wd == 1 && event->mask == (IN_CREATE | IN_ISDIR) && event->cookie == 0 && !strcmp(event->name, "e"));
@@ -136,7 +137,8 @@ static void instances(struct wt_tree *t) {
     for (uint32_t i = 2; i < 130; i++) IS(wt_inotify_close(t, i), 0);
 }
 
-/* What is no call of the tree: it answers as the call would, the journal keeps none of it, and no event is raised. */
+/* Functions that are not calls of the tree: they return what the call would, leave no entry in the journal, and raise no
+ * event. */
 static void peeks(struct wt_tree *t) {
     struct wt_stat s, told;
     char out[8], told_out[8];
@@ -164,8 +166,10 @@ static void peeks(struct wt_tree *t) {
     HOLDS(!memcmp(out, "/d/a", 4)), IS(wt_path_of(t, 99999, out, sizeof out), -ENOENT), IS(wt_path_of(t, 0, out, 8), -ENOENT);
     IS(wt_path_of(t, UINT64_MAX, NULL, 0), -ENOENT), IS(wt_path_of(t, (1ull << 32) + 1, NULL, 0), -ENOENT);
     IS(wt_bytes_waiting(t, 130), 96), IS(wt_bytes_waiting(t, 132), 48), IS(wt_cut(t), place);
-    IS(wt_stat(t, PATH("/d/a name"), &told), 0), HOLDS(!memcmp(&s, &told, 32)), IS(wt_cut(t), place + 1);
-    IS(wt_list(t, PATH("/d"), told_out, 4), 7), HOLDS(!memcmp(told_out, "a na-", 5)), HOLDS(wt_waiting(t, 130) > 3);
+    IS(wt_stat(t, PATH("/d/a name"), &told), 0), IS(wt_cut(t), place + 1);
+    /* (behind the last field there are four bytes of padding) */
+    HOLDS(!memcmp(&s, &told, offsetof(struct wt_stat, is_directory) + sizeof s.is_directory));
+    IS(wt_list(t, PATH("/d"), told_out, 4), 7), HOLDS(!memcmp(told_out, "a na-", 5)), IS(wt_waiting(t, 130), 3);
     for (uint32_t i = 130; i < 133; i++) IS(wt_inotify_close(t, i), 0);
 }
 
@@ -209,10 +213,10 @@ static void lines(struct wt_tree *t) {
     HOLDS(!memcmp(out, "err ENOENT 2\n", 13));
 }
 
-/* What a tree has most of: links, watches, calls between cuts, and numbers of files. */
+/* The limits of a tree: links, watches, calls between cuts, and numbers of files. */
 static void limits(struct wt_tree *t) {
     char path[32];
-    int64_t number = 0, cuts = 0, place = 0;
+    int64_t number = 0, cuts = 0, place = 0, first = wt_cut(t);
     IS(wt_mkdir(t, PATH("/l"), 0755), 7), IS(wt_create(t, PATH("/l/f"), 0644), 8), IS(wt_inotify_init(t, 1), 133);
     for (int i = 1; i < 65000; i++) {
         snprintf(path, sizeof path, "/l/%d", i);
@@ -230,7 +234,7 @@ static void limits(struct wt_tree *t) {
         if (number == -WT_JOURNAL_FULL) {
             IS(wt_chmod(t, PATH("/d"), 0755), -WT_JOURNAL_FULL);
             place = wt_cut(t), cuts++;
-            IS(place, 1000000 * cuts);
+            IS(place, first + 1000000 * cuts);
             if (wt_unlink(t, PATH("/f")) != 0) continue;
         } else if (number < 0) break;
     }

@@ -1,10 +1,11 @@
-/* watchtree: a tree of files in memory, watched in the manner of inotify(7).
+/* watchtree: a file tree in memory with inotify(7).
  *
- * Each call answers as the system call of its name does, with a negative errno in place of -1 and errno; numbers
- * from 1001 on are this library's own. A call on a tree that is not open answers -EBADF.
- * A path is absolute, and is given by its bytes and their number; no zero byte ends it.
- * A struct wt_tree begins as zero bytes, is changed by these functions alone, and is never copied while it is open.
- * One thread uses a tree at a time; it may go from thread to thread. watchtree_threads.h is for threads that share one.
+ * Each call returns what the system call of its name returns, with a negative errno in place of -1 and errno; numbers
+ * from 1001 on are this library's own. A call on a tree that is not open returns -EBADF.
+ * A path is absolute, and is given as a pointer and a length in bytes; it need not end with a zero byte.
+ * A struct wt_tree begins as zero bytes, is changed only by these functions, and is never copied while it is open.
+ * Only one thread may use a tree at a time; it may move between threads. watchtree_threads.h is for threads that share
+ * one.
  */
 #ifndef WATCHTREE_H
 #define WATCHTREE_H
@@ -18,32 +19,32 @@ extern "C" {
 struct wt_tree { void *at; bool ready; };
 #define WT_TREE_INIT { 0, false }
 
-/* The usual limit of a queue, as fs.inotify.max_queued_events of Linux. */
+/* The default limit of a queue in records, as fs.inotify.max_queued_events of Linux. */
 #define WT_QUEUE 16384
 
 struct wt_stat { uint64_t links; uint64_t size; uint32_t number; uint32_t mode; uint32_t is_directory; };
 
-/* What a call answers below zero beside the errnos of its system call. */
+/* What a call returns, negated, besides the errnos of its system call. */
 enum {
     WT_JOURNAL_FULL = 1001,   /* 1,000,000 calls since the last wt_cut, or since the tree was opened */
-    WT_COOKIES_SPENT = 1004,  /* each cookie of a rename was given */
-    WT_NUMBERS_SPENT = 1007,  /* each number of a file was given */
-    /* A fault of a line of wt_line, which then did nothing. */
+    WT_COOKIES_SPENT = 1004,  /* no cookie is left for a rename */
+    WT_NUMBERS_SPENT = 1007,  /* no number is left for a file */
+    /* Faults of a line of wt_line, which then does nothing. */
     WT_BAD_BYTE = 1101, WT_UNKNOWN_COMMAND, WT_WRONG_NUMBER, WT_BAD_ESCAPE,
     WT_BAD_MODE, WT_BAD_HEX, WT_BAD_MASK, WT_BAD_NUMBER
 };
 
-/* Opens a tree: the root alone. 0, -EBUSY where it is open, -ENOMEM. */
+/* Opens a tree that has only the root. 0, -EBUSY if it is open, -ENOMEM. */
 int64_t wt_open(struct wt_tree *tree);
-/* Closes a tree, and gives its memory back. A tree that is not open stays so. */
+/* Closes a tree, and frees its memory. A tree that is not open stays so. */
 void wt_close(struct wt_tree *tree);
-/* Cuts the journal of calls, which then has room for 1,000,000 more, and answers the place of the last one. */
+/* Cuts the journal of calls, which can then take 1,000,000 more, and returns the sequence number of the last call. */
 int64_t wt_cut(struct wt_tree *tree);
 
-/* The number of the directory, of the file. A file is made as by open(2) with O_CREAT | O_EXCL, and close(2). */
+/* Return the number of the new directory or file. A file is made as by open(2) with O_CREAT | O_EXCL, then close(2). */
 int64_t wt_mkdir(struct wt_tree *tree, const char *path, size_t path_len, uint32_t mode);
 int64_t wt_create(struct wt_tree *tree, const char *path, size_t path_len, uint32_t mode);
-/* How many bytes were written, read; as pwrite(2) and pread(2) of a file that is opened for it. */
+/* Return how many bytes were written or read, as pwrite(2) and pread(2) between open(2) and close(2). */
 int64_t wt_write(struct wt_tree *tree, const char *path, size_t path_len, uint64_t offset, const void *bytes,
                  size_t bytes_len);
 int64_t wt_pread(struct wt_tree *tree, const char *path, size_t path_len, uint64_t offset, void *out,
@@ -57,47 +58,47 @@ int64_t wt_rename(struct wt_tree *tree, const char *old, size_t old_len, const c
 /* As renameat2(2): flags are 0, RENAME_NOREPLACE (1) or RENAME_EXCHANGE (2). */
 int64_t wt_rename2(struct wt_tree *tree, const char *old, size_t old_len, const char *to, size_t to_len, uint32_t flags);
 int64_t wt_stat(struct wt_tree *tree, const char *path, size_t path_len, struct wt_stat *out);
-/* The names in a directory in the order of their bytes, each ended by a zero byte, as many bytes as there is room
- * for. It answers how many bytes all of them are: where that is more than out_len, ask again with as much room. */
+/* The names in a directory in the order of their bytes, each with a final zero byte, truncated to out_len bytes.
+ * Returns the length of all names in bytes: if it is more than out_len, call again with a buffer of that length. */
 int64_t wt_list(struct wt_tree *tree, const char *path, size_t path_len, void *out, size_t out_len);
 
-/* The number of the instance, whose queue takes so many records. */
+/* Returns the number of a new instance, whose queue holds at most limit records, 1 to 65,535. */
 int64_t wt_inotify_init(struct wt_tree *tree, uint32_t limit);
 int64_t wt_inotify_add_watch(struct wt_tree *tree, uint32_t instance, const char *path, size_t path_len, uint32_t mask);
 int64_t wt_inotify_rm_watch(struct wt_tree *tree, uint32_t instance, int32_t wd);
-/* The bytes that read(2) of an inotify descriptor that does not block gives: as many records as fit whole. -EAGAIN
- * where none waits; -EINVAL where the first does not fit, which goes on waiting: no room loses a record. */
+/* Reads what read(2) on a non-blocking inotify descriptor reads: as many whole records as fit. -EAGAIN if none waits;
+ * -EINVAL if the buffer is too small for the first record, which stays queued: a short buffer never loses a record. */
 int64_t wt_read(struct wt_tree *tree, uint32_t instance, void *out, size_t out_len);
-/* How many records wait. It is no call of the tree: its journal keeps none. */
+/* Returns how many records wait. It is not a call of the tree, and has no entry in the journal. */
 int64_t wt_waiting(struct wt_tree *tree, uint32_t instance);
 int64_t wt_inotify_close(struct wt_tree *tree, uint32_t instance);
 
-/* The calls from here to wt_path_of are no calls of the tree: its journal keeps none, and they raise no event. */
-/* How many bytes all waiting records take: what ioctl(2) with FIONREAD gives of an inotify descriptor. */
+/* From here to wt_path_of: not calls of the tree. They have no entry in the journal, and raise no event. */
+/* Returns the length of all waiting records in bytes, as ioctl(2) with FIONREAD on an inotify descriptor. */
 int64_t wt_bytes_waiting(struct wt_tree *tree, uint32_t instance);
-/* The numbers of the open instances that have a record waiting, rising, as many as fit: out_len counts numbers. It
- * answers how many there are. */
+/* The numbers of the open instances that have a record waiting, in ascending order, as many as fit: out_len counts
+ * numbers, not bytes. Returns how many instances there are. */
 int64_t wt_ready(struct wt_tree *tree, uint32_t *out, size_t out_len);
-/* What wt_stat, wt_list and wt_pread would answer. */
+/* Return what wt_stat, wt_list and wt_pread would return. */
 int64_t wt_peek_stat(struct wt_tree *tree, const char *path, size_t path_len, struct wt_stat *out);
 int64_t wt_peek_list(struct wt_tree *tree, const char *path, size_t path_len, void *out, size_t out_len);
 int64_t wt_peek_pread(struct wt_tree *tree, const char *path, size_t path_len, uint64_t offset, void *out,
                       size_t out_len);
-/* A path of the file with this number (wt_stat's): the first in the order of names, as many of its bytes as fit. It
- * answers how many bytes the path has. -ENOENT if no file has this number. It looks at each path of the tree. */
+/* The first path, in the order of names, of the file with this number (wt_stat's), truncated to out_len bytes. Returns
+ * the length of the path in bytes, and -ENOENT if no file has this number. It looks at each path of the tree. */
 int64_t wt_path_of(struct wt_tree *tree, uint64_t number, void *out, size_t out_len);
 
-/* Runs a line of a script, as `mkdir /d 755`, and gives as much of its text as there is room for. It answers how many
- * bytes the text has: where that is more than out_len, wt_text gives it again. queue is the limit of an instance that
- * names none. */
+/* Runs a line of a script, such as `mkdir /d 755`, and stores its text, truncated to out_len bytes. Returns the length
+ * of the text in bytes: if it is more than out_len, wt_text returns the text again. queue is the limit of an instance
+ * that names none. */
 int64_t wt_line(struct wt_tree *tree, uint32_t queue, const char *line, size_t line_len, void *out, size_t out_len);
-/* The text of the last line, which the tree keeps until the next one. */
+/* The text of the last line, which the tree keeps until the next line. Truncates and returns as wt_line. */
 int64_t wt_text(struct wt_tree *tree, void *out, size_t out_len);
 
-/* The version of the library, as "1.0.0", as many of its bytes as fit. It answers how many it has. */
+/* The version of the library, such as "1.0.0", truncated to out_len bytes. Returns its length in bytes. */
 int64_t wt_version(void *out, size_t out_len);
-/* What an answer below zero means, as "ENOENT: No such file or directory", as many of its bytes as fit. It answers how
- * many it has. -EINVAL where the number is none of this library's. */
+/* What a negative number means, such as "ENOENT: No such file or directory", truncated to out_len bytes. Returns the
+ * length of the text in bytes, and -EINVAL if the number is not one that this library returns. */
 int64_t wt_error_text(int64_t number, void *out, size_t out_len);
 
 #ifdef __cplusplus

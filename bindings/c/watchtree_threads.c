@@ -305,6 +305,7 @@ CALL(inotify_add_watch, (struct wtt *t, uint32_t instance, const char *path, siz
 CALL(inotify_rm_watch, (struct wtt *t, uint32_t instance, int32_t wd), wt_inotify_rm_watch(tree_of(t), instance, wd))
 CALL(waiting, (struct wtt *t, uint32_t instance), wt_waiting(tree_of(t), instance))
 CALL(bytes_waiting, (struct wtt *t, uint32_t instance), wt_bytes_waiting(tree_of(t), instance))
+CALL(ready, (struct wtt *t, uint32_t *out, size_t m), wt_ready(tree_of(t), out, m))
 CALL(peek_stat, (struct wtt *t, const char *path, size_t n, struct wt_stat *out), wt_peek_stat(tree_of(t), path, n, out))
 CALL(peek_list, (struct wtt *t, const char *path, size_t n, void *out, size_t m),
      wt_peek_list(tree_of(t), path, n, out, m))

@@ -69,6 +69,7 @@ int64_t wtt_inotify_rm_watch(struct wtt *tree, uint32_t instance, int32_t wd);
 int64_t wtt_waiting(struct wtt *tree, uint32_t instance);
 int64_t wtt_inotify_close(struct wtt *tree, uint32_t instance);
 int64_t wtt_bytes_waiting(struct wtt *tree, uint32_t instance);
+int64_t wtt_ready(struct wtt *tree, uint32_t *out, size_t out_len);
 int64_t wtt_peek_stat(struct wtt *tree, const char *path, size_t path_len, struct wt_stat *out);
 int64_t wtt_peek_list(struct wtt *tree, const char *path, size_t path_len, void *out, size_t out_len);
 int64_t wtt_peek_pread(struct wtt *tree, const char *path, size_t path_len, uint64_t offset, void *out, size_t out_len);

@@ -1,4 +1,4 @@
-"""Threads change a tree, and a task of asyncio is told of it: the calls of listen.c from Python."""
+"""Threads change a tree, and a task of asyncio reads the events: the calls of listen.c from Python."""
 
 import asyncio
 

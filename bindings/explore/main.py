@@ -67,6 +67,7 @@ def read_words(words: List[str]) -> Tuple[argparse.Namespace, List[str]]:
                        ("end", "SIGNAL"), ("outside", "HOW")):
         parser.add_argument(f"--{name}", metavar=what, help="as of watchtree under")
     parser.add_argument("--runner", required=True, help=argparse.SUPPRESS)
+    parser.add_argument("--library", help=argparse.SUPPRESS)  # where Python finds watchtree_trace, if not beside the runner
     if "--" not in words:
         parser.error("there is no -- and program") if not {"-h", "--help"} & set(words) else parser.parse_args(words)
     at = words.index("--")

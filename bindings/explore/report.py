@@ -83,7 +83,7 @@ def shrink_one(bench: Bench, failures: List[Result], is_race: bool, out: str, sa
     print(f"replayed {many(said.replays, 'time')}, failed {many(failed, 'time')}")
     last = bench.replay(best.schedule, best.seed, f"{os.path.abspath(out)}/run")
     _write(f"{out}/timeline.txt", timeline(last.trace, is_whole=True))
-    why = write_page(out, os.path.dirname(os.path.abspath(said.runner)), last.trace, best.schedule.queue)
+    why = write_page(out, said.library or os.path.dirname(os.path.abspath(said.runner)), last.trace, best.schedule.queue)
     print_schedule(best.schedule)
     print("\n" + timeline(last.trace), end="")
     page = f"no page: {why}" if why else f"{out}/page.html its records"

@@ -79,7 +79,7 @@ class Schedule:
                 out.append(f"#@ read {_request(it.request, it.is_relative)} {it.records}")
             else:
                 place = "#@ at rest" if it.before is None else f"#@ before {_request(it.before, it.is_relative)}"
-                # A relative place counts from the line above, so each line needs its own.
+                # A relative position counts from the line above, so each line needs its own.
                 if place != now or it.is_relative:
                     out.append(place)
                 now = place

@@ -121,7 +121,7 @@ def without_setup(now: Schedule) -> Iterator[Schedule]:
 
 
 def chunks(places: Sequence[int]) -> Iterator[Sequence[int]]:
-    """Yields all of some places, then each half, each quarter, and so on to single ones, the last first."""
+    """Yields all of some positions, then each half, each quarter, and so on to single ones, the last first."""
     size = len(places)
     while size:
         for end in range(len(places), 0, -size):

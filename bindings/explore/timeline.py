@@ -1,4 +1,4 @@
-"""The timeline of a run: what the program asked, what happened, and what it was told."""
+"""The timeline of a run: what the program asked, what happened, and which events it read."""
 
 import os
 import subprocess
@@ -8,7 +8,7 @@ from typing import Dict, Iterator, List, Optional, Tuple
 import traces
 from traces import Asked, Called, Entry, Happened, Told
 
-# So many requests in a row are told one by one; more are told as one line.
+# So many requests in a row are printed one by one; more are printed as one line.
 SHOWN_IN_A_ROW = 6
 # What a request of the program changes: a page of such a run would want these as lines of a script.
 CHANGES = ("mknod", "mkdir", "unlink", "rmdir", "rename", "link", "create", "setattr", "write")
@@ -17,7 +17,7 @@ BITS = ("ACCESS", "MODIFY", "ATTRIB", "CLOSE_WRITE", "CLOSE_NOWRITE", "OPEN", "M
 
 
 def timeline(trace: List[Entry], is_whole: bool = False) -> str:
-    """Returns the timeline as text: the number of the request, who acts, and what. Long rows of requests are told in one line
+    """Returns the timeline as text: the number of the request, who acts, and what. Long rows of requests are one line
     unless all is wanted."""
     rows = list(_rows(trace))
     if not is_whole:
@@ -45,7 +45,7 @@ def _rows(trace: List[Entry]) -> Iterator[Row]:
         elif isinstance(it, Called):
             yield from _call(it.text.split(), paths)
         else:
-            yield "", "told", told(it, paths)
+            yield "", "event", told(it, paths)
 
 
 def _call(words: List[str], paths: Dict[Tuple[int, int], str]) -> Iterator[Row]:

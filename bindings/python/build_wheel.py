@@ -18,7 +18,7 @@ METADATA = """\
 Metadata-Version: 2.1
 Name: watchtree
 Version: {version}
-Summary: A file tree in memory, watched in the manner of Linux inotify
+Summary: A file tree in memory with inotify
 License: MIT OR Apache-2.0
 Requires-Python: >=3.8
 Provides-Extra: watchdog
@@ -44,7 +44,8 @@ def contents(path: str) -> bytes:
 def modules() -> List[str]:
     """Returns the files of the package, and the modules beside it that a user runs."""
     found = [it for it in os.listdir(HERE) if it.startswith("watchtree_") and it.endswith(".py")]
-    found += [f"watchtree/{it}" for it in os.listdir(f"{HERE}/watchtree") if it.endswith((".py", ".typed"))]
+    for folder in ("watchtree", "watchtree/explore"):
+        found += [f"{folder}/{it}" for it in os.listdir(f"{HERE}/{folder}") if it.endswith((".py", ".typed"))]
     return sorted(found)
 
 

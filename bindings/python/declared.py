@@ -34,7 +34,7 @@ def differences(calls, plain, wanted):
     """Returns the names of the functions that differ."""
     given = {**plain, **{name: (ctypes.c_void_p, *kinds) for name, kinds in calls.items()}}
     given = {name: [it if it in SIZES.values() else None for it in kinds] for name, kinds in given.items()}
-    return [it for it in sorted(given | wanted) if given.get(it) != wanted.get(it) and (it in wanted or it not in _library.AWAITED)]
+    return [it for it in sorted(given | wanted) if given.get(it) != wanted.get(it)]
 
 
 def unseen(wanted):
@@ -43,7 +43,6 @@ def unseen(wanted):
     for which, table in enumerate((_library.CALLS, _library.PLAIN)):
         for name, kinds in table.items():
             changes = [kinds[:at] + kinds[at + 1 :] for at in range(len(kinds))] + [(*kinds, ctypes.c_int)]
-            changes = [it for it in changes if name in wanted]
             for change in changes:
                 tables = [_library.CALLS, _library.PLAIN]
                 tables[which] = {**table, name: change}

@@ -1,7 +1,7 @@
 """Debian's parsers of inotify records, unchanged, read what the tree gives as the module reads it.
 
 usage: test_parsers.py [--any]. Its last line names the packages that were read with, and those that are not installed.
-With --any it only tells, by its status, whether any is.
+With --any its status only says whether any is.
 """
 
 import importlib

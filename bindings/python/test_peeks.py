@@ -1,7 +1,4 @@
-"""Tests of what looks at a tree without an entry in its journal, and of the library's texts.
-
-A test is skipped if the library lacks its functions.
-"""
+"""Tests of what looks at a tree without an entry in its journal, and of the library's texts."""
 
 import errno
 import re
@@ -9,16 +6,9 @@ import unittest
 
 import watchtree
 from watchtree import Mask, Stat, Tree
-from watchtree._library import default_library, is_missing
-
-
-def needs(*names):
-    missing = [it for it in names if is_missing(default_library(), it)]
-    return unittest.skipIf(missing, f"the library lacks {', '.join(missing)}")
 
 
 class Peeks(unittest.TestCase):
-    @needs("wtt_peek_stat", "wtt_peek_list", "wtt_peek_pread")
     def test_the_journal_has_no_entry(self):
         with Tree() as tree, tree.inotify() as instance:
             tree.mkdir("/d")
@@ -35,17 +25,36 @@ class Peeks(unittest.TestCase):
             self.assertEqual(tree.stat("/d/f"), tree.peek_stat("/d/f"))
             self.assertEqual(tree.cut(), before + 1)
 
-    @needs("wtt_path_of")
     def test_the_path_of_a_number(self):
         with Tree() as tree:
             number = tree.mkdir("/d"), tree.create("/d/f")
             before = tree.cut()
             self.assertEqual([tree.path_of(it) for it in (1, *number)], ["/", "/d", "/d/f"])
-            with self.assertRaises(FileNotFoundError):
-                tree.path_of(99)
+            for missing in (0, 99, 2**32 + 1, 2**64 - 1):
+                with self.assertRaises(FileNotFoundError):
+                    tree.path_of(missing)
             self.assertEqual(tree.cut(), before)
 
-    @needs("wtt_bytes_waiting")
+    def test_the_instances_that_are_ready(self):
+        with Tree() as tree:
+            instances = [tree.inotify() for _ in range(128)]
+            for instance in instances[1:]:
+                instance.add_watch("/", Mask.CREATE)
+            before = tree.cut()
+            self.assertEqual(tree.ready(), [])
+            tree.create("/f")
+            self.assertEqual(tree.ready(), list(range(2, 129)))
+            instances[3].read()
+            instances[9].close()
+            self.assertEqual(tree.ready(), [it for it in range(2, 129) if it not in (4, 10)])
+            self.assertGreater(tree.cut(), before)
+            before = tree.cut()
+            tree.ready()
+            self.assertEqual(tree.cut(), before)
+        with self.assertRaises(OSError) as caught:
+            tree.ready()
+        self.assertEqual(caught.exception.errno, errno.EBADF)
+
     def test_the_bytes_that_wait(self):
         with Tree() as tree, tree.inotify() as instance:
             instance.add_watch("/", Mask.CREATE)
@@ -58,7 +67,6 @@ class Peeks(unittest.TestCase):
             self.assertEqual(len(instance.read_bytes()), sum(sizes[1:]))
             self.assertEqual(instance.bytes_waiting, 0)
 
-    @needs("wt_version", "wt_error_text")
     def test_the_texts(self):
         self.assertTrue(re.fullmatch(r"\d+\.\d+\.\d+", watchtree.__version__))
         self.assertEqual(watchtree.error_text(-errno.EEXIST), "EEXIST: File exists")

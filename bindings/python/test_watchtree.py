@@ -31,7 +31,7 @@ def raises(number, call, *words):
 
 
 def test_session():
-    """Each method once, and what is told of it."""
+    """Each method once, and its events."""
     with Tree() as tree, tree.inotify() as instance:
         assert tree.mkdir("/d") == 2 and tree.create(b"/d/f", 0o600) == 3
         assert instance.add_watch("/d") == 1 and instance.waiting == 0 and instance.read() == []
@@ -88,7 +88,7 @@ def test_refusals():
     assert [it.mask for it in instance.read()] == [Mask.Q_OVERFLOW]
     instance.close()
     assert raises(errno.EBADF, instance.close) and raises(errno.EBADF, lambda: instance.waiting)
-    # A number that C has no room for is no call, and no count is below zero.
+    # A number that does not fit into C's type makes no call, and no count is below zero.
     calls = [(tree.mkdir, "/e", -1), (tree.mkdir, "/e", 2**32), (tree.read, "/d/f", -1), (instance.read_bytes, -1)]
     for call, *words in calls:
         try:
@@ -104,7 +104,7 @@ def test_refusals():
 
 
 def test_room():
-    """What does not fit into the first room is not lost: names, texts, records."""
+    """What does not fit into the first buffer is not lost: names, texts, records."""
     with Tree() as tree, tree.inotify() as instance:
         instance.add_watch("/")
         names = [f"{i:03}" + "n" * 200 for i in range(100)]

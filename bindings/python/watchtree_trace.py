@@ -1,14 +1,14 @@
-"""Writes a page of a script's run: each call, what it told each instance, and how each queue filled.
+"""Writes a page of a script's run: each call, what it raised in each instance, and how each queue filled.
 
     python3 watchtree_trace.py run.script >run.html
     python3 watchtree_trace.py --queue 16 <run.script >run.html
 
-The page is one file that needs no network. Down its side stand the calls with their replies. Each instance has a lane:
+The page is one file that needs no network. Its first columns have the calls with their replies. Each instance has a lane:
 a mark for each record that was raised, which says whether it joined the queue, was merged into an equal record that
 waited last, or was lost to a full queue; a line that fills as the queue does; and a bracket over what one read took.
 
-What was raised is told by a second tree, whose instances are read empty after each call. What joins of it is worked
-out here by the rule of inotify(7), and compared after each call with how many records wait in the tree itself.
+A second tree shows what was raised: its instances are read empty after each call. Which of them join the queue is
+computed here by the rule of inotify(7), and compared after each call with how many records wait in the tree itself.
 """
 
 import argparse
@@ -135,13 +135,13 @@ class Run:
         reply, *records = text.splitlines()
         self.calls.append(Call(at, line.strip(), reply))
         is_done = reply.startswith("ok")
-        # A refused call tells nobody anything, so the second tree may do without it.
+        # A refused call raises no events, so the second tree can skip it.
         if is_done:
             self._follow(words, reply)
         self._look(at, words, records if is_done else None)
 
     def _follow(self, words: List[str], reply: str) -> None:
-        """Runs the same line on the second tree, whose queues have room for all that one call raises."""
+        """Runs the same line on the second tree, whose queues can hold all that one call raises."""
         if words[0] == "init":
             number = int(reply.split()[1])
             limit = int(words[1]) if len(words) > 1 else self.queue

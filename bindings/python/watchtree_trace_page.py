@@ -169,7 +169,7 @@ def write(out: TextIO, name: str, run: "Run") -> None:
         '<li><span class="mark merged">merged into an equal record</span></li>'
         '<li><span class="mark lost">lost: the queue was full</span></li>'
         '<li>the bar: how many records wait</li><li><span class="took">[</span> what one read took</li>'
-        '<li><label><input type="checkbox" id="quiet"> hide calls that told nobody anything</label></li></ul>'
+        '<li><label><input type="checkbox" id="quiet"> hide calls that raised no events</label></li></ul>'
         "<p>Arrow keys, Page Up, Page Down, Home and End go from call to call.</p>"
         '<div class="wide"><table><thead><tr>'
         '<th scope="col">Line</th><th scope="col">Call</th><th scope="col">Reply</th>'

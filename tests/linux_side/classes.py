@@ -84,7 +84,7 @@ def bytes_of(name):
 
 def is_visit(records, kinds):
     """Whether records are those of a directory that is opened and closed: in the order of these kinds for each watch, where
-    a watch that is gone by its first event is told so at once."""
+    a watch that is gone by its first event raises that at once."""
     by_watch = {}
     for it in records:
         by_watch.setdefault(it.wd, []).append(it.mask)
@@ -109,7 +109,7 @@ def visit_classes(line, ours, theirs):
 
 
 def replacing_variants(ours):
-    """What Linux may tell of a rename over something, with the classes of each."""
+    """What Linux may raise for a rename over something, with the classes of each."""
     at = next((at for at, it in enumerate(ours) if it.mask == MOVE_SELF), len(ours))
     front, move = ours[:at], ours[at:]
     gone = front[-1].wd if front and front[-1].mask == IGNORED else None

@@ -200,7 +200,7 @@ def mount_alone(room, is_root):
 
 
 def run_child(sender, lines, room, way):
-    """What a child process does: it takes its place, makes the calls and sends the replies."""
+    """What a child process does: it enters its namespace, makes the calls and sends the replies."""
     try:
         os.umask(0)
         if way == "folder":

@@ -81,7 +81,7 @@ class Renaming:
         self.known = {0: 0}
 
     def of(self, number):
-        """The place of a number among those that came."""
+        """The index of a number among those that came."""
         return self.known.setdefault(number, len(self.known))
 
     def reply(self, line, reply):

@@ -53,7 +53,7 @@ def random_script(seed, number):
 
 
 def filled_script(seed, number, limit):
-    """A script whose queue is filled to the limit of the kernel's queues but for a few records, and then told more."""
+    """A script whose queue is filled to the limit of the kernel's queues but for a few records, and is then offered more."""
     chance = random.Random(seed * 1_000_033 + number)
     text = [f"init {limit}", "mkdir /a 755", "create /a/a 644", "create /a/b 644", "watch 1 /a 0xfff"]
     text += ["chmod /a/a 700", "chmod /a/b 700"] * (limit // 2 - 3)

@@ -2,7 +2,7 @@
 import os
 import re
 
-SENTENCE = re.compile(r"\*Linux\*(?: \(((?:`[a-z-]+`(?:, )?)+)\))?")
+SENTENCE = re.compile(r"\*Linux\*(?:\s+\(((?:`[a-z-]+`(?:,\s+)?)+)\))?")
 ROW = re.compile(r"^\| `([a-z-]+)` \|", re.M)
 
 

@@ -19,7 +19,7 @@ static int64_t both(const char *name, int64_t wanted, int64_t number) {
     return number;
 }
 
-static char out[2][512];
+static _Alignas(uint32_t) char out[2][512];
 static struct wt_stat stats[2];
 #define INTO_OUT(name, ...) \
     both(#name, wt_##name(&plain, __VA_ARGS__, out[0], size), wtt_##name(shared, __VA_ARGS__, out[1], size))
@@ -60,6 +60,11 @@ static void call_on_instances(unsigned which, const char *path, uint32_t instanc
     case 4: if (few == 0) BOTH(inotify_close, instance); break;
     case 5: BOTH(waiting, instance); break;
     case 8: BOTH(bytes_waiting, instance); break;
+    case 9: {
+        size_t count = few / 3;
+        both("ready", wt_ready(&plain, (uint32_t *)out[0], count), wtt_ready(shared, (uint32_t *)out[1], count));
+        break;
+    }
     case 6: INTO_OUT(line, 64, PATH(line)); break;
     case 7: both("text", wt_text(&plain, out[0], size), wtt_text(shared, out[1], size)); break;
     default: {
@@ -78,7 +83,7 @@ int main(void) {
     for (int turn = 0; turn < CALLS; turn++) {
         const char *path = PATHS[choose(10)], *other = PATHS[choose(10)];
         if (choose(2)) call_on_files(choose(17), path, other);
-        else call_on_instances(choose(10), path, choose(12) + 1);
+        else call_on_instances(choose(11), path, choose(12) + 1);
         HOLDS(!memcmp(out[0], out[1], sizeof out[0]) && !memcmp(&stats[0], &stats[1], sizeof stats[0]));
         /* (a descriptor changes no answer) */
         if (turn % 1000 == 0) {

@@ -1,4 +1,4 @@
-/* What the tests of watchtree_threads.h share. */
+/* Shared by the tests of watchtree_threads.h. */
 #ifndef CHECKS_H
 #define CHECKS_H
 #include "watchtree_threads.h"

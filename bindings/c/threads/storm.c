@@ -1,5 +1,5 @@
-/* Writers, readers and closers on one tree at the same time. Three writers rename files to and fro, and every instance
- * hears of it: two are read by threads that wait, one by two threads in turn, one by epoll level-triggered and one
+/* Writers, readers and closers on one tree at the same time. Three writers rename files back and forth, and every instance
+ * is notified: two are read by threads that wait, one by two threads in turn, one by epoll level-triggered and one
  * edge-triggered. The cookies rise by one with each rename, so each reader sees whether a record was lost or came
  * twice. Meanwhile instances are opened, waited for by one thread, and closed by another. */
 #include "checks.h"

@@ -31,7 +31,7 @@ static bool is_readable(int fd) {
     return poll(&it, 1, 0) == 1 && it.revents == POLLIN;
 }
 
-/* A read that finds nothing waits as long as it was told, and the journal does not know of it. */
+/* A read that finds nothing waits as long as it should, and has no entry in the journal. */
 static void time_limits(void) {
     uint32_t instance = instance_on("/d", IN_CREATE);
     int64_t before = wtt_cut(tree);
@@ -63,7 +63,7 @@ static void two_readers(void) {
     IS(wtt_unlink(tree, PATH("/d/a")), 0), IS(wtt_inotify_close(tree, instance), 0);
 }
 
-/* Whoever waits is told of a close, by whichever call. */
+/* Whoever waits is woken by a close, whichever call makes it. */
 static void closes(void) {
     uint32_t instances[] = { instance_on("/d", IN_CREATE), instance_on("/d", IN_CREATE) };
     char line[32];

@@ -34,7 +34,7 @@ def build(room: str) -> Optional[str]:
 
 
 def run(test: unittest.TestCase) -> Tuple[str, str]:
-    """Runs a test: its name, and why it failed or was left out."""
+    """Runs a test: its name, and why it failed or was skipped."""
     name = test.id()
     result = unittest.TestResult()
     try:

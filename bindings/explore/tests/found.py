@@ -69,7 +69,7 @@ class Moves(ToolTest):
         with open(f"{left}/timeline.txt", encoding="utf-8") as file:
             timeline = file.read()
         self.assertRegex(timeline, r"tree     create /d/a/f 644   before request \d+\n")
-        self.assertRegex(timeline, r"told     CREATE ISDIR a   watch 1, of /d\n")
+        self.assertRegex(timeline, r"event    CREATE ISDIR a   watch 1, of /d\n")
         self.assertRegex(timeline, r"\d+  program  inotify_add_watch /d/a\n")
         self.assertIn("page.html", names, said.stdout)
         with open(f"{left}/page.html", encoding="utf-8") as file:

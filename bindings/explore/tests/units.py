@@ -104,7 +104,7 @@ class Moves(unittest.TestCase):
         return found.runs
 
     def test_one_move(self) -> None:
-        # Five places of the first line; the second has one request before it at rest, and so on.
+        # Five positions of the first line; the second has one request before it at rest, and so on.
         self.assertEqual(self.count(1, 1, 5), 5)
         self.assertEqual(self.count(1, 3, 5), 7)
 
@@ -218,8 +218,8 @@ class Texts(unittest.TestCase):
             "           tree     create /d/a 644",
             "           tree     unlink /d/b   (err ENOENT 2)   before request 3",
             "        3  program  read 1",
-            "           told     CREATE a%20b   watch 1, of /d",
-            "           told     Q_OVERFLOW",
+            "           event    CREATE a%20b   watch 1, of /d",
+            "           event    Q_OVERFLOW",
             "                      refused: No such file or directory",
             "           program  ends: by signal 15"])
         self.assertEqual(timeline.as_script(trace, 7).splitlines(), [

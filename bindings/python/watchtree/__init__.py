@@ -1,4 +1,4 @@
-"""watchtree from Python: a file tree in memory, watched in the manner of inotify(7).
+"""watchtree from Python: a file tree in memory with inotify(7).
 
     >>> from watchtree import Tree, Mask
     >>> with Tree() as tree, tree.inotify() as instance:
@@ -15,7 +15,8 @@ Threads may share a tree and its instances: each call takes the lock of the tree
 and a tree in a child of os.fork(), raises OSError with EBADF.
 
 `instance.read(timeout=)`, `for event in instance` and `async for event in instance` wait for events; `watchtree.watchdog`
-has an observer for handlers of the watchdog package. docs/PYTHON.md has an example of each.
+has an observer for handlers of the watchdog package; `watchtree.explore` runs event code under many schedules.
+docs/PYTHON.md has an example of each.
 
 The shared object is the file that the environment variable LIBWATCHTREE names. Without it, it is libwatchtree.so in this
 package, beside it, in the lib/ of the prefix where it is installed, or in out/ of the repository.

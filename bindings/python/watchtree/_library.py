@@ -1,10 +1,9 @@
 """The shared object: where it is, and the types of its functions (watchtree_threads.h)."""
 
 import ctypes
-import errno
 import functools
 import os
-from typing import Any, Callable, Optional
+from typing import Any, Optional
 
 QUEUE = 16384
 
@@ -49,6 +48,7 @@ CALLS = {
     "wtt_line": (_U32, *_BYTES, *_OUT),
     "wtt_text": _OUT,
     "wtt_bytes_waiting": (_U32,),
+    "wtt_ready": _OUT,
     "wtt_peek_stat": (*_BYTES, _STAT),
     "wtt_peek_list": (*_BYTES, *_OUT),
     "wtt_peek_pread": (*_BYTES, _U64, *_OUT),
@@ -56,8 +56,6 @@ CALLS = {
 }
 # The parameters of each function that takes no tree.
 PLAIN = {"wt_version": _OUT, "wt_error_text": (ctypes.c_int64, *_OUT)}
-# A library may lack these. A call of one then raises ENOSYS.
-AWAITED = ("wtt_bytes_waiting", "wtt_peek_stat", "wtt_peek_list", "wtt_peek_pread", "wtt_path_of", *PLAIN)
 # Functions that return nothing.
 ENDS = ("wtt_shutdown", "wtt_close")
 
@@ -76,18 +74,6 @@ def find_library() -> str:
     raise ImportError(f"no libwatchtree.so for {here}: run ./watchtree lib, or set LIBWATCHTREE")
 
 
-def _missing(path: str, name: str) -> Callable[..., int]:
-    def missing(*_: object) -> int:
-        raise OSError(errno.ENOSYS, f"{path} has no function {name}")
-
-    return missing
-
-
-def is_missing(library: ctypes.CDLL, name: str) -> bool:
-    """Whether a library lacks a function."""
-    return bool(getattr(library, name).__name__ != name)
-
-
 def load(path: Optional[str] = None) -> ctypes.CDLL:
     """Loads the library, that of find_library() unless another is named, and declares its functions."""
     found = path or find_library()
@@ -99,11 +85,8 @@ def load(path: Optional[str] = None) -> ctypes.CDLL:
         try:
             function = getattr(library, name)
         except AttributeError:
-            if name not in AWAITED:
-                raise ImportError(f"{found} has no function {name}") from None
-            setattr(library, name, _missing(found, name))
-        else:
-            function.restype, function.argtypes = None if name in ENDS else ctypes.c_int64, kinds
+            raise ImportError(f"{found} has no function {name}: it is of another version") from None
+        function.restype, function.argtypes = None if name in ENDS else ctypes.c_int64, kinds
     return library
 
 

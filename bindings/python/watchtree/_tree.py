@@ -11,6 +11,8 @@ from ._instance import Instance
 from ._library import QUEUE, StatBuffer, default_library, unsigned
 
 RENAME_NOREPLACE, RENAME_EXCHANGE = 1, 2
+# How many instances can be open at a time.
+INSTANCES = 128
 AnyPath = Union[str, bytes, "os.PathLike[str]", "os.PathLike[bytes]"]
 
 
@@ -145,8 +147,17 @@ class Tree:
         return self._read("wtt_peek_pread", path, count, offset)
 
     def path_of(self, number: int) -> str:
-        """Returns a path of the file or directory with a number. The journal has no entry of it."""
-        return os.fsdecode(self._text("wtt_path_of", unsigned(number)))
+        """Returns a path of the file or directory with a number: the first in the order of names.
+
+        It looks at each path of the tree, and the journal has no entry of it.
+        """
+        return os.fsdecode(self._text("wtt_path_of", unsigned(number, 64)))
+
+    def ready(self) -> List[int]:
+        """Returns the numbers of the open instances that have a record waiting in their queue, rising."""
+        out = (ctypes.c_uint32 * INSTANCES)()
+        count = self._call("wtt_ready", out, len(out))
+        return out[:count]
 
     def _read(self, name: str, path: AnyPath, count: int, offset: int) -> bytes:
         out = ctypes.create_string_buffer(max(unsigned(count), 1))

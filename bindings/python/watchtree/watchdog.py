@@ -42,7 +42,7 @@ _MOVED = events.FileMovedEvent, events.DirMovedEvent
 def walk(tree: Tree, top: str) -> Iterator[Tuple[str, bool]]:
     """Yields each path below a directory, and whether it is a directory, in the order of os.walk().
 
-    What cannot be read is passed over: another thread may have removed it.
+    What cannot be read is skipped: another thread may have removed it.
     """
     found: List[Tuple[str, bool]] = []
     try:

@@ -47,6 +47,15 @@ pub(crate) fn all_of(mut call: impl FnMut(&mut [u8]) -> i64) -> Result<Vec<u8>, 
     }
 }
 
+/// The numbers of instances that a call gives, of which 128 at most are open at a time.
+pub(crate) fn numbers(call: impl FnOnce(&mut [u32]) -> i64) -> Result<Vec<u32>, crate::Error> {
+    let mut out = vec![0; 128];
+    let count = crate::error::answer(call(&mut out))? as usize;
+    assert!(count <= out.len(), "the library has more instances open than it says that it can");
+    out.truncate(count);
+    Ok(out)
+}
+
 /// Writes the methods: the receiver, the word `self`, and the functions of C.
 macro_rules! calls {
     ([$($receiver:tt)+], $me:ident, $sys:ident, $prefix:ident: $cut:ident $mkdir:ident $create:ident $write:ident

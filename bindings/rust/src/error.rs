@@ -38,7 +38,7 @@ impl From<Error> for io::Error {
     }
 }
 
-/// The answer of a call below zero is an error.
+/// A negative return value is an error.
 pub(crate) fn answer(number: i64) -> Result<u64, Error> {
     u64::try_from(number).map_err(|_| Error(number.unsigned_abs().try_into().unwrap_or(i32::MAX)))
 }
@@ -50,7 +50,7 @@ fn text(call: impl FnOnce(*mut c_void, usize) -> i64) -> Result<String, Error> {
     Ok(String::from_utf8_lossy(&out[..len]).into_owned())
 }
 
-/// The version of the library, as `1.0.0`.
+/// The version of the library, such as `1.0.0`.
 pub fn version() -> Result<String, Error> {
     text(|out, len| unsafe { sys::wt_version(out, len) })
 }

@@ -1,4 +1,4 @@
-//! The records that a read gives.
+//! The records that a read returns.
 use std::ffi::OsStr;
 use std::os::unix::ffi::OsStrExt;
 
@@ -8,13 +8,13 @@ pub struct Event<'a> {
     pub wd: i32,
     /// Bits of [`mask`](crate::mask).
     pub mask: u32,
-    /// Ties the two records of a rename; else 0.
+    /// Connects the two records of a rename; otherwise 0.
     pub cookie: u32,
     /// The name in the watched directory; none if the event is about the watched file itself.
     pub name: Option<&'a OsStr>,
 }
 
-/// The records that a read gave, in the bytes of read(2).
+/// The records that a read returned, in the bytes of read(2).
 #[derive(Clone, Debug, Default, PartialEq, Eq)]
 pub struct Events {
     bytes: Vec<u8>,
@@ -25,7 +25,7 @@ impl Events {
         Events { bytes }
     }
 
-    /// The bytes, as read(2) of an inotify descriptor gives them.
+    /// The bytes, as read(2) on an inotify descriptor returns them.
     pub fn as_bytes(&self) -> &[u8] {
         &self.bytes
     }
@@ -44,7 +44,7 @@ impl<'a> IntoIterator for &'a Events {
     }
 }
 
-/// Goes over the records of a read.
+/// Iterates over the records of a read.
 #[derive(Clone, Debug)]
 pub struct EventIter<'a> {
     rest: &'a [u8],

@@ -1,4 +1,4 @@
-//! A tree of files in memory, watched in the manner of inotify(7): safe wrappers over libwatchtree.
+//! A file tree in memory with inotify(7): safe wrappers over libwatchtree.
 //!
 //! ```
 //! use watchtree::{mask, Tree};
@@ -14,16 +14,16 @@
 //! # Ok::<(), watchtree::Error>(())
 //! ```
 //!
-//! Each method answers as the system call of its name does. A [`Tree`] is for one thread at a time: every call takes
+//! Each method returns what the system call of its name returns. A [`Tree`] is for one thread at a time: every call takes
 //! `&mut Tree`. A [`SharedTree`] is for several: its calls take `&self`, reads can wait, and an instance has a
-//! descriptor for event loops.
+//! descriptor for event loops. [`explore`] runs event code under many schedules, and shrinks one that breaks it.
 mod calls;
 mod error;
 mod events;
+pub mod explore;
 pub mod mask;
 mod shared;
 mod sys;
-mod sys_threads;
 mod tree;
 
 pub use calls::Stat;
@@ -32,7 +32,7 @@ pub use events::{Event, EventIter, Events};
 pub use shared::{SharedInstance, SharedTree};
 pub use tree::{Instance, Tree};
 
-/// The usual limit of a queue, as fs.inotify.max_queued_events of Linux.
+/// The default limit of a queue in records, as fs.inotify.max_queued_events of Linux.
 pub const QUEUE: u32 = 16384;
 /// The flag of `rename2` by which nothing may be at the new path.
 pub const RENAME_NOREPLACE: u32 = 1;

@@ -20,7 +20,7 @@ pub const UNMOUNT: u32 = 0x2000;
 pub const Q_OVERFLOW: u32 = 0x4000;
 /// The watch has ended.
 pub const IGNORED: u32 = 0x8000;
-/// Watch only a directory; else `ENOTDIR`.
+/// Watch only a directory; otherwise `ENOTDIR`.
 pub const ONLYDIR: u32 = 0x0100_0000;
 /// Has no effect: there are no symbolic links.
 pub const DONT_FOLLOW: u32 = 0x0200_0000;

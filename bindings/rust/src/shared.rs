@@ -1,8 +1,7 @@
 //! A tree that threads share.
-use crate::calls::{all_of, calls, names, text};
+use crate::calls::{all_of, calls, names, numbers, text};
 use crate::error::answer;
-use crate::sys::RawStat;
-use crate::sys_threads::{self as sys, RawShared};
+use crate::sys::{self, RawShared, RawStat};
 use crate::{Error, Events, Stat};
 use std::ffi::OsString;
 use std::os::raw::c_int;
@@ -79,7 +78,7 @@ impl SharedTree {
         unsafe { sys::wtt_shutdown(self.raw()) }
     }
 
-    /// Makes an instance with a queue of so many records.
+    /// Makes an instance whose queue holds at most `limit` records, 1 to 65,535.
     pub fn inotify(&self, limit: u32) -> Result<SharedInstance, Error> {
         let number = answer(unsafe { sys::wtt_inotify_init(self.raw(), limit) })? as u32;
         let fd = answer(unsafe { sys::wtt_fd(self.raw(), number) });
@@ -96,7 +95,12 @@ impl SharedTree {
         }
     }
 
-    /// Runs a line of a script, as `mkdir /d 755`, and returns the text that it prints. `queue` is the limit of an
+    /// The numbers of the open instances that have a record waiting, rising.
+    pub fn ready(&self) -> Result<Vec<u32>, Error> {
+        numbers(|out| unsafe { sys::wtt_ready(self.raw(), out.as_mut_ptr(), out.len()) })
+    }
+
+    /// Runs a line of a script, such as `mkdir /d 755`, and returns the text that it prints. `queue` is the limit of an
     /// instance that names none.
     pub fn line(&self, line: impl AsRef<[u8]>, queue: u32) -> Result<Vec<u8>, Error> {
         let (line, mut has_run) = (line.as_ref(), false);

@@ -1,5 +1,5 @@
 //! A tree for one thread at a time.
-use crate::calls::{all_of, calls, names, text};
+use crate::calls::{all_of, calls, names, numbers, text};
 use crate::error::answer;
 use crate::sys::{self, RawStat, RawTree};
 use crate::{Error, Events, Stat};
@@ -45,7 +45,7 @@ impl Tree {
         wt_unlink wt_rmdir wt_rename wt_rename2 wt_stat wt_list wt_peek_stat wt_peek_list
         wt_peek_pread wt_path_of);
 
-    /// Makes an instance with a queue of so many records.
+    /// Makes an instance whose queue holds at most `limit` records, 1 to 65,535.
     pub fn inotify(&mut self, limit: u32) -> Result<Instance, Error> {
         answer(unsafe { sys::wt_inotify_init(&mut self.raw, limit) }).map(|it| Instance(it as u32))
     }
@@ -78,23 +78,17 @@ impl Tree {
         answer(unsafe { sys::wt_bytes_waiting(&mut self.raw, instance.0) })
     }
 
-    /// The open instances that have a record waiting, by their numbers, rising.
+    /// The open instances that have a record waiting, by their numbers, in ascending order.
     pub fn ready(&mut self) -> Result<Vec<Instance>, Error> {
-        let mut out = vec![0; 128];
-        loop {
-            let count = answer(unsafe { sys::wt_ready(&mut self.raw, out.as_mut_ptr(), out.len()) })? as usize;
-            if count <= out.len() {
-                return Ok(out[..count].iter().map(|&it| Instance(it)).collect());
-            }
-            out.resize(count, 0);
-        }
+        let found = numbers(|out| unsafe { sys::wt_ready(&mut self.raw, out.as_mut_ptr(), out.len()) })?;
+        Ok(found.into_iter().map(Instance).collect())
     }
 
     pub fn close(&mut self, instance: Instance) -> Result<(), Error> {
         answer(unsafe { sys::wt_inotify_close(&mut self.raw, instance.0) }).map(drop)
     }
 
-    /// Runs a line of a script, as `mkdir /d 755`, and returns the text that it prints. `queue` is the limit of an
+    /// Runs a line of a script, such as `mkdir /d 755`, and returns the text that it prints. `queue` is the limit of an
     /// instance that names none.
     pub fn line(&mut self, line: impl AsRef<[u8]>, queue: u32) -> Result<Vec<u8>, Error> {
         let (line, mut has_run) = (line.as_ref(), false);

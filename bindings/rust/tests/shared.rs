@@ -69,7 +69,8 @@ fn an_instance_is_read_and_closed() -> Result<(), Error> {
     assert_eq!(instance.try_read(4096), Err(Error::AGAIN));
     tree.create("/f", 0o644)?;
     assert_eq!((instance.waiting()?, instance.bytes_waiting()?, instance.try_read(31)), (1, 32, Err(Error(22))));
-    assert_eq!(instance.read(4096)?.as_bytes().len(), 32);
+    assert_eq!(tree.ready()?, [1]);
+    assert_eq!((instance.read(4096)?.as_bytes().len(), tree.ready()?), (32, vec![]));
     instance.rm_watch(1)?;
     let events = instance.try_read(4096)?;
     assert_eq!(events.iter().map(|it| (it.wd, it.mask, it.name)).collect::<Vec<_>>(), [(1, mask::IGNORED, None)]);

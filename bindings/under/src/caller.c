@@ -3,6 +3,7 @@
 #include "caller.h"
 #include <errno.h>
 #include <fcntl.h>
+#include <linux/capability.h>
 #include <linux/openat2.h>
 #include <stdio.h>
 #include <stdlib.h>
@@ -24,43 +25,64 @@ bool is_valid(const struct seccomp_notif *call) {
 
 /* ---- who it is */
 
-enum { MOST_GROUPS = 64 };
+enum { MOST_GROUPS = NGROUPS_MAX };
 struct identity {
     pid_t process;
     uid_t uid;
     gid_t gid;
-    gid_t groups[MOST_GROUPS];
+    uint64_t capabilities;          /* of a user namespace of its own: none, as they are worth nothing here */
     int group_count;
+    gid_t groups[MOST_GROUPS];
 };
 
+static bool is_same_file(const char *a, const char *b) {
+    struct stat one, other;
+    return stat(a, &one) == 0 && stat(b, &other) == 0 && one.st_dev == other.st_dev && one.st_ino == other.st_ino;
+}
+
+static bool has_our_users(const struct seccomp_notif *call) {
+    char theirs[64];
+    snprintf(theirs, sizeof theirs, "/proc/%u/ns/user", call->pid);
+    return is_same_file(theirs, "/proc/self/ns/user");
+}
+
+static void read_groups(const char *at, struct identity *out) {
+    char *end;
+    out->group_count = 0;
+    for (unsigned long group; out->group_count < MOST_GROUPS; at = end) {
+        group = strtoul(at, &end, 10);
+        if (end == at) break;
+        out->groups[out->group_count++] = (gid_t)group;
+    }
+}
+
+/* Takes what a line of /proc/PID/status has: false if it has nothing that is wanted. */
+static bool read_status_line(const char *line, struct identity *out) {
+    unsigned long long capabilities;
+    if (sscanf(line, "Tgid: %d", &out->process) == 1) return true;
+    if (sscanf(line, "Uid: %*u %*u %*u %u", &out->uid) == 1) return true;
+    if (sscanf(line, "Gid: %*u %*u %*u %u", &out->gid) == 1) return true;
+    if (!strncmp(line, "Groups:", 7)) return read_groups(line + 7, out), true;
+    if (sscanf(line, "CapEff: %llx", &capabilities) == 1) return out->capabilities = capabilities, true;
+    return false;
+}
+
 static bool read_identity(const struct seccomp_notif *call, struct identity *out) {
-    char name[64], line[4096];
-    unsigned a, b, c, d;
+    enum { WANTED = 5 };
+    static char *line;
+    static size_t capacity;
+    char name[64];
     int found = 0;
     snprintf(name, sizeof name, "/proc/%u/status", call->pid);
     FILE *file = fopen(name, "re");
-    *out = (struct identity){ 0 };
-    while (file && fgets(line, sizeof line, file)) {
-        if (sscanf(line, "Tgid: %d", &out->process) == 1) found++;
-        else if (sscanf(line, "Uid: %u %u %u %u", &a, &b, &c, &d) == 4) out->uid = d, found++;
-        else if (sscanf(line, "Gid: %u %u %u %u", &a, &b, &c, &d) == 4) out->gid = d, found++;
-        else if (!strncmp(line, "Groups:", 7)) {
-            char *at = line + 7, *end;
-            for (;; at = end) {
-                unsigned long group = strtoul(at, &end, 10);
-                if (end == at || out->group_count == MOST_GROUPS) break;
-                out->groups[out->group_count++] = (gid_t)group;
-            }
-            found++;
-            break;
-        }
-    }
+    while (file && found < WANTED && getline(&line, &capacity, file) > 0) found += read_status_line(line, out);
     if (file) fclose(file);
-    return found == 4 && is_valid(call);
+    if (found == WANTED && out->capabilities && !has_our_users(call)) out->capabilities = 0;
+    return found == WANTED && is_valid(call);
 }
 
 int borrow(const struct seccomp_notif *call, int fd) {
-    struct identity who;
+    static struct identity who;
     int pidfd = (int)syscall(SYS_pidfd_open, call->pid, PIDFD_THREAD);
     if (pidfd < 0 && read_identity(call, &who)) pidfd = (int)syscall(SYS_pidfd_open, who.process, 0);
     if (pidfd < 0) return -ESRCH;
@@ -123,11 +145,6 @@ static const char *own_folder(const struct seccomp_notif *call, pid_t process, c
     return NULL;
 }
 
-static bool is_same_file(const char *a, const char *b) {
-    struct stat one, other;
-    return stat(a, &one) == 0 && stat(b, &other) == 0 && one.st_dev == other.st_dev && one.st_ino == other.st_ino;
-}
-
 /* Whether an absolute path means to the caller what it means here: the root and the mounts are the same. */
 static bool has_our_root(const struct seccomp_notif *call) {
     char their_root[64], their_mounts[64];
@@ -136,44 +153,83 @@ static bool has_our_root(const struct seccomp_notif *call) {
     return is_same_file(their_root, "/") && is_same_file(their_mounts, "/proc/self/ns/mnt") && is_valid(call);
 }
 
-static int open_path(const struct seccomp_notif *call, pid_t process, const char *path, bool follows) {
-    char folder[64];
-    struct open_how how = { .flags = (uint64_t)(O_PATH | O_CLOEXEC | (follows ? 0 : O_NOFOLLOW)) };
-    const char *rest = own_folder(call, process, path, folder);
-    if (!rest && *path == '/' && has_our_root(call)) {
-        int fd = open(path, (int)how.flags);
-        return fd < 0 ? -errno : fd;
+/* Where a path begins, opened with our rights: a descriptor or -errno. What is left of the path, and how it is resolved. */
+static int open_start(const struct seccomp_notif *call, pid_t process, const char *path, const char **rest,
+                      uint64_t *resolve) {
+    char folder[64] = "/";
+    *resolve = 0;
+    *rest = own_folder(call, process, path, folder);
+    if (!*rest) {
+        bool is_absolute = *path == '/';
+        *rest = path;
+        if (!is_absolute || !has_our_root(call)) {
+            snprintf(folder, sizeof folder, "/proc/%u/%s", call->pid, is_absolute ? "root" : "cwd");
+            if (is_absolute) *resolve = RESOLVE_IN_ROOT;
+        }
     }
-    if (!rest) {
-        snprintf(folder, sizeof folder, "/proc/%u/%s", call->pid, *path == '/' ? "root" : "cwd");
-        if (*path == '/') how.resolve = RESOLVE_IN_ROOT;
-        rest = path;
-    }
-    int from = open(folder, O_PATH | O_CLOEXEC);
-    if (from < 0) return -errno;
-    int fd = is_valid(call) ? (int)syscall(SYS_openat2, from, *rest ? rest : ".", &how, sizeof how) : (errno = ESRCH, -1);
-    int reply = fd < 0 ? -errno : fd;
-    close(from);
-    return reply;
+    int fd = open(folder, O_PATH | O_CLOEXEC), error = errno;
+    if (fd < 0) return -error;
+    if (is_valid(call)) return fd;
+    close(fd);
+    return -ESRCH;
 }
 
-/* A caller of another user has that user's rights on the way of the path, and none of ours. */
-int open_for(const struct seccomp_notif *call, const char *path, bool follows) {
-    struct identity who;
-    if (!*path) return -ENOENT;
-    if (!read_identity(call, &who)) return -ESRCH;
+/* ---- its rights on the way of a path, and none of ours */
+
+static uint64_t our_capabilities(void) {
+    struct __user_cap_header_struct head = { _LINUX_CAPABILITY_VERSION_3, 0 };
+    struct __user_cap_data_struct data[2];
+    if (syscall(SYS_capget, &head, data) < 0) fail("capget");
+    return data[0].effective | (uint64_t)data[1].effective << 32;
+}
+
+/* Of those that are permitted to this process. */
+static void set_capabilities(uint64_t wanted) {
+    struct __user_cap_header_struct head = { _LINUX_CAPABILITY_VERSION_3, 0 };
+    struct __user_cap_data_struct data[2];
+    if (syscall(SYS_capget, &head, data) < 0) fail("capget");
+    for (int i = 0; i < 2; i++) data[i].effective = data[i].permitted & (uint32_t)(wanted >> 32 * i);
+    if (syscall(SYS_capset, &head, data) < 0) fail("capset");
+}
+
+static bool become(uid_t uid, gid_t gid, int count, const gid_t *groups) {
+    if (syscall(SYS_setgroups, count, groups) < 0) return false;
+    setfsgid(gid);
+    setfsuid(uid);
+    return setfsuid((uid_t)-1) == (int)uid && setfsgid((gid_t)-1) == (int)gid;
+}
+
+/* Opens with the rights of somebody. */
+static int open_as(const struct identity *who, int start, const char *path, struct open_how *how) {
+    static gid_t groups[MOST_GROUPS];
     uid_t uid = geteuid();
     gid_t gid = getegid();
-    if (who.uid == uid && who.gid == gid) return open_path(call, who.process, path, follows);
-    gid_t groups[MOST_GROUPS];
-    int count = getgroups(MOST_GROUPS, groups);
-    if (count < 0 || syscall(SYS_setgroups, who.group_count, who.groups) < 0) return -EACCES;
-    setfsgid(who.gid);
-    setfsuid(who.uid);
-    int reply = setfsuid((uid_t)-1) == (int)who.uid && setfsgid((gid_t)-1) == (int)who.gid
-              ? open_path(call, who.process, path, follows) : -EACCES;
-    setfsuid(uid);
-    setfsgid(gid);
-    if (syscall(SYS_setgroups, count, groups) < 0) fail("setgroups");
-    return reply;
+    uint64_t capabilities = our_capabilities();
+    bool is_other = who->uid != uid || who->gid != gid;
+    int count = is_other ? getgroups(MOST_GROUPS, groups) : 0, fd = -1, error = EACCES;
+    if (count < 0) fail("getgroups");
+    if (!is_other || become(who->uid, who->gid, who->group_count, who->groups)) {
+        bool has_others = who->capabilities != capabilities;
+        if (has_others) set_capabilities(who->capabilities);
+        fd = (int)syscall(SYS_openat2, start, *path ? path : ".", how, sizeof *how);
+        error = errno;
+        if (has_others) set_capabilities(capabilities);
+    }
+    if (is_other && !become(uid, gid, count, groups)) fail("setgroups");
+    return fd < 0 ? -error : fd;
+}
+
+int open_for(const struct seccomp_notif *call, const char *path, bool follows) {
+    static struct identity who;
+    struct open_how how = { .flags = (uint64_t)(O_PATH | O_CLOEXEC | (follows ? 0 : O_NOFOLLOW)) };
+    const char *rest;
+    uint64_t resolve;
+    if (!*path) return -ENOENT;
+    if (!read_identity(call, &who)) return -ESRCH;
+    int start = open_start(call, who.process, path, &rest, &resolve);
+    if (start < 0) return start;
+    how.resolve = resolve;
+    int fd = open_as(&who, start, rest, &how);
+    close(start);
+    return fd;
 }

@@ -1,5 +1,5 @@
 /* What --out leaves of the tree: a line for each file in DIR/listing, and a copy below DIR/tree. */
-#include "requests.h"
+#include "nodes.h"
 #include "trace.h"
 #include "tree.h"
 #include <fcntl.h>
@@ -59,5 +59,5 @@ void write_tree(const char *directory) {
     if (!listing) fail("listing");
     if (mkdir("tree", 0755) < 0 || chdir("tree") < 0) fail("tree");
     copy(listing, path);
-    if (fclose(listing)) fail("listing");
+    if (ferror(listing) || fclose(listing)) fault("%s/listing was not written", directory);
 }

@@ -142,9 +142,9 @@ static void raise_close(uint64_t number, const struct descriptor *it) {
     if (!find_file(number, path, &is)) return;
     if (!it->may_write) {
         uint64_t from = it->has_read ? 0 : is.size;
-        CALL(1, wt_pread(&tree, PATH(path), from, &byte, it->has_read ? 1 : 0));
+        must(CALL(1, wt_pread(&tree, PATH(path), from, &byte, it->has_read ? 1 : 0)), path);
     } else if (node_of(number)->content) commit(number);
-    else CALL(0, wt_write(&tree, PATH(path), 0, &byte, 0));
+    else must(CALL(0, wt_write(&tree, PATH(path), 0, "", 0)), path);
 }
 
 void on_release(fuse_req_t req, fuse_ino_t number, struct fuse_file_info *file) {

@@ -44,7 +44,6 @@ void on_opendir(fuse_req_t req, fuse_ino_t number, struct fuse_file_info *file) 
 static bool name_attributes(uint64_t directory, const char *name, struct stat *out) {
     char path[PATH_SIZE];
     struct wt_stat is;
-    if (directory == ROOT && !strcmp(name, NURSERY)) return false;
     if (path_in(directory, name, path) || wt_peek_stat(&tree, PATH(path), &is) < 0) return false;
     *out = (struct stat){ .st_ino = is.number, .st_mode = is.is_directory ? S_IFDIR : S_IFREG };
     return true;

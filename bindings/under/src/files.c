@@ -196,10 +196,6 @@ int64_t resize_file(uint64_t number, uint64_t length) {
 
 /* ---- what reaches the tree */
 
-static void must(int64_t reply, const char *path) {
-    if (reply < 0) fault("%s: %s", path, strerror(errno_of(reply)));
-}
-
 void announce(uint64_t number) {
     char path[PATH_SIZE];
     struct wt_stat is;

@@ -6,6 +6,7 @@
 #include "options.h"
 #include "record.h"
 #include "schedule.h"
+#include "script.h"
 #include "trace.h"
 #include "tree.h"
 #include "turn.h"
@@ -66,7 +67,8 @@ void open_instance(fuse_req_t req, struct fuse_file_info *file) {
 void close_instance(struct fuse_file_info *file) {
     struct instance *it = instance_of(file);
     trace("# close %u\n", it->id);
-    CALL(0, wt_inotify_close(&tree, it->id));
+    int64_t reply = CALL(0, wt_inotify_close(&tree, it->id));
+    if (reply != -EBADF) must(reply, "close");  /* a line of the script may have closed it */
     if (it->poller) fuse_pollhandle_destroy(it->poller);
     free(it->readers);
     *it = (struct instance){ 0 };
@@ -127,6 +129,7 @@ static void answer_read(struct instance *it, fuse_req_t req, size_t size, uint64
     work_count++;
     if (is_refused(req, count)) return;
     instance_counts.reads++;
+    instance_counts.reads_after_line += lines_after_first_mark() > 0;
     if (waiting_in(it) && most && waiting_in(it) == before - (int64_t)most) record_short_read(request, most);
     trace_records(it->id, buffer, (size_t)count);
     fuse_reply_buf(req, buffer, (size_t)count);

@@ -29,7 +29,8 @@ struct asking {
 };
 struct asking who_asks(void);
 
-/* How many there are; whether there ever was one; how often records were taken, watches and instances made. */
-struct instance_counts { uint64_t open, made, reads, calls; };
+/* How many there are, and ever were; how often records were taken, and of these after a line that stands after the first
+ * mark; how often watches and instances were made. */
+struct instance_counts { uint64_t open, made, reads, reads_after_line, calls; };
 extern struct instance_counts instance_counts;
 #endif

@@ -8,14 +8,13 @@
 
 /* ---- new files
  * wt_create opens and closes, as a script's line does, so it raises IN_CREATE, IN_OPEN and IN_CLOSE_WRITE. A program's
- * file raises the latter when it is closed. So it is made in a directory that nobody can watch, and linked to its place,
- * which raises IN_CREATE alone. */
+ * file raises the latter when it is closed. So it is made in a directory that nobody can watch, and linked to its path,
+ * which raises only IN_CREATE. */
 
 static const char nursery[] = "/" NURSERY, newborn[] = "/" NURSERY "/new";
 
 void make_nursery(void) {
-    int64_t reply = CALL(0, wt_mkdir(&tree, PATH(nursery), 0700));
-    if (reply < 0) fault("mkdir %s: %s", nursery, strerror(errno_of(reply)));
+    must(CALL(0, wt_mkdir(&tree, PATH(nursery), 0700)), nursery);
 }
 
 static void made(uint64_t number, uint64_t parent, const char *name) {
@@ -31,7 +30,7 @@ int64_t make_file(uint64_t parent, const char *name, const char *path, mode_t mo
     int64_t number = CALL(0, wt_create(&tree, PATH(newborn), mode & 07777));
     if (number < 0) return number;
     int64_t reply = CALL(0, wt_link(&tree, PATH(newborn), PATH(path)));
-    CALL(0, wt_unlink(&tree, PATH(newborn)));
+    must(CALL(0, wt_unlink(&tree, PATH(newborn))), newborn);
     if (reply < 0) return reply;
     made((uint64_t)number, parent, name);
     return number;
@@ -70,7 +69,7 @@ void on_link(fuse_req_t req, fuse_ino_t number, fuse_ino_t parent, const char *n
     char from[PATH_SIZE], to[PATH_SIZE];
     struct wt_stat is;
     begin(req);
-    int error = path_in(parent, name, to);
+    int error = number == INSTANCE ? EXDEV : path_in(parent, name, to);
     if (!error && !find_file(number, from, &is)) error = ENOENT;
     int64_t reply = error ? -error : CALL(0, wt_link(&tree, PATH(from), PATH(to)));
     if (is_refused(req, reply)) return;

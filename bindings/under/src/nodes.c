@@ -117,6 +117,7 @@ bool find_file(uint64_t number, char path[PATH_SIZE], struct wt_stat *out) {
 
 int path_in(uint64_t directory, const char *name, char path[PATH_SIZE]) {
     struct wt_stat is;
+    if (directory == ROOT && !strcmp(name, NURSERY)) return EPERM;
     if (!find_file(directory, path, &is)) return ENOENT;
     size_t length = strcmp(path, "/") ? strlen(path) : 0, more = strlen(name);
     if (more > 255 || length + 1 + more > 4095) return ENAMETOOLONG;

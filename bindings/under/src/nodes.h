@@ -5,6 +5,8 @@
 #include "under.h"
 
 enum { ROOT = 1 };
+/* The runner's own directory in the root, which the program neither sees nor replaces (names.c). */
+#define NURSERY ".watchtree-new"
 
 struct content;                     /* files.h */
 
@@ -14,7 +16,7 @@ struct node {
     bool is_gone;                   /* it has no path any more, and numbers never come again */
     struct wt_stat last;            /* what it was when it was last looked at */
     struct timespec atime, mtime, ctime;
-    uint64_t lookups;               /* how often the kernel was told of it and has not forgotten it */
+    uint64_t lookups;               /* how often the kernel looked it up and has not forgotten it */
     uint32_t opens;
     struct content *content;        /* what is written and not yet in the tree, or all of a file that is gone */
 };

@@ -23,16 +23,16 @@ static void redirect(const char *name, int to) {
     if (fd < 0 || dup2(fd, to) < 0) fail(path);
 }
 
-_Noreturn static void become_program(const char *here, int to_supervisor) {
-    sigset_t none;
+_Noreturn static void become_program(const char *here, pid_t tool, int to_supervisor, const sigset_t *blocked) {
     prctl(PR_SET_PDEATHSIG, SIGKILL);
-    sigemptyset(&none);
-    sigprocmask(SIG_SETMASK, &none, NULL);
+    if (getppid() != tool) _exit(STATUS_FAULT);
+    sigprocmask(SIG_SETMASK, blocked, NULL);
     if (chdir(here) < 0) fail(here);        /* again, as it may be below the mount */
     if (!strcmp(options.script, "-")) {
         int nothing = open("/dev/null", O_RDONLY | O_CLOEXEC);
         if (nothing < 0 || dup2(nothing, 0) < 0) fail("/dev/null");
     }
+    int tool_error = fcntl(2, F_DUPFD_CLOEXEC, 3);
     if (options.out) {
         redirect("stdout", 1);
         redirect("stderr", 2);
@@ -45,11 +45,13 @@ _Noreturn static void become_program(const char *here, int to_supervisor) {
     char is_ready;
     if (read(to_supervisor, &is_ready, 1) != 1) fault("the supervisor of the system calls did not start");
     execvp(*options.program, options.program);
-    say("%s: %s", *options.program, strerror(errno));
-    _exit(errno == ENOENT || errno == ENOTDIR ? STATUS_NOT_FOUND : STATUS_NOT_EXECUTABLE);
+    int error = errno;
+    dup2(tool_error, 2);
+    say("%s: %s", *options.program, strerror(error));
+    _exit(error == ENOENT || error == ENOTDIR ? STATUS_NOT_FOUND : STATUS_NOT_EXECUTABLE);
 }
 
-void start_program(const char *here) {
+void start_program(const char *here, const sigset_t *blocked, int mount_fd) {
     int pair[2];
     if (socketpair(AF_UNIX, SOCK_STREAM | SOCK_CLOEXEC, 0, pair) < 0) fail("socketpair");
     pid_t tool = getpid();
@@ -59,7 +61,12 @@ void start_program(const char *here) {
         supervise(pair[0], tool);
     }
     if ((program_pid = fork()) < 0) fail("fork");
-    if (program_pid == 0) become_program(here, pair[1]);
+    if (program_pid == 0) {
+        /* Each waits for the other, and the supervisor for the tool: the descriptor that shows an end is open in nobody else. */
+        close(pair[0]);
+        close(mount_fd);
+        become_program(here, tool, pair[1], blocked);
+    }
     close(pair[0]);
     close(pair[1]);
 }

@@ -2,11 +2,12 @@
 #ifndef PROGRAM_H
 #define PROGRAM_H
 #include "under.h"
+#include <signal.h>
 
 extern pid_t supervisor_pid, program_pid;
 
-/* Starts both. The program starts in the directory `here`. */
-void start_program(const char *here);
+/* Starts both. The program starts in the directory `here`, with these signals blocked, and without the mount's descriptor. */
+void start_program(const char *here, const sigset_t *blocked, int mount_fd);
 /* Ends what the program left behind, while `serve` answers requests. */
 void end_processes(void (*serve)(void));
 #endif

@@ -38,7 +38,6 @@ void on_statfs(fuse_req_t req, fuse_ino_t number);
 int64_t make_file(uint64_t parent, const char *name, const char *path, mode_t mode);
 /* Makes the directory in which new files are made. */
 void make_nursery(void);
-#define NURSERY ".watchtree-new"
 void on_mknod(fuse_req_t req, fuse_ino_t parent, const char *name, mode_t mode, dev_t device);
 void on_mkdir(fuse_req_t req, fuse_ino_t parent, const char *name, mode_t mode);
 void on_symlink(fuse_req_t req, const char *target, fuse_ino_t parent, const char *name);

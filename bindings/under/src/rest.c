@@ -165,6 +165,11 @@ bool any_task(bool (*is_such)(pid_t pid, const char *task)) {
     return is_any;
 }
 
+bool is_of_program(pid_t pid) {
+    find_ours();
+    return pid != getpid() && is_ours(pid);
+}
+
 int signal_all(int signal, pid_t but) {
     int count = 0;
     find_ours();

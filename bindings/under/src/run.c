@@ -29,6 +29,8 @@
 enum { QUIET_NS = 3000000 };
 /* After a request more may come soon, and would wait until all tasks were looked at. */
 enum { REST_US = 100, LONGEST_US = 2000 };
+/* The first look reads of every process of the machine, so it waits until the program has started. */
+enum { FIRST_LOOK_MS = 10 };
 /* How long a program may take to end, and how much longer than quiet a stall without rest may be. */
 enum { ENDING_MS = 10000, BUSY_STALLS = 6 };
 
@@ -36,6 +38,7 @@ enum ending { RUNNING, OVER, STALLED, BROKEN };
 
 static struct fuse_session *session;
 static int signals;
+static sigset_t first_mask;         /* what was blocked when the tool started, which the program inherits */
 static enum ending ending;
 static int64_t ended_at;            /* when the program was asked to end */
 static int64_t worked_at;           /* when it last worked */
@@ -92,8 +95,9 @@ static void serve_burst(void) {
 static void take_signals(void) {
     struct signalfd_siginfo it;
     while (read(signals, &it, sizeof it) == sizeof it) {
-        /* A terminal sends its signals to the program too. */
-        if (it.ssi_signo != SIGCHLD && it.ssi_code <= 0) kill(program_pid, (int)it.ssi_signo);
+        /* A terminal signals the program too, and so does a process of the run that signals all of its group. */
+        bool is_for_program = it.ssi_signo != SIGCHLD && it.ssi_code <= 0 && !is_of_program((pid_t)it.ssi_pid);
+        if (is_for_program) kill(program_pid, (int)it.ssi_signo);
     }
     int status;
     for (pid_t pid; (pid = waitpid(-1, &status, WNOHANG)) > 0;) {
@@ -178,8 +182,8 @@ static void give_turn(int64_t *wait_us) {
 }
 
 static void loop(void) {
-    int64_t wait_us = 0;
-    worked_at = progress_at = clock_ms();
+    int64_t wait_us = FIRST_LOOK_MS * 1000, started_at = clock_ms();
+    worked_at = progress_at = started_at;
     while (!has_ended && ending != BROKEN) {
         struct timespec limit = { .tv_sec = wait_us / 1000000, .tv_nsec = wait_us % 1000000 * 1000 };
         struct pollfd fds[] = { { fuse_session_fd(session), POLLIN, 0 }, { signals, POLLIN, 0 },
@@ -195,7 +199,7 @@ static void loop(void) {
         } else if (is_stalled()) {
             say("stalled: for %d ms no record was taken and no line ran", options.stall_ms);
             ask_to_end(STALLED);
-        } else if (fds[0].revents) wait_us = REST_US;
+        } else if (fds[0].revents) wait_us = clock_ms() - started_at < FIRST_LOOK_MS ? FIRST_LOOK_MS * 1000 : REST_US;
         else if (ending) wait_us = 10000;
         else if (is_at_rest(&wait_us)) {
             struct pollfd request = { fuse_session_fd(session), POLLIN, 0 };
@@ -207,14 +211,14 @@ static void loop(void) {
 
 /* ---- before and after */
 
+/* All but those of faults, those of job control, and SIGPIPE. */
 static int block_signals(void) {
+    static const int others[] = { SIGSEGV, SIGBUS, SIGFPE, SIGILL, SIGABRT, SIGTRAP, SIGSYS, SIGTSTP, SIGTTIN, SIGTTOU,
+                                  SIGCONT, SIGPIPE };
     sigset_t set;
-    sigemptyset(&set);
-    sigaddset(&set, SIGCHLD);
-    sigaddset(&set, SIGTERM);
-    sigaddset(&set, SIGINT);
-    sigaddset(&set, SIGHUP);
-    sigprocmask(SIG_BLOCK, &set, NULL);
+    sigfillset(&set);
+    for (size_t i = 0; i < sizeof others / sizeof *others; i++) sigdelset(&set, others[i]);
+    sigprocmask(SIG_BLOCK, &set, &first_mask);
     int fd = signalfd(-1, &set, SFD_CLOEXEC | SFD_NONBLOCK);
     if (fd < 0) fail("signalfd");
     return fd;
@@ -229,6 +233,16 @@ static int status_of_program(void) {
     return ending == OVER && options.end_signal && status == 128 + options.end_signal ? 0 : status;
 }
 
+/* Nothing looks like success in which no record was taken. (A program that ends by itself, and to which nothing was to
+ * happen, may have waited for nothing.) */
+static int status_of_delivery(void) {
+    bool has_lines = lines_after_first_mark() > 0, was_asked = ending == OVER && options.end_signal;
+    if (has_lines ? instance_counts.reads_after_line : instance_counts.reads || !instance_counts.made) return 0;
+    say("nothing was delivered: %s%s", has_lines ? "" : "no line stands after a line --, and ",
+        instance_counts.made ? "the program took no record" : "the program made no instance");
+    return has_lines || was_asked ? STATUS_NOTHING_DELIVERED : 0;
+}
+
 static int exit_status(void) {
     long left = lines_left();
     if (ending == BROKEN && !has_ended) {
@@ -241,10 +255,7 @@ static int exit_status(void) {
     if (ending == STALLED) return STATUS_STALLED;
     int status = status_of_program();
     if (status) return status;
-    if (left) return STATUS_LINES_LEFT;
-    if (!lines_after_first_mark() || instance_counts.reads) return 0;
-    say("nothing was delivered: %s", instance_counts.made ? "the program took no record" : "the program made no instance");
-    return STATUS_NOTHING_DELIVERED;
+    return left ? STATUS_LINES_LEFT : status_of_delivery();
 }
 
 static void prepare_out(void) {
@@ -275,7 +286,7 @@ int run(void) {
     run_first_lines();
     signals = block_signals();
     prctl(PR_SET_CHILD_SUBREAPER, 1);
-    start_program(here);
+    start_program(here, &first_mask, fuse_session_fd(session));
     loop();
     end_processes(serve);
     commit_all();

@@ -74,8 +74,11 @@ void run_line(void) {
     pass(length);
     line_happened(next_request());
     record_line(copy, length, request_of_line());
-    if (!run_text(copy, length, number)) refused++;
-    else if (had_mark) happened_after_mark++;
+    happened_after_mark += had_mark;        /* before a record of it is taken */
+    if (!run_text(copy, length, number)) {
+        refused++;
+        happened_after_mark -= had_mark;
+    }
     if (copy != line) free(copy);
 }
 

@@ -16,7 +16,7 @@ void pass_mark(void);
 void run_first_lines(void);
 /* How many lines did not happen. */
 long lines_left(void);
-/* Records the lines that did not happen, as those of a script. */
+/* Records the lines that did not happen, in the form of a script. */
 void record_rest(void);
 /* How many lines stood or stand after the first mark and happened so far. */
 long lines_after_first_mark(void);

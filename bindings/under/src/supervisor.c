@@ -16,7 +16,6 @@
 #include <stdlib.h>
 #include <sys/inotify.h>
 #include <sys/mount.h>
-#include <sys/prctl.h>
 #include <sys/resource.h>
 #include <sys/stat.h>
 #include <sys/syscall.h>
@@ -95,9 +94,9 @@ static int remove_watch(const struct seccomp_notif *call) {
 static int bytes_waiting(const struct seccomp_notif *call) {
     int mine = borrow_instance(call, (int)call->data.args[0]);
     if (mine < 0) return GOES_ON;
-    int count = ioctl(mine, CALL_BYTES);
+    int count = ioctl(mine, CALL_BYTES), error = errno;
     close(mine);
-    return write_memory(call, call->data.args[2], &count, sizeof count);
+    return count < 0 ? -error : write_memory(call, call->data.args[2], &count, sizeof count);
 }
 
 /* FUSE counts as a network file system, on which tail(1) and others do without inotify: the tree says it is a tmpfs. */
@@ -168,8 +167,6 @@ _Noreturn static void end_run(void) {
     _exit(STATUS_FAULT);
 }
 
-static void on_signal(int number) { (void)number; }
-
 #ifndef SECCOMP_IOCTL_NOTIF_SET_FLAGS           /* Linux 6.6 */
 #define SECCOMP_USER_NOTIF_FD_SYNC_WAKE_UP (1UL << 0)
 #define SECCOMP_IOCTL_NOTIF_SET_FLAGS SECCOMP_IOW(4, __u64)
@@ -181,52 +178,50 @@ static void take_calls_soon(void) {
     setpriority(PRIO_PROCESS, 0, -20);
 }
 
-static void prepare(int from, pid_t tool) {
+/* The descriptor that shows when the tool is gone. */
+static int prepare(int from, pid_t tool) {
     struct stat is;
-    struct sigaction ends = { .sa_handler = on_signal }, ignored = { .sa_handler = SIG_IGN };
-    sigset_t none;
-    sigaction(SIGTERM, &ends, NULL);
-    sigaction(SIGINT, &ignored, NULL);
-    sigaction(SIGHUP, &ignored, NULL);
-    sigaction(SIGQUIT, &ignored, NULL);
-    sigemptyset(&none);
-    sigprocmask(SIG_SETMASK, &none, NULL);
-    prctl(PR_SET_PDEATHSIG, SIGTERM);
+    sigset_t all;
+    sigfillset(&all);               /* the program and a terminal signal whole process groups */
+    sigprocmask(SIG_SETMASK, &all, NULL);
     /* The tool's descriptors are not for here: while one of /dev/fuse is open the mount lives. */
     if (dup2(from, 3) < 0 || close_range(4, ~0u, 0) < 0) fail("close_range");
+    int gone = (int)syscall(SYS_pidfd_open, tool, 0);
     if (getppid() != tool || (listener = take_fd(3)) < 0) _exit(0);
+    if (gone < 0) fail("pidfd_open");
     if ((root = open(options.dir, O_PATH | O_DIRECTORY | O_CLOEXEC)) < 0 || fstat(root, &is) < 0) fail(options.dir);
     device = is.st_dev;
     take_calls_soon();
     if (write(3, "", 1) != 1) fail("socketpair");
     close(3);
+    return gone;
 }
 
-static bool is_unused(void) {
-    struct pollfd one = { listener, POLLIN, 0 };
-    return poll(&one, 1, 0) == 1 && (one.revents & POLLHUP);
+static void serve_call(void) {
+    struct seccomp_notif call;
+    struct seccomp_notif_resp reply;
+    memset(&call, 0, sizeof call);
+    memset(&reply, 0, sizeof reply);
+    if (ioctl(listener, SECCOMP_IOCTL_NOTIF_RECV, &call) < 0) {
+        if (errno != EINTR && errno != ENOENT) fail("seccomp");
+        return;                     /* the caller is gone */
+    }
+    int value = answer(&call);
+    if (value == IS_ANSWERED) return;
+    reply.id = call.id;
+    if (value == GOES_ON) reply.flags = SECCOMP_USER_NOTIF_FLAG_CONTINUE;
+    else if (value < 0) reply.error = value;
+    else reply.val = value;
+    ioctl(listener, SECCOMP_IOCTL_NOTIF_SEND, &reply);
 }
 
 void supervise(int from, pid_t tool) {
-    prepare(from, tool);
+    int gone = prepare(from, tool);
+    struct pollfd both[] = { { listener, POLLIN, 0 }, { gone, POLLIN, 0 } };
     for (;;) {
-        struct seccomp_notif call;
-        struct seccomp_notif_resp reply;
-        memset(&call, 0, sizeof call);
-        memset(&reply, 0, sizeof reply);
-        if (getppid() != tool) end_run();
-        if (ioctl(listener, SECCOMP_IOCTL_NOTIF_RECV, &call) < 0) {
-            if (errno != EINTR && errno != ENOENT) fail("seccomp");
-            /* Nobody is left to call: the tool ends this process. */
-            while (is_unused() && getppid() == tool) poll(NULL, 0, 100);
-            continue;
-        }
-        int value = answer(&call);
-        if (value == IS_ANSWERED) continue;
-        reply.id = call.id;
-        if (value == GOES_ON) reply.flags = SECCOMP_USER_NOTIF_FLAG_CONTINUE;
-        else if (value < 0) reply.error = value;
-        else reply.val = value;
-        ioctl(listener, SECCOMP_IOCTL_NOTIF_SEND, &reply);
+        if (poll(both, 2, -1) < 0) fail("poll");
+        if (both[1].revents) end_run();
+        if (both[0].revents & POLLIN) serve_call();
+        else if (both[0].revents) both[0].fd = -1;     /* nobody is left to call: the tool ends this process */
     }
 }

@@ -1,4 +1,4 @@
-/* Does a task of the program wait with a time limit? The kernel tells in which system call a task sleeps, with its
+/* Does a task of the program wait with a time limit? The kernel shows in which system call a task sleeps, with its
  * arguments. A call that is not known here counts as one with a limit. */
 #include "timers.h"
 #include "program.h"

@@ -16,7 +16,7 @@ void open_trace(void) {
 }
 
 void close_trace(void) {
-    if (file && fclose(file)) fail("trace");
+    if (file && (ferror(file) || fclose(file))) fault("%s/trace was not written", options.out);
     file = NULL;
 }
 

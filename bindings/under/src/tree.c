@@ -21,6 +21,10 @@ int errno_of(int64_t reply) {
     return reply < -1000 ? EIO : (int)-reply;
 }
 
+void must(int64_t reply, const char *path) {
+    if (reply < 0) fault("%s: %s", path, strerror(errno_of(reply)));
+}
+
 int64_t names_below(const char *path, char **names) {
     int64_t size = wt_peek_list(&tree, PATH(path), NULL, 0);
     if (size < 0) return size;

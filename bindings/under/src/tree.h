@@ -12,6 +12,8 @@ void reserve_entry(uint64_t bytes);
 
 /* The errno of a reply below zero. */
 int errno_of(int64_t reply);
+/* Ends the run if a call was refused that can only be refused when out of memory. */
+void must(int64_t reply, const char *path);
 
 /* All names of a directory, each ended by a zero byte, for free(3). How many bytes they are; a reply below zero. */
 int64_t names_below(const char *path, char **names);

@@ -15,10 +15,10 @@ else
     echo "FAILED other differences from a disk than calls.known has:"
     cat "$room/unknown"
 fi
-"$under" "$room/empty" -- /usr/bin/python3 "$tests/calls.py" /wt refused >"$room/here" 2>&1
+"$under" "$room/empty" -- /usr/bin/python3 "$tests/calls.py" /wt refused >"$room/here" 2>"$room/error"
 if diff "$tests/calls.refused" "$room/here" >"$room/unknown"; then
     echo "ok $(grep -c . "$room/here") calls that a tree does not have are refused as docs/UNDER.md says"
 else
     echo "FAILED calls that a tree does not have:"
-    cat "$room/unknown"
+    cat "$room/unknown" "$room/error"
 fi

@@ -1,6 +1,6 @@
 """The clients of inotify that `clients.py` starts, each beside its script.
 
-In the words of a start {d} is the watched directory, {root} the directory that stands for the root, {room} a folder of
+In the words of a start {d} is the watched directory, {root} the directory that stands for the root, `{room}` a folder of
 the run outside the tree, {here} the folder of the clients' sources, and {bin} that of what was built from them."""
 import collections
 
@@ -13,7 +13,7 @@ def case(name, packages, start, script="basic", tells="end", but="", varies=None
 
     packages   Debian's packages; the version is that of the first
     start      words of a shell
-    tells      words that must be in what it prints
+    `tells`    words that must be in what it prints
     but        classes of LINUX.md by which it may differ from a disk
     varies     a pattern of what no two runs print alike
     any_order  it has threads or processes of its own, whose lines come in any order
@@ -65,7 +65,7 @@ CASES = [
     case("Gio.FileMonitor", "python3-gi", PYTHON + "gio_monitor.py {d}"),
     # Node, Java, Go, Rust
     case("Node, fs.watch", "nodejs", "node {here}/fs_watch.js {d}"),
-    case("chokidar", "node-chokidar", "NODE_PATH=/usr/share/nodejs node {here}/chokidar.js {d}", tells="x end"),
+    case("chokidar", "node-chokidar", "NODE_PATH=/usr/share/nodejs node {here}/chokidar.js {d}", "parted", tells="x end"),
     case("Java, WatchService", "openjdk-17-jdk-headless", "java -cp {bin} Watch {d}", build="javac -d {bin} {here}/Watch.java"),
     case("Go, system calls", "golang-go", "{bin}/syscalls {d}", build=GO + "syscalls {here}/syscalls.go"),
     case("fsnotify", "golang-github-fsnotify-fsnotify-dev", "{bin}/fsnotify {d}", build=GO + "fsnotify {here}/fsnotify.go"),

@@ -3,8 +3,8 @@
 
     clients.py [--only NAME] [--jobs N] [--rows] UNDER
 
-A client passes where it tells on the tree what it tells on the disk, but for classes of docs/LINUX.md, and what its case
-says that it must tell. It prints `ok NAME: HOW`, `FAILED NAME: WHY` or `left out NAME: WHY` for each; with --rows, the rows
+A client passes if it reports on the tree what it reports on the disk, except for classes of docs/LINUX.md, and what its
+case says that it must report. It prints `ok NAME: HOW`, `FAILED NAME: WHY` or `left out NAME: WHY` for each; with --rows, the rows
 of the table in docs/UNDER-CLIENTS.md.
 """
 import argparse
@@ -27,7 +27,9 @@ TABLE = os.path.join(TESTS, "../../../docs/UNDER-CLIENTS.md")
 CLASSES = {
     "list-events": re.compile(r"(?i)(open|access|close(_nowrite|_write)?)\S*[, |]+(in_)?is_?dir|is_?dir\S*[, |]+(open|access|close)"),
 }
-LIMIT = 60
+# Seconds that a client may take. It may be given several goes: the timers of many go by the clock of a machine that may be
+# busy, on a disk too.
+LIMIT, BUILD_LIMIT, GOES = 200, 900, 3
 Told = collections.namedtuple("Told", "status text")
 
 
@@ -56,13 +58,15 @@ class Bench:
         """Builds the client. What failed, or nothing."""
         if not case.build:
             return None
-        ran = subprocess.run(["sh", "-c", self.shell(case.build)], capture_output=True, text=True, timeout=200)
+        try:
+            ran = subprocess.run(["sh", "-c", self.shell(case.build)], capture_output=True, text=True, timeout=BUILD_LIMIT)
+        except subprocess.TimeoutExpired:
+            return f"not built after {BUILD_LIMIT} s"
         return f"not built: {ran.stdout} {ran.stderr}" if ran.returncode else None
 
     def side(self, case, name, words, root):
         """What the client prints when some words start it, and its status."""
-        room = os.path.join(self.room, f"{case.name.replace('/', '-')} {name}".replace(" ", "-"))
-        os.mkdir(room)
+        room = tempfile.mkdtemp(prefix=f"{case.name.replace('/', '-')} {name} ".replace(" ", "-"), dir=self.room)
         said = self.shell(case.start, d=root + "/d", root=root, room=room)
         try:
             ran = subprocess.run([*words, "sh", "-c", said], stdin=subprocess.DEVNULL, capture_output=True,
@@ -75,7 +79,7 @@ class Bench:
         return Told(ran.returncode, text if ran.returncode == 0 else text + ran.stderr.decode(errors="replace"))
 
     def both(self, case):
-        """What the client tells on the tree, and on a disk."""
+        """What the client reports on the tree, and on a disk."""
         script = os.path.join(HERE, "scripts", case.script)
         waits = ["--settle", str(case.settle), "--debounce", str(case.debounce)]
         disk = tempfile.mkdtemp(prefix="disk-", dir=self.room)
@@ -91,7 +95,7 @@ def verdict(case, here, there):
     for word in case.tells:
         for side, told in ("the tree", here), ("the disk", there):
             if word not in re.split(r"[^\w]+", told.text):
-                return False, f"not told on {side}: {word}\n{told.text}"
+                return False, f"not reported on {side}: {word}\n{told.text}"
     left, right = here.text.splitlines(), there.text.splitlines()
     kept = [line for line in right if not any(CLASSES[name].search(line) for name in case.but)]
     how = "same"
@@ -111,14 +115,17 @@ def is_in_table(case, how):
 
 
 def run(bench, case):
-    """The client, its version, whether it tells the same (or nothing, where it is left out), and how or why."""
+    """The client, its version, whether it reports the same (None if it is skipped), and how or why."""
     found = version(case)
     if found is None:
         return case, None, None, "wants " + " ".join(case.packages)
     failed = bench.build(case)
     if failed:
         return case, found, False, failed
-    is_same, how = verdict(case, *bench.both(case))
+    for _ in range(GOES):
+        is_same, how = verdict(case, *bench.both(case))
+        if is_same:
+            break
     if is_same and case.options:
         how += f" (with `{' '.join(case.options)}`)"
     return case, found, is_same, how

@@ -17,7 +17,7 @@ import tempfile
 
 TESTS = os.path.dirname(os.path.abspath(__file__))
 CLIENTS = os.path.join(TESTS, "clients")
-LIMIT = 120
+LIMIT = 300
 # A name, the script, options, the program, and what it wants.
 RUNS = (
     ("inotifywait", "clients/scripts/basic", [], "inotifywait -q -m /wt/d"),

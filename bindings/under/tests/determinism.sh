@@ -1,5 +1,5 @@
 #!/bin/sh
-# The same again gives the same trace: determinism.sh UNDER ROOM [LONG]
+# The same again gives the same trace, also beside eight busy processes: determinism.sh UNDER ROOM
 set -u
 tests=$(dirname -- "$0")
 under=$1
@@ -9,6 +9,4 @@ if ! cc -O1 "$tests/waits.c" -luring -lpthread -o "$room/waits" || ! cc -O1 -sta
     exit 0
 fi
 /usr/bin/python3 "$tests/determinism.py" --jobs 3 --count 20 "$under" "$room"
-busy=4
-[ -z "${3-}" ] || busy=20
-/usr/bin/python3 "$tests/determinism.py" --jobs 3 --count "$busy" --busy 8 "$under" "$room"
+/usr/bin/python3 "$tests/determinism.py" --jobs 3 --count 20 --busy 8 "$under" "$room"

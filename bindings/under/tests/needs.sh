@@ -14,7 +14,7 @@ cd "$room" || exit 1
 expect() {
     name=$1 wanted=$2 pattern=$3
     shift 3
-    timeout 60 "$@" >out 2>err </dev/null
+    timeout 200 "$@" >out 2>err </dev/null
     status=$?
     if [ "$status" != "$wanted" ]; then
         echo "FAILED $name: status $status, not $wanted: $(head -n 3 err | tr '\n' ' ')"
@@ -38,6 +38,17 @@ printf '%s\n' 'mkdir /d 755' -- 'create /d/f 9' >mode
 printf '%s\n' 'mkdir /d 755' -- 'create /d/f 644' 'unlink /d/none' >refused
 printf '%s\n' 'mkdir /d 755' -- 'write /d/f 0 00' >refused-alone
 
+# Takes a record of its own, and watches nothing of the script.
+cat >own-record.py <<'END'
+import ctypes, os
+library = ctypes.CDLL(None)
+instance = library.inotify_init1(0)
+library.inotify_add_watch(instance, b"/wt", 0x100)
+open("/wt/own", "w").close()
+os.read(instance, 4096)
+os.read(instance, 4096)
+END
+
 # ---- the script and the program
 expect 'an empty script' 0 - "$under" empty -- ls /wt
 expect 'the status of the program' 7 - "$under" empty -- sh -c 'exit 7'
@@ -60,6 +71,12 @@ expect 'a program that watches something else' 122 'nothing was delivered: the p
     "$under" script -- inotifywait -q -m -e delete /wt/d
 expect 'a line that is refused' 0 - "$under" refused -- inotifywait -q -m -e create /wt/d
 expect 'a line alone that is refused' 122 'nothing was delivered' "$under" refused-alone -- inotifywait -q -m -e create /wt/d
+expect 'a watcher without lines' 122 'nothing was delivered: no line stands after a line --' "$under" first -- inotifywait -q -m /wt/d
+expect 'a watcher without a script' 122 'nothing was delivered: no line stands after' "$under" empty -- inotifywait -q -m /wt
+expect 'a watcher without lines that ends by itself' 0 'nothing was delivered: no line stands after' \
+    "$under" --settle 2000 empty -- sh -c 'inotifywait -q -t 1 /wt || true'
+expect 'records of the program alone' 122 'nothing was delivered: the program took no record' "$under" script -- /usr/bin/python3 own-record.py
+expect 'a program in --out that is not there' 127 'no-such-program: No such file' "$under" --out out-none script -- no-such-program
 expect 'a program that does not heed SIGTERM' 0 'did not end by the signal, and was killed' "$under" script -- sh -c 'trap "" TERM; inotifywait -q -m /wt/d; sleep 30'
 expect 'only lines before the first mark' 0 - "$under" first -- ls /wt/d
 expect 'a run within a run' 125 'do not nest|another seccomp listener' \

@@ -1,5 +1,5 @@
 #!/usr/bin/python3
-"""What a program is told of its own calls: own.py DIRECTORY. A line for each: the call, and its events on the directory."""
+"""The events of a program's own calls: own.py DIRECTORY. A line for each: the call, and its events on the directory."""
 import ctypes
 import os
 import struct
@@ -16,7 +16,7 @@ LIBRARY.inotify_add_watch(instance, b".", IN_ALL_EVENTS)
 
 
 def events():
-    """What was told since the last look."""
+    """The events since the last look."""
     try:
         stored, at, told = os.read(instance, 65536), 0, []
     except BlockingIOError:

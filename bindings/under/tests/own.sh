@@ -1,5 +1,5 @@
 #!/bin/sh
-# What a program is told of its own calls, beside a disk: own.sh UNDER ROOM
+# The events of a program's own calls, compared with a disk: own.sh UNDER ROOM
 set -u
 tests=$(dirname -- "$0")
 under=$1

@@ -7,10 +7,10 @@ under=$1
 room=$2
 mkdir -p "$room/programs"
 : >"$room/empty"
-timeout 200 sh "$tests/inside/programs" "$room/programs" >"$room/disk" 2>&1
+timeout 600 sh "$tests/inside/programs" "$room/programs" >"$room/disk" 2>&1
 sed -n 's/^FAILED \([^:]*\)/FAILED \1 on a disk/p' "$room/disk"
 rmdir "$room/programs"
-timeout 200 "$under" "$room/empty" -- sh "$tests/inside/programs" /wt >"$room/tree" 2>&1 || echo "FAILED the run: status $?"
+timeout 600 "$under" "$room/empty" -- sh "$tests/inside/programs" /wt >"$room/tree" 2>&1 || echo "FAILED the run: status $?"
 while IFS= read -r line; do
     name=${line#* }
     name=${name%%: *}

@@ -33,7 +33,7 @@ def lines(seed):
 
 
 def run(*words):
-    done = subprocess.run(words, stdin=subprocess.DEVNULL, capture_output=True, timeout=120)
+    done = subprocess.run(words, stdin=subprocess.DEVNULL, capture_output=True, timeout=600)
     return done.returncode, done.stdout, done.stderr
 
 

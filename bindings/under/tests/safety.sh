@@ -11,9 +11,9 @@ check() {
     if [ "$?" = 0 ]; then echo "ok $1"; else echo "FAILED $1: $(printf '%s' "$2" | tr '\n' ' ' | cut -c 1-300)"; fi
 }
 
-# Waits until a command is right, for ten seconds at most. (What it waits for has no other sign.)
+# Waits until a command is right, for a minute at most. (What it waits for has no other sign.)
 await() {
-    end=$(($(date +%s) + 10))
+    end=$(($(date +%s) + 60))
     until "$@" >/dev/null 2>&1; do
         [ "$(date +%s)" -lt "$end" ] || return 1
     done
@@ -57,6 +57,30 @@ check 'a tool that was killed leaves no process' "$(ps -o pid,args -p "$(echo $t
 check 'a tool that was killed leaves no mount' "$(mounts_of $tasks)"
 exec 3>&-
 
+# The processes that have the folder of this test in their words.
+named() { grep -slz "$room/[m]arker" /proc/[0-9]*/cmdline | cut -d / -f 3; }
+unnamed() { [ -z "$(named)" ]; }
+for delay in 0.00 0.01 0.02 0.03 0.04 0.05 0.06 0.07 0.08 0.10 0.12 0.14 0.16 0.18 0.20; do
+    setsid "$under" script -- sh -c 'inotifywait -q -m /wt/d & while :; do ls /wt >/dev/null; done' "$room/marker" >out 2>&1 &
+    tool=$!
+    sleep "$delay"
+    kill -9 "$tool"
+    wait "$tool" 2>/dev/null
+done
+await unnamed
+check 'a tool that was killed at any moment leaves nothing' "$(ps -o pid,args -p "$(named | paste -sd ,)" 2>&1)"
+: >out
+"$under" --end none script -- sh -c 'inotifywait -q -m /wt/d; sleep 1000' "$room/marker" >out 2>&1 &
+tool=$!
+await grep -q CREATE out
+# (the supervisor is the first child)
+kill -9 "$(below "$tool" | head -n 1)"
+wait "$tool"
+status=$?
+await unnamed
+[ $? = 0 ] && [ "$status" = 125 ] && grep -q 'the supervisor of the system calls was ended' out
+check 'a supervisor that was killed ends the run' "status $status: $(cat out)"
+
 # ---- SIGINT and SIGTERM of the tool reach the program
 mkfifo held
 for signal in INT TERM; do
@@ -75,6 +99,11 @@ for signal in INT TERM; do
     [ "$status" = 5 ] && grep -q told out
     check "SIG$signal goes to the program" "status $status: $(cat out trace)"
 done
+
+setsid "$under" script -- sh -c 'trap "" USR1 ALRM; inotifywait -q -m -e create /wt/d & kill -USR1 0; kill -ALRM 0; wait' >out 2>&1
+status=$?
+[ "$status" = 0 ] && [ "$(cat out)" = '/wt/d/ CREATE f' ]
+check 'a signal to the process group is none to the tool' "status $status: $(cat out)"
 
 # ---- two runs side by side
 mkfifo first second
@@ -127,10 +156,21 @@ waiting = fcntl.ioctl(file, termios.FIONREAD, b"\0\0\0\0")
 print("FIONREAD of a file", int.from_bytes(waiting, "little"), os.read(file, 100))
 print("watch outside", told(library.inotify_add_watch(instance, path, 0xfff)))
 print("statfs outside", os.statvfs(path).f_namemax > 0)
+print("link", told(library.linkat(-100, b"/proc/self/fd/%d" % instance, -100, b"/wt/link", 0x400)))
+for name, call in (("rename", lambda: os.rename("/wt/d", "/wt/.watchtree-new")),
+                   ("make", lambda: open("/wt/.watchtree-new", "w")),
+                   ("instance", lambda: open("/wt/.watchtree-inotify")),
+                   ("instance again", lambda: open("/proc/self/fd/%d" % instance))):
+    try:
+        call()
+        print(name, "ok")
+    except OSError as refused:
+        print(name, errno.errorcode[refused.errno])
 END
 "$under" script -- /usr/bin/python3 descriptors.py "$room/outside/file" >out 2>err
 printf '%s\n' 'watch ok' "tree 0o100644 0o40755 ['old']" 'watch by a file EINVAL' 'unwatch by a file EINVAL' \
-    "FIONREAD of a file 5 b'text\\n'" 'watch outside EACCES' 'statfs outside True' | diff - out >difference
+    "FIONREAD of a file 5 b'text\\n'" 'watch outside EACCES' 'statfs outside True' \
+    'link EXDEV' 'rename EPERM' 'make EPERM' 'instance ENOENT' 'instance again ENXIO' | diff - out >difference
 check 'descriptors of others' "$(cat difference err)"
 [ "$(stat -c '%a %u %g %s %Y %Z' outside/file)" = "$before" ]
 check 'a file outside is as it was' "$(stat outside/file)"
@@ -139,3 +179,34 @@ check 'nothing is mounted outside' "$(grep watchtree /proc/self/mounts)"
 "$under" --dir "$room/outside" script -- sh -c 'inotifywait -q -e create "$0/d"; ls "$0"' "$room/outside" >out 2>&1
 [ "$(tail -n 1 out)" = d ] && [ "$(ls outside)" = file ]
 check 'another directory' "$(cat out)"
+
+# ---- what a caller may see of the way of a path
+cat >rights.py <<'END'
+import ctypes, errno, os, sys
+library = ctypes.CDLL(None, use_errno=True)
+instance = library.inotify_init1(os.O_NONBLOCK)
+for name in ("there", "none"):
+    refused = library.inotify_add_watch(instance, os.path.join(sys.argv[1], name).encode(), 0x100) < 0
+    print(name, errno.errorcode[ctypes.get_errno()] if refused else "ok")
+END
+if [ "$(id -u)" = 0 ] && command -v setpriv >/dev/null; then
+    mkdir secret
+    touch secret/there
+    chown 65534:65534 secret
+    chmod 700 secret
+    chmod 755 .
+    # What is printed by a program that setpriv starts so.   rights WANTED WORDS..
+    rights() {
+        wanted=$1
+        shift
+        "$under" empty -- setpriv "$@" /usr/bin/python3 rights.py "$room/secret" >out 2>err
+        [ "$(paste -sd ' ' out)" = "$wanted" ]
+        check "the rights of setpriv $*" "$(cat out err)"
+    }
+    rights 'there EACCES none ENOENT' --no-new-privs
+    rights 'there EACCES none ENOENT' --reuid=65534 --regid=65534 --clear-groups
+    rights 'there EACCES none EACCES' --reuid=65533 --regid=65533 --clear-groups
+    rights 'there EACCES none EACCES' --bounding-set=-all --inh-caps=-all
+else
+    echo 'left out the rights of others: it wants root and setpriv'
+fi

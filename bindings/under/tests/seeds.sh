@@ -14,7 +14,7 @@ last=30
 # (a word or none)
 # shellcheck disable=SC2086
 seeds() {
-    timeout 300 "$under" --settle 30 --seeds "1..$last" --check "sh '$tests/race-check'" "$tests/race.script" -- \
+    timeout 900 "$under" --settle 30 --seeds "1..$last" --check "sh '$tests/race-check'" "$tests/race.script" -- \
         "$room/recursive" /wt/d $1 2>&1 | grep -v '^watchtree under: ' | tail -n 2
 }
 said=$(seeds '')

@@ -1,6 +1,6 @@
 /* Processes that change files at once.
  *   together same DIRECTORY ROUNDS       four make, rename and remove the same names; nothing but ENOENT may come of it
- *   together watched DIRECTORY ROUNDS    four change names of their own while four watch, who must be told all of it */
+ *   together watched DIRECTORY ROUNDS    four change names of their own while four watch, and must get every event */
 #define _GNU_SOURCE
 #include <errno.h>
 #include <fcntl.h>
@@ -59,7 +59,7 @@ static void count(struct counts *all, const char *bytes, ssize_t size) {
     }
 }
 
-/* Reads until all was told; where no more comes for ten seconds something is lost. */
+/* Reads until every event came; if none comes for ten seconds, one is lost. */
 static void watch(int fd, long all) {
     static _Alignas(8) char bytes[65536];
     struct counts counts = { 0 };
@@ -70,7 +70,7 @@ static void watch(int fd, long all) {
         count(&counts, bytes, size);
     }
     if (counts.made == all && counts.from == all && counts.to == all && counts.deleted == all && !counts.open_moves) exit(0);
-    printf("of %ld told: %ld made, %ld from, %ld to, %ld deleted, %ld without a pair\n", all, counts.made, counts.from,
+    printf("of %ld events: %ld made, %ld from, %ld to, %ld deleted, %ld without a pair\n", all, counts.made, counts.from,
            counts.to, counts.deleted, counts.open_moves);
     exit(1);
 }

@@ -9,7 +9,7 @@ echo 'mkdir /d 755' >"$room/directory"
 for what in same watched; do
     rounds=2000
     [ -z "${3-}" ] || rounds=20000
-    if timeout 300 "$under" "$room/directory" -- "$room/together" "$what" /wt/d "$rounds" >"$room/said" 2>&1; then
+    if timeout 900 "$under" "$room/directory" -- "$room/together" "$what" /wt/d "$rounds" >"$room/said" 2>&1; then
         echo "ok $what names: $(tail -n 1 "$room/said")"
     else
         echo "FAILED $what names: status $?: $(sort "$room/said" | uniq -c | sort -rn | head -n 4 | tr '\n' ' ')"

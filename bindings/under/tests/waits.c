@@ -1,6 +1,7 @@
-/* Ways to wait for an instance of inotify, most of which no library has: waits MODE DIRECTORY. Each prints what it is told
+/* Ways to wait for an instance of inotify, most of which no library has: waits MODE DIRECTORY. Each prints its events
  * as `MASK NAME`, and ends after the name "end". `waits --list` prints the modes. */
 #define _GNU_SOURCE
+#include <aio.h>
 #include <errno.h>
 #include <fcntl.h>
 #include <liburing.h>
@@ -14,8 +15,11 @@
 #include <sys/inotify.h>
 #include <sys/ioctl.h>
 #include <sys/select.h>
+#include <sys/signalfd.h>
 #include <sys/socket.h>
+#include <sys/timerfd.h>
 #include <sys/wait.h>
+#include <time.h>
 #include <unistd.h>
 
 static int fd;
@@ -107,6 +111,30 @@ static void epoll_oneshot(void) {
     }
 }
 
+/* The instance is in an epoll that is in another one, beside a timer and signals. */
+static void epoll_nested(void) {
+    sigset_t set;
+    struct itimerspec often = { { 0, 20000000 }, { 0, 20000000 } };
+    sigemptyset(&set);
+    sigaddset(&set, SIGUSR1);
+    sigprocmask(SIG_BLOCK, &set, NULL);
+    open_watch(IN_NONBLOCK);
+    int inner = epoll_create1(0), outer = epoll_create1(0), signals = signalfd(-1, &set, SFD_NONBLOCK),
+        timer = timerfd_create(CLOCK_MONOTONIC, TFD_NONBLOCK);
+    struct epoll_event event = { EPOLLIN, { .fd = fd } }, got;
+    if (epoll_ctl(inner, EPOLL_CTL_ADD, fd, &event) < 0) fail("epoll");
+    for (int i = 0, all[] = { inner, signals, timer }; i < 3; i++) {
+        event.data.fd = all[i];
+        if (epoll_ctl(outer, EPOLL_CTL_ADD, all[i], &event) < 0) fail("epoll");
+    }
+    timerfd_settime(timer, 0, &often, NULL);
+    while (epoll_wait(outer, &got, 1, -1) == 1) {
+        uint64_t ticks;
+        if (got.data.fd == timer && read(timer, &ticks, sizeof ticks) < 0) fail("timer");
+        if (got.data.fd == inner && epoll_wait(inner, &got, 1, 0) == 1) take(fd);
+    }
+}
+
 static void by_poll(void) {
     open_watch(0);
     for (struct pollfd it = { fd, POLLIN, 0 };;) if (poll(&it, 1, -1) == 1) take(fd);
@@ -118,6 +146,38 @@ static void by_select(void) {
         FD_ZERO(&set);
         FD_SET(fd, &set);
         if (select(fd + 1, &set, NULL, NULL, NULL) == 1) take(fd);
+    }
+}
+
+static void by_pselect(void) {
+    sigset_t none;
+    sigemptyset(&none);
+    open_watch(0);
+    for (fd_set set;;) {
+        struct timespec limit = { .tv_nsec = 10000000 };
+        FD_ZERO(&set);
+        FD_SET(fd, &set);
+        if (pselect(fd + 1, &set, NULL, NULL, &limit, &none) == 1) take(fd);
+    }
+}
+
+/* Nothing waits: it looks every five milliseconds. */
+static void by_sleep(void) {
+    struct timespec pause = { .tv_nsec = 5000000 };
+    for (open_watch(IN_NONBLOCK);; nanosleep(&pause, NULL)) while (take(fd) > 0) {}
+}
+
+static void by_aio(void) {
+    static _Alignas(8) char bytes[4096];
+    struct aiocb call = { .aio_buf = bytes, .aio_nbytes = sizeof bytes };
+    const struct aiocb *const all[] = { &call };
+    for (open_watch(0);;) {
+        call.aio_fildes = fd;
+        if (aio_read(&call) < 0) fail("aio_read");
+        while (aio_error(&call) == EINPROGRESS) aio_suspend(all, 1, NULL);
+        ssize_t count = aio_return(&call);
+        if (count < 0) fail("aio_return");
+        show(bytes, count);
     }
 }
 
@@ -227,7 +287,34 @@ static void by_close(void) {
     pause();
 }
 
+/* A thread is cancelled in its read. */
+static void by_cancel(void) {
+    pthread_t thread;
+    open_watch(0);
+    if (pthread_create(&thread, NULL, read_as, NULL)) fail("thread");
+    while (!__atomic_load_n(&reader, __ATOMIC_SEQ_CST)) {}
+    await_sleep(reader);
+    pthread_cancel(thread);
+    pthread_join(thread, NULL);
+    puts("cancelled");
+    read_on(NULL);
+}
+
 /* ---- descriptors that go elsewhere */
+
+/* A child reads, and what it reads comes to its parent by a pipe. */
+static void by_pipe(void) {
+    _Alignas(8) char bytes[4096];
+    int ends[2];
+    if (pipe(ends) < 0) fail("pipe");
+    if (!fork()) {
+        open_watch(0);
+        for (ssize_t count; (count = read(fd, bytes, sizeof bytes)) > 0;) if (write(ends[1], bytes, (size_t)count) < 0) fail("pipe");
+        _exit(1);
+    }
+    close(ends[1]);
+    for (ssize_t count; (count = read(ends[0], bytes, sizeof bytes)) > 0;) show(bytes, count);
+}
 
 static void by_fork(void) {
     open_watch(0);
@@ -280,7 +367,8 @@ static void by_exec(void) {
 static const struct { const char *name; void (*run)(void); } modes[] = {
     { "epoll", epoll_level }, { "epoll-edge", epoll_edge }, { "epoll-threads", epoll_threads },
     { "epoll-edge-threads", epoll_edge_threads }, { "epoll-exclusive", epoll_exclusive }, { "epoll-oneshot", epoll_oneshot },
-    { "poll", by_poll }, { "select", by_select }, { "fionread", by_fionread }, { "uring-read", uring_read },
+    { "epoll-nested", epoll_nested }, { "poll", by_poll }, { "select", by_select }, { "pselect", by_pselect },
+    { "sleep", by_sleep }, { "aio", by_aio }, { "cancel", by_cancel }, { "pipe", by_pipe }, { "fionread", by_fionread }, { "uring-read", uring_read },
     { "uring-poll", uring_poll }, { "read", one_reader }, { "readers", four_readers }, { "signal", by_signal },
     { "restart", by_restart }, { "kill", by_kill }, { "close", by_close }, { "fork", by_fork }, { "dup", by_dup },
     { "message", by_message }, { "exec", by_exec },

@@ -10,9 +10,9 @@ if ! cc -O1 -Wall -Wextra -Werror "$tests/waits.c" -luring -lpthread -o "$room/w
 fi
 for mode in $("$room/waits" --list); do
     disk=$(mktemp -d -p "$room")
-    timeout 100 /usr/bin/python3 "$tests/disk.py" "$tests/waits.script" "$disk" -- "$room/waits" "$mode" "$disk/d" \
+    timeout 300 /usr/bin/python3 "$tests/disk.py" "$tests/waits.script" "$disk" -- "$room/waits" "$mode" "$disk/d" \
         >"$room/disk" 2>"$room/error"
-    timeout 100 "$under" --settle 1500 "$tests/waits.script" -- "$room/waits" "$mode" /wt/d >"$room/tree" 2>>"$room/error"
+    timeout 300 "$under" --settle 1500 "$tests/waits.script" -- "$room/waits" "$mode" /wt/d >"$room/tree" 2>>"$room/error"
     rm -r "$disk"
     if ! grep -q '^100 end$' "$room/disk"; then
         echo "FAILED $mode: on a disk: $(tail -n 2 "$room/disk" "$room/error" | tr '\n' ' ')"

@@ -13,6 +13,7 @@ mod threads;
 use shared_tree::{Batch, Feed, Held, Pass, Seat};
 use std::alloc::Global;
 use std::marker::Brand;
+use std::process::Abort;
 use std::sync::ledger::{Blank, Ledger};
 use tree_core::{Call, Receipt, Reply};
 use tree_ops::{Answer, FileCall};
@@ -409,4 +410,9 @@ fn start<L: Ledger>(
 // How many steps go well with a new tree.
 fn plays(alloc: Global, limits: Limits, steps: &[Step]) -> Option<usize> {
     start::<Brand>(alloc, Blank::new(65537), limits, steps).ok()
+}
+
+// Each step goes well with a new tree.
+fn goes_well(rt: &impl Abort, alloc: Global, limits: Limits, steps: &[Step]) {
+    assert_eq!(rt; plays(alloc, limits, steps), Some(steps.len()));
 }

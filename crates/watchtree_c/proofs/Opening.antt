@@ -1,6 +1,6 @@
 -- A tree that is not open opens.
-use Rattle.std.proofs.Common.{◌≡◌, Bool, true, false, Option, Some, None, refl, sym, ◌∙◌, true≢false, inl}
-use Rattle.std.specs.Prelude.{◌⊎◌, is_some, pos}
+use Rattle.std.proofs.Common.{◌≡◌, Bool, false, Option, Some, None, refl, sym, ◌∙◌, true≢false, inl}
+use Rattle.std.specs.Prelude.{is_some, pos}
 use Rattle.watchtree_c.specs.declared.opened.Opened.{Opened}
 use Rattle.watchtree_c.specs.Answers.{IsOpened, IsOpening}
 

@@ -1,5 +1,5 @@
 -- What a gate that was asked turn by turn has answered.
-use Rattle.std.proofs.Common.{◌≡◌, ◌<◌, ◌+◌, ℕ, Bool, false, inl, inr, sym, subst, arith}
+use Rattle.std.proofs.Common.{◌+◌, ℕ, Bool, false, inl, inr, sym, subst, arith}
 use Rattle.std.proofs.lemmas.Bool.{cases_eq}
 use Rattle.watchtree_storm.specs.Storm.{IsHeldBack}
 

@@ -5,13 +5,12 @@ use Rattle.tree_paths.specs.declared.refusal.Refusal.{Refusal}
 use Rattle.tree_ops.specs.declared.call.FileCall.{FileCall}
 use Rattle.tree_core.specs.declared.call.Call.{Call}
 use Rattle.tree_core.specs.declared.call.Call.TheVariants as call
-use Rattle.tree_core.specs.declared.reply.Entry.{Entry}
 use Rattle.tree_core.specs.declared.reply.Kept.{Kept}
 use Rattle.tree_core.specs.declared.reply.Receipt.{Receipt}
 use Rattle.tree_core.specs.declared.reply.Reply.{Reply}
 use Rattle.tree_core.specs.declared.reply.Reply.TheVariants as reply
-use Rattle.tree_core.specs.Tree.{Tree, opening, refusal_of, after_file, after_init, after_add_watch, accepted, accepted_reply, reply_by, tree_by, reply_of, after}
-use Rattle.tree_core.specs.Journal.{Journaled, now, opened, with_entry}
+use Rattle.tree_core.specs.Tree.{Tree, opening, refusal_of, after_file, after_init, after_add_watch, accepted, accepted_reply, reply_by, tree_by, after}
+use Rattle.tree_core.specs.Journal.{Journaled, now, opened}
 use Rattle.tree_core.proofs.Lawful.{now-entry}
 use Rattle.shared_tree.specs.Calls.{JoinsJournal, TreeWithPipes, tree_with_pipes}
 use Rattle.shared_tree.specs.Pipes.{Fed, fed, feed_of}

@@ -1,5 +1,5 @@
 -- What the seats of a storm keep.
-use Rattle.std.proofs.Common.{◌≡◌, ◌∙◌, ◌+◌, ◌++◌, ℕ, zero, suc, Bool, List, [], ◌∷◌, refl, ap, subst, inl, inr, add-one}
+use Rattle.std.proofs.Common.{◌≡◌, ◌∙◌, ◌+◌, ◌++◌, ℕ, Bool, List, [], ◌∷◌, refl, ap, subst, inl, inr, add-one}
 use Rattle.tree_ops.specs.declared.call.FileCall.TheVariants as file
 use Rattle.tree_core.specs.declared.call.Call.{Call}
 use Rattle.tree_core.specs.declared.call.Call.TheVariants as call

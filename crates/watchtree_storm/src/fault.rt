@@ -7,7 +7,7 @@ use tree_paths::Refusal;
 /// Why there was no storm. Each sink has been closed.
 #[derive(Clone, Copy, Debug, PartialEq, Eq, Error)]
 pub enum StormFault {
-    /// There is no memory for the tree, its pipes, or what is told of them.
+    /// There is no memory for the tree, its pipes or the report, or one of the four threads could not be started.
     #[error("out of memory")]
     Memory,
 }

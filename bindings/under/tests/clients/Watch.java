@@ -1,7 +1,7 @@
 import java.nio.file.*;
 import static java.nio.file.StandardWatchEventKinds.*;
 
-/** Prints what a WatchService tells of a directory. */
+/** Prints the events that a WatchService reports for a directory. */
 public class Watch {
     public static void main(String[] words) throws Exception {
         WatchService service = FileSystems.getDefault().newWatchService();

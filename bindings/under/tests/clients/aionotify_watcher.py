@@ -1,4 +1,4 @@
-"""Prints what aionotify tells of a directory."""
+"""Prints the events that aionotify reports for a directory."""
 import asyncio
 import sys
 import aionotify

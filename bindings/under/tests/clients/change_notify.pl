@@ -1,4 +1,4 @@
-# Prints what File::ChangeNotify tells of a directory, recursively.
+# Prints the events that File::ChangeNotify reports for a directory, recursively.
 use strict;
 use warnings;
 use File::ChangeNotify;

@@ -1,4 +1,4 @@
-/* Prints what libev's stat watcher tells of a file. */
+/* Prints the events that libev's stat watcher reports for a file. */
 #include <ev.h>
 #include <stdio.h>
 

@@ -1,2 +1,2 @@
-// Prints what Node's fs.watch tells of a directory.
+// Prints the events that Node's fs.watch reports for a directory.
 require('fs').watch(process.argv[2], (kind, name) => console.log(kind, name));

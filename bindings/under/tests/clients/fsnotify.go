@@ -1,4 +1,4 @@
-// Prints what fsnotify tells of a directory.
+// Prints the events that fsnotify reports for a directory.
 package main
 
 import (

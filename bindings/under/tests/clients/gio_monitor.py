@@ -1,4 +1,4 @@
-"""Prints what Gio.FileMonitor tells of a directory."""
+"""Prints the events that Gio.FileMonitor reports for a directory."""
 import sys
 from gi.repository import Gio, GLib
 

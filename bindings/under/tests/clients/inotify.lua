@@ -1,4 +1,4 @@
--- Prints what lua-inotify tells of a directory.
+-- Prints the events that lua-inotify reports for a directory.
 local inotify = require 'inotify'
 local handle = assert(inotify.init())
 assert(handle:addwatch(arg[1], inotify.IN_ALL_EVENTS))

@@ -1,4 +1,4 @@
-(* Prints what OCaml's inotify tells of a directory. *)
+(* Prints the events that OCaml's inotify reports for a directory. *)
 let () =
   let instance = Inotify.create () in
   ignore (Inotify.add_watch instance Sys.argv.(1) [Inotify.S_All]);

@@ -1,4 +1,4 @@
-//! Prints what the crate inotify tells of a directory.
+//! Prints the events that the crate inotify reports for a directory.
 use inotify::{Inotify, WatchMask};
 
 fn main() {

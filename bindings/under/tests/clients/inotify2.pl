@@ -1,4 +1,4 @@
-# Prints what Linux::Inotify2 tells of a directory.
+# Prints the events that Linux::Inotify2 reports for a directory.
 use strict;
 use warnings;
 use Linux::Inotify2;

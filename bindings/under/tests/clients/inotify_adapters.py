@@ -1,4 +1,4 @@
-"""Prints what the module inotify tells of a directory, recursively, by its InotifyTree."""
+"""Prints the events that the module inotify reports for a directory, recursively, by its InotifyTree."""
 import sys
 import inotify.adapters
 

@@ -1,4 +1,4 @@
-/* Prints what libinotifytools tells of a directory, recursively. */
+/* Prints the events that libinotifytools reports for a directory, recursively. */
 #include <inotifytools/inotify.h>
 #include <inotifytools/inotifytools.h>
 #include <stdio.h>

@@ -1,4 +1,4 @@
-// Prints what rjeczalik/notify tells of a directory, recursively.
+// Prints the events that rjeczalik/notify reports for a directory, recursively.
 package main
 
 import (

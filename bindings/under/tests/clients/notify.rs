@@ -1,4 +1,4 @@
-//! Prints what the crate notify tells of a directory, recursively.
+//! Prints the events that the crate notify reports for a directory, recursively.
 use notify::{RecommendedWatcher, RecursiveMode, Watcher};
 use std::sync::mpsc::channel;
 

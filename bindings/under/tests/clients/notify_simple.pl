@@ -1,4 +1,4 @@
-# Prints what Filesys::Notify::Simple tells of a directory, recursively.
+# Prints the events that Filesys::Notify::Simple reports for a directory, recursively.
 use strict;
 use warnings;
 use Filesys::Notify::Simple;

@@ -1,4 +1,4 @@
-"""Prints what pyinotify tells of a directory, recursively, by its Notifier."""
+"""Prints the events that pyinotify reports for a directory, recursively, by its Notifier."""
 import sys
 import pyinotify
 

@@ -1,4 +1,4 @@
-"""Prints what Qt's QFileSystemWatcher tells of a directory and of a file."""
+"""Prints the events that Qt's QFileSystemWatcher reports for a directory and for a file."""
 import signal
 import sys
 from PyQt5.QtCore import QCoreApplication, QFileSystemWatcher

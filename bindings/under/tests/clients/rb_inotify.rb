@@ -1,4 +1,4 @@
-# Prints what rb-inotify tells of a directory, recursively.
+# Prints the events that rb-inotify reports for a directory, recursively.
 require 'rb-inotify'
 $stdout.sync = true
 notifier = INotify::Notifier.new

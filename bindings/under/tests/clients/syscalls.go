@@ -1,4 +1,4 @@
-// Prints what the kernel tells of a directory, by Go's own system calls: a static program without the C library.
+// Prints the events that the kernel reports for a directory, by Go's own system calls: a static program without the C library.
 package main
 
 import (

@@ -1,4 +1,4 @@
-"""Prints what twisted's INotify tells of a directory, recursively."""
+"""Prints the events that twisted's INotify reports for a directory, recursively."""
 import sys
 from twisted.internet import inotify, reactor
 from twisted.python import filepath

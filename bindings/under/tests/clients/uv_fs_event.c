@@ -1,4 +1,4 @@
-/* Prints what libuv's fs event tells of a directory. */
+/* Prints the events that libuv's fs event reports for a directory. */
 #include <stdio.h>
 #include <uv.h>
 

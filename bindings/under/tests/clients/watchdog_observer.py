@@ -1,4 +1,4 @@
-"""Prints what watchdog's Observer tells of a directory, recursively."""
+"""Prints the events that watchdog's Observer reports for a directory, recursively."""
 import sys
 from watchdog.events import FileSystemEventHandler
 from watchdog.observers import Observer

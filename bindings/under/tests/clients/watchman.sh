@@ -1,5 +1,5 @@
 #!/bin/sh
-# A watchman server, which the first command starts, tells a client what it subscribed to: watchman.sh DIRECTORY ROOM
+# A watchman server, which the first command starts, sends a client the events that it subscribed to: watchman.sh DIRECTORY ROOM
 directory=$1
 room=$2/state
 mkdir -m 700 "$room"

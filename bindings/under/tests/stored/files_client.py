@@ -1,6 +1,6 @@
 """Calls on files below a directory, and what each answers: the same below /wt as on a disk.
 
-Left out is the unlink of a directory, which Linux refuses by another error than POSIX has.
+The unlink of a directory is skipped, which Linux refuses with another error than POSIX has.
 """
 
 import errno

@@ -22,10 +22,7 @@ fn instances_are_asked_in_their_way(rt: HostRuntime) {
         Step::Counts(7),
         Step::Stands(1, 7),
     ];
-    assert_eq!(rt;
-        plays(rt.alloc(), Limits::full(), &steps),
-        Some(steps.len())
-    );
+    goes_well(&rt, rt.alloc(), Limits::full(), &steps);
 }
 
 #[test]
@@ -46,10 +43,7 @@ fn a_full_pipe_is_not_pumped(rt: HostRuntime) {
         Step::Gives(1, 6, 1),
         Step::GivesNothing(1),
     ];
-    assert_eq!(rt;
-        plays(rt.alloc(), Limits::full(), &steps),
-        Some(steps.len())
-    );
+    goes_well(&rt, rt.alloc(), Limits::full(), &steps);
 }
 
 // The pump is not carried out: there is no entry of it, and so it is not EAGAIN.
@@ -70,10 +64,7 @@ fn a_full_pipe_is_found_where_nothing_waits(rt: HostRuntime) {
         Step::GivesNothing(1),
         Step::Stands(1, 5),
     ];
-    assert_eq!(rt;
-        plays(rt.alloc(), Limits::full(), &steps),
-        Some(steps.len())
-    );
+    goes_well(&rt, rt.alloc(), Limits::full(), &steps);
 }
 
 // The record that waits takes 32 bytes. Where the pipe has a place, a pump of fewer is an entry, and reads nothing.
@@ -102,10 +93,7 @@ fn a_full_pipe_is_found_where_no_record_fits(rt: HostRuntime) {
         Step::GivesNothing(1),
         Step::Stands(1, 7),
     ];
-    assert_eq!(rt;
-        plays(rt.alloc(), Limits::full(), &steps),
-        Some(steps.len())
-    );
+    goes_well(&rt, rt.alloc(), Limits::full(), &steps);
 }
 
 #[test]
@@ -126,10 +114,7 @@ fn the_end_batch_wants_a_place(rt: HostRuntime) {
         Step::Gives(1, 5, 0),
         Step::GivesNothing(1),
     ];
-    assert_eq!(rt;
-        plays(rt.alloc(), Limits::full(), &steps),
-        Some(steps.len())
-    );
+    goes_well(&rt, rt.alloc(), Limits::full(), &steps);
 }
 
 #[test]
@@ -150,10 +135,7 @@ fn each_feed_has_its_own_pipe(rt: HostRuntime) {
         Step::Gives(2, 8, 2),
         Step::GivesNothing(2),
     ];
-    assert_eq!(rt;
-        plays(rt.alloc(), Limits::full(), &steps),
-        Some(steps.len())
-    );
+    goes_well(&rt, rt.alloc(), Limits::full(), &steps);
 }
 
 #[test]
@@ -171,10 +153,7 @@ fn a_full_pipe_whose_listener_is_gone_stays_open(rt: HostRuntime) {
         Step::Counts(5),
         Step::Waits(1, Some(1)),
     ];
-    assert_eq!(rt;
-        plays(rt.alloc(), Limits::full(), &steps),
-        Some(steps.len())
-    );
+    goes_well(&rt, rt.alloc(), Limits::full(), &steps);
 }
 
 #[test]
@@ -195,10 +174,7 @@ fn a_pipe_has_the_places_that_were_asked_for(rt: HostRuntime) {
         Step::Pumps(1, Says::Records),
         Step::Closes(1, Says::Fails(Refusal::PipeFull)),
     ];
-    assert_eq!(rt;
-        plays(rt.alloc(), Limits::full(), &steps),
-        Some(steps.len())
-    );
+    goes_well(&rt, rt.alloc(), Limits::full(), &steps);
 }
 
 #[test]
@@ -220,5 +196,5 @@ fn a_full_pipe_is_found_before_a_full_journal(rt: HostRuntime) {
         Step::Closes(1, Says::Fails(Refusal::JournalFull)),
         Step::Counts(5),
     ];
-    assert_eq!(rt; plays(rt.alloc(), limits, &steps), Some(steps.len()));
+    goes_well(&rt, rt.alloc(), limits, &steps);
 }

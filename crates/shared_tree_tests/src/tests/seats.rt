@@ -13,7 +13,7 @@ fn seats_are_spent(rt: HostRuntime) {
     ];
     let mut limits = Limits::full();
     limits.seats = 1;
-    assert_eq!(rt; plays(rt.alloc(), limits, &steps), Some(steps.len()));
+    goes_well(&rt, rt.alloc(), limits, &steps);
 }
 
 #[test]
@@ -30,7 +30,7 @@ fn a_full_journal_takes_no_call(rt: HostRuntime) {
     ];
     let mut limits = Limits::full();
     limits.journal = 2;
-    assert_eq!(rt; plays(rt.alloc(), limits, &steps), Some(steps.len()));
+    goes_well(&rt, rt.alloc(), limits, &steps);
 }
 
 #[test]
@@ -49,7 +49,7 @@ fn a_cut_makes_room(rt: HostRuntime) {
     ];
     let mut limits = Limits::full();
     limits.journal = 2;
-    assert_eq!(rt; plays(rt.alloc(), limits, &steps), Some(steps.len()));
+    goes_well(&rt, rt.alloc(), limits, &steps);
 }
 
 #[test]
@@ -71,7 +71,7 @@ fn the_last_instance(rt: HostRuntime) {
     limits.queue = 1;
     limits.instances = 1;
     limits.ids = 2;
-    assert_eq!(rt; plays(rt.alloc(), limits, &steps), Some(steps.len()));
+    goes_well(&rt, rt.alloc(), limits, &steps);
 }
 
 #[test]
@@ -92,10 +92,7 @@ fn pipes_go_on_over_a_cut(rt: HostRuntime) {
         Step::Gives(1, 7, 0),
         Step::GivesNothing(1),
     ];
-    assert_eq!(rt;
-        plays(rt.alloc(), Limits::full(), &steps),
-        Some(steps.len())
-    );
+    goes_well(&rt, rt.alloc(), Limits::full(), &steps);
 }
 
 // A watch is refused where an instance has as many as it may have. What a new watch comes to once that one has ended.
@@ -149,5 +146,5 @@ fn the_last_byte_link_and_cookie(rt: HostRuntime) {
     limits.file_bytes = 4;
     limits.links = 1;
     limits.cookies = 1;
-    assert_eq!(rt; plays(rt.alloc(), limits, &steps), Some(steps.len()));
+    goes_well(&rt, rt.alloc(), limits, &steps);
 }

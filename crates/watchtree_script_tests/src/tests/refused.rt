@@ -1,4 +1,4 @@
-//! Each growth of a line refused in turn. Where nobody refuses growths each line is run once.
+//! Fault injection: each allocation of a line fails in turn. Without the shim each line is run once.
 
 use super::*;
 use refuser::{refuse, was_refused};
@@ -6,13 +6,13 @@ use tree_core::State;
 use tree_paths::{Limits, Refusal};
 use watchtree_script::print_line;
 
-/// More growths than a line here has.
+/// More allocations than a line here makes.
 const MOST: u32 = 60;
 
-/// What a line prints for want of memory.
+/// What a line prints that runs out of memory.
 const LACKS: &[u8] = b"err ENOMEM 12\n";
 
-// A tree with the directories /d and /d/e, the file /f, and instance 1, and a text with room for what a line prints.
+// A tree with the directories /d and /d/e, the file /f, and instance 1, and a text long enough for what a line prints.
 fn prepared(alloc: Global) -> Result<(State, Vec<u8>), Refusal> {
     let mut state = State::new(alloc, Limits::full())?;
     let mut text = Vec::with_capacity(alloc, 999)?;
@@ -24,7 +24,7 @@ fn prepared(alloc: Global) -> Result<(State, Vec<u8>), Refusal> {
     Ok((state, text))
 }
 
-// Runs a line of which growth `k` is refused. Whether one was, and whether all is well: the line is answered `ENOMEM`, and is no
+// Runs a line whose allocation `k` fails. Whether one failed, and whether all is well: the line is answered `ENOMEM`, and is no
 // entry, or it is answered what is wanted, and is one.
 fn refused_at(alloc: Global, line: &str, wanted: &str, k: u32) -> Result<(bool, bool), Refusal> {
     let (mut state, mut text) = prepared(alloc)?;
@@ -40,7 +40,7 @@ fn refused_at(alloc: Global, line: &str, wanted: &str, k: u32) -> Result<(bool, 
     Ok((is_refused, is_well))
 }
 
-// How many growths a line has, each of which was refused with all well. None where one was not.
+// How many allocations a line makes, each of which failed with all well. None where one did not.
 fn refused_in_turn(alloc: Global, line: &str, wanted: &str) -> Result<Option<u32>, Refusal> {
     for k in 1..MOST {
         let (is_refused, is_well) = refused_at(alloc, line, wanted, k)?;
@@ -54,14 +54,14 @@ fn refused_in_turn(alloc: Global, line: &str, wanted: &str) -> Result<Option<u32
     Ok(None)
 }
 
-// Whether growths can be refused.
+// Whether allocations can be made to fail.
 fn has_refuser(alloc: Global) -> bool {
     let has = refuse(alloc, MOST);
     let _ = was_refused(alloc);
     has
 }
 
-// Their words have no escapes and no bytes, so that what is refused is for a path or for the call.
+// Their words have no escapes and no bytes, so that what fails is an allocation for a path or for the call.
 #[test]
 fn a_line_goes_on_without_memory(rt: HostRuntime) -> Result<(), Fail> {
     let alloc = rt.alloc();

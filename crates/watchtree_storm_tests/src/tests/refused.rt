@@ -1,26 +1,28 @@
-//! Storms that run out of memory or of threads, at each growth and each thread in turn, with both sinks closed each time; and
-//! how often a close is tried. Where nobody refuses anything, each of these tests makes one storm.
+//! Fault injection: each allocation of a storm, and the start of each of its threads, fails in turn, with both sinks closed each
+//! time; and how often a close is tried. Without the shim each of these tests makes one storm.
+
+ghost use Rattle.std.specs.Prelude.{◌≡◌};
 
 use super::*;
 use refuser::{refuse, refuse_next, refuse_thread, was_refused};
 
-/// More growths than a storm of four calls has.
+/// More allocations than a storm of four calls makes.
 const GROWTHS: u32 = 2_000;
 
 /// More threads than a storm has.
 const THREADS: u32 = 9;
 
-/// More growths than are refused by two closes that are tried 16 times each, and two pumps.
+/// More allocations than fail in two closes that are tried 16 times each, and two pumps.
 const CLOSES: u32 = 40;
 
-/// What a test of storms asks of the refuser, once the sinks are made.
+/// What a test of storms asks of the shim, once the sinks are made.
 #[derive(Clone, Copy)]
 enum Asking {
     Growth(u32),
     Thread(u32),
 }
 
-// A storm of four calls. Whether something was refused, what came of the storm, and whether both sinks were closed.
+// A storm of four calls. Whether something failed, what came of the storm, and whether both sinks were closed.
 fn refused_at<R: Threads + Wait + Sync>(
     rt: &R,
     alloc: Global,
@@ -90,7 +92,7 @@ fn each_thread_of_a_storm(rt: HostRuntime) -> Result<(), Fail> {
     Err(Fail::from("a storm has more threads"))
 }
 
-// Both instances of a storm with no calls are closed while the next growths are refused. Whether each was closed.
+// Both instances of a storm with no calls are closed while the next allocations fail. Whether each was closed.
 fn closed_with<L: Ledger>(
     rt: &impl Wait,
     alloc: Global,
@@ -110,7 +112,7 @@ fn closed_with<L: Ledger>(
         one,
         other,
     } = begin::<L, CountSink>(alloc, blank, 4, sinks.0, sinks.1)?;
-    // With 8 entries the journal has no room for one more, and no call of the seat that closes is kept without memory.
+    // With 8 entries the journal is at its capacity, and no call of the seat that closes is kept without memory.
     for _ in 0..3 {
         let path = Path::parse(alloc, b"/s")?;
         let _ = held.call(&mut main, Call::File(FileCall::Stat { path }))?;
@@ -130,15 +132,15 @@ fn closed_at(rt: &impl Wait, alloc: Global, refused: u32) -> Result<(bool, bool)
     closed_with::<Brand>(rt, alloc, Blank::new(65537), refused)
 }
 
-/// While more and more growths are refused the first close fails first. Sixteen growths later the second fails too: each
-/// growth that is refused is a try.
+/// While more and more allocations fail the first close fails first. Sixteen allocations later the second fails too: each
+/// allocation that fails is a try.
 #[test]
 fn a_close_is_tried_16_times(rt: HostRuntime) -> Result<(), Fail> {
     let alloc = rt.alloc();
     let _ = refuse_next(alloc, 1);
     let has_refuser = Vec::<u8>::with_capacity(alloc, 1).is_err();
     let _ = was_refused(alloc);
-    let mut between = 0;
+    let mut between: u32 = 0;
     for refused in 0..CLOSES {
         let (one, other) = closed_at(&rt, alloc, refused)?;
         holds(
@@ -147,7 +149,7 @@ fn a_close_is_tried_16_times(rt: HostRuntime) -> Result<(), Fail> {
             other || !one,
         );
         if other && !one {
-            between += 1;
+            between = between.saturating_add(1);
         }
     }
     equal(&rt, between, if has_refuser { 16 } else { 0 });

@@ -1,4 +1,4 @@
-use Rattle.std.proofs.Common.{◌≡◌, ◌<◌, ◌^◌, length, drop, ◌∙◌, ap, arith}
+use Rattle.std.proofs.Common.{◌<◌, ◌^◌, length, ◌∙◌, ap, arith}
 use Rattle.std.proofs.lemmas.List.{take_rest}
 use Rattle.watchtree_c.specs.Answers.{overlaid}
 use Rattle.watchtree_c.proofs.Listing.{more}

@@ -1,4 +1,4 @@
-use Rattle.std.proofs.Common.{◌≡◌, ℕ, Some, sym, ap, ◌∙◌, arith, pos}
+use Rattle.std.proofs.Common.{◌≡◌, Some, sym, ap, ◌∙◌, arith, pos}
 use Rattle.std.specs.Prelude.{neg_ℤ}
 use Rattle.std.proofs.lemmas.Int.{ints}
 use Rattle.std.proofs.lemmas.Grind.{common_steps}

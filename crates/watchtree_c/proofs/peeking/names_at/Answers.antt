@@ -1,12 +1,9 @@
-use Rattle.std.proofs.Common.{◌≡◌, ℕ, List, Some, refl, sym, subst, rules, inl, inr, arith, length, ap, ◌∙◌}
+use Rattle.std.proofs.Common.{sym, rules, inl}
 use Rattle.tree_ops.specs.declared.call.FileCall.TheVariants as file
 use Rattle.tree_ops.specs.declared.answer.Answer.TheVariants as answer
 use Rattle.tree_core.specs.declared.call.Call.TheVariants as call
-use Rattle.tree_core.specs.declared.reply.Reply.{Reply}
 use Rattle.tree_core.specs.declared.reply.Reply.TheVariants as reply
-use Rattle.watchtree_c.specs.Calls.{asked_bytes, list_call, read_call, stat_call}
-use Rattle.watchtree_c.specs.Peeks.{IsPeeked}
-use Rattle.watchtree_c.proofs.Unmade.{asked, unasked, refused-may, lists-by, bytes-by}
+use Rattle.watchtree_c.proofs.Unmade.{refused-may}
 use Rattle.watchtree_c.proofs.peeking.names_at.Goals as goal
 
 pub returns-in-Ok : goal.returns-in-Ok

@@ -1,7 +1,7 @@
 use Rattle.std.proofs.Common.{rules}
 use Rattle.tree_paths.specs.declared.refusal.Refusal.TheVariants.{Ebadf}
 use Rattle.tree_core.specs.declared.reply.Reply.TheVariants as reply
-use Rattle.watchtree_c.specs.Calls.{asked_bytes, list_call, read_call, stat_call}
+use Rattle.watchtree_c.specs.Calls.{stat_call}
 use Rattle.watchtree_c.proofs.Unmade.{closed-peeked}
 use Rattle.watchtree_c.proofs.peeking.wt_peek_stat.Goals as goal
 

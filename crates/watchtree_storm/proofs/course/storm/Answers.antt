@@ -1,4 +1,4 @@
-use Rattle.std.proofs.Common.{rules, ◌≡◌, true}
+use Rattle.std.proofs.Common.{◌≡◌, true}
 use Rattle.watchtree_storm.proofs.Sinks.{last-of, front-of}
 use Rattle.watchtree_storm.proofs.course.storm.Goals as goal
 

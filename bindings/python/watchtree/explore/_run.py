@@ -1,0 +1,173 @@
+"""run() and replay(): many schedules, and one."""
+
+import time
+from typing import Iterable, Iterator, List, NamedTuple, Optional, Sequence, Tuple
+
+from .._library import QUEUE, default_library
+from .._tree import Tree
+from ._moves import moved
+from ._once import Check, Consumer, Outcome, Program
+from ._plans import Seeded
+from ._schedule import PAUSE, AnySchedule, Schedule, parse_schedule, parse_script
+from ._shrink import shrink
+
+QUEUES: Tuple[int, ...] = (QUEUE, QUEUE, 1, 2, 3, 5)
+BATCHES: Tuple[Optional[int], ...] = (None, 1, 1, 2, 3)
+REQUESTS, SHRINKING_RUNS = 10_000, 10_000
+
+
+class Failure(NamedTuple):
+    """A failing schedule, shrunk. `str(failure)` is what happened in it, and how to replay it."""
+
+    seed: Optional[int]
+    """The seed that found it; None if it was found otherwise."""
+    schedule: Schedule
+    """The shrunk schedule. replay() runs it."""
+    error: BaseException
+    """What the consumer or the check raised."""
+    where: str
+    """Who raised it: `consumer` or `check`."""
+    timeline: str
+    found: Schedule
+    """The schedule as it was found."""
+
+    def __str__(self) -> str:
+        seed = "" if self.seed is None else f" (seed {self.seed})"
+        lines = len(self.schedule.setup) + len(self.schedule.changes)
+        head = f"the {self.where} failed under a schedule of {lines} lines{seed}"
+        return f"{head}\n\n{self.timeline}\n\nthe schedule, for explore.replay():\n\n{self.schedule}"
+
+    def save(self, path: str) -> None:
+        """Writes the schedule to a file."""
+        with open(path, "w", encoding="utf-8", errors="surrogateescape") as file:
+            file.write(str(self.schedule))
+
+
+class FoundFailure(AssertionError):
+    """What Result.check() raises."""
+
+
+class Result(NamedTuple):
+    """What run() found. `str(result)` says it."""
+
+    runs: int
+    reads: int
+    """How many reads returned records, in all runs."""
+    seconds: float
+    failures: List[Failure]
+    """The first is shrunk, and so are others if they were asked for."""
+
+    @property
+    def failure(self) -> Optional[Failure]:
+        """The first failure; None if no run failed."""
+        return self.failures[0] if self.failures else None
+
+    def check(self) -> "Result":
+        """Returns the result, or raises FoundFailure if a run failed: for the last line of a test."""
+        if self.failures:
+            raise FoundFailure(str(self)) from self.failures[0].error
+        return self
+
+    def __str__(self) -> str:
+        head = f"{self.runs} schedules, {self.reads} reads, {len(self.failures)} failed"
+        return "\n".join([head, *map(str, self.failures[:1])])
+
+
+class NotDeterministic(RuntimeError):
+    """A schedule that failed did not fail again."""
+
+
+def run(
+    script: str,
+    consumer: Consumer,
+    check: Check,
+    *,
+    seeds: Iterable[int] = range(200),
+    moves: Optional[int] = None,
+    queues: Sequence[int] = QUEUES,
+    batches: Sequence[Optional[int]] = BATCHES,
+    keep_going: bool = False,
+    max_requests: int = REQUESTS,
+) -> Result:
+    """Runs a consumer under one schedule for each seed, until one fails.
+
+    `script` has lines of `watchtree run`: those before the line `--` happen first, the others are changes. A further `--`
+    ends a timeout. `consumer(tree)` is a function, which returns what it believes, or a generator, which yields it. A
+    run fails if the consumer raises an exception, or if `check(tree, believed)` raises one or returns False.
+
+    A seed takes the limit of all queues from `queues`, and how many records a read returns at most from `batches`, where
+    None is without a limit. With `moves` all schedules are run in which so many lines at most happen before an earlier
+    request than they would at rest; queues then have the first limit of `queues`, and seeds are not used.
+
+    With `keep_going` it runs all schedules, and each failure has an entry. A consumer that makes more than `max_requests`
+    requests fails.
+
+    ValueError if a line is no line, or a line of the set-up is refused. RuntimeError if no read of any run returned a record.
+    """
+    program = _program(script, consumer, check, max_requests)
+    begin, runs, reads = time.monotonic(), 0, 0
+    failures: List[Failure] = []
+    for seed, outcome in _outcomes(program, seeds, moves, queues, batches):
+        runs, reads = runs + 1, reads + outcome.reads
+        if outcome.error:
+            failures.append(failure_of(program, seed, outcome))
+            if not keep_going:
+                break
+    if runs and not reads and not failures:
+        raise RuntimeError(f"no read returned a record in {runs} runs, so the check saw nothing")
+    return Result(runs, reads, time.monotonic() - begin, failures)
+
+
+def replay(schedule: AnySchedule, consumer: Consumer, check: Check, *, max_requests: int = REQUESTS) -> Optional[Failure]:
+    """Runs a consumer under one schedule, or the text of one. Returns how it failed; None if it did not."""
+    it = schedule if isinstance(schedule, Schedule) else parse_schedule(schedule)
+    outcome = Program((), (), consumer, check, max_requests).replay(it, has_timeline=True)
+    if not outcome.error:
+        return None
+    return Failure(None, outcome.schedule, outcome.error, outcome.where, outcome.timeline, it)
+
+
+def _outcomes(
+    program: Program,
+    seeds: Iterable[int],
+    moves: Optional[int],
+    queues: Sequence[int],
+    batches: Sequence[Optional[int]],
+) -> Iterator[Tuple[Optional[int], Outcome]]:
+    if moves is not None:
+        for outcome in moved(program, moves, queues[0]):
+            yield None, outcome
+        return
+    for seed in seeds:
+        yield seed, program.run(Seeded(seed, queues, batches))
+
+
+def failure_of(program: Program, seed: Optional[int], found: Outcome) -> Failure:
+    """Shrinks a failure."""
+    again = program.replay(found.schedule)
+    if not again.error or again.kind != found.kind:
+        raise NotDeterministic(f"{found.where} failed once, not again, under\n{found.schedule}") from found.error
+    short = shrink(program, found, SHRINKING_RUNS)
+    outcome = program.replay(short.schedule, has_timeline=True)
+    assert outcome.error
+    return Failure(seed, outcome.schedule, outcome.error, outcome.where, outcome.timeline, found.schedule)
+
+
+def _program(script: str, consumer: Consumer, check: Check, limit: int) -> Program:
+    setup, changes = parse_script(script)
+    with Tree(default_library()) as tree:
+        for line in setup:
+            reply = _reply(tree, line)
+            if reply.startswith("err"):
+                raise ValueError(f"the line {line!r} before `--` is refused: {reply.strip()}")
+        for line in changes:
+            if line != PAUSE:
+                _reply(tree, line)
+    return Program(setup, changes, consumer, check, limit)
+
+
+def _reply(tree: Tree, line: str) -> str:
+    try:
+        return tree.line(line)
+    except OSError as fault:
+        raise ValueError(f"{line!r} is no line of a script: {fault.strerror}") from None
