@@ -71,6 +71,10 @@ class Directives(ToolTest):
         self.replay("mkdir /d 755", "--", "#@ before 1000", "create /d/a 644")
         self.assertEqual(self.read("out/schedule"), "mkdir /d 755\n--\ncreate /d/a 644\n")
 
+    def test_after_its_request_a_line_happens_at_once(self) -> None:
+        order = self.order("mkdir /d 755", "--", "#@ before 5", "create /d/a 644", "#@ before 3", "create /d/b 644")
+        self.assertEqual(order[:7], [1, 2, 3, 4, "create /d/a 644", "create /d/b 644", 5])
+
     def test_a_short_read_hands_over_so_many_records(self) -> None:
         lines = ("mkdir /d 755", "--", "#@ before 7", "create /d/a 644", "create /d/bbbbbbbbbbbbbbbbb 644", "unlink /d/a")
         trace = self.replay(*lines)
@@ -111,9 +115,16 @@ class Edges(ToolTest):
     """A client that reads once for each edge."""
 
     def test_an_edge_follows_a_short_read(self) -> None:
-        lines = ["mkdir /d 755", "--", "create /d/a 644", "#@ before +1", "create /d/b 644", "create /d/c 644"]
+        lines = ["mkdir /d 755", "--", "create /d/a 644", "#@ before +0", "create /d/b 644", "create /d/c 644"]
         lines += [f"#@ read {request} 1" for request in range(1, 60)]
         said = self.under("out", ["--schedule", self.write("file", *lines)], [sys.executable, CLIENT, "/wt/d"])
         self.assertEqual(said.returncode, 0, said.stderr)
         self.assertEqual(self.read("out/stdout").split(), ["a", "b", "c"])
         self.assertIn("#@ read ", self.read("out/schedule"))
+
+    def test_what_fionread_told_is_there(self) -> None:
+        lines = ["mkdir /d 755", "create /d/a 644", "--", "rename /d/a /d/b"]
+        lines += [f"#@ read {request} 1" for request in range(1, 60)]
+        said = self.under("out", ["--schedule", self.write("file", *lines)], [sys.executable, f"{HERE}/counts.py", "/wt/d"])
+        self.assertEqual(said.returncode, 0, said.stderr)
+        self.assertEqual(self.read("out/stdout"), "64 64\n")

@@ -24,6 +24,7 @@ struct instance {
     bool is_open, was_asked, was_polled;    /* asked: it was asked for a record, and had none since */
     uint32_t id;
     int64_t waiting;                        /* how many records waited when somebody was last woken */
+    int64_t counted;                        /* so many records wait of which FIONREAD told the bytes */
     struct fuse_pollhandle *poller;
     struct reader *readers;                 /* that wait, the first one first */
     int reader_count, reader_capacity;
@@ -120,8 +121,10 @@ static void answer_read(struct instance *it, fuse_req_t req, size_t size, uint64
     if (size > sizeof buffer) size = sizeof buffer;
     int64_t before = waiting_in(it);
     uint64_t most = most_records(request);
+    if (most && (int64_t)most < it->counted) most = (uint64_t)it->counted;     /* they are there, as the program knows */
     int64_t count = take_records(it, size, most);
     it->waiting = most ? 0 : waiting_in(it);    /* 0: whoever polls is woken again for those that are left */
+    it->counted -= it->counted < before - waiting_in(it) ? it->counted : before - waiting_in(it);
     it->was_asked = false;
     work_count++;
     if (is_refused(req, count)) return;
@@ -210,8 +213,10 @@ static int64_t remove_watch(struct instance *it, int32_t wd) {
 void call_instance(fuse_req_t req, unsigned command, struct fuse_file_info *file, const void *in, size_t in_size) {
     struct instance *it = instance_of(file);
     int64_t reply = -ENOTTY;
-    if (command == CALL_BYTES) reply = wt_bytes_waiting(&tree, it->id);
-    else {
+    if (command == CALL_BYTES) {
+        reply = wt_bytes_waiting(&tree, it->id);
+        it->counted = waiting_in(it);
+    } else {
         work_count++;
         instance_counts.calls++;
     }
