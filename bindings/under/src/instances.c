@@ -24,7 +24,7 @@ struct instance {
     bool is_open, was_asked, was_polled;    /* asked: it was asked for a record, and had none since */
     uint32_t id;
     int64_t waiting;                        /* how many records waited when somebody was last woken */
-    int64_t counted;                        /* so many records wait of which FIONREAD told the bytes */
+    int64_t counted;                        /* how many of the waiting records FIONREAD last counted */
     struct fuse_pollhandle *poller;
     struct reader *readers;                 /* that wait, the first one first */
     int reader_count, reader_capacity;
