@@ -6,8 +6,8 @@ use std::panic::{self, AssertUnwindSafe};
 use std::sync::Once;
 
 thread_local! {
-    static IS_CAUGHT: Cell<bool> = Cell::new(false);
-    static PLACE: RefCell<String> = RefCell::new(String::new());
+    static IS_CAUGHT: Cell<bool> = const { Cell::new(false) };
+    static PLACE: RefCell<String> = const { RefCell::new(String::new()) };
 }
 
 /// A panic: what it said, and the line that panicked.
