@@ -136,6 +136,7 @@ def explore(said: argparse.Namespace, program: List[str], room: str) -> int:
 def main(words: List[str]) -> int:
     """Runs the tool."""
     signal.signal(signal.SIGPIPE, signal.SIG_DFL)
+    signal.signal(signal.SIGTERM, signal.default_int_handler)
     said, program = read_words(words)
     room: Optional[str] = None
     try:
