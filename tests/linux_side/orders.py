@@ -24,6 +24,15 @@ ORDERS = {
 OTHERS = ("text old is_directory", "long old is_directory")
 
 
+def text_fault(text):
+    """Why the program takes a text for no path, by the order in which it looks at it."""
+    if len(text) > MOST_TEXT:
+        return "ENAMETOOLONG"
+    if is_odd(text):
+        return "EINVAL"
+    return "ENAMETOOLONG" if any(len(it) > MOST_NAME for it in names_of(text)) else None
+
+
 class Rows:
     """The rows of a call, each an error where it holds."""
 
@@ -45,10 +54,8 @@ class Rows:
         return None
 
     def text(self):
-        if any(map(is_odd, self.texts)):
-            return "EINVAL"
-        is_long = any(len(it) > MOST_NAME for text in self.texts for it in names_of(text))
-        return self.long_old() or self.long() or ("ENAMETOOLONG" if is_long else None)
+        # (the first path that is none decides)
+        return next(filter(None, map(text_fault, self.texts)), None)
 
     def long_old(self):
         return "ENAMETOOLONG" if self.texts and len(self.texts[0]) > MOST_TEXT else None
