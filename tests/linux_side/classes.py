@@ -8,6 +8,8 @@ OPEN, ACCESS, CLOSE_NOWRITE = 0x20, 0x1, 0x10
 SIGNED, MOST_BYTES, MOST_MODE = 1 << 63, 1 << 24, 0o7777
 # Bits of a mask that no Linux knows: neither an event, nor a flag, nor one that it writes into records.
 UNKNOWN_BITS = 0xffffffff & ~(0xfff | 0xe000 | 0x07000000 | 0x70000000 | 0x80000000)
+# Why a path is refused by its text. Of two paths the first that is refused decides, so it may be long and the other odd.
+TEXT_FAULTS = ("EINVAL", "ENAMETOOLONG")
 # Classes in which Linux opens what it then refuses to read or write.
 OPENING = ("path-text", "offset-sign")
 ORDER_NAMES = {"watch": "watch-refusal-order", "rename": "rename-refusal-order", "rename2": "rename-refusal-order"}
@@ -36,7 +38,7 @@ def text_class(line, mine, other):
     """The class of two replies, of which one is a refusal, that the words of the line alone explain."""
     mask, flags = mask_of(line), int(line.words[2]) if line.name == "rename2" else 0
     rules = {
-        "path-text": mine == "EINVAL" and any(map(is_odd, paths_of(line))),
+        "path-text": mine in TEXT_FAULTS and any(map(is_odd, paths_of(line))),
         "mode-bits": mine == "EINVAL" and mode_of(line) > MOST_MODE,
         "offset-sign": other == "EINVAL" and end_of(line) >= SIGNED,
         "file-size": (mine, other) == ("EFBIG", None) and end_of(line) > MOST_BYTES,
