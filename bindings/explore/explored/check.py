@@ -5,8 +5,10 @@ moved away and all below them. At the end it has to be the paths that are there,
 directory brings with it the client has to say nothing.
 
 A client that says nothing of what was there before (every KIND but `whole`) is not judged by a run in which a line happened
-before its first watch. `inotifywait` is how that one prints its events. With CALL a run is only judged if a line makes that call:
-shrinking then keeps the line.
+before its first watch. `inotifywait` is how that one prints its events. `marked` is a client that looks for a file `watching` when
+it watches the directory and its descendants: that request counts in place of the first watch. `unordered` is a client that reports
+events in any order: it lost a path if it never said that the path was made or moved in, and nothing else counts. With CALL a run is
+only judged if a line makes that call: shrinking then keeps the line.
 """
 
 import os
@@ -43,6 +45,7 @@ def believed(kind: str) -> Tuple[Set[str], Set[str]]:
         path = path.rstrip("/")
         if sign == "+":
             has.add(path)
+        if sign == "+" or kind == "unordered":
             continue
         gone = {it for it in has if it.startswith(path + "/")}
         brought |= {new + it[len(path):] for old, new in moves if old == path for it in gone}
@@ -56,12 +59,13 @@ def there(name: str) -> Set[str]:
         return {MOUNT + line.split(" ")[0] for line in file}
 
 
-def is_too_early() -> bool:
-    """Whether a line happened before the client had a watch."""
+def is_too_early(kind: str) -> bool:
+    """Whether a line happened before the client watched."""
     has_started = False
+    watches = r"\? [0-9]+ lookup /d/watching$" if kind == "marked" else r"# watch .*: [0-9]"
     with open(f"{OUT}/trace", encoding="utf-8", errors="surrogateescape") as file:
         for line in file:
-            if re.match(r"# watch .*: [0-9]", line):
+            if re.match(watches, line):
                 return False
             if has_started and re.match(r"(@[0-9]+ )?> ", line):
                 return True
@@ -72,11 +76,11 @@ def is_too_early() -> bool:
 def main() -> int:
     """Prints what is wrong with what the client has."""
     kind, calls = sys.argv[1], sys.argv[2:]
-    if (kind != "whole" and is_too_early()) or not set(calls) <= {it[0] for it in happened()}:
+    if (kind != "whole" and is_too_early(kind)) or not set(calls) <= {it[0] for it in happened()}:
         return 0
     (has, brought), real, root = believed(kind), there("listing"), f"{MOUNT}/d/"
     lost = {it for it in real - has - brought if it.startswith(root)}
-    stale = {it for it in has - real if it.startswith(root)}
+    stale = {it for it in has - real if it.startswith(root) and kind != "unordered"}
     for path in sorted(lost):
         print("lost:", path, file=sys.stderr)
     for path in sorted(stale):
