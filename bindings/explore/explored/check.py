@@ -5,10 +5,10 @@ moved away and all below them. At the end it has to be the paths that are there,
 directory brings with it the client has to say nothing.
 
 A client that says nothing of what was there before (every KIND but `whole`) is not judged by a run in which a line happened
-before its first watch. `inotifywait` is how that one prints its events. `marked` is a client that looks for a file `watching` when
-it watches the directory and its descendants: that request counts in place of the first watch. `unordered` is a client that reports
-events in any order: it lost a path if it never said that the path was made or moved in, and nothing else counts. With CALL a run is
-only judged if a line makes that call: shrinking then keeps the line.
+before its first watch. `inotifywait` is how that one prints its events. `marked` is a client that looks for a file `watching`
+when it watches the directory and its descendants: that request counts in place of the first watch. `unordered` is a client that
+reports events in any order: it lost a path if it never said that the path was made or moved in, and nothing else counts. With
+CALL a run is only judged if a line makes that call: shrinking then keeps the line.
 """
 
 import os
