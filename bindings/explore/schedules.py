@@ -134,7 +134,7 @@ def parse(text: str) -> Schedule:
 
 def relative(schedule: Schedule, places: Sequence[int]) -> Schedule:
     """Returns the same schedule with each request counted from the line above it. `places` has, for each line after the first
-    mark, the request that was next when it had happened."""
+    mark, the request that was next when it had happened. The last lines have none if the program ended before them."""
     items, origin, at = [], 1, 0  # type: List[Item], int, int
     for it in schedule.items:
         if isinstance(it, ShortRead) and not it.is_relative:
@@ -142,7 +142,7 @@ def relative(schedule: Schedule, places: Sequence[int]) -> Schedule:
         if isinstance(it, Line):
             if it.before is not None and not it.is_relative:
                 it = replace(it, before=max(it.before - origin, 0), is_relative=True)
-            origin = places[at]
+            origin = places[at] if at < len(places) else origin
             at += 1
         items.append(it)
     return Schedule(schedule.queue, schedule.setup, tuple(items))

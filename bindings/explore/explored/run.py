@@ -22,6 +22,8 @@ import runs  # noqa: E402
 import schedules  # noqa: E402
 
 REPLAYS = 20
+# The call that a script is about: shrinking keeps it.
+CALLS = {"moved": "rename"}
 GO = "GO111MODULE=off GOPATH=/usr/share/gocode GOCACHE={room}/cache CGO_ENABLED=0 go build -o {room}/client {clients}/"
 CARGO = """mkdir -p {room}/notify/src {room}/notify/.cargo && cp {clients}/notify.rs {room}/notify/src/main.rs && cd {room}/notify &&
 printf '[package]\\nname = "client"\\nversion = "0.1.0"\\nedition = "2021"\\n[dependencies]\\nnotify = "*"\\n' >Cargo.toml &&
@@ -36,11 +38,11 @@ ALL = {
     "watchdog": Client("python3-watchdog", "signs", 2500, "/usr/bin/python3 {clients}/watchdog_observer.py /wt/d"),
     "pyinotify": Client("python3-pyinotify", "signs", 300, "/usr/bin/python3 {clients}/pyinotify_auto_add.py /wt/d"),
     "chokidar": Client("node-chokidar", "whole", 2000, "env NODE_PATH=/usr/share/nodejs node {clients}/chokidar.js /wt/d"),
-    "node": Client("nodejs", "signs", 1000, "node {clients}/fs_watch.js /wt/d"),
+    "node": Client("nodejs", "marked", 1000, "node {clients}/fs_watch.js /wt/d"),
     "fsnotify": Client("golang-github-fsnotify-fsnotify-dev", "signs", 500, "{room}/client /wt/d", GO + "fsnotify_walk.go"),
-    "notify-go": Client("golang-github-rjeczalik-notify-dev", "signs", 500, "{room}/client /wt/d", GO + "notify.go"),
+    "notify-go": Client("golang-github-rjeczalik-notify-dev", "unordered", 500, "{room}/client /wt/d", GO + "notify.go"),
     "notify-rs": Client("librust-notify-dev", "signs", 500, "{room}/client /wt/d", CARGO),
-    "watchman": Client("watchman", "watchman", 1500, "sh {clients}/watchman.sh /wt/d"),
+    "watchman": Client("watchman", "whole", 1500, "/usr/bin/python3 {clients}/watchman_subscription.py /wt/d"),
     "lsyncd": Client("lsyncd", "whole", 2500, "sh {clients}/lsyncd.sh /wt/d"),
 }
 
@@ -62,9 +64,9 @@ def build(client, room):
         subprocess.run(["sh", "-c", client.build.format(clients=CLIENTS, room=room)], check=True)
 
 
-def check_of(client):
-    """Returns the check of a client's runs."""
-    return f"python3 {HERE}/check.py {client.kind}"
+def check_of(client, script):
+    """Returns the check of a client's runs of a script."""
+    return f"python3 {HERE}/check.py {client.kind} {CALLS.get(script, '')}"
 
 
 def replay(runner, name, client, room):
@@ -77,7 +79,8 @@ def replay(runner, name, client, room):
         with open(f"{HERE}/{file}", encoding="utf-8") as text:
             schedule = schedules.parse(text.read())
         options = ["--quick", "--settle", str(client.settle)]
-        bench = runs.Bench(runner, options, "", check_of(client), words_of(client, room), room)
+        check = check_of(client, file.split(".")[1])
+        bench = runs.Bench(runner, options, "", check, words_of(client, room), room)
         failed = sum(bench.replay(schedule).fails for _ in range(REPLAYS))
         print(f"{file}: replayed {REPLAYS} times, failed {failed} times", flush=True)
         all_failed = all_failed and failed == REPLAYS
@@ -102,7 +105,7 @@ def main():
         if not said.script:
             return 0 if replay(said.runner, said.client, client, room) else 1
         command = [sys.executable, f"{EXPLORE}/main.py", "--runner", said.runner, "--settle", str(client.settle), *options,
-                   f"{HERE}/{said.script}.script", "--check", check_of(client), "--", *words_of(client, room)]
+                   f"{HERE}/{said.script}.script", "--check", check_of(client, said.script), "--", *words_of(client, room)]
         return subprocess.run(command, check=False).returncode
 
 

@@ -83,6 +83,11 @@ class Files(unittest.TestCase):
         self.assertIn(ShortRead(1, 1, True), schedule.items)
         self.assertEqual(schedules.parse(schedule.text()), schedule)
 
+    def test_relative_requests_of_lines_that_did_not_happen(self) -> None:
+        schedule = schedules.relative(schedules.parse(FILE), [7, 8])
+        self.assertEqual([it.before for it in schedule.lines()], [None, 1, 0, None])
+        self.assertIn(ShortRead(1, 1, True), schedule.items)
+
     def test_what_is_no_directive(self) -> None:
         for line in ("#@ before", "#@ read 3", "#@ queue x", "#@ at noon", "#@"):
             with self.assertRaisesRegex(schedules.Fault, "line 2: no directive"):

@@ -1,4 +1,7 @@
-"""What pyinotify says of a directory with rec and auto_add, as `+ PATH` and `- PATH`: pyinotify_auto_add.py DIRECTORY"""
+"""What pyinotify says of a directory with rec and auto_add, as `+ PATH` and `- PATH`: pyinotify_auto_add.py DIRECTORY
+
+It follows a directory that is moved if IN_MOVE_SELF is watched too.
+"""
 
 import sys
 
@@ -15,5 +18,5 @@ def show(event):
 
 manager = pyinotify.WatchManager()
 notifier = pyinotify.Notifier(manager, show)
-manager.add_watch(sys.argv[1], MADE | GONE, rec=True, auto_add=True)
+manager.add_watch(sys.argv[1], MADE | GONE | pyinotify.IN_MOVE_SELF, rec=True, auto_add=True)
 notifier.loop()
