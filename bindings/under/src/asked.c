@@ -14,8 +14,9 @@ static bool is_needed(void) { return has_schedule() && is_traced(); }
 /* The path of a file, perhaps of a name in it, as scripts spell it. */
 static void ask_name(const char *call, uint64_t number, const char *name) {
     char path[PATH_SIZE] = "", shown[3 * PATH_SIZE] = "";
+    struct wt_stat is;
     if (!is_needed()) return;
-    bool is_known = known_node(number) && path_of(number, path) >= 0;
+    bool is_known = known_node(number) && find_file(number, path, &is);
     if (is_known) spell(path, shown);
     size_t length = (size_t)snprintf(asked, sizeof asked, "%s %s", call, is_known ? shown : number ? "gone" : "outside");
     if (!name || length + 3 * 256 + 2 > sizeof asked) return;

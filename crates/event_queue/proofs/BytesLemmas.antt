@@ -18,7 +18,8 @@ pub record_small : (e : Event) → IsEvent e → length (record_bytes e) ≤ 272
 record_small e is = small_by e e.name refl is.name
 
 -- the bytes of the records up to and with the one at an index
-pub spelling_next : (es : List Event) (k : ℕ) (e : Event) → Some e ≡ slice_get es k → length (spelling (take (k + 1) es)) ≡ length (spelling (take k es)) + length (record_bytes e)
+pub spelling_next : (es : List Event) (k : ℕ) (e : Event) → Some e ≡ slice_get es k
+    → length (spelling (take (k + 1) es)) ≡ length (spelling (take k es)) + length (record_bytes e)
 spelling_next es k e h =
     let item : get_or es k e ≡ e = get_or_from_slice_get es k e e (sym h) in
     let next : take (k + 1) es ≡ take k es ++ get_or es k e ∷ [] = take_more es k e (slice_get_within es k e (sym h)) in

@@ -17,7 +17,10 @@ and_assoc true b c = refl
 and_assoc false b c = refl
 
 -- what `==` answers
-pub event_eq_regrouped : (a b : Event) (r : Bool) → r ≡ (int_eq a.wd b.wd && (nat_eq a.mask b.mask && (nat_eq a.cookie b.cookie && option_eq (pointwise nat_eq) a.name b.name)))
+pub event_eq_regrouped : (a b : Event) (r : Bool)
+    → r
+    ≡ (int_eq a.wd b.wd
+    && (nat_eq a.mask b.mask && (nat_eq a.cookie b.cookie && option_eq (pointwise nat_eq) a.name b.name)))
     → r ≡ event_eq a b
 event_eq_regrouped a b r p =
     p ∙ and_assoc (int_eq a.wd b.wd) (nat_eq a.mask b.mask) _ ∙ and_assoc (int_eq a.wd b.wd && nat_eq a.mask b.mask) (nat_eq a.cookie b.cookie) _
@@ -33,7 +36,10 @@ event_eq-Decides a b =
     Decides-like (event_eq a b)
     (λ p. λ k. record { wd = p.0.0.0 k; mask = p.0.0.1 k; cookie = p.0.1 k; name = p.1 k })
     (λ e. (((ap (λ (x : Event). x.wd) e, ap (λ (x : Event). x.mask) e), ap (λ (x : Event). x.cookie) e), ap (λ (x : Event). x.name) e))
-    (Decides-and _ _ (Decides-and _ _ (Decides-and _ _ (Decides-int_eq a.wd b.wd) (Decides-eqb a.mask b.mask)) (Decides-eqb a.cookie b.cookie)) (names_decide a.name b.name))
+    (Decides-and _ _
+    (Decides-and _ _ (Decides-and _ _ (Decides-int_eq a.wd b.wd) (Decides-eqb a.mask b.mask))
+    (Decides-eqb a.cookie b.cookie))
+    (names_decide a.name b.name))
 
 pub is_mark-Decides : (e : Event) → Decides (is_mark e) (e ≡ overflow_mark)
 unfolding is_mark

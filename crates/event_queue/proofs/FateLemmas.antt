@@ -1,5 +1,6 @@
 -- Nothing is lost unsaid, and a queue keeps its bounds.
-use Rattle.std.proofs.Common.{◌≡◌, ◌≢◌, ℕ, zero, suc, ◌<◌, ◌≤◌, Bool, true, false, List, [], ◌∷◌, length, drop, refl, sym, ap, subst, arith, length-append, ⊎_elim}
+use Rattle.std.proofs.Common.{◌≡◌, ◌≢◌, ℕ, zero, suc, ◌<◌, ◌≤◌, Bool, true, false, List, [], ◌∷◌, length, drop, refl}
+use Rattle.std.proofs.Common.{sym, ap, subst, arith, length-append, ⊎_elim}
 use Rattle.std.specs.Prelude.{Contains}
 use Rattle.std.proofs.lemmas.Bool.{ltb-true, ltb-false, cases_Bool, cases_lt}
 use Rattle.std.proofs.lemmas.List.{length-drop}
@@ -10,7 +11,9 @@ use Rattle.event_queue.specs.declared.offered.Offered.TheVariants.{Kept, Merged,
 use Rattle.event_queue.specs.Backlogs.{Backlog, is_mark, marks, has_mark, is_repeated, offered, overflow_mark, after_offer}
 use Rattle.event_queue.specs.Fates.{HasFate, IsBounded, KeepsBounds}
 use Rattle.event_queue.proofs.EventLemmas.{is_mark-Decides}
-use Rattle.event_queue.proofs.OfferLemmas.{marks-take_mark, marks-take_other, marks-push_mark, marks-push_other, is_mark-mark, offered_merged, offered_kept, offered_lost, offered_marked, after_merged, after_kept, after_lost, after_marked}
+use Rattle.event_queue.proofs.OfferLemmas.{marks-take_mark, marks-take_other, marks-push_mark, marks-push_other}
+use Rattle.event_queue.proofs.OfferLemmas.{is_mark-mark, offered_merged, offered_kept, offered_lost, offered_marked}
+use Rattle.event_queue.proofs.OfferLemmas.{after_merged, after_kept, after_lost, after_marked}
 use Rattle.event_queue.proofs.HistoryLemmas.{is_repeated-Decides, place_of_mark}
 
 -- the four cases of an offer, with what each of them rests on
@@ -28,15 +31,41 @@ case_of b e = by_repeat (is_repeated b.waiting e) refl where
 
   by_repeat : (r : Bool) → is_repeated b.waiting e ≡ r → Case b e (offered b.limit b.waiting e)
   by_repeat true p = merges p (offered_merged b.limit b.waiting e p)
-  by_repeat false p = ⊎_elim (λ (l : length b.waiting < b.limit). keeps p l (offered_kept b.limit b.waiting e p l)) (λ (l : b.limit ≤ length b.waiting). by_mark (has_mark b.waiting) refl p l) (cases_lt (length b.waiting) b.limit)
+  by_repeat false p =
+      ⊎_elim (λ (l : length b.waiting < b.limit). keeps p l (offered_kept b.limit b.waiting e p l))
+      (λ (l : b.limit ≤ length b.waiting). by_mark (has_mark b.waiting) refl p l)
+      (cases_lt (length b.waiting) b.limit)
 
 waiting_mark : (waiting : List Event) → has_mark waiting ≡ true → Contains waiting overflow_mark
-waiting_mark waiting p = let at = place_of_mark waiting (ltb-true _ _ p) in (at.0, slice_get_within waiting at.0 overflow_mark at.1, get_or_from_slice_get waiting at.0 overflow_mark overflow_mark at.1)
+waiting_mark waiting p =
+    let at = place_of_mark waiting (ltb-true _ _ p) in (
+      at.0,
+      slice_get_within waiting at.0 overflow_mark at.1,
+      get_or_from_slice_get waiting at.0 overflow_mark overflow_mark at.1,
+    )
 
 fate_by : (b : Backlog) (e : Event) (answer : Offered) → Case b e answer → HasFate b e answer
-fate_by b e answer (merges p q) = record { kept = λ r. cc; merged = λ r. ((is_repeated-Decides b.waiting e).0 p, after_merged b e p); marked = λ r. absurd (cc); lost = λ r. absurd (cc) }
-fate_by b e answer (keeps p l q) = record { kept = λ r. ap (λ (x : Backlog). x.waiting) (after_kept b e p l); merged = λ r. absurd (cc); marked = λ r. absurd (cc); lost = λ r. absurd (cc) }
-fate_by b e answer (loses p l m q) = record { kept = λ r. cc; merged = λ r. absurd (cc); marked = λ r. absurd (cc); lost = λ r. (waiting_mark b.waiting m, after_lost b e p l m) }
+fate_by b e answer (merges p q) =
+    record {
+      kept = λ r. cc;
+      merged = λ r. ((is_repeated-Decides b.waiting e).0 p, after_merged b e p);
+      marked = λ r. absurd (cc);
+      lost = λ r. absurd (cc);
+    }
+fate_by b e answer (keeps p l q) =
+    record {
+      kept = λ r. ap (λ (x : Backlog). x.waiting) (after_kept b e p l);
+      merged = λ r. absurd (cc);
+      marked = λ r. absurd (cc);
+      lost = λ r. absurd (cc);
+    }
+fate_by b e answer (loses p l m q) =
+    record {
+      kept = λ r. cc;
+      merged = λ r. absurd (cc);
+      marked = λ r. absurd (cc);
+      lost = λ r. (waiting_mark b.waiting m, after_lost b e p l m);
+    }
 fate_by b e answer (leaves_mark p l m q) = record {
   kept = λ r. cc;
   merged = λ r. absurd (cc);
@@ -60,7 +89,9 @@ bounded_by b e answer n o (keeps p l q) = subst IsBounded (sym (after_kept b e p
 bounded_by b e answer n o (loses p l m q) = subst IsBounded (sym (after_lost b e p l m)) o
 bounded_by b e answer n o (leaves_mark p l m q) =
     let none : marks b.waiting ≤ 0 = ltb-false _ _ m in
-    let full : length b.waiting ≤ b.limit = ⊎_elim (λ (f : b.limit < length b.waiting). absurd (let g : 0 < marks b.waiting = o.beyond f in omega arith)) (λ (f : length b.waiting ≤ b.limit). f) (cases_lt b.limit (length b.waiting)) in
+    let full : length b.waiting ≤ b.limit =
+    ⊎_elim (λ (f : b.limit < length b.waiting). absurd (let g : 0 < marks b.waiting = o.beyond f in omega arith))
+    (λ (f : length b.waiting ≤ b.limit). f) (cases_lt b.limit (length b.waiting)) in
     subst IsBounded (sym (after_marked b e p l m)) record {
       room = omega (arith, length-append b.waiting (overflow_mark ∷ []));
       one_mark = omega (arith, marks-push_mark b.waiting overflow_mark is_mark-mark);

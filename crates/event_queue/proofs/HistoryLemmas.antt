@@ -1,5 +1,7 @@
 -- A queue follows its history.
-use Rattle.std.proofs.Common.{◌≡◌, ℕ, zero, suc, ◌+◌, ◌-◌, ◌<◌, ◌≤◌, Bool, true, false, List, [], ◌∷◌, ◌++◌, length, take, drop, Option, Some, None, refl, sym, ap, subst, ◌∙◌, arith, append-nil, length-append, ⊎_elim}
+use Rattle.std.proofs.Common.{◌≡◌, ℕ, zero, suc, ◌+◌, ◌-◌, ◌<◌, ◌≤◌, Bool, true, false, List, [], ◌∷◌, ◌++◌, length}
+use Rattle.std.proofs.Common.{take, drop, Option, Some, None, refl, sym, ap, subst, ◌∙◌, arith, append-nil}
+use Rattle.std.proofs.Common.{length-append, ⊎_elim}
 use Rattle.std.specs.Prelude.{slice_get}
 use Rattle.std.specs.Bool.{Decides}
 use Rattle.std.specs.Option.{option_map_or}
@@ -30,7 +32,7 @@ pub is_repeated-Decides : (waiting : List Event) (e : Event) → Decides (is_rep
 unfolding is_repeated
 is_repeated-Decides waiting e = last_is (slice_get waiting (length waiting - 1)) e
 
--- a mark waits exactly where a place holds one
+-- a mark waits exactly if one of the records is a mark
 pub mark_at : (waiting : List Event) (i : ℕ) → slice_get waiting i ≡ Some overflow_mark → 0 < marks waiting
 mark_at [] i p = cc
 mark_at (x ∷ xs) zero p = let m = marks-take_mark (x ∷ xs) overflow_mark p is_mark-mark in omega arith
@@ -54,7 +56,8 @@ below_unless : (a b : ℕ) → ¬ (a ≤ b) → b < a
 below_unless a b n = ⊎_elim (λ (l : b < a). l) (λ (l : a ≤ b). absurd (n l)) (cases_lt b a)
 
 -- the last record that waits is the last one that joined
-last_of : (h : History) → h.read < length h.joined → slice_get (drop h.read h.joined) (length (drop h.read h.joined) - 1) ≡ slice_get h.joined (length h.joined - 1)
+last_of : (h : History) → h.read < length h.joined
+    → slice_get (drop h.read h.joined) (length (drop h.read h.joined) - 1) ≡ slice_get h.joined (length h.joined - 1)
 last_of h l = slice_get-drop h.read h.joined _ ∙ ap (slice_get h.joined) at where
   at : h.read + (length (drop h.read h.joined) - 1) ≡ length h.joined - 1
   at = omega (arith, length-drop h.read h.joined)
@@ -90,10 +93,17 @@ joined_none h = λ k. record h { joined = append-nil h.joined k }
 next_is : (h : History) (e : Event) (given answer : Offered) → given ≡ answer → with_joined h (joining given e) ≡ with_joined h (joining answer e)
 next_is h e given answer p = ap (λ a. with_joined h (joining a e)) p
 
-befalls_at : (limit : ℕ) (h : History) (e : Event) → (let answer = offered limit (drop h.read h.joined) e in Befalls limit h e answer (with_joined h (joining answer e)))
+befalls_at : (limit : ℕ) (h : History) (e : Event)
+    → (let answer = offered limit (drop h.read h.joined) e in
+    Befalls limit h e answer (with_joined h (joining answer e)))
 befalls_at limit h e = record {
   merged = λ r. let p = offered_merged limit waiting e ((repeats h e).1 r) in (p, next_is h e _ _ p ∙ joined_none h);
-  kept = λ r f. let p = offered_kept limit waiting e (other r) (let l = below_unless _ _ f in omega (arith, length-drop h.read h.joined)) in (p, next_is h e _ _ p);
+  kept =
+      λ r f.
+      let p =
+      offered_kept limit waiting e (other r)
+      (let l = below_unless _ _ f in omega (arith, length-drop h.read h.joined)) in
+      (p, next_is h e _ _ p);
   marked = λ r f m. let p = offered_marked limit waiting e (other r) (full f) (when_not _ (is_marked h) m) in (p, next_is h e _ _ p);
   lost = λ r f m. let p = offered_lost limit waiting e (other r) (full f) ((is_marked h).1 m) in (p, next_is h e _ _ p ∙ joined_none h);
 } where
@@ -120,7 +130,12 @@ holds_less h waiting k o l = record {
 
 pub follows_history : (b : Backlog) (h : History) → Holds h b.waiting → FollowsHistory b h
 follows_history b h o = record {
-  befalls = λ e. subst (λ (w : List Event). let answer = offered b.limit w e in Befalls b.limit h e answer (with_joined h (joining answer e))) o.rest (befalls_at b.limit h e);
+  befalls =
+      λ e.
+      subst
+      (λ (w : List Event).
+      let answer = offered b.limit w e in Befalls b.limit h e answer (with_joined h (joining answer e)))
+      o.rest (befalls_at b.limit h e);
   offers = λ e. holds_more h b.waiting (joining (offered b.limit b.waiting e) e) o;
   takes = λ l. holds_less h b.waiting 1 o l;
   reads = λ k l. holds_less h b.waiting k o l;

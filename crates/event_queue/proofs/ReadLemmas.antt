@@ -8,7 +8,8 @@ use Rattle.record_codec.specs.Records.{record_bytes, spelling}
 use Rattle.event_queue.specs.Reads.{fitting, IsGreatestFit}
 
 -- one more record in front, which fits
-more_fit : (n : ℕ) (e : Event) (es : List Event) (k : ℕ) → length (record_bytes e) ≤ n → IsGreatestFit (n - length (record_bytes e)) es k → IsGreatestFit n (e ∷ es) (suc k)
+more_fit : (n : ℕ) (e : Event) (es : List Event) (k : ℕ) → length (record_bytes e) ≤ n
+    → IsGreatestFit (n - length (record_bytes e)) es k → IsGreatestFit n (e ∷ es) (suc k)
 more_fit n e es k h ih = record {
   within = omega arith;
   fits = omega (arith, length-append (record_bytes e) (spelling (take k es)), ih.fits);
@@ -27,7 +28,8 @@ none_fit n e es h = record { within = omega arith; fits = omega arith; greatest 
   greater zero l m = absurd (omega arith)
   greater (suc more) l m = omega (arith, length-append (record_bytes e) (spelling (take more es)))
 
-one_more_or_none : (n : ℕ) (e : Event) (es : List Event) (k : ℕ) (b : Bool) → nat_le (length (record_bytes e)) n ≡ b → IsGreatestFit (n - length (record_bytes e)) es k
+one_more_or_none : (n : ℕ) (e : Event) (es : List Event) (k : ℕ) (b : Bool) → nat_le (length (record_bytes e)) n ≡ b
+    → IsGreatestFit (n - length (record_bytes e)) es k
     → IsGreatestFit n (e ∷ es) (cond b (suc k) 0)
 one_more_or_none n e es k true p ih = more_fit n e es k (leb-true _ _ p) ih
 one_more_or_none n e es k false p ih = none_fit n e es (leb-false _ _ p)
@@ -48,7 +50,8 @@ any_by k false = sym (le-ltb 0 0 (omega arith))
 pub any_fits : (n : ℕ) (es : List Event) (e : Event) → Some e ≡ slice_get es 0 → nat_le (length (record_bytes e)) n ≡ nat_lt 0 (fitting n es)
 any_fits n [] e h = cc
 any_fits n (x ∷ es) e h =
-    ap (λ (y : Event). nat_le (length (record_bytes y)) n) (same_Some e x h) ∙ any_by (fitting (n - length (record_bytes x)) es) (nat_le (length (record_bytes x)) n)
+    ap (λ (y : Event). nat_le (length (record_bytes y)) n) (same_Some e x h)
+    ∙ any_by (fitting (n - length (record_bytes x)) es) (nat_le (length (record_bytes x)) n)
 
 pub none_fits : (n : ℕ) (es : List Event) → None ≡ slice_get es 0 → false ≡ nat_lt 0 (fitting n es)
 none_fits n [] h = sym (le-ltb 0 0 (omega arith))

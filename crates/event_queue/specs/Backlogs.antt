@@ -1,5 +1,6 @@
 -- The event queue of an inotify instance: what waits in it, and what becomes of an event that is offered to it.
-use Rattle.std.specs.Prelude.{ℕ, ◌-◌, ◌≤◌, Bool, false, nat_lt, if◌then◌else◌, negsuc, List, [], ◌∷◌, ◌++◌, length, drop, slice_get, None, count_by}
+use Rattle.std.specs.Prelude.{ℕ, ◌-◌, ◌≤◌, Bool, false, nat_lt, if◌then◌else◌, negsuc, List, [], ◌∷◌, ◌++◌, length}
+use Rattle.std.specs.Prelude.{drop, slice_get, None, count_by}
 use Rattle.std.specs.Option.{option_map_or}
 use Rattle.record_codec.specs.declared.event.Event.{Event}
 use Rattle.record_codec.specs.declared.bits.TheConstants.{IN_Q_OVERFLOW}
@@ -36,9 +37,10 @@ has_mark waiting = nat_lt 0 (marks waiting)
 unfoldable pub is_repeated : List Event → Event → Bool
 is_repeated waiting e = option_map_or (λ last. event_eq last e) (slice_get waiting (length waiting - 1)) false
 
--- what becomes of an event. One identical to the last that waits is coalesced with it (inotify(7), NOTES): this is looked
--- at first. Events in excess of the limit are dropped, but an IN_Q_OVERFLOW event is always generated (inotify(7),
--- max_queued_events): one such mark waits at a time, and says it for all events that are lost while it waits
+-- what becomes of an event. One identical to the last that waits is coalesced with it (inotify(7), NOTES): this is
+-- looked at first. Events in excess of the limit are dropped, but an IN_Q_OVERFLOW event is always generated
+-- (inotify(7), max_queued_events): one such mark waits at a time, and says it for all events that are lost while it
+-- waits
 unfoldable pub offered : ℕ → List Event → Event → Offered
 offered limit waiting e =
     if is_repeated waiting e then Merged

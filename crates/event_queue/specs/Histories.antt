@@ -1,5 +1,5 @@
--- A queue told as the list of all records that ever joined it, and how many of them were read. A record
--- is not read yet where it stands at the read count or behind it.
+-- A queue as the list of all records that ever joined it, and the number of them that were read. The records from that
+-- index on are unread.
 use Rattle.std.specs.Prelude.{◌≡◌, ℕ, ◌+◌, ◌-◌, ◌<◌, ◌≤◌, List, [], ◌∷◌, ◌++◌, length, take, drop, slice_get, Some}
 use Rattle.record_codec.specs.declared.event.Event.{Event}
 use Rattle.event_queue.specs.declared.offered.Offered.{Offered}
@@ -48,7 +48,8 @@ with_joined h records = record h { joined = h.joined ++ records }
 
 -- a queue goes on holding what its history says
 pub record FollowsHistory (b : Backlog) (h : History) : Type 0 where
-  pub befalls : (e : Event) → let answer = offered b.limit b.waiting e in Befalls b.limit h e answer (with_joined h (joining answer e))
+  pub befalls : (e : Event)
+      → let answer = offered b.limit b.waiting e in Befalls b.limit h e answer (with_joined h (joining answer e))
   pub offers : (e : Event) → Holds (with_joined h (joining (offered b.limit b.waiting e) e)) (after_offer b e).waiting
   pub takes : 0 < length b.waiting → Holds (with_read h 1) (after_take b).waiting
   pub reads : (k : ℕ) → k ≤ length b.waiting → Holds (with_read h k) (drop k b.waiting)

@@ -6,7 +6,7 @@ use Rattle.event_queue.specs.declared.queue.Queue.TheInside.{Inside}
 abbrev pub backlog_of : Inside → Backlog
 backlog_of q = record { limit = q.limit; waiting = q.records.items }
 
--- a place beyond the limit is taken by a record only while a mark waits, so a mark that joins finds room
+-- the slot beyond the limit is in use only while a mark waits, so it is free for a mark that joins
 pub record IsRing (q : Inside) : Type 0 where
   pub limit : IsLimit q.limit
   pub capacity : q.records.capacity ≡ q.limit + 1

@@ -7,8 +7,8 @@ use crate::queue::Queue;
 use record_codec::record_len;
 
 impl Queue {
-    /// How many bytes all waiting records take: what `ioctl` with `FIONREAD` gives of an inotify file descriptor (inotify(7)).
-    /// It looks at each record.
+    /// How many bytes all waiting records take: what `ioctl` with `FIONREAD` gives of an inotify file descriptor
+    /// (inotify(7)). It looks at each record.
     pub fn bytes(&self) -> usize
         ensures { result ≡ length (spelling self.now.waiting) }
     {

@@ -1,6 +1,8 @@
 //! A bounded queue of events.
-ghost use Rattle.std.specs.Prelude.{◌≡◌, ◌≤◌, ◌+◌, ◌==◌, [], ◌∷◌, ◌++◌, false, true, IfOk, IfErr, nat_lt, length, take, slice_get, option_copied};
-ghost use Rattle.event_queue.specs.Backlogs.{IsLimit, overflow_mark, is_mark, has_mark, is_repeated, offered, after_offer, after_take};
+ghost use Rattle.std.specs.Prelude.{◌≡◌, ◌≤◌, ◌+◌, ◌==◌, [], ◌∷◌, ◌++◌, false, true, IfOk, IfErr, nat_lt, length, take};
+ghost use Rattle.std.specs.Prelude.{slice_get, option_copied};
+ghost use Rattle.event_queue.specs.Backlogs.{IsLimit, overflow_mark, is_mark, has_mark, is_repeated, offered};
+ghost use Rattle.event_queue.specs.Backlogs.{after_offer, after_take};
 ghost use Rattle.record_codec.specs.Equality.{event_eq};
 ghost use Rattle.record_codec.specs.Records.{spelling};
 ghost use Rattle.event_queue.specs.Reads.{fitting, IsGreatestFit};
@@ -16,7 +18,7 @@ use tree_paths::Refusal;
 
 /// The records of an inotify instance that wait to be read, the oldest first.
 ///
-/// [`Queue::with_limit`] makes all the room that is ever needed. No other call takes memory, and each succeeds.
+/// [`Queue::with_limit`] allocates the whole buffer. No other call allocates, and none of them fails.
 #[derive(Debug)]
 pub struct Queue {
     limit: u32,
@@ -51,7 +53,7 @@ impl Queue {
     /// A queue that keeps up to `limit` records, 1 to 65,535, and one overflow mark beyond them (inotify(7),
     /// `max_queued_events`).
     ///
-    /// The room for `limit + 1` records is made here: `ENOMEM` where it cannot be had.
+    /// The buffer for `limit + 1` records is allocated here: `ENOMEM` if that fails.
     pub fn with_limit(alloc: Global, limit: u32) -> Result<Queue, Refusal>
         requires { IsLimit limit }
         ensures queue { IfOk result (λ queue. queue ≡ record { limit = limit; waiting = [] }) }
@@ -92,8 +94,8 @@ impl Queue {
         Offered::Marked
     }
 
-    /// How many of the oldest records fit whole into `bytes` bytes, as read(2) gives them, as many as possible. 0 where none
-    /// waits, or where the oldest does not fit.
+    /// How many of the oldest records fit whole into `bytes` bytes, as read(2) gives them, as many as possible. 0 where
+    /// none waits, or where the oldest does not fit.
     pub fn fit(&self, bytes: usize) -> usize
         ensures count { result ≡ fitting bytes self.now.waiting }
         ensures greatest { IsGreatestFit bytes self.now.waiting result }
@@ -186,7 +188,7 @@ impl Queue {
         }
     }
 
-    // Whether an overflow mark waits. Where none does, the place beyond the limit is free.
+    // Whether an overflow mark waits. If none does, the slot beyond the limit is free.
     fn has_mark(&self) -> bool
         ensures value { result ≡ has_mark self.now.waiting }
         ensures room { result ≡ false → length self.now.waiting ≤ self.now.limit }
@@ -194,7 +196,7 @@ impl Queue {
         0 < self.marks
     }
 
-    // Puts a record behind all others. The place beyond the limit is that of a mark.
+    // Appends a record. The slot beyond the limit is for a mark.
     #[tactic(auto, using(crate::proofs::OfferLemmas::joins))]
     #[inline(always)]
     fn join(&mut self, event: Event)
@@ -222,6 +224,7 @@ fn overflow_mark() -> Event
     }
 }
 
+// Whether an event is an overflow mark.
 #[tactic(auto, unfolding(crate::specs::Backlogs::is_mark))]
 fn is_mark(event: &Event) -> bool
     ensures { result ≡ is_mark event.now }
@@ -229,6 +232,7 @@ fn is_mark(event: &Event) -> bool
     is_identical(event, &overflow_mark())
 }
 
+// Whether two events have the same descriptor, mask, cookie and name.
 #[tactic(auto, using(crate::proofs::EventLemmas::event_eq_regrouped))]
 fn is_identical(left: &Event, right: &Event) -> bool
     ensures { result ≡ event_eq left.now right.now }

@@ -1,4 +1,4 @@
-//! Growths refused: that of a new queue, and all after it, which no call asks for.
+//! Failed allocations: that of a new queue, and any later one, of which there is none.
 
 use event_queue::{Offered, Queue};
 use record_codec::{Event, Name, bits};
@@ -9,20 +9,22 @@ use std::process::Abort;
 use std::test::Fail;
 use tree_paths::Refusal;
 
-/// What was got is what is wanted. Tests assert in these two functions: the macros in a long body take minutes to prove.
+// Asserts that two values are equal. Tests assert in these two functions, because the macros in a long body take
+// minutes to prove.
 fn equal<T: PartialEq + Debug + Drop>(rt: &impl Abort, got: T, wanted: T) {
     assert_eq!(rt; got, wanted);
 }
 
-/// It is so.
+// Asserts a condition.
 fn holds(rt: &impl Abort, what: &str, is_so: bool) {
     assert!(rt; is_so, "{what}");
 }
 
-/// More growths than a queue has.
+/// More allocations than a queue makes.
 const MOST: u32 = 9;
 
-// How many growths of a new queue were refused, each with the answer ENOMEM. None where one was not.
+// How many allocations a new queue makes, where each of them fails in turn and the answer is ENOMEM. None if an answer
+// is another.
 fn refused_in_turn(alloc: Global, limit: u32) -> Option<u32> {
     for k in 1..MOST {
         let _ = refuse(alloc, k);
@@ -48,7 +50,7 @@ fn each_growth_of_a_new_queue(rt: HostRuntime) {
     }
 }
 
-/// A file of this name was made in the directory of watch 1.
+// The event of a new file of this name in the directory of watch 1.
 fn made(alloc: Global, name: &[u8]) -> Result<Event, AllocError> {
     Ok(Event {
         wd: 1,

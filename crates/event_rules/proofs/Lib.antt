@@ -8,3 +8,4 @@ pub mod Stages
 pub mod Others
 pub mod Followed
 pub mod Lost
+mod Moving

@@ -1,14 +1,13 @@
 -- The lines of the table of events.
-use Rattle.std.proofs.Common.{◌≡◌, ℕ, ◌+◌, ◌++◌, Bool, false, if◌then◌else◌, List, [], ◌∷◌, Option, Some, None, refl, sym, ap, ◌∙◌}
+use Rattle.std.proofs.Common.{◌≡◌, ℕ, ◌+◌, ◌++◌, List, [], ◌∷◌, Option, Some, None, refl, sym, ap, ◌∙◌}
 use Rattle.std.specs.List.{last_or}
 use Rattle.inode_table.specs.declared.seen.Kind.{Kind}
 use Rattle.inode_table.specs.declared.seen.Seen.{Seen}
 use Rattle.inode_table.specs.Refusals.{Look, parent_of}
 use Rattle.record_codec.specs.declared.bits.TheConstants.{IN_MOVED_FROM, IN_MOVED_TO, IN_MOVE_SELF}
-use Rattle.tree_ops.specs.Refused.{are_same_seen}
 use Rattle.event_rules.specs.declared.notice.Notice.{Notice}
 use Rattle.event_rules.specs.declared.notice.Notice.TheVariants.{Told}
-use Rattle.event_rules.specs.Table.{about, exchange_told, kind_seen, swap_told, move_told, path_lost, rename_told, told_in, to_dir, to_self}
+use Rattle.event_rules.specs.Table.{about, kind_seen, swap_told, move_told, path_lost, told_in, to_dir, to_self}
 
 last_or-append : {A : Type 0} (o : Option A) (xs : List A) (x : A) → last_or o (xs ++ x ∷ []) ≡ Some x
 last_or-append o [] x = refl
@@ -24,36 +23,32 @@ to_dir-there at p parent name directory kind event cookie parts is there =
     ∙ ap (λ o. told_in (Some directory) o (about kind event) cookie) (ap (last_or None) parts ∙ last_or-append None parent name)
 
 -- the lists after each line of a rename that moves something
-module _ (at : Look) (old new : List (List ℕ)) (cookie : ℕ) (moved replaced : Option Seen) (kind : Kind) (is_same : Bool) where
-  pub rename_told-lines : (none from to lost all : List Notice) → moved ≡ at old → replaced ≡ at new → kind ≡ kind_seen moved
-      → is_same ≡ are_same_seen moved replaced → is_same ≡ false
-      → none ≡ [] → from ≡ none ++ to_dir at old kind IN_MOVED_FROM cookie → to ≡ from ++ to_dir at new kind IN_MOVED_TO cookie
-      → lost ≡ to ++ path_lost replaced → all ≡ lost ++ to_self moved IN_MOVE_SELF → all ≡ rename_told at old new cookie
-  unfolding rename_told move_told
-  rename_told-lines none from to lost all is_moved is_replaced is_kind test differ opens begins arrives loses ends =
-      let apart : are_same_seen (at old) (at new) ≡ false = (λ i. are_same_seen (sym is_moved i) (sym is_replaced i)) ∙ sym test ∙ differ in
+module _ (at other_at : Look) (old new : List (List ℕ)) (cookie : ℕ) (moved replaced : Option Seen) (kind : Kind) where
+  pub move_told-lines : (none from to lost all : List Notice) → other_at ≡ at → moved ≡ at old → replaced ≡ other_at new → kind ≡ kind_seen moved
+      → none ≡ [] → from ≡ none ++ to_dir at old kind IN_MOVED_FROM cookie → to ≡ from ++ to_dir other_at new kind IN_MOVED_TO cookie
+      → lost ≡ to ++ path_lost replaced → all ≡ lost ++ to_self moved IN_MOVE_SELF → all ≡ move_told at old new cookie
+  unfolding move_told
+  move_told-lines none from to lost all same is_moved is_replaced is_kind opens begins arrives loses ends =
       let kind_is : kind ≡ kind_seen (at old) = is_kind ∙ ap kind_seen is_moved in
+      let replaced_is : replaced ≡ at new = is_replaced ∙ ap (λ a. a new) same in
       let begun : from ≡ to_dir at old (kind_seen (at old)) IN_MOVED_FROM cookie = begins ∙ (λ i. opens i ++ to_dir at old (kind_is i) IN_MOVED_FROM cookie) in
-      let lines = ends ∙ ap (λ l. l ++ to_self moved IN_MOVE_SELF) (loses ∙ ap (λ l. l ++ path_lost replaced) (arrives ∙ ap (λ l. l ++ to_dir at new kind IN_MOVED_TO cookie) begun))
-      ∙ (λ i. to_dir at old (kind_seen (at old)) IN_MOVED_FROM cookie ++ to_dir at new (kind_is i) IN_MOVED_TO cookie ++ path_lost (is_replaced i) ++ to_self (is_moved i) IN_MOVE_SELF) in
-      lines ∙ ap (λ b. if b then [] else move_told at old new cookie) (sym apart)
+      ends ∙ ap (λ l. l ++ to_self moved IN_MOVE_SELF) (loses ∙ ap (λ l. l ++ path_lost replaced) (arrives ∙ ap (λ l. l ++ to_dir other_at new kind IN_MOVED_TO cookie) begun))
+      ∙ (λ i. to_dir at old (kind_seen (at old)) IN_MOVED_FROM cookie ++ to_dir (same i) new (kind_is i) IN_MOVED_TO cookie ++ path_lost (replaced_is i) ++ to_self (is_moved i) IN_MOVE_SELF)
 
 -- the lists after each line of an exchange of two files
-module _ (at : Look) (old new : List (List ℕ)) (cookie : ℕ) (one other : Option Seen) (kind other_kind : Kind) (is_same : Bool) where
-  pub exchange_told-lines : (none from to itself back_from back_to all : List Notice) → one ≡ at old → other ≡ at new → kind ≡ kind_seen one → other_kind ≡ kind_seen other
-      → is_same ≡ are_same_seen one other → is_same ≡ false
-      → none ≡ [] → from ≡ none ++ to_dir at old kind IN_MOVED_FROM cookie → to ≡ from ++ to_dir at new kind IN_MOVED_TO cookie → itself ≡ to ++ to_self one IN_MOVE_SELF
-      → back_from ≡ itself ++ to_dir at new other_kind IN_MOVED_FROM (cookie + 1) → back_to ≡ back_from ++ to_dir at old other_kind IN_MOVED_TO (cookie + 1)
-      → all ≡ back_to ++ to_self other IN_MOVE_SELF → all ≡ exchange_told at old new cookie
-  unfolding exchange_told swap_told
-  exchange_told-lines none from to itself back_from back_to all is_one is_other is_kind is_other_kind test differ opens begins arrives turns leaves returns ends =
-      let apart : are_same_seen (at old) (at new) ≡ false = (λ i. are_same_seen (sym is_one i) (sym is_other i)) ∙ sym test ∙ differ in
+module _ (at other_at : Look) (old new : List (List ℕ)) (cookie : ℕ) (one other : Option Seen) (kind other_kind : Kind) where
+  pub swap_told-lines : (none from to itself back_from back_to all : List Notice) → other_at ≡ at → one ≡ at old → other ≡ other_at new → kind ≡ kind_seen one → other_kind ≡ kind_seen other
+      → none ≡ [] → from ≡ none ++ to_dir at old kind IN_MOVED_FROM cookie → to ≡ from ++ to_dir other_at new kind IN_MOVED_TO cookie → itself ≡ to ++ to_self one IN_MOVE_SELF
+      → back_from ≡ itself ++ to_dir other_at new other_kind IN_MOVED_FROM (cookie + 1) → back_to ≡ back_from ++ to_dir at old other_kind IN_MOVED_TO (cookie + 1)
+      → all ≡ back_to ++ to_self other IN_MOVE_SELF → all ≡ swap_told at old new cookie
+  unfolding swap_told
+  swap_told-lines none from to itself back_from back_to all same is_one is_other is_kind is_other_kind opens begins arrives turns leaves returns ends =
       let kind_is : kind ≡ kind_seen (at old) = is_kind ∙ ap kind_seen is_one in
-      let other_is : other_kind ≡ kind_seen (at new) = is_other_kind ∙ ap kind_seen is_other in
+      let other_seen : other ≡ at new = is_other ∙ ap (λ a. a new) same in
+      let other_is : other_kind ≡ kind_seen (at new) = is_other_kind ∙ ap kind_seen other_seen in
       let begun : from ≡ to_dir at old (kind_seen (at old)) IN_MOVED_FROM cookie = begins ∙ (λ i. opens i ++ to_dir at old (kind_is i) IN_MOVED_FROM cookie) in
-      let went = turns ∙ ap (λ l. l ++ to_self one IN_MOVE_SELF) (arrives ∙ ap (λ l. l ++ to_dir at new kind IN_MOVED_TO cookie) begun) in
-      let came = returns ∙ ap (λ l. l ++ to_dir at old other_kind IN_MOVED_TO (cookie + 1)) (leaves ∙ ap (λ l. l ++ to_dir at new other_kind IN_MOVED_FROM (cookie + 1)) went) in
-      let lines = ends ∙ ap (λ l. l ++ to_self other IN_MOVE_SELF) came
-      ∙ (λ i. to_dir at old (kind_seen (at old)) IN_MOVED_FROM cookie ++ to_dir at new (kind_is i) IN_MOVED_TO cookie ++ to_self (is_one i) IN_MOVE_SELF
-      ++ to_dir at new (other_is i) IN_MOVED_FROM (cookie + 1) ++ to_dir at old (other_is i) IN_MOVED_TO (cookie + 1) ++ to_self (is_other i) IN_MOVE_SELF) in
-      lines ∙ ap (λ b. if b then [] else swap_told at old new cookie) (sym apart)
+      let went = turns ∙ ap (λ l. l ++ to_self one IN_MOVE_SELF) (arrives ∙ ap (λ l. l ++ to_dir other_at new kind IN_MOVED_TO cookie) begun) in
+      let came = returns ∙ ap (λ l. l ++ to_dir at old other_kind IN_MOVED_TO (cookie + 1)) (leaves ∙ ap (λ l. l ++ to_dir other_at new other_kind IN_MOVED_FROM (cookie + 1)) went) in
+      ends ∙ ap (λ l. l ++ to_self other IN_MOVE_SELF) came
+      ∙ (λ i. to_dir at old (kind_seen (at old)) IN_MOVED_FROM cookie ++ to_dir (same i) new (kind_is i) IN_MOVED_TO cookie ++ to_self (is_one i) IN_MOVE_SELF
+      ++ to_dir (same i) new (other_is i) IN_MOVED_FROM (cookie + 1) ++ to_dir at old (other_is i) IN_MOVED_TO (cookie + 1) ++ to_self (other_seen i) IN_MOVE_SELF)

@@ -3,3 +3,4 @@ pub mod Raised
 pub mod Laws
 pub mod Staging
 pub mod Recent
+pub mod Subjects

@@ -5,6 +5,7 @@ mod laws;
 mod notice;
 mod recent;
 mod staging;
+mod subject;
 mod telling;
 
 pub use laws::{

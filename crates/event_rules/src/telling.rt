@@ -1,20 +1,21 @@
 //! What calls on files tell.
 
-ghost use Rattle.std.specs.Prelude.{◌≡◌, ◌++◌, ◌+◌, ◌≤◌, ◌<◌, ◌^◌, [], false, IfErr, OnOk};
+ghost use Rattle.std.specs.Prelude.{◌≡◌, ◌++◌, ◌+◌, ◌≤◌, ◌<◌, ◌^◌, [], IfErr, OnOk};
 ghost use Rattle.inode_table.specs.World.{look};
-ghost use Rattle.inode_table.specs.Resolution.{IsResolved};
 ghost use Rattle.inode_table.specs.TableWorld.{world_of};
+ghost use Rattle.record_codec.specs.declared.bits.TheConstants.{IN_ATTRIB, IN_CREATE};
 ghost use Rattle.tree_ops.specs.After.{answer_of};
-ghost use Rattle.tree_ops.specs.ReadyCall.{IsReady};
-ghost use Rattle.tree_ops.specs.Refused.{are_same_seen, cookies_of};
+ghost use Rattle.tree_ops.specs.Moves.{moves_of};
+ghost use Rattle.tree_ops.specs.Refused.{cookies_of};
 ghost use Rattle.tree_ops.specs.declared.call.FileCall.TheVariants.{ReadFile};
-ghost use Rattle.event_rules.specs.Table.{about, answers_byte, chmod_told, create_told, exchange_told, kind_seen, link_told, mkdir_told, move_told, no_counts, notices_of, path_lost, read_told, rename_told, rmdir_told, swap_told, to_both, to_dir, to_self, truncate_told, unlink_told, write_told};
+ghost use Rattle.event_rules.specs.Table.{about, answers_byte, chmod_told, create_told, kind_seen, mkdir_told, move_told, no_counts, notices_of, path_lost, read_told, rmdir_told, swap_told, to_both, to_dir, to_self, truncate_told, unlink_told, write_told};
 
 use crate::notice::{NO_COOKIE, Notice, Notices};
-use inode_table::{Kind, Resolved, Seen, Table};
+use crate::subject::Subject;
+use inode_table::{Kind, Seen};
 use record_codec::bits;
 use std::alloc::AllocError;
-use tree_ops::{FileCall, RENAME_EXCHANGE, Ready, are_same};
+use tree_ops::{FileCall, Moves, Ready};
 use tree_paths::Refusal;
 
 fn kind_seen(seen: Option<Seen>) -> Kind
@@ -41,26 +42,25 @@ impl Notices {
     #[tactic(auto, unfolding(crate::specs::Table::to_dir))]
     fn tell_dir(
         &mut self,
-        table: &Table,
-        path: &Resolved,
+        at: &Subject,
         kind: Kind,
         event: u32,
         cookie: u32,
     ) -> Result<(), AllocError>
-        requires resolved { IsResolved table.now path.now }
-        ensures { OnOk result (self.new ≡ self.old ++ to_dir (look (world_of table.now)) path.now.names kind event cookie) }
+        ensures { OnOk result (self.new ≡ self.old
+            ++ to_dir (look (world_of at.now.tree)) at.now.path.names kind event cookie) }
     {
-        let Some((_, name)) = path.as_path().parent_and_name() else {
+        let Some(name) = at.as_path().last_name() else {
             return Ok(());
         };
-        let Ok(directory) = table.look_parent(path) else {
+        let Some(directory) = at.directory() else {
             return Ok(());
         };
         self.push(Notice::Told {
             number: directory.number,
             bits: about(kind, event),
             cookie,
-            name: Some(name.copy()?),
+            name: Some(name.as_name().copy()?),
         })
     }
 
@@ -81,13 +81,12 @@ impl Notices {
 
     // Tells both.
     #[tactic(auto, unfolding(crate::specs::Table::to_both))]
-    fn tell_both(&mut self, table: &Table, path: &Resolved, event: u32) -> Result<(), AllocError>
-        requires resolved { IsResolved table.now path.now }
-        ensures { OnOk result (self.new ≡ self.old ++ to_both (look (world_of table.now)) path.now.names event) }
+    fn tell_both(&mut self, at: &Subject, event: u32) -> Result<(), AllocError>
+        ensures { OnOk result (self.new ≡ self.old ++ to_both (look (world_of at.now.tree)) at.now.path.names event) }
     {
-        let seen = table.seen(path);
+        let seen = at.object();
         let kind = kind_seen(seen);
-        self.tell_dir(table, path, kind, event, NO_COOKIE)?;
+        self.tell_dir(at, kind, event, NO_COOKIE)?;
         self.tell_self(seen, about(kind, event))
     }
 
@@ -113,238 +112,205 @@ impl Notices {
 }
 
 #[tactic(auto, unfolding(crate::specs::Table::create_told))]
-fn create(told: &mut Notices, table: &Table, path: &Resolved) -> Result<(), AllocError>
-    requires resolved { IsResolved table.now path.now }
-    requires empty { told.old ≡ [] }
-    ensures { OnOk result (told.new ≡ create_told (look (world_of table.now)) path.now.names) }
+fn create(told: &mut Notices, at: &Subject) -> Result<(), AllocError>
+    requires { told.old ≡ [] }
+    ensures { OnOk result (told.new ≡ create_told (look (world_of at.now.tree)) at.now.path.names) }
 {
-    told.tell_dir(table, path, Kind::Regular, bits::IN_CREATE, NO_COOKIE)?;
-    told.tell_dir(table, path, Kind::Regular, bits::IN_OPEN, NO_COOKIE)?;
-    told.tell_dir(table, path, Kind::Regular, bits::IN_CLOSE_WRITE, NO_COOKIE)?;
+    told.tell_dir(at, Kind::Regular, bits::IN_CREATE, NO_COOKIE)?;
+    told.tell_dir(at, Kind::Regular, bits::IN_OPEN, NO_COOKIE)?;
+    told.tell_dir(at, Kind::Regular, bits::IN_CLOSE_WRITE, NO_COOKIE)?;
     Ok(())
 }
 
 #[tactic(auto, unfolding(crate::specs::Table::mkdir_told))]
-fn mkdir(told: &mut Notices, table: &Table, path: &Resolved) -> Result<(), AllocError>
-    requires resolved { IsResolved table.now path.now }
-    requires empty { told.old ≡ [] }
-    ensures { OnOk result (told.new ≡ mkdir_told (look (world_of table.now)) path.now.names) }
+fn mkdir(told: &mut Notices, at: &Subject) -> Result<(), AllocError>
+    requires { told.old ≡ [] }
+    ensures { OnOk result (told.new ≡ mkdir_told (look (world_of at.now.tree)) at.now.path.names) }
 {
-    told.tell_dir(table, path, Kind::Directory, bits::IN_CREATE, NO_COOKIE)?;
+    told.tell_dir(at, Kind::Directory, bits::IN_CREATE, NO_COOKIE)?;
     Ok(())
 }
 
 #[tactic(auto, unfolding(crate::specs::Table::write_told))]
-fn write(
-    told: &mut Notices,
-    table: &Table,
-    path: &Resolved,
-    is_given: bool,
-) -> Result<(), AllocError>
-    requires resolved { IsResolved table.now path.now }
-    requires empty { told.old ≡ [] }
-    ensures { OnOk result (told.new ≡ write_told (look (world_of table.now)) path.now.names is_given) }
+fn write(told: &mut Notices, at: &Subject, is_given: bool) -> Result<(), AllocError>
+    requires { told.old ≡ [] }
+    ensures { OnOk result (told.new ≡ write_told (look (world_of at.now.tree)) at.now.path.names is_given) }
 {
-    told.tell_both(table, path, bits::IN_OPEN)?;
+    told.tell_both(at, bits::IN_OPEN)?;
     if is_given {
-        told.tell_both(table, path, bits::IN_MODIFY)?;
+        told.tell_both(at, bits::IN_MODIFY)?;
     }
-    told.tell_both(table, path, bits::IN_CLOSE_WRITE)?;
+    told.tell_both(at, bits::IN_CLOSE_WRITE)?;
     Ok(())
 }
 
 // Whether a read answers a byte.
-fn is_answered(table: &Table, path: &Resolved, offset: u64, count: u32) -> bool
-    requires resolved { IsResolved table.now path.now }
-    ensures { result ≡ answers_byte (answer_of (world_of table.now) no_counts (ReadFile path.now.names offset count)) }
+fn is_answered(at: &Subject, offset: u64, count: u32) -> bool
+    ensures { result ≡ answers_byte
+        (answer_of (world_of at.now.tree) no_counts (ReadFile at.now.path.names offset count)) }
 {
-    match table.seen(path) {
-        Some(_) => count > 0 && offset < table.content(table.key(path)).len() as u64,
+    match at.object() {
+        Some(_) => count > 0 && offset < at.content().len() as u64,
         None => false,
     }
 }
 
 #[tactic(auto, unfolding(crate::specs::Table::read_told))]
-fn read(
-    told: &mut Notices,
-    table: &Table,
-    path: &Resolved,
-    is_answered: bool,
-) -> Result<(), AllocError>
-    requires resolved { IsResolved table.now path.now }
-    requires empty { told.old ≡ [] }
-    ensures { OnOk result (told.new ≡ read_told (look (world_of table.now)) path.now.names is_answered) }
+fn read(told: &mut Notices, at: &Subject, is_answered: bool) -> Result<(), AllocError>
+    requires { told.old ≡ [] }
+    ensures { OnOk result (told.new ≡ read_told (look (world_of at.now.tree)) at.now.path.names is_answered) }
 {
-    told.tell_both(table, path, bits::IN_OPEN)?;
+    told.tell_both(at, bits::IN_OPEN)?;
     if is_answered {
-        told.tell_both(table, path, bits::IN_ACCESS)?;
+        told.tell_both(at, bits::IN_ACCESS)?;
     }
-    told.tell_both(table, path, bits::IN_CLOSE_NOWRITE)?;
+    told.tell_both(at, bits::IN_CLOSE_NOWRITE)?;
     Ok(())
 }
 
 #[tactic(auto, unfolding(crate::specs::Table::truncate_told))]
-fn truncate(told: &mut Notices, table: &Table, path: &Resolved) -> Result<(), AllocError>
-    requires resolved { IsResolved table.now path.now }
-    requires empty { told.old ≡ [] }
-    ensures { OnOk result (told.new ≡ truncate_told (look (world_of table.now)) path.now.names) }
+fn truncate(told: &mut Notices, at: &Subject) -> Result<(), AllocError>
+    requires { told.old ≡ [] }
+    ensures { OnOk result (told.new ≡ truncate_told (look (world_of at.now.tree)) at.now.path.names) }
 {
-    told.tell_both(table, path, bits::IN_MODIFY)?;
+    told.tell_both(at, bits::IN_MODIFY)?;
     Ok(())
 }
 
 #[tactic(auto, unfolding(crate::specs::Table::chmod_told))]
-fn chmod(told: &mut Notices, table: &Table, path: &Resolved) -> Result<(), AllocError>
-    requires resolved { IsResolved table.now path.now }
-    requires empty { told.old ≡ [] }
-    ensures { OnOk result (told.new ≡ chmod_told (look (world_of table.now)) path.now.names) }
+fn chmod(told: &mut Notices, at: &Subject) -> Result<(), AllocError>
+    requires { told.old ≡ [] }
+    ensures { OnOk result (told.new ≡ chmod_told (look (world_of at.now.tree)) at.now.path.names) }
 {
-    told.tell_both(table, path, bits::IN_ATTRIB)?;
+    told.tell_both(at, bits::IN_ATTRIB)?;
     Ok(())
 }
 
 #[tactic(auto, unfolding(crate::specs::Table::link_told))]
-fn link(told: &mut Notices, table: &Table, old: &Resolved, new: &Resolved) -> Result<(), AllocError>
-    requires resolved { IsResolved table.now old.now }
-    requires other_resolved { IsResolved table.now new.now }
-    requires empty { told.old ≡ [] }
-    ensures { OnOk result (told.new ≡ link_told (look (world_of table.now)) old.now.names new.now.names) }
+fn link(told: &mut Notices, old: Option<Seen>, new: &Subject) -> Result<(), AllocError>
+    requires { told.old ≡ [] }
+    ensures { OnOk result (told.new ≡ to_self old IN_ATTRIB
+        ++ to_dir (look (world_of new.now.tree)) new.now.path.names Kind.Regular IN_CREATE NO_COOKIE) }
 {
-    told.tell_self(table.seen(old), bits::IN_ATTRIB)?;
-    told.tell_dir(table, new, Kind::Regular, bits::IN_CREATE, NO_COOKIE)?;
+    told.tell_self(old, bits::IN_ATTRIB)?;
+    told.tell_dir(new, Kind::Regular, bits::IN_CREATE, NO_COOKIE)?;
     Ok(())
 }
 
 #[tactic(auto, unfolding(crate::specs::Table::unlink_told))]
-fn unlink(told: &mut Notices, table: &Table, path: &Resolved) -> Result<(), AllocError>
-    requires resolved { IsResolved table.now path.now }
-    requires empty { told.old ≡ [] }
-    ensures { OnOk result (told.new ≡ unlink_told (look (world_of table.now)) path.now.names) }
+fn unlink(told: &mut Notices, at: &Subject) -> Result<(), AllocError>
+    requires { told.old ≡ [] }
+    ensures { OnOk result (told.new ≡ unlink_told (look (world_of at.now.tree)) at.now.path.names) }
 {
-    told.tell_path_lost(table.seen(path))?;
-    told.tell_dir(table, path, Kind::Regular, bits::IN_DELETE, NO_COOKIE)?;
+    told.tell_path_lost(at.object())?;
+    told.tell_dir(at, Kind::Regular, bits::IN_DELETE, NO_COOKIE)?;
     Ok(())
 }
 
 #[tactic(auto, unfolding(crate::specs::Table::rmdir_told))]
-fn rmdir(told: &mut Notices, table: &Table, path: &Resolved) -> Result<(), AllocError>
-    requires resolved { IsResolved table.now path.now }
-    requires empty { told.old ≡ [] }
-    ensures { OnOk result (told.new ≡ rmdir_told (look (world_of table.now)) path.now.names) }
+fn rmdir(told: &mut Notices, at: &Subject) -> Result<(), AllocError>
+    requires { told.old ≡ [] }
+    ensures { OnOk result (told.new ≡ rmdir_told (look (world_of at.now.tree)) at.now.path.names) }
 {
-    told.tell_path_lost(table.seen(path))?;
-    told.tell_dir(table, path, Kind::Directory, bits::IN_DELETE, NO_COOKIE)?;
+    told.tell_path_lost(at.object())?;
+    told.tell_dir(at, Kind::Directory, bits::IN_DELETE, NO_COOKIE)?;
     Ok(())
 }
 
-#[tactic(auto, unfolding(crate::specs::Table::rename_told, crate::specs::Table::move_told))]
-fn rename(
-    told: &mut Notices,
-    table: &Table,
-    old: &Resolved,
-    new: &Resolved,
-    cookie: u32,
-) -> Result<(), AllocError>
-    requires resolved { IsResolved table.now old.now }
-    requires other_resolved { IsResolved table.now new.now }
+#[tactic(auto, unfolding(crate::specs::Table::move_told))]
+fn rename(told: &mut Notices, old: &Subject, new: &Subject, cookie: u32) -> Result<(), AllocError>
     requires empty { told.old ≡ [] }
-    ensures { OnOk result (told.new ≡ rename_told (look (world_of table.now)) old.now.names new.now.names cookie) }
+    requires same { new.now.tree ≡ old.now.tree }
+    ensures { OnOk result (told.new
+        ≡ move_told (look (world_of old.now.tree)) old.now.path.names new.now.path.names cookie) }
 {
-    let moved = table.seen(old);
-    let replaced = table.seen(new);
-    if are_same(moved, replaced) {
-        return Ok(());
-    }
+    let moved = old.object();
     let kind = kind_seen(moved);
-    told.tell_dir(table, old, kind, bits::IN_MOVED_FROM, cookie)?;
-    told.tell_dir(table, new, kind, bits::IN_MOVED_TO, cookie)?;
-    told.tell_path_lost(replaced)?;
+    told.tell_dir(old, kind, bits::IN_MOVED_FROM, cookie)?;
+    told.tell_dir(new, kind, bits::IN_MOVED_TO, cookie)?;
+    told.tell_path_lost(new.object())?;
     told.tell_self(moved, bits::IN_MOVE_SELF)?;
     Ok(())
 }
 
-// The next cookie is there too, where the paths are of two files.
-#[tactic(auto, unfolding(crate::specs::Table::exchange_told, crate::specs::Table::swap_told))]
-fn exchange(
-    told: &mut Notices,
-    table: &Table,
-    old: &Resolved,
-    new: &Resolved,
-    cookie: u32,
-) -> Result<(), AllocError>
-    requires resolved { IsResolved table.now old.now }
-    requires other_resolved { IsResolved table.now new.now }
+#[tactic(auto, unfolding(crate::specs::Table::swap_told))]
+fn exchange(told: &mut Notices, old: &Subject, new: &Subject, cookie: u32) -> Result<(), AllocError>
     requires empty { told.old ≡ [] }
-    requires next { are_same_seen (look (world_of table.now) old.now.names) (look (world_of table.now) new.now.names) ≡ false → cookie + 1 < 2 ^ 32 }
-    ensures { OnOk result (told.new ≡ exchange_told (look (world_of table.now)) old.now.names new.now.names cookie) }
+    requires same { new.now.tree ≡ old.now.tree }
+    requires next { cookie + 1 < 2 ^ 32 }
+    ensures { OnOk result (told.new
+        ≡ swap_told (look (world_of old.now.tree)) old.now.path.names new.now.path.names cookie) }
 {
-    let one = table.seen(old);
-    let other = table.seen(new);
-    if are_same(one, other) {
-        return Ok(());
-    }
     let next = cookie + 1;
+    let one = old.object();
+    let other = new.object();
     let one_kind = kind_seen(one);
     let other_kind = kind_seen(other);
-    told.tell_dir(table, old, one_kind, bits::IN_MOVED_FROM, cookie)?;
-    told.tell_dir(table, new, one_kind, bits::IN_MOVED_TO, cookie)?;
+    told.tell_dir(old, one_kind, bits::IN_MOVED_FROM, cookie)?;
+    told.tell_dir(new, one_kind, bits::IN_MOVED_TO, cookie)?;
     told.tell_self(one, bits::IN_MOVE_SELF)?;
-    told.tell_dir(table, new, other_kind, bits::IN_MOVED_FROM, next)?;
-    told.tell_dir(table, old, other_kind, bits::IN_MOVED_TO, next)?;
+    told.tell_dir(new, other_kind, bits::IN_MOVED_FROM, next)?;
+    told.tell_dir(old, other_kind, bits::IN_MOVED_TO, next)?;
     told.tell_self(other, bits::IN_MOVE_SELF)?;
     Ok(())
 }
 
-// What a call tells.
-fn tell_call(
-    told: &mut Notices,
-    table: &Table,
-    ready: &Ready,
-    cookie: u32,
-) -> Result<(), AllocError>
+// What a call tells that moves nothing.
+fn tell_still(told: &mut Notices, ready: &Ready, cookie: u32) -> Result<(), AllocError>
     requires empty { told.old ≡ [] }
-    requires ready { IsReady table.now ready.now }
-    requires cookies { cookie + cookies_of (world_of table.now) ready.now.call ≤ 2 ^ 32 }
-    ensures { OnOk result (told.new ≡ notices_of (world_of table.now) ready.now.call cookie) }
+    requires still { moves_of (world_of ready.now.tree) ready.now.plan.call ≡ Moves.Nothing }
+    ensures { OnOk result (told.new ≡ notices_of (world_of ready.now.tree) ready.now.plan.call cookie) }
 {
-    let path = ready.path();
-    let other_path = ready.other_path();
     match ready.call() {
-        FileCall::Create { .. } => create(told, table, path),
-        FileCall::Mkdir { .. } => mkdir(told, table, path),
-        FileCall::Write { bytes, .. } => write(told, table, path, !bytes.as_slice().is_empty()),
+        FileCall::Create { .. } => create(told, &Subject::at_path(ready)),
+        FileCall::Mkdir { .. } => mkdir(told, &Subject::at_path(ready)),
+        FileCall::Write { bytes, .. } => {
+            write(told, &Subject::at_path(ready), !bytes.as_slice().is_empty())
+        }
         FileCall::ReadFile { offset, count, .. } => {
-            read(told, table, path, is_answered(table, path, *offset, *count))
+            let at = Subject::at_path(ready);
+            read(told, &at, is_answered(&at, *offset, *count))
         }
-        FileCall::Truncate { .. } => truncate(told, table, path),
-        FileCall::Chmod { .. } => chmod(told, table, path),
-        FileCall::Link { .. } => link(told, table, path, other_path),
-        FileCall::Unlink { .. } => unlink(told, table, path),
-        FileCall::Rmdir { .. } => rmdir(told, table, path),
-        FileCall::Rename { .. } => rename(told, table, path, other_path, cookie),
-        FileCall::Rename2 { flags, .. } => {
-            if *flags == RENAME_EXCHANGE {
-                exchange(told, table, path, other_path, cookie)
-            } else {
-                rename(told, table, path, other_path, cookie)
-            }
-        }
+        FileCall::Truncate { .. } => truncate(told, &Subject::at_path(ready)),
+        FileCall::Chmod { .. } => chmod(told, &Subject::at_path(ready)),
+        FileCall::Link { .. } => link(told, ready.path().seen(), &Subject::at_other_path(ready)),
+        FileCall::Unlink { .. } => unlink(told, &Subject::at_path(ready)),
+        FileCall::Rmdir { .. } => rmdir(told, &Subject::at_path(ready)),
+        FileCall::Rename { .. } | FileCall::Rename2 { .. } => Ok(()),
         FileCall::Stat { .. } | FileCall::List { .. } => Ok(()),
     }
 }
 
-/// What an accepted call tells, in the table that it was checked on, in place of what `told` held. `cookie` is that of a rename that
-/// moves something, and the first of an exchange. A record has room for each cookie that the call uses.
+// What a call tells.
+fn tell_call(told: &mut Notices, ready: &Ready, cookie: u32) -> Result<(), AllocError>
+    requires empty { told.old ≡ [] }
+    requires cookies { cookie + cookies_of (world_of ready.now.tree) ready.now.plan.call ≤ 2 ^ 32 }
+    ensures { OnOk result (told.new ≡ notices_of (world_of ready.now.tree) ready.now.plan.call cookie) }
+{
+    match ready.moves() {
+        Moves::Nothing => tell_still(told, ready, cookie),
+        Moves::Move => {
+            let old = Subject::at_path(ready);
+            rename(told, &old, &Subject::at_other_path(ready), cookie)
+        }
+        Moves::Exchange => {
+            let old = Subject::at_path(ready);
+            exchange(told, &old, &Subject::at_other_path(ready), cookie)
+        }
+    }
+}
+
+/// What an accepted call raises, in the table that it was checked on, in place of what `told` held. `cookie` is that of a
+/// rename that moves something, and the first of an exchange. Each cookie that the call uses fits in a record.
 ///
 /// # Errors
 /// `ENOMEM` alone.
-pub fn notices(table: &Table, ready: &Ready, cookie: u32, told: &mut Notices) -> Result<(), Refusal>
-    requires ready { IsReady table.now ready.now }
-    requires cookies { cookie + cookies_of (world_of table.now) ready.now.call ≤ 2 ^ 32 }
-    ensures told { OnOk result (told.new ≡ notices_of (world_of table.now) ready.now.call cookie) }
+pub fn notices(ready: &Ready, cookie: u32, told: &mut Notices) -> Result<(), Refusal>
+    requires cookies { cookie + cookies_of (world_of ready.now.tree) ready.now.plan.call ≤ 2 ^ 32 }
+    ensures told { OnOk result (told.new ≡ notices_of (world_of ready.now.tree) ready.now.plan.call cookie) }
     ensures memory { IfErr result (λ refusal. refusal ≡ Refusal.Enomem) }
 {
     told.clear();
-    tell_call(told, table, ready, cookie)?;
+    tell_call(told, ready, cookie)?;
     Ok(())
 }

@@ -86,8 +86,8 @@ impl Calls {
 
     /// What the call tells.
     fn told(&mut self, call: &FileCall) -> Result<Notices, Refusal> {
-        let paths = Paths::of(&self.table, call);
-        let ready = check(&self.table, call, &paths, &self.counts, &Limits::full())?;
+        let paths = Paths::resolve(&self.table, call);
+        let ready = check(paths, &self.counts, &Limits::full())?;
         let Some(next_number) = self.counts.next_number.checked_add(ready.numbers()) else {
             return Err(Refusal::NumbersSpent);
         };
@@ -95,8 +95,9 @@ impl Calls {
             return Err(Refusal::CookiesSpent);
         };
         let mut told = Notices::new(self.alloc);
-        notices(&self.table, &ready, self.counts.next_cookie, &mut told)?;
-        carry_out(self.alloc, &mut self.table, &ready)?;
+        notices(&ready, self.counts.next_cookie, &mut told)?;
+        let plan = ready.into_plan();
+        carry_out(self.alloc, &mut self.table, &plan)?;
         self.counts.next_number = next_number;
         self.counts.next_cookie = next_cookie;
         Ok(told)

@@ -1,5 +1,7 @@
--- What agrees has no fault, and each of its places is kept once.
-use Rattle.std.proofs.Common.{◌≡◌, ◌≢◌, ◌∙◌, sym, ap, subst, refl, inl, inr, ⊎_elim, ℕ, zero, suc, map, Option, Some, None, ◌+◌, ◌-◌, ◌<◌, ◌≤◌, true, false, cond, eqb, List, [], ◌∷◌, ◌++◌, length, arith, append-nil, append_assoc, length-append}
+-- What agrees has no fault, and each of its sequence numbers is kept once.
+use Rattle.std.proofs.Common.{◌≡◌, ◌≢◌, ◌∙◌, sym, ap, subst, refl, inl, inr, ⊎_elim, ℕ, zero, suc, map, Option, Some}
+use Rattle.std.proofs.Common.{None, ◌+◌, ◌-◌, ◌<◌, ◌≤◌, true, false, cond, eqb, List, [], ◌∷◌, ◌++◌, length, arith}
+use Rattle.std.proofs.Common.{append-nil, append_assoc, length-append}
 use Rattle.std.proofs.lemmas.List.{length-map}
 use Rattle.std.specs.Prelude.{◌==◌, count_by, nat_lt, slice_get}
 use Rattle.std.proofs.lemmas.Bool.Decides.{nat_tests}
@@ -19,7 +21,9 @@ use Rattle.shared_tree.specs.Pipes.{IsIn, Lacks}
 use Rattle.shared_tree.proofs.Ends.{front-is-all}
 use Rattle.event_sinks.specs.declared.audit.SettleFault.{SettleFault}
 use Rattle.event_sinks.specs.declared.audit.SettleFault.TheVariants.{CountDiffers, Stray, NotEnded, HandedDiffers, Memory}
-use Rattle.event_sinks.specs.Audited.{AreKept, AuditsAgree, Differs, FaultsContradictTheAudit, FrontsAreWhole, IsFaultAt, IsSentTo, IsServed, IsServedAt, IsServedOtherwise, IsStray, IsUnended, Outcome, batches_of, since, calls_of, of_instance, places}
+use Rattle.event_sinks.specs.Audited.{AreKept, AuditsAgree, Differs, FaultsContradictTheAudit, FrontsAreWhole}
+use Rattle.event_sinks.specs.Audited.{IsFaultAt, IsSentTo, IsServed, IsServedAt, IsServedOtherwise, IsStray, IsUnended}
+use Rattle.event_sinks.specs.Audited.{Outcome, batches_of, since, calls_of, of_instance, places}
 use Rattle.event_sinks.proofs.Pairs.{PairsByRecursion, all_weaker}
 use Rattle.event_sinks.proofs.KeptCalls.{by_recursion, kept_front, places_in}
 
@@ -50,7 +54,8 @@ not_ended : (b : BookContents) (es : List Outcome) (n : ℕ) → IsServedAt b es
 not_ended b es n (inl served) is_in unended = served_ended b.state.place (batches_of b n) (of_instance n es) served.1 unended
 not_ended b es n (inr none) is_in unended = in_and_lacks b.pipes n is_in none.0
 
-handed_otherwise : (b : BookContents) (es : List Outcome) (n p : ℕ) → IsServedAt b es n → IsIn b.pipes n × IsServedOtherwise b.state.place (batches_of b n) (of_instance n es) p → ⊥
+handed_otherwise : (b : BookContents) (es : List Outcome) (n p : ℕ) → IsServedAt b es n
+    → IsIn b.pipes n × IsServedOtherwise b.state.place (batches_of b n) (of_instance n es) p → ⊥
 handed_otherwise b es n p (inl served) fault = served_so b.state.place (batches_of b n) (of_instance n es) p served.1 fault.1
 handed_otherwise b es n p (inr none) fault = in_and_lacks b.pipes n fault.0 none.0
 
@@ -76,7 +81,7 @@ faults_contradict b logs es (NotEnded n) fault other audited = fault_at b es fau
 faults_contradict b logs es (HandedDiffers n p) fault other audited = fault_at b es fault.2.0 (HandedDiffers n p) (audited.served fault.2.0) fault.2.1
 faults_contradict b logs es Memory fault other audited = other refl
 
--- ---- each place is kept once
+-- ---- each sequence number is kept once
 
 count_first : (q p : ℕ) (ps : List ℕ) → count_by (λ r. r == p) (q ∷ ps) ≡ cond (eqb q p) 1 0 + count_by (λ r. r == p) ps
 count_first q p ps = sum_by-cons (λ (r : ℕ). cond (eqb r p) 1 0) q ps
@@ -90,7 +95,13 @@ count_one : (ps : List ℕ) (p : ℕ) → PairsByRecursion (λ j k. j ≢ k) ps 
 count_one [] p once some = absurd (some tt)
 count_one (q ∷ ps) p once some =
     ⊎_elim
-    (λ (same : q ≡ p). count_first q p ps ∙ rw (eq-eqb q p same, count_none ps p (all_weaker (λ r. q ≢ r) (λ r. r ≢ p) (λ r apart e. apart (same ∙ sym e)) ps once.0)) refl)
+    (λ (same : q ≡ p).
+    count_first q p ps
+    ∙ rw (
+      eq-eqb q p same,
+      count_none ps p (all_weaker (λ r. q ≢ r) (λ r. r ≢ p) (λ r apart e. apart (same ∙ sym e)) ps once.0),
+    )
+    refl)
     (λ (other : q ≡ p → ⊥). count_first q p ps ∙ rw (ne_eqb q p other, count_one ps p once.1 (λ others. some (other, others))) refl)
     (cases_eq q p)
 
@@ -108,13 +119,22 @@ any_below n (p ∷ ps) below q any =
     (or_cases (eqb q p) (list_any (eqb q) ps) any)
 
 -- of n numbers from 1 to n, no two of them equal, none of these is missing
-none_missing : (n : ℕ) (ps : List ℕ) (p : ℕ) → length ps ≡ n → PairsByRecursion (λ j k. j ≢ k) ps → AllByRecursion (λ q. (0 < q) × (q - 1 < n)) ps → 0 < p → p ≤ n → AllByRecursion (λ q. q ≢ p) ps → ⊥
+none_missing : (n : ℕ) (ps : List ℕ) (p : ℕ) → length ps ≡ n → PairsByRecursion (λ j k. j ≢ k) ps
+    → AllByRecursion (λ q. (0 < q) × (q - 1 < n)) ps → 0 < p → p ≤ n → AllByRecursion (λ q. q ≢ p) ps → ⊥
 none_missing n ps p len once inside positive within others =
     let apart : PairsByRecursion (λ j k. j ≢ k) (0 ∷ p ∷ ps) = (
       (λ e. omega arith, all_weaker (λ q. (0 < q) × (q - 1 < n)) (λ q. 0 ≢ q) (λ q in_range e. omega (arith, in_range.0)) ps inside),
       (all_weaker (λ q. q ≢ p) (λ q. p ≢ q) (λ q other e. other (sym e)) ps others, once),
     ) in
-    let below : AllByRecursion (λ q. q < n + 1) (0 ∷ p ∷ ps) = (omega arith, (omega arith, all_weaker (λ q. (0 < q) × (q - 1 < n)) (λ q. q < n + 1) (λ q in_range. omega (arith, in_range.0, in_range.1)) ps inside)) in
+    let below : AllByRecursion (λ q. q < n + 1) (0 ∷ p ∷ ps) = (
+      omega arith,
+      (
+        omega arith,
+        all_weaker (λ q. (0 < q) × (q - 1 < n)) (λ q. q < n + 1)
+            (λ q in_range. omega (arith, in_range.0, in_range.1)) ps inside,
+      ),
+    )
+    in
     let most = length-le_from_distinct_below (0 ∷ p ∷ ps) (n + 1) (distinct (0 ∷ p ∷ ps) apart) (any_below (n + 1) (0 ∷ p ∷ ps) below) in
     omega arith
 
@@ -128,7 +148,9 @@ pub audits-agree : AuditsAgree
 audits-agree b logs es counted audited p positive within =
     let k = by_recursion b.state.place b.state.entries logs audited.kept in
     let len : length (flat_map places logs) ≡ last_place b.state = length-places logs ∙ (sym audited.counted ∙ counted) in
-    count_one (flat_map places logs) p k.once (none_missing (last_place b.state) (flat_map places logs) p len k.once (places_in b.state.place b.state.entries logs k.stand) positive (omega arith))
+    count_one (flat_map places logs) p k.once
+    (none_missing (last_place b.state) (flat_map places logs) p len k.once
+    (places_in b.state.place b.state.entries logs k.stand) positive (omega arith))
 
 -- ---- fronts
 
@@ -154,22 +176,30 @@ sent-whole f (m ∷ ns) zero n bs at there =
 sent-whole f (m ∷ ns) (suc k) n bs at there = sent-whole f ns k n bs at there
 
 -- a front that ends with an end batch is all, and since the cut it is what the journal hands over
-all_of_it : EndBatchesComeLast → CutsPartBatches → (b : BookContents) (n : ℕ) (handed before rest : List Batch) (last : Batch) → (sends : IsSent b.state b.pipes b.sent) → handed ≡ before ++ last ∷ [] → last.records ≡ [] → IsSentTo b n (handed ++ rest)
+all_of_it : EndBatchesComeLast → CutsPartBatches
+    → (b : BookContents) (n : ℕ) (handed before rest : List Batch) (last : Batch)
+    → (sends : IsSent b.state b.pipes b.sent) → handed ≡ before ++ last ∷ [] → last.records ≡ []
+    → IsSentTo b n (handed ++ rest)
     → since b.state.place handed ≡ batches_of b n
 all_of_it come_last parts b n given before rest last sends is none (k, at, sent) =
     let es = sends.past ++ b.state.entries in
     let limits = b.state.start.limits in
     let whole : given ++ rest ≡ handed limits es n =
-    sent-whole (handed limits es) (piped_of es) k n (given ++ rest) (ap (λ (ns : List ℕ). slice_get ns k) (sym sends.pipes_are) ∙ at) (ap (λ (xss : List (List Batch)). slice_get xss k) (sym sends.sent_are) ∙ sent) in
+    sent-whole (handed limits es) (piped_of es) k n (given ++ rest)
+    (ap (λ (ns : List ℕ). slice_get ns k) (sym sends.pipes_are) ∙ at)
+    (ap (λ (xss : List (List Batch)). slice_get xss k) (sym sends.sent_are) ∙ sent) in
     let none_left : rest ≡ [] = front-is-all come_last limits es n before rest last (sym whole ∙ ap (λ (xs : List Batch). xs ++ rest) is) none in
     let part = parts b.state sends.past n sends.is_past in
-    let all : given ≡ handed limits sends.past n ++ handed_since b.state n = sym (append-nil given) ∙ ap (λ (xs : List Batch). given ++ xs) (sym none_left) ∙ whole ∙ part.parted in
+    let all : given ≡ handed limits sends.past n ++ handed_since b.state n =
+    sym (append-nil given) ∙ ap (λ (xs : List Batch). given ++ xs) (sym none_left) ∙ whole ∙ part.parted in
     ap (since b.state.place) all ∙ filter-append (λ (x : Batch). nat_lt b.state.place x.place) (handed limits sends.past n) (handed_since b.state n)
     ∙ ap (λ (xs : List Batch). xs ++ since b.state.place (handed_since b.state n)) (since-early b.state.place (handed limits sends.past n) part.early)
     ∙ since-late b.state.place (handed_since b.state n) part.late
 
-not_different : (cut : ℕ) (batches : List Batch) (e : Outcome) (more : List Outcome) (p : ℕ) → since cut e.handed ≡ batches → IsServedOtherwise cut batches (e ∷ more) p → p ≡ 0
-not_different cut batches e more p same (why, inl differs) = absurd (differs_from_itself batches p (subst (λ (bs : List Batch). Differs batches bs p) same differs))
+not_different : (cut : ℕ) (batches : List Batch) (e : Outcome) (more : List Outcome) (p : ℕ)
+    → since cut e.handed ≡ batches → IsServedOtherwise cut batches (e ∷ more) p → p ≡ 0
+not_different cut batches e more p same (why, inl differs) =
+    absurd (differs_from_itself batches p (subst (λ (bs : List Batch). Differs batches bs p) same differs))
 not_different cut batches e more p same (why, inr second) = second.2
 
 pub fronts-are-whole : EndBatchesComeLast → CutsPartBatches → FrontsAreWhole

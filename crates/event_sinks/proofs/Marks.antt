@@ -1,5 +1,6 @@
--- Which places are marked, and what it says of a seat's calls that each can be the next one.
-use Rattle.std.proofs.Common.{◌≡◌, ◌≢◌, ◌∙◌, refl, ℕ, zero, suc, ◌-◌, ◌<◌, Bool, true, false, List, [], ◌∷◌, ◌++◌, length, map, take, drop, replicate, arith, append-nil}
+-- Which sequence numbers are marked, and what follows for a seat's calls if each can be the next one.
+use Rattle.std.proofs.Common.{◌≡◌, ◌≢◌, ◌∙◌, refl, ℕ, zero, suc, ◌-◌, ◌<◌, Bool, true, false, List, [], ◌∷◌, ◌++◌}
+use Rattle.std.proofs.Common.{length, map, take, drop, replicate, arith, append-nil}
 use Rattle.std.specs.Prelude.{Some, slice_get, slice_set}
 use Rattle.std.specs.List.{AllByRecursion}
 use Rattle.std.proofs.lemmas.Bool.{true≢false}
@@ -31,7 +32,7 @@ still_unset (s ∷ seen) zero (suc j) other u = u
 still_unset (s ∷ seen) (suc i) zero other u = u
 still_unset (s ∷ seen) (suc i) (suc j) other u = still_unset seen i j (λ e. other (omega arith)) u
 
--- ---- the marks of places
+-- ---- the marks of sequence numbers
 
 pub marked-append : (seen : List Bool) (ps qs : List ℕ) → marked seen (ps ++ qs) ≡ marked (marked seen ps) qs
 marked-append seen [] qs = refl
@@ -63,14 +64,15 @@ unset_at_first (suc n) (suc j) within = unset_at_first n j (omega arith)
 
 -- ---- the calls of a seat
 
--- each call stands in the journal, the places rise from above the last one on, and none is marked
+-- each call is in the journal; their sequence numbers are above the last one, ascend, and are not marked
 pub record Fits (cut : ℕ) (entries : List Entry) (seen : List Bool) (number last : ℕ) (ks : List Kept) : Type 0 where
   pub stand : AllByRecursion (IsInJournal cut entries number) ks
   pub above : AllByRecursion (λ p. last < p) (map (λ (k : Kept). k.place) ks)
   pub rise : PairsByRecursion (λ j k. j < k) (map (λ (k : Kept). k.place) ks)
   pub unset : AllByRecursion (λ p. IsUnset seen (p - 1)) (map (λ (k : Kept). k.place) ks)
 
-pub fits_from_next : (cut : ℕ) (entries : List Entry) (seen : List Bool) (number last : ℕ) (ks : List Kept) → AreNext cut entries seen number last ks → Fits cut entries seen number last ks
+pub fits_from_next : (cut : ℕ) (entries : List Entry) (seen : List Bool) (number last : ℕ) (ks : List Kept)
+    → AreNext cut entries seen number last ks → Fits cut entries seen number last ks
 fits_from_next cut entries seen number last [] next = record { stand = tt; above = tt; rise = tt; unset = tt }
 fits_from_next cut entries seen number last (k ∷ ks) next =
     let rest = fits_from_next cut entries (slice_set seen (k.place - 1) true) number k.place ks next.1 in
@@ -79,10 +81,15 @@ fits_from_next cut entries seen number last (k ∷ ks) next =
       stand = (next.0.1, rest.stand);
       above = (next.0.0, all_weaker (λ p. k.place < p) (λ p. last < p) (λ p higher. omega (arith, next.0.0)) ps rest.above);
       rise = (rest.above, rest.rise);
-      unset = (next.0.2, all_weaker (λ p. IsUnset (slice_set seen (k.place - 1) true) (p - 1)) (λ p. IsUnset seen (p - 1)) (λ p u. (was_unset seen (k.place - 1) (p - 1) u).1) ps rest.unset);
+      unset = (
+        next.0.2,
+        all_weaker (λ p. IsUnset (slice_set seen (k.place - 1) true) (p - 1)) (λ p. IsUnset seen (p - 1))
+            (λ p u. (was_unset seen (k.place - 1) (p - 1) u).1) ps rest.unset,
+      );
     }
 
-pub next_from_fits : (cut : ℕ) (entries : List Entry) (seen : List Bool) (number last : ℕ) (ks : List Kept) → Fits cut entries seen number last ks → AreNext cut entries seen number last ks
+pub next_from_fits : (cut : ℕ) (entries : List Entry) (seen : List Bool) (number last : ℕ) (ks : List Kept)
+    → Fits cut entries seen number last ks → AreNext cut entries seen number last ks
 next_from_fits cut entries seen number last [] fits = tt
 next_from_fits cut entries seen number last (k ∷ ks) fits =
     let ps = map (λ (j : Kept). j.place) ks in
@@ -92,6 +99,9 @@ next_from_fits cut entries seen number last (k ∷ ks) fits =
         stand = fits.stand.1;
         above = fits.rise.0;
         rise = fits.rise.1;
-        unset = all_both (λ p. k.place < p) (λ p. IsUnset seen (p - 1)) (λ p. IsUnset (slice_set seen (k.place - 1) true) (p - 1)) (λ p higher u. still_unset seen (k.place - 1) (p - 1) (λ e. omega arith) u) ps fits.rise.0 fits.unset.1;
+        unset =
+            all_both (λ p. k.place < p) (λ p. IsUnset seen (p - 1))
+            (λ p. IsUnset (slice_set seen (k.place - 1) true) (p - 1))
+            (λ p higher u. still_unset seen (k.place - 1) (p - 1) (λ e. omega arith) u) ps fits.rise.0 fits.unset.1;
       }),
     )

@@ -1,5 +1,6 @@
 -- What is known of a number as listeners are noted.
-use Rattle.std.proofs.Common.{◌≡◌, ◌≢◌, ℕ, ◌+◌, Bool, true, false, cond, eqb, List, [], ◌∷◌, ◌++◌, take, Option, Some, None, inl, inr, refl, sym, ap, ◌∙◌, subst, append_assoc, append-nil}
+use Rattle.std.proofs.Common.{◌≡◌, ◌≢◌, ℕ, ◌+◌, Bool, true, false, cond, eqb, List, [], ◌∷◌, ◌++◌, take, Option, Some}
+use Rattle.std.proofs.Common.{None, inl, inr, refl, sym, ap, ◌∙◌, subst, append_assoc, append-nil}
 use Rattle.std.specs.Prelude.{⊤, slice_get}
 use Rattle.std.proofs.lemmas.Bool.{cases_eq, eq-eqb, ne_eqb}
 use Rattle.std.proofs.lemmas.List.{take_more}
@@ -33,7 +34,8 @@ any_pushed (x ∷ es) e = refl
 -- ---- one more listener for a number
 
 module _ (pipes : List ℕ) (es : List Outcome) (n i : ℕ) (e : Outcome) (at : slice_get es i ≡ Some e) where
-  noted_some : (t : Track) (f : Option ℕ) (found : List Outcome) → t.first ≡ f → IsNoted pipes es found n (Some t) → IsNoted pipes es (found ++ e ∷ []) n (Some (noted_in i t f))
+  noted_some : (t : Track) (f : Option ℕ) (found : List Outcome) → t.first ≡ f → IsNoted pipes es found n (Some t)
+      → IsNoted pipes es (found ++ e ∷ []) n (Some (noted_in i t f))
   noted_some t None [] is h =
       let none : t.is_again ≡ false = subst (λ (f : Option ℕ). IsFirst es [] f t.is_again) is h.1 in
       (h.0, (at, none), λ _. pushed_any [] e)
@@ -56,18 +58,21 @@ of_both n (e ∷ es) fs =
     ap (λ (xs : List Outcome). if_same e.instance n (e ∷ []) ++ xs) (of_both n es fs)
     ∙ sym (append_assoc (if_same e.instance n (e ∷ [])) (of_instance n es) (of_instance n fs))
 
-of_more : (n : ℕ) (es : List Outcome) (i : ℕ) (e : Outcome) → slice_get es i ≡ Some e → of_instance n (take (i + 1) es) ≡ of_instance n (take i es) ++ if_same e.instance n (e ∷ [])
+of_more : (n : ℕ) (es : List Outcome) (i : ℕ) (e : Outcome) → slice_get es i ≡ Some e
+    → of_instance n (take (i + 1) es) ≡ of_instance n (take i es) ++ if_same e.instance n (e ∷ [])
 of_more n es i e at =
     ap (of_instance n) (take_more es i e (slice_get_within es i e at) ∙ ap (λ (x : Outcome). take i es ++ x ∷ []) (get_or_from_slice_get es i e e at))
     ∙ of_both n (take i es) (e ∷ [])
     ∙ ap (λ (xs : List Outcome). of_instance n (take i es) ++ xs) (append-nil (if_same e.instance n (e ∷ [])))
 
-of_own : (n : ℕ) (es : List Outcome) (i : ℕ) (e : Outcome) → slice_get es i ≡ Some e → n ≡ e.instance → of_instance n (take (i + 1) es) ≡ of_instance n (take i es) ++ e ∷ []
+of_own : (n : ℕ) (es : List Outcome) (i : ℕ) (e : Outcome) → slice_get es i ≡ Some e → n ≡ e.instance
+    → of_instance n (take (i + 1) es) ≡ of_instance n (take i es) ++ e ∷ []
 of_own n es i e at own =
     of_more n es i e at
     ∙ ap (λ (t : Bool). of_instance n (take i es) ++ cond t (e ∷ []) []) (eq-eqb e.instance n (sym own))
 
-of_other : (n : ℕ) (es : List Outcome) (i : ℕ) (e : Outcome) → slice_get es i ≡ Some e → n ≢ e.instance → of_instance n (take (i + 1) es) ≡ of_instance n (take i es)
+of_other : (n : ℕ) (es : List Outcome) (i : ℕ) (e : Outcome) → slice_get es i ≡ Some e → n ≢ e.instance
+    → of_instance n (take (i + 1) es) ≡ of_instance n (take i es)
 of_other n es i e at other =
     of_more n es i e at
     ∙ ap (λ (t : Bool). of_instance n (take i es) ++ cond t (e ∷ []) []) (ne_eqb e.instance n (λ is. other (sym is)))
@@ -81,13 +86,19 @@ pub noted_on : (pipes : List ℕ) (es : List Outcome) (i number : ℕ) (e : Outc
 noted_on pipes es i number e old new at own put h n =
     elim (cases_eq n number) [
       | inl here ↦
-          let is : new n ≡ Some (noted i (old n)) = put n ∙ ap (λ (t : Bool). cond t (Some (noted i (old number))) (old n)) (eq-eqb n number here) ∙ ap (λ (k : ℕ). Some (noted i (old k))) (sym here) in (
-            subst (λ (xs : List Outcome). IsNoted pipes es xs n (new n)) (sym (of_own n es i e at (here ∙ own))) (subst (IsNoted pipes es (of_instance n (take i es) ++ e ∷ []) n) (sym is) (noted_more pipes es n i e at (old n) (of_instance n (take i es)) (h n).0)),
+          let is : new n ≡ Some (noted i (old n)) =
+          put n ∙ ap (λ (t : Bool). cond t (Some (noted i (old number))) (old n)) (eq-eqb n number here)
+          ∙ ap (λ (k : ℕ). Some (noted i (old k))) (sym here) in (
+            subst (λ (xs : List Outcome). IsNoted pipes es xs n (new n)) (sym (of_own n es i e at (here ∙ own)))
+                (subst (IsNoted pipes es (of_instance n (take i es) ++ e ∷ []) n) (sym is)
+                (noted_more pipes es n i e at (old n) (of_instance n (take i es)) (h n).0)),
             subst IsFresh (sym is) (fresh_noted i (old n) (h n).1),
           )
       | inr off ↦
           let is : new n ≡ old n = put n ∙ ap (λ (t : Bool). cond t (Some (noted i (old number))) (old n)) (ne_eqb n number off) in (
-            subst (λ (xs : List Outcome). IsNoted pipes es xs n (new n)) (sym (of_other n es i e at (λ k. off (k ∙ sym own)))) (subst (IsNoted pipes es (of_instance n (take i es)) n) (sym is) (h n).0),
+            subst (λ (xs : List Outcome). IsNoted pipes es xs n (new n))
+                (sym (of_other n es i e at (λ k. off (k ∙ sym own))))
+                (subst (IsNoted pipes es (of_instance n (take i es)) n) (sym is) (h n).0),
             subst IsFresh (sym is) (h n).1,
           )
     ]

@@ -1,5 +1,6 @@
 -- What a sink wrote, over records and batches that are put into it one after another.
-use Rattle.std.proofs.Common.{◌<◌, ◌-◌, ◌^◌, inl, inr, arith, ◌≡◌, ◌≢◌, ℕ, Bool, true, false, subst, ◌∙◌, sym, ap, refl, List, [], ◌∷◌, ◌++◌, append-nil, append_assoc}
+use Rattle.std.proofs.Common.{◌<◌, ◌-◌, ◌^◌, inl, inr, arith, ◌≡◌, ◌≢◌, ℕ, Bool, true, false, subst, ◌∙◌, sym, ap, refl}
+use Rattle.std.proofs.Common.{List, [], ◌∷◌, ◌++◌, append-nil, append_assoc}
 use Rattle.std.specs.Prelude.{Some, None, Option, flat_map}
 use Rattle.std.specs.Bool.{then_some}
 use Rattle.std.specs.Io.KnownBytes.{Appends}
@@ -30,10 +31,12 @@ gains_on a b c xs ys f g =
     subst (λ (t : List ℕ). Gains a t c) (sym (flat_map-append a.line xs ys)) (gains_trans a b c (flat_map a.line xs) (flat_map a.line ys) f g')
 
 -- and of one more
-pub gains_one : (a b c : Page) (xs : List Event) (e : Event) → Gains a (flat_map a.line xs) b → Gains b (b.line e) c → Gains a (flat_map a.line (xs ++ e ∷ [])) c
+pub gains_one : (a b c : Page) (xs : List Event) (e : Event) → Gains a (flat_map a.line xs) b → Gains b (b.line e) c
+    → Gains a (flat_map a.line (xs ++ e ∷ [])) c
 gains_one a b c xs e f g = gains_on a b c xs (e ∷ []) f (subst (λ (t : List ℕ). Gains b t c) (sym (append-nil (b.line e))) g)
 
-closes_whole : (old last new : Page) (taken : ℕ) → last ≡ record old { bytes = last.bytes } → ClosesText last taken new → new.faults ≡ old.faults → old.faults < 2 ^ 64 - 1 → Appends last.bytes new.bytes (old.closing taken)
+closes_whole : (old last new : Page) (taken : ℕ) → last ≡ record old { bytes = last.bytes } → ClosesText last taken new
+    → new.faults ≡ old.faults → old.faults < 2 ^ 64 - 1 → Appends last.bytes new.bytes (old.closing taken)
 closes_whole old last new taken same (inl all) none below =
     subst (λ (f : ℕ → List ℕ). Appends last.bytes new.bytes (f taken)) (ap (λ (p : Page). p.closing) same) all.0
 closes_whole old last new taken same (inr front) none below =
@@ -44,7 +47,8 @@ closes_whole old last new taken same (inr front) none below =
 
 pub unfailing_whole : UnfailingTextsAreWhole
 unfailing_whole old last new records taken lines close none below =
-    Appends-trans old.bytes last.bytes new.bytes (flat_map old.line records) (old.closing taken) lines.0 (closes_whole old last new taken lines.1 close none below)
+    Appends-trans old.bytes last.bytes new.bytes (flat_map old.line records) (old.closing taken) lines.0
+    (closes_whole old last new taken lines.1 close none below)
 
 module _ {S : Type 0} (record_list : S → List Event) (page : S → Page) where
   -- all of some records were taken
@@ -58,7 +62,8 @@ module _ {S : Type 0} (record_list : S → List Event) (page : S → Page) where
   )
 
   -- and then more were put
-  records_on : (old mid new : S) (xs ys : List Event) (why : Option Cause) → TookAll old xs mid → WritesRecords record_list page mid ys new why → WritesRecords record_list page old (xs ++ ys) new why
+  records_on : (old mid new : S) (xs ys : List Event) (why : Option Cause) → TookAll old xs mid
+      → WritesRecords record_list page mid ys new why → WritesRecords record_list page old (xs ++ ys) new why
   records_on old mid new xs ys None f g = took_on old mid new xs ys f g
   records_on old mid new xs ys (Some (cause.Sink fault)) f g = (
     xs ++ g.0,
@@ -75,7 +80,8 @@ module _ {S : Type 0} (record_list : S → List Event) (page : S → Page) where
   records_on old mid new xs ys (Some cause.Given) f g = took_on old mid new xs ys f g
   records_on old mid new xs ys (Some cause.Memory) f g = took_on old mid new xs ys f g
 
-  writes_on : (old mid new : S) (xs ys : List Event) (why : Option Cause) → TookAll old xs mid → Writes record_list page mid ys new why → Writes record_list page old (xs ++ ys) new why
+  writes_on : (old mid new : S) (xs ys : List Event) (why : Option Cause) → TookAll old xs mid
+      → Writes record_list page mid ys new why → Writes record_list page old (xs ++ ys) new why
   writes_on old mid new xs ys None f g = took_on old mid new xs ys f g
   writes_on old mid new xs ys (Some why) f g = (g.0, records_on old mid g.0 xs ys (Some why) f g.1, g.2)
 
@@ -83,15 +89,19 @@ module _ {S : Type 0} (record_list : S → List Event) (page : S → Page) where
   abbrev WritesMore : S → List Batch → S → List Batch → Option Cause → Type 0
   WritesMore old handed new handed' why = (batches : List Batch) × (handed' ≡ handed ++ batches) × Writes record_list page old (records_of batches) new why
 
-  batches_on : (old mid new : S) (handed handed' handed'' : List Batch) (why : Option Cause) → WritesMore old handed mid handed' None → WritesMore mid handed' new handed'' why → WritesMore old handed new handed'' why
+  batches_on : (old mid new : S) (handed handed' handed'' : List Batch) (why : Option Cause)
+      → WritesMore old handed mid handed' None → WritesMore mid handed' new handed'' why
+      → WritesMore old handed new handed'' why
   batches_on old mid new handed handed' handed'' why f g = (
     f.0 ++ g.0,
     g.1 ∙ (ap (λ (bs : List Batch). bs ++ g.0) f.1 ∙ append_assoc handed f.0 g.0),
-    subst (λ (r : List Event). Writes record_list page old r new why) (sym (records_of-append f.0 g.0)) (writes_on old mid new (records_of f.0) (records_of g.0) why f.2 g.2),
+    subst (λ (r : List Event). Writes record_list page old r new why) (sym (records_of-append f.0 g.0))
+        (writes_on old mid new (records_of f.0) (records_of g.0) why f.2 g.2),
   )
 
   -- and it was the end batch, or not
-  pub all_put : (old new : S) (records : List Event) (is_last : Bool) → TookAll old records new → WritesRecords record_list page old records new (then_some is_last cause.Last)
+  pub all_put : (old new : S) (records : List Event) (is_last : Bool) → TookAll old records new
+      → WritesRecords record_list page old records new (then_some is_last cause.Last)
   all_put old new records true f = f
   all_put old new records false f = f
 
@@ -105,21 +115,37 @@ module _ {S : Type 0} (record_list : S → List Event) (page : S → Page) where
     Since l = WritesMore first handed l.intake.sink l.intake.handed.items l.cause
 
     -- where the listener goes on
-    pub turn_writes : (old new : Listening S) (was : Option Cause) → old.cause ≡ was → Since old → (old.cause ≡ None → WritesMore old.intake.sink old.intake.handed.items new.intake.sink new.intake.handed.items new.cause) → (old.cause ≢ None → new ≡ old) → Since new
-    turn_writes old new None is f g rests = batches_on first old.intake.sink new.intake.sink handed old.intake.handed.items new.intake.handed.items new.cause (subst (λ (o : Option Cause). WritesMore first handed old.intake.sink old.intake.handed.items o) is f) (g is)
+    pub turn_writes : (old new : Listening S) (was : Option Cause) → old.cause ≡ was → Since old
+        → (old.cause ≡ None
+        → WritesMore old.intake.sink old.intake.handed.items new.intake.sink new.intake.handed.items new.cause)
+        → (old.cause ≢ None → new ≡ old) → Since new
+    turn_writes old new None is f g rests =
+        batches_on first old.intake.sink new.intake.sink handed old.intake.handed.items new.intake.handed.items
+        new.cause
+        (subst (λ (o : Option Cause). WritesMore first handed old.intake.sink old.intake.handed.items o) is f)
+        (g is)
     turn_writes old new (Some why) is f g rests = subst Since (sym (rests (λ none. absurd (cc)))) f
 
     -- where it was ended from outside, by a cause that is not its sink's
-    pub end_writes : (old : Listening S) (new : S) (after : List Batch) (was : Option Cause) (is other : Cause) → old.cause ≡ was → after ≡ old.intake.handed.items → Some is ≡ Some (cause_or was other) → WritesRecords record_list page old.intake.sink [] old.intake.sink (Some other)
-        → Since old → (old.cause ≡ None → WritesClose record_list page old.intake.sink new) → (old.cause ≢ None → new ≡ old.intake.sink) → WritesMore first handed new after (Some is)
+    pub end_writes : (old : Listening S) (new : S) (after : List Batch) (was : Option Cause) (is other : Cause)
+        → old.cause ≡ was → after ≡ old.intake.handed.items → Some is ≡ Some (cause_or was other)
+        → WritesRecords record_list page old.intake.sink [] old.intake.sink (Some other)
+        → Since old → (old.cause ≡ None → WritesClose record_list page old.intake.sink new)
+        → (old.cause ≢ None → new ≡ old.intake.sink) → WritesMore first handed new after (Some is)
     end_writes old new after None is other same all why outside f closes rests =
-        let on : WritesMore first handed old.intake.sink old.intake.handed.items None = subst (λ (o : Option Cause). WritesMore first handed old.intake.sink old.intake.handed.items o) same f in
-        let close : WritesMore old.intake.sink old.intake.handed.items new after (Some other) = ([], all ∙ sym (append-nil old.intake.handed.items), (old.intake.sink, outside, closes same)) in
-        subst (λ (o : Option Cause). WritesMore first handed new after o) (sym why) (batches_on first old.intake.sink new handed old.intake.handed.items after (Some other) on close)
+        let on : WritesMore first handed old.intake.sink old.intake.handed.items None =
+        subst (λ (o : Option Cause). WritesMore first handed old.intake.sink old.intake.handed.items o) same f in
+        let close : WritesMore old.intake.sink old.intake.handed.items new after (Some other) =
+        ([], all ∙ sym (append-nil old.intake.handed.items), (old.intake.sink, outside, closes same)) in
+        subst (λ (o : Option Cause). WritesMore first handed new after o) (sym why)
+        (batches_on first old.intake.sink new handed old.intake.handed.items after (Some other) on close)
     end_writes old new after (Some c) is other same all why outside f closes rests =
         let sink : new ≡ old.intake.sink = rests (λ none. absurd (cc)) in
-        let on : WritesMore first handed old.intake.sink old.intake.handed.items (Some is) = subst (λ (o : Option Cause). WritesMore first handed old.intake.sink old.intake.handed.items o) (same ∙ sym why) f in
-        subst (λ (bs : List Batch). WritesMore first handed new bs (Some is)) (sym all) (subst (λ (s : S). WritesMore first handed s old.intake.handed.items (Some is)) (sym sink) on)
+        let on : WritesMore first handed old.intake.sink old.intake.handed.items (Some is) =
+        subst (λ (o : Option Cause). WritesMore first handed old.intake.sink old.intake.handed.items o)
+        (same ∙ sym why) f in
+        subst (λ (bs : List Batch). WritesMore first handed new bs (Some is)) (sym all)
+        (subst (λ (s : S). WritesMore first handed s old.intake.handed.items (Some is)) (sym sink) on)
 
 -- a listener that had ended stays as it was
 module _ {S : Type 0} (first : Listening S) where

@@ -63,7 +63,8 @@ pub pairs_weaker : {X : Type 0} (R S : X → X → Type 0) → ((x y : X) → R 
 pairs_weaker R S f [] p = tt
 pairs_weaker R S f (x ∷ xs) p = (all_weaker (R x) (S x) (f x) xs p.0, pairs_weaker R S f xs p.1)
 
-pub pairs_append : {X : Type 0} (R : X → X → Type 0) (xs ys : List X) → PairsByRecursion R xs → PairsByRecursion R ys → Across R xs ys → PairsByRecursion R (xs ++ ys)
+pub pairs_append : {X : Type 0} (R : X → X → Type 0) (xs ys : List X) → PairsByRecursion R xs → PairsByRecursion R ys
+    → Across R xs ys → PairsByRecursion R (xs ++ ys)
 pairs_append R [] ys p q across = q
 pairs_append R (x ∷ xs) ys p q across = (all_append (R x) xs ys p.0 across.0, pairs_append R xs ys p.1 q across.1)
 

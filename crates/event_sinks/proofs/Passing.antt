@@ -1,5 +1,6 @@
 -- What is known of each number as the journal is passed over.
-use Rattle.std.proofs.Common.{◌≡◌, ◌≢◌, ℕ, ◌+◌, ◌<◌, List, [], ◌∷◌, ◌++◌, length, get_or, drop, Option, Some, None, option_map, true, cond, eqb, refl, sym, ap, ◌∙◌, subst}
+use Rattle.std.proofs.Common.{◌≡◌, ◌≢◌, ℕ, ◌+◌, ◌<◌, List, [], ◌∷◌, ◌++◌, length, get_or, drop, Option, Some, None}
+use Rattle.std.proofs.Common.{option_map, true, cond, eqb, refl, sym, ap, ◌∙◌, subst}
 use Rattle.std.proofs.lemmas.Bool.{eq-eqb}
 use Rattle.std.proofs.lemmas.List.{drop_more}
 use Rattle.record_codec.specs.declared.event.Event.{Event}
@@ -48,7 +49,8 @@ none-given t place (call.Close id) e = none-close id place (reply_of t (call.Clo
 
 -- what an accepted pump or a close hands over is given by its answer
 module _ (answered : BatchesAreAnswered) (t : Tree) (place : ℕ) (b : Batch) (events : AreEvents b.records) where
-  some-given : (c : Call) → handed_by t place c ≡ Some b → (bytes : List ℕ) × (given_by c (reply_of t c) ≡ Some (b.instance, bytes)) × IsSpelled b b.instance place bytes
+  some-given : (c : Call) → handed_by t place c ≡ Some b
+      → (bytes : List ℕ) × (given_by c (reply_of t c) ≡ Some (b.instance, bytes)) × IsSpelled b b.instance place bytes
   some-given (call.File f) e = absurd (answered t place (call.File f) b e).1
   some-given (call.Init limit piped) e = absurd (answered t place (call.Init limit piped) b e).1
   some-given (call.AddWatch id path mask) e = absurd (answered t place (call.AddWatch id path mask) b e).1
@@ -68,7 +70,8 @@ module _ (answered : BatchesAreAnswered) (t : Tree) (place : ℕ) (b : Batch) (e
         record { instance_is = refl; place_is = h.0; bytes_are = sym (ap spelling h.1.1); events = events },
       )
 
-hands_over : (t : Tree) (place : ℕ) (e : Entry) (o : Option Batch) → BatchesAreAnswered → e.reply ≡ reply_of t e.call → handed_by t place e.call ≡ o → ((b : Batch) → o ≡ Some b → AreEvents b.records) → HandsOver e place o
+hands_over : (t : Tree) (place : ℕ) (e : Entry) (o : Option Batch) → BatchesAreAnswered → e.reply ≡ reply_of t e.call
+    → handed_by t place e.call ≡ o → ((b : Batch) → o ≡ Some b → AreEvents b.records) → HandsOver e place o
 hands_over t place e None answered says is events = ap (given_by e.call) says ∙ none-given t place e.call is
 hands_over t place e (Some b) answered says is events =
     let h = some-given answered t place b (events b refl) e.call is in (h.0, ap (given_by e.call) says ∙ h.1, h.2)
@@ -80,7 +83,10 @@ hands_own b = ap (λ (t : Rattle.std.proofs.Common.Bool). cond t (b ∷ []) []) 
 
 first_events : (o : Option Batch) (b : Batch) (rest : List Batch) → o ≡ Some b → AreOfEvents (hands o b.instance ++ rest) → AreEvents b.records
 first_events o b rest is h =
-    let k : AreOfEvents ((b ∷ []) ++ rest) = subst (λ (xs : List Batch). AreOfEvents (xs ++ rest)) (ap (λ (x : Option Batch). hands x b.instance) is ∙ hands_own b) h in k.0
+    let k : AreOfEvents ((b ∷ []) ++ rest) =
+    subst (λ (xs : List Batch). AreOfEvents (xs ++ rest))
+    (ap (λ (x : Option Batch). hands x b.instance) is ∙ hands_own b) h in
+    k.0
 
 rest_events : (bs rest : List Batch) → AreOfEvents (bs ++ rest) → AreOfEvents rest
 rest_events [] rest h = h
@@ -88,23 +94,29 @@ rest_events (b ∷ bs) rest h = rest_events bs rest h.1
 
 -- ---- the tracks
 
-goes_on : (b : BookContents) (es : List Outcome) (n : ℕ) (bs left : List Batch) (old new : Option Track) → IsTracked b es (bs ++ left) n old → Goes b.state.place es bs old new → IsTracked b es left n new
+goes_on : (b : BookContents) (es : List Outcome) (n : ℕ) (bs left : List Batch) (old new : Option Track)
+    → IsTracked b es (bs ++ left) n old → Goes b.state.place es bs old new → IsTracked b es left n new
 goes_on b es n bs left None new h g = subst (IsTracked b es left n) (sym g) (record { is_noted = h.is_noted; tells = tt })
 goes_on b es n bs left (Some t) new h g =
     subst (IsTracked b es left n) (sym g.1) (record { is_noted = h.is_noted; tells = λ o c. h.tells o (g.2 left o c) })
 
--- these entries are left, from a tree on, behind this place
+-- these entries are left, from a tree on, after this sequence number
 pub record IsPassed (b : BookContents) (es : List Outcome) (t : Tree) (passed : ℕ) (left : List Entry) (track : ℕ → Option Track) : Type 0 where
   pub lawful : IsLawfulFrom t left
   pub events : (n : ℕ) → AreOfEvents (handed_from t (passed + 1) left n)
   pub tracked : (n : ℕ) → IsTracked b es (handed_from t (passed + 1) left n) n (track n)
 
-pub passed_none : (b : BookContents) (es : List Outcome) (track : ℕ → Option Track) → IsLawfulFrom b.state.start b.state.entries → ((n : ℕ) → AreOfEvents (batches_of b n)) → ((n : ℕ) → IsTracked b es (batches_of b n) n (track n)) → IsPassed b es b.state.start b.state.place b.state.entries track
+pub passed_none : (b : BookContents) (es : List Outcome) (track : ℕ → Option Track)
+    → IsLawfulFrom b.state.start b.state.entries → ((n : ℕ) → AreOfEvents (batches_of b n))
+    → ((n : ℕ) → IsTracked b es (batches_of b n) n (track n))
+    → IsPassed b es b.state.start b.state.place b.state.entries track
 unfolding handed_since
 passed_none b es track lawful events tracked = record { lawful = lawful; events = events; tracked = tracked }
 
 module _ (answered : BatchesAreAnswered) (b : BookContents) (es : List Outcome) (t : Tree) (passed : ℕ) (e : Entry) (old new : ℕ → Option Track) where
-  passed_on : (left : List Entry) → IsPassed b es t passed (e ∷ left) old → ((o : Option Batch) → HandsOver e (passed + 1) o → (n : ℕ) → Goes b.state.place es (hands o n) (old n) (new n)) → IsPassed b es (after t e.call) (passed + 1) left new
+  passed_on : (left : List Entry) → IsPassed b es t passed (e ∷ left) old
+      → ((o : Option Batch) → HandsOver e (passed + 1) o → (n : ℕ) → Goes b.state.place es (hands o n) (old n) (new n))
+      → IsPassed b es (after t e.call) (passed + 1) left new
   passed_on left h goes =
       let o : Option Batch = handed_by t (passed + 1) e.call in
       let over = hands_over t (passed + 1) e o answered h.lawful.0 refl (λ x is. first_events o x _ is (h.events x.instance)) in
@@ -114,7 +126,9 @@ module _ (answered : BatchesAreAnswered) (b : BookContents) (es : List Outcome) 
         tracked = λ n. goes_on b es n (hands o n) _ (old n) (new n) (h.tracked n) (goes o over n);
       }
 
-  pub passed_more : (entries : List Entry) (i next : ℕ) → i < length entries → e ≡ get_or entries i e → next ≡ passed + 1 → IsPassed b es t passed (drop i entries) old → ((o : Option Batch) → HandsOver e next o → (n : ℕ) → Goes b.state.place es (hands o n) (old n) (new n))
+  pub passed_more : (entries : List Entry) (i next : ℕ) → i < length entries → e ≡ get_or entries i e
+      → next ≡ passed + 1 → IsPassed b es t passed (drop i entries) old
+      → ((o : Option Batch) → HandsOver e next o → (n : ℕ) → Goes b.state.place es (hands o n) (old n) (new n))
       → IsPassed b es (after t e.call) next (drop (i + 1) entries) new
   passed_more entries i next within is more h goes =
       let rest : drop i entries ≡ e ∷ drop (i + 1) entries = drop_more entries i e within ∙ ap (λ (x : Entry). x ∷ drop (i + 1) entries) (sym is) in

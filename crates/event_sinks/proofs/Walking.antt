@@ -32,7 +32,9 @@ module _ (b : BookContents) (es : List Outcome) where
   untracked : (n : ℕ) → IsTracked b es [] n None → IsServedAt b es n
   untracked n h = inr h.is_noted
 
-  pub walked_none : (m : BTreeMap ℕ Track) → tree.IsOrdered nat_cmp m → All (λ (e : ℕ × Track). tree.get nat_cmp m e.0 ≡ Some e.1) m.entries → ((n : ℕ) → IsTracked b es [] n (track_at m n)) → IsWalked b es m.entries
+  pub walked_none : (m : BTreeMap ℕ Track) → tree.IsOrdered nat_cmp m
+      → All (λ (e : ℕ × Track). tree.get nat_cmp m e.0 ≡ Some e.1) m.entries
+      → ((n : ℕ) → IsTracked b es [] n (track_at m n)) → IsWalked b es m.entries
   walked_none m rise found known = record {
     rise = rise;
     tracked = λ k d within. subst (IsTracked b es [] (get_or m.entries k d).0) (found k d within) (known (get_or m.entries k d).0);

@@ -17,14 +17,18 @@ closing_line taken = codes "closed " ++ decimal taken ++ codes "\n"
 
 -- all the bytes were written, and no write failed
 abbrev pub WritesAll : {W : Type 0} → (W → Option (List ℕ)) → Port W → List ℕ → Port W → Type 0
-WritesAll contents old bytes new = Appends (contents (inner_of old)) (contents (inner_of new)) bytes × (faults_of new ≡ faults_of old)
+WritesAll contents old bytes new =
+    Appends (contents (inner_of old)) (contents (inner_of new)) bytes × (faults_of new ≡ faults_of old)
 
 -- a front of them was written, and then a write failed
 abbrev pub WritesFront : {W : Type 0} → (W → Option (List ℕ)) → Port W → List ℕ → Port W → Type 0
-WritesFront contents old bytes new = ((n : ℕ) × Appends (contents (inner_of old)) (contents (inner_of new)) (take n bytes)) × (faults_of new ≡ one_more (faults_of old))
+WritesFront contents old bytes new =
+    ((n : ℕ) × Appends (contents (inner_of old)) (contents (inner_of new)) (take n bytes))
+    × (faults_of new ≡ one_more (faults_of old))
 
--- an accepted record's line was written; where a write failed a front of it; for want of memory nothing
-abbrev pub PutsLine : {W : Type 0} → (W → Option (List ℕ)) → Port W → List ℕ → Result (Unit {0}) SinkFault → Port W → Type 0
+-- an accepted record's line was written; after a failed write a prefix of it; if out of memory nothing
+abbrev pub PutsLine : {W : Type 0} → (W → Option (List ℕ)) → Port W → List ℕ → Result (Unit {0}) SinkFault → Port W
+    → Type 0
 PutsLine contents old line (Ok _) new = WritesAll contents old line new
 PutsLine contents old line (Err fault.Memory) new = new ≡ old
 PutsLine contents old line (Err fault.Write) new = WritesFront contents old line new

@@ -1,5 +1,6 @@
 -- What contracts see of a listener, while it listens and once it has ended.
-use Rattle.std.specs.Prelude.{◌≡◌, ◌≢◌, ℕ, ◌<◌, ◌≤◌, zero, suc, Bool, true, false, List, [], ◌∷◌, ◌++◌, length, take, drop, All, Option, Some, None, is_none, ◌⊎◌, ⊤, Err}
+use Rattle.std.specs.Prelude.{◌≡◌, ◌≢◌, ℕ, ◌<◌, ◌≤◌, zero, suc, Bool, true, false, List, [], ◌∷◌, ◌++◌, length, take}
+use Rattle.std.specs.Prelude.{drop, All, Option, Some, None, is_none, ◌⊎◌, ⊤, Err}
 use Rattle.record_codec.specs.declared.event.Event.{Event}
 use Rattle.shared_tree.specs.declared.pipe.Batch.{Batch}
 use Rattle.shared_tree.specs.Handed.{records_of}
@@ -25,11 +26,21 @@ pub record ListenerState : Type 0 where
   pub cause : Option Cause
 
 abbrev pub listener_state : ℕ → Fed → List Batch → ℕ → List Event → Bool → Option Cause → ListenerState
-listener_state number feed handed started list is_open cause = record { number = number; feed = feed; handed = handed; started = started; list = list; is_open = is_open; cause = cause }
+listener_state number feed handed started list is_open cause =
+    record {
+      number = number;
+      feed = feed;
+      handed = handed;
+      started = started;
+      list = list;
+      is_open = is_open;
+      cause = cause;
+    }
 
 -- the meaning of what a listener has, by what its sink took and whether that is open, and by its cause to end
 abbrev pub state_of : {S : Type 0} → (S → List Event) → (S → Bool) → Intake S → Option Cause → ListenerState
-state_of record_list is_open i cause = listener_state i.number i.feed i.handed.items i.started (record_list i.sink) (is_open i.sink) cause
+state_of record_list is_open i cause =
+    listener_state i.number i.feed i.handed.items i.started (record_list i.sink) (is_open i.sink) cause
 
 -- of one that listens, and of one that has ended
 abbrev pub state_of_listener : {S : Type 0} → (S → List Event) → (S → Bool) → Listening S → ListenerState
@@ -52,7 +63,8 @@ HasRecords b = b.records ≢ []
 
 -- where it ended by the end batch, that came last, and once; else none came
 abbrev pub IsEndedBy : List Batch → Option Cause → Type 0
-IsEndedBy handed (Some cause.Last) = (before : List Batch) × (b : Batch) × (handed ≡ before ++ b ∷ []) × (b.records ≡ []) × All HasRecords before
+IsEndedBy handed (Some cause.Last) =
+    (before : List Batch) × (b : Batch) × (handed ≡ before ++ b ∷ []) × (b.records ≡ []) × All HasRecords before
 IsEndedBy handed _ = All HasRecords handed
 
 -- what holds of every listener: it was handed what its feed has received since the listener was made, its sink took the
@@ -68,7 +80,8 @@ pub record IsSoundListener (h : ListenerState) : Type 0 where
 abbrev pub Puts : List Event → List Event → List Event → Option Cause → Type 0
 Puts before records after None = (records ≢ []) × (after ≡ before ++ records)
 Puts before records after (Some cause.Last) = (records ≡ []) × (after ≡ before)
-Puts before records after (Some (cause.Sink fault)) = (k : ℕ) × (k < length records) × (after ≡ before ++ take k records)
+Puts before records after (Some (cause.Sink fault)) =
+    (k : ℕ) × (k < length records) × (after ≡ before ++ take k records)
 Puts before records after (Some _) = ⊥
 
 -- a listener that has no cause to end takes a batch
@@ -85,12 +98,16 @@ pub record Takes (old : ListenerState) (b : Batch) (new : ListenerState) : Type 
 abbrev pub Steps : ListenerState → ListenerState → Step → Type 0
 Steps old new step.Idle = (old.cause ≡ None) × (new ≡ old)
 Steps old new step.Took = (b : Batch) × Takes old b new
-Steps old new step.Over = ((old.cause ≢ None) × (new ≡ old)) ⊎ ((old.cause ≡ None) × (new ≡ record old { is_open = false; cause = Some cause.Memory }))
+Steps old new step.Over =
+    ((old.cause ≢ None) × (new ≡ old))
+    ⊎ ((old.cause ≡ None) × (new ≡ record old { is_open = false; cause = Some cause.Memory }))
 
--- in a turn that the gate lets through there is a step, and in no other. Once a listener has ended its gate is not asked
--- any more. `passes` says what the gate may answer to a number at a turn
+-- in a turn that the gate lets through there is a step, and in no other. Once a listener has ended its gate is not
+-- asked any more. `passes` says what the gate may answer to a number at a turn
 abbrev pub IsTurn : (ℕ → ℕ → Bool → Type 0) → ℕ → ListenerState → ListenerState → Type 0
-IsTurn passes turn old new = (passes old.number turn true × ((s : Step) × Steps old new s)) ⊎ ((passes old.number turn false ⊎ (old.cause ≢ None)) × (new ≡ old))
+IsTurn passes turn old new =
+    (passes old.number turn true × ((s : Step) × Steps old new s))
+    ⊎ ((passes old.number turn false ⊎ (old.cause ≢ None)) × (new ≡ old))
 
 -- what so many turns lead to, of which the first is 0
 abbrev pub Reaches : (ℕ → ℕ → Bool → Type 0) → ℕ → ListenerState → ListenerState → Type 0
@@ -105,13 +122,19 @@ cause_or (Some first) other = first
 abbrev pub ended_by : ListenerState → Cause → ListenerState
 ended_by h given = record h { is_open = false; cause = Some (cause_or h.cause given) }
 
--- what becomes of records that are put into a sink one by one: it takes them all, or those before the one that it refuses
--- with this fault, which it may answer to that one after them
+-- what becomes of records that are put into a sink one by one: it takes them all, or those before the one that it
+-- refuses with this fault, which it may answer to that one after them
 abbrev pub Answers : {S : Type 0} → (S → List Event) → (S → MayAnswer) → S → List Event → S → Option Cause → Type 0
-Answers record_list may_answer old records new None = (record_list new ≡ record_list old ++ records) × Foretells (may_answer old) records (may_answer new)
-Answers record_list may_answer old records new (Some (cause.Sink fault)) = (taken : List Event) × (next : Event) × (rest : List Event) × (records ≡ taken ++ next ∷ rest) × (record_list new ≡ record_list old ++ taken) × may_answer old taken next (Err fault)
+Answers record_list may_answer old records new None =
+    (record_list new ≡ record_list old ++ records) × Foretells (may_answer old) records (may_answer new)
+Answers record_list may_answer old records new (Some (cause.Sink fault)) =
+    (taken : List Event) × (next : Event) × (rest : List Event) × (records ≡ taken ++ next ∷ rest)
+    × (record_list new ≡ record_list old ++ taken) × may_answer old taken next (Err fault)
 Answers record_list may_answer old records new (Some _) = ⊤
 
 -- the same of the records of the batches that a listener was handed meanwhile
-abbrev pub AnswersBatches : {S : Type 0} → (S → List Event) → (S → MayAnswer) → Intake S → Intake S → Option Cause → Type 0
-AnswersBatches record_list may_answer old new why = (batches : List Batch) × (new.handed.items ≡ old.handed.items ++ batches) × Answers record_list may_answer old.sink (records_of batches) new.sink why
+abbrev pub AnswersBatches : {S : Type 0} → (S → List Event) → (S → MayAnswer) → Intake S → Intake S → Option Cause
+    → Type 0
+AnswersBatches record_list may_answer old new why =
+    (batches : List Batch) × (new.handed.items ≡ old.handed.items ++ batches)
+    × Answers record_list may_answer old.sink (records_of batches) new.sink why

@@ -9,7 +9,9 @@ MayAnswer = List Event → Event → Result (Unit {0}) SinkFault → Type 0
 
 -- what it may answer once it took these records is what it might have answered, before, after them
 abbrev pub Foretells : MayAnswer → List Event → MayAnswer → Type 0
-Foretells before taken after = (more : List Event) (next : Event) (answer : Result (Unit {0}) SinkFault) → after more next answer → before (taken ++ more) next answer
+Foretells before taken after =
+    (more : List Event) (next : Event) (answer : Result (Unit {0}) SinkFault) → after more next answer
+    → before (taken ++ more) next answer
 
 -- the records that a sink took, the oldest first, and whether it is open
 pub record Taking : Type 0 where

@@ -13,4 +13,5 @@ left_of sink = sink.left
 
 -- where it took as many records as are left it is full; until then, what the other sink may answer
 abbrev pub StopsAt : ℕ → MayAnswer → MayAnswer
-StopsAt left inner before next answer = (left ≤ length before → answer ≡ Err Full) × (length before < left → inner before next answer)
+StopsAt left inner before next answer =
+    (left ≤ length before → answer ≡ Err Full) × (length before < left → inner before next answer)

@@ -1,5 +1,6 @@
 -- What is known of each instance while batches are compared with the journal. No public clause cites this module.
-use Rattle.std.specs.Prelude.{◌≡◌, ◌≢◌, ⊤, ℕ, Bool, true, false, List, [], ◌∷◌, ◌++◌, Option, Some, None, drop, slice_get}
+use Rattle.std.specs.Prelude.{◌≡◌, ◌≢◌, ⊤, ℕ, Bool, true, false, List, [], ◌∷◌, ◌++◌, Option, Some, None, drop}
+use Rattle.std.specs.Prelude.{slice_get}
 use Rattle.std.specs.BTreeMap as tree
 use Rattle.std.specs.BTreeMap.{BTreeMap}
 use Rattle.std.specs.Ordering.{nat_cmp}
@@ -26,21 +27,22 @@ given_by (call.Pump id most) (reply.Records bytes) = Some (id, bytes)
 given_by (call.Close id) reply.Done = Some (id, [])
 given_by _ _ = None
 
--- a batch is of this instance and place, and of the events that these bytes spell
+-- a batch has this instance, this sequence number, and the events that these bytes spell
 pub record IsSpelled (b : Batch) (instance place : ℕ) (bytes : List ℕ) : Type 0 where
   pub instance_is : b.instance ≡ instance
   pub place_is : b.place ≡ place
   pub bytes_are : bytes ≡ spelling b.records
   pub events : AreEvents b.records
 
--- an entry at a place hands this batch over, or none
+-- the entry of a sequence number hands this batch over, or none
 abbrev pub HandsOver : Entry → ℕ → Option Batch → Type 0
 HandsOver e place None = given_by e.call e.reply ≡ None
-HandsOver e place (Some b) = (bytes : List ℕ) × (given_by e.call e.reply ≡ Some (b.instance, bytes)) × IsSpelled b b.instance place bytes
+HandsOver e place (Some b) =
+    (bytes : List ℕ) × (given_by e.call e.reply ≡ Some (b.instance, bytes)) × IsSpelled b b.instance place bytes
 
 -- ---- batches compared, as far as they are known
 
--- the batches are those that were handed; or the place tells how they differ
+-- the batches are those that were handed; or they differ first at this sequence number
 abbrev pub IsDifference : List Batch → List Batch → Option ℕ → Type 0
 IsDifference batches handed None = handed ≡ batches
 IsDifference batches handed (Some p) = Differs batches handed p
@@ -59,7 +61,8 @@ start = record { taken = 0; differs = None }
 
 -- what comes of the progress after batches were handed over comes of the one before them
 abbrev pub Follows : ℕ → List Batch → List Batch → Progress → Progress → Type 0
-Follows cut handed bs old new = (left : List Batch) (o : Option ℕ) → Comes cut left handed new o → Comes cut (bs ++ left) handed old o
+Follows cut handed bs old new =
+    (left : List Batch) (o : Option ℕ) → Comes cut left handed new o → Comes cut (bs ++ left) handed old o
 
 -- ---- what is known of the instance of a number
 
@@ -67,7 +70,7 @@ Follows cut handed bs old new = (left : List Batch) (o : Option ℕ) → Comes c
 abbrev pub track_at : BTreeMap ℕ Track → ℕ → Option Track
 track_at m n = tree.get nat_cmp m n
 
--- the batches of the listener at a place, and whether it ended by the end batch
+-- the batches of the listener at an index, and whether it ended by the end batch
 abbrev pub handed_of : Option Outcome → List Batch
 handed_of None = []
 handed_of (Some e) = e.handed
@@ -88,7 +91,7 @@ EndsLastAt es (Some i) = EndsLast (slice_get es i)
 abbrev pub blank : Bool → Track
 blank is_piped = record { is_piped = is_piped; first = None; is_again = false; progress = start }
 
--- one more listener, at this place
+-- one more listener, at this index
 abbrev pub noted_in : ℕ → Track → Option ℕ → Track
 noted_in i t None = record t { first = Some i }
 noted_in i t (Some j) = record t { is_again = true }
@@ -105,7 +108,7 @@ abbrev pub is_any : List Outcome → Bool
 is_any [] = false
 is_any (e ∷ es) = true
 
--- the first of the listeners that were found stands at this place of all, and there are more, or not
+-- the first of the listeners that were found has this index among all, and there are more, or not
 abbrev pub IsFirst : List Outcome → List Outcome → Option ℕ → Bool → Type 0
 IsFirst es [] None again = again ≡ false
 IsFirst es [] (Some i) again = ⊥
@@ -115,22 +118,27 @@ IsFirst es (e ∷ found) (Some i) again = (slice_get es i ≡ Some e) × (again 
 -- what is known of a number, where these listeners were found for it
 abbrev pub IsNoted : List ℕ → List Outcome → List Outcome → ℕ → Option Track → Type 0
 IsNoted pipes es found n None = Lacks pipes n × (found ≡ [])
-IsNoted pipes es found n (Some t) = IsPiped pipes n t.is_piped × IsFirst es found t.first t.is_again × (t.is_piped ≡ false → found ≢ [])
+IsNoted pipes es found n (Some t) =
+    IsPiped pipes n t.is_piped × IsFirst es found t.first t.is_again × (t.is_piped ≡ false → found ≢ [])
 
--- what comes of the rest tells what is to be told of all batches of the number
+-- what the rest comes to is the answer for all batches of the number
 abbrev pub Tells : BookContents → List Outcome → List Batch → ℕ → Option Track → Type 0
 Tells b es left n None = ⊤
-Tells b es left n (Some t) = (o : Option ℕ) → Comes b.state.place left (handed_at es t.first) t.progress o → IsDifference (batches_of b n) (since b.state.place (handed_at es t.first)) o
+Tells b es left n (Some t) =
+    (o : Option ℕ) → Comes b.state.place left (handed_at es t.first) t.progress o
+    → IsDifference (batches_of b n) (since b.state.place (handed_at es t.first)) o
 
 -- what is known of a number while these batches are still to be handed to it
-pub record IsTracked (b : BookContents) (es : List Outcome) (left : List Batch) (n : ℕ) (o : Option Track) : Type 0 where
+pub record IsTracked (b : BookContents) (es : List Outcome) (left : List Batch) (n : ℕ)
+    (o : Option Track) : Type 0 where
   pub is_noted : IsNoted b.pipes es (of_instance n es) n o
   pub tells : Tells b es left n o
 
 -- what becomes of a track as batches are handed over
 abbrev pub Goes : ℕ → List Outcome → List Batch → Option Track → Option Track → Type 0
 Goes cut es bs None new = new ≡ None
-Goes cut es bs (Some t) new = (p : Progress) × (new ≡ Some (record t { progress = p })) × Follows cut (handed_at es t.first) bs t.progress p
+Goes cut es bs (Some t) new =
+    (p : Progress) × (new ≡ Some (record t { progress = p })) × Follows cut (handed_at es t.first) bs t.progress p
 
 -- what becomes of each number's, where an entry hands this batch over
 abbrev pub HandsOn : ℕ → List Outcome → Option Batch → BTreeMap ℕ Track → BTreeMap ℕ Track → Type 0

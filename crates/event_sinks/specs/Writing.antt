@@ -21,4 +21,10 @@ port_of sink = sink.port
 
 -- what is known of what it wrote, where `contents` says what a writer holds
 abbrev pub page_of : {W : Type 0} → (W → Option (List ℕ)) → LineSink W → Page
-page_of contents sink = record { bytes = contents (inner_of sink.port); faults = faults_of sink.port; line = line_of; closing = closing_line }
+page_of contents sink =
+    record {
+      bytes = contents (inner_of sink.port);
+      faults = faults_of sink.port;
+      line = line_of;
+      closing = closing_line;
+    }

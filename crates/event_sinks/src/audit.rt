@@ -20,12 +20,12 @@ pub struct Settled {
     pub calls: u64,
 }
 
-/// Why a book was not settled: the first that holds, in this order. What is said of instances is said of the least number
-/// with which anything is wrong.
+/// Why a book was not settled: the first that holds, in this order. What is said of instances is said of the least
+/// number with which anything is wrong.
 #[derive(Clone, Copy, Debug, PartialEq, Eq, Error)]
 pub enum SettleFault {
-    /// The journal has another number of entries than the seats kept calls. A number of calls that a `u64` can't hold is
-    /// told as its greatest value.
+    /// The journal has another number of entries than the seats kept calls. A number of calls that a `u64` can't hold
+    /// is reported as its greatest value.
     #[error("CountDiffers {entries} {calls}")]
     CountDiffers {
         /// How many entries the journal has.
@@ -33,8 +33,8 @@ pub enum SettleFault {
         /// How many calls the seats kept.
         calls: u64,
     },
-    /// The seat of this number, the first in the order handed in, kept a call that is not the journal's entry at its
-    /// place, or whose place was kept before, or is not above the place of the call before it.
+    /// The seat of this number, the first in the order handed in, kept a call that is not the journal's entry of its
+    /// sequence number, or whose sequence number was kept before, or is not above that of the call before it.
     #[error("Stray {0}")]
     Stray(u32),
     /// No listener ended for the instance of this number, or the first one did not end by the end batch.
@@ -45,8 +45,8 @@ pub enum SettleFault {
     HandedDiffers {
         /// The number of the instance.
         instance: u32,
-        /// The place of the first batch that is not the one handed at its position, or of the first one handed past the
-        /// end. It is 0 for a second listener, and where the book has no pipe of that number.
+        /// The sequence number of the first batch that is not the one handed at its index, or of the first one handed
+        /// past the end. It is 0 for a second listener, and if the book has no pipe of that number.
         place: u64,
     },
     /// There was no memory to settle. Any fault may then stand unsaid.
@@ -63,11 +63,11 @@ impl From<AllocError> for SettleFault {
 }
 
 /// Settles a book: each entry is a call that its seat kept, and each pipe's listener was handed what the journal hands
-/// over, whole and in order. It takes time in proportion to the kept calls, entries and batches, and copies none of them.
-/// It takes memory for a mark for each kept call, and for what it knows of each instance.
+/// over, whole and in order. It takes time in proportion to the kept calls, entries and batches, and copies none of
+/// them. It takes memory for a mark for each kept call, and for what it knows of each instance.
 ///
 /// # Errors
-/// The first [`SettleFault`] that holds; `Memory` in the place of any, where memory is wanting.
+/// The first [`SettleFault`] that holds; `Memory` in place of any, if out of memory.
 pub fn settle<S: Drop>(
     alloc: Global,
     book: Book,

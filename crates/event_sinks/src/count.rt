@@ -57,7 +57,8 @@ impl Sink for CountSink {
 
     ghost is_open = { λ s. s.is_open };
 
-    ghost may_answer = { λ s before _ answer. ((answer ≡ Err Full) ↔ (length s.records + length before ≡ s.most)) × (answer ≢ Err Write) };
+    ghost may_answer = { λ s before _ answer.
+        ((answer ≡ Err Full) ↔ (length s.records + length before ≡ s.most)) × (answer ≢ Err Write) };
 
     ghost page = { λ _. blank };
 

@@ -5,8 +5,8 @@ ghost use Rattle.event_sinks.specs.Pages.{UnfailingTextsAreWhole};
 
 use shared_tree::{cuts_part_batches, end_batches_come_last};
 
-/// A law: where a book, the logs of its seats and the listeners that ended agree, no fault holds of them but want of
-/// memory. So [`settle`](crate::settle) settles a book exactly where they agree, want of memory aside.
+/// A law: if a book, the logs of its seats and the listeners that ended agree, no fault but out of memory holds of
+/// them. So [`settle`](crate::settle) settles a book exactly if they agree, unless it is out of memory.
 pub fn faults_contradict_the_audit()
     ensures { FaultsContradictTheAudit }
 {}
@@ -16,8 +16,8 @@ pub fn audits_agree()
     ensures { AuditsAgree }
 {}
 
-/// A law: a listener that was handed a front of what its pipe was sent, up to an end batch, was handed all of it. So
-/// [`settle`](crate::settle) never says of it that it was handed other batches, at a place above 0.
+/// A law: a listener that was handed a prefix of what its pipe was sent, up to an end batch, was handed all of it. So
+/// [`settle`](crate::settle) never reports for it that it was handed other batches, at a sequence number above 0.
 pub fn fronts_are_whole()
     ensures { FrontsAreWhole }
 {

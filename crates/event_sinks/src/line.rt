@@ -74,7 +74,8 @@ impl<W: Write + Send + Drop> Sink for LineSink<W> {
         requires { is_open_of self.old ≡ true }
         ensures list { records_of self.new ≡ records_of self.old }
         ensures closed { is_open_of self.new ≡ false }
-        ensures written { WritesClosing W.contents (port_of self.old) (closing_line (length (records_of self.old))) (port_of self.new) }
+        ensures written { WritesClosing W.contents (port_of self.old) (closing_line (length (records_of self.old)))
+            (port_of self.new) }
     {
         self.is_open = false;
         let _ = write_closing(&mut self.port, self.records.len());
@@ -103,7 +104,7 @@ impl<W: Write + Send + Drop> Drop for LineSink<W> {
     }
 }
 
-/// Writes that a sink that took so many records is closed, up to a write that fails.
+// Writes the closing line of a sink that took so many records, up to a write that fails.
 fn write_closing<W: Write>(port: &mut Port<W>, taken: usize) -> io::Result<()>
     ensures ok { OnOk result (WritesAll W.contents port.old (closing_line taken) port.new) }
     ensures err { OnErr result (WritesFront W.contents port.old (closing_line taken) port.new) }

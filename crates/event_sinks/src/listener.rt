@@ -2,7 +2,9 @@
 
 ghost use Rattle.std.specs.Prelude.{◌≡◌, ◌≢◌, [], true, length, None};
 ghost use Rattle.event_sinks.specs.declared.listener.Cause.TheVariants.{Given, Turns};
-ghost use Rattle.event_sinks.specs.Listeners.{Answers, AnswersBatches, ListenerState, IsSoundListener, IsTurn, Puts, Reaches, Steps, ended_by, state_of_ended, listener_state, state_of_listener};
+ghost use Rattle.event_sinks.specs.Listeners.{Answers, AnswersBatches, ListenerState, IsSoundListener, IsTurn, Puts};
+ghost use Rattle.event_sinks.specs.Listeners.{Reaches, Steps, ended_by, state_of_ended, listener_state};
+ghost use Rattle.event_sinks.specs.Listeners.{state_of_listener};
 ghost use Rattle.event_sinks.specs.Ending.{IsFromOutside};
 ghost use Rattle.event_sinks.specs.Pages.{WritesBatches, WritesClose, WritesRecords};
 
@@ -20,7 +22,7 @@ pub enum Step {
     Idle,
     /// A batch was taken: its records were put, or it was the end batch.
     Took,
-    /// The listener has ended, or ends for want of memory. Nothing was taken.
+    /// The listener has ended, or ends because it is out of memory. Nothing was taken.
     Over,
 }
 
@@ -52,8 +54,8 @@ struct Intake<S> {
 
 /// Takes the batches of a feed, one at a step, and puts their records into a sink.
 ///
-/// The sink is closed after the end batch, after a record that it refused, and where memory is wanting. A listener that
-/// is dropped drops its sink, which closes where it is open.
+/// The sink is closed after the end batch, after a record that it refused, and if out of memory. A listener that is
+/// dropped drops its sink, which closes if it is open.
 #[derive(Drop)]
 pub struct Listening<S> {
     intake: Intake<S>,
@@ -90,7 +92,8 @@ impl<S: Sink> Listening<S> {
     /// A listener at a feed. It takes no memory yet.
     pub fn new(alloc: Global, number: u32, feed: Feed, sink: S) -> Listening<S>
         requires is_open { S.is_open sink ≡ true }
-        ensures state { state_of_listener S.record_list S.is_open result ≡ listener_state number feed [] (length (S.record_list sink)) (S.record_list sink) true None }
+        ensures state { state_of_listener S.record_list S.is_open result
+            ≡ listener_state number feed [] (length (S.record_list sink)) (S.record_list sink) true None }
         ensures sink { result.intake.sink ≡ sink }
         ensures sound { IsSoundListener (state_of_listener S.record_list S.is_open result) }
     {
@@ -107,13 +110,17 @@ impl<S: Sink> Listening<S> {
         }
     }
 
-    /// Makes room for one more batch, takes one where one has come, and puts its records one by one. It never waits.
+    /// Reserves memory for one more batch, takes a batch if there is one, and puts its records one by one. It never
+    /// waits.
     pub fn step(&mut self) -> Step
         requires { IsSoundListener (state_of_listener S.record_list S.is_open self.old) }
         ensures sound { IsSoundListener (state_of_listener S.record_list S.is_open self.new) }
-        ensures steps { Steps (state_of_listener S.record_list S.is_open self.old) (state_of_listener S.record_list S.is_open self.new) result }
-        ensures answers { self.old.cause ≡ None → AnswersBatches S.record_list S.may_answer self.old.intake self.new.intake self.new.cause }
-        ensures writes { self.old.cause ≡ None → WritesBatches S.record_list S.page self.old.intake self.new.intake self.new.cause }
+        ensures steps { Steps (state_of_listener S.record_list S.is_open self.old)
+            (state_of_listener S.record_list S.is_open self.new) result }
+        ensures answers { self.old.cause ≡ None
+            → AnswersBatches S.record_list S.may_answer self.old.intake self.new.intake self.new.cause }
+        ensures writes { self.old.cause ≡ None
+            → WritesBatches S.record_list S.page self.old.intake self.new.intake self.new.cause }
         ensures rests { self.old.cause ≢ None → self.new ≡ self.old }
     {
         if self.cause.is_some() {
@@ -139,10 +146,13 @@ impl<S: Sink> Listening<S> {
     fn is_over_at<G: Gate>(&mut self, gate: &G, turn: u64) -> bool
         requires { IsSoundListener (state_of_listener S.record_list S.is_open self.old) }
         ensures sound { IsSoundListener (state_of_listener S.record_list S.is_open self.new) }
-        ensures turn { IsTurn (G.may_pass gate.now) turn (state_of_listener S.record_list S.is_open self.old) (state_of_listener S.record_list S.is_open self.new) }
+        ensures turn { IsTurn (G.may_pass gate.now) turn (state_of_listener S.record_list S.is_open self.old)
+            (state_of_listener S.record_list S.is_open self.new) }
         ensures over { result ≡ true → self.new.cause ≢ None }
-        ensures answers { self.old.cause ≡ None → AnswersBatches S.record_list S.may_answer self.old.intake self.new.intake self.new.cause }
-        ensures writes { self.old.cause ≡ None → WritesBatches S.record_list S.page self.old.intake self.new.intake self.new.cause }
+        ensures answers { self.old.cause ≡ None
+            → AnswersBatches S.record_list S.may_answer self.old.intake self.new.intake self.new.cause }
+        ensures writes { self.old.cause ≡ None
+            → WritesBatches S.record_list S.page self.old.intake self.new.intake self.new.cause }
         ensures rests { self.old.cause ≢ None → self.new ≡ self.old }
     {
         gate.pass(self.intake.number, turn) && self.step() == Step::Over
@@ -153,7 +163,8 @@ impl<S: Sink> Listening<S> {
         requires sound { IsSoundListener (state_of_listener S.record_list S.is_open self) }
         requires given { IsFromOutside given }
         ensures sound { IsSoundListener (state_of_ended S.record_list S.is_open result) }
-        ensures ended { state_of_ended S.record_list S.is_open result ≡ ended_by (state_of_listener S.record_list S.is_open self) given }
+        ensures ended { state_of_ended S.record_list S.is_open result
+            ≡ ended_by (state_of_listener S.record_list S.is_open self) given }
         ensures writes { self.cause ≡ None → WritesClose S.record_list S.page self.intake.sink result.intake.sink }
         ensures rests { self.cause ≢ None → result.intake.sink ≡ self.intake.sink }
     {
@@ -173,9 +184,13 @@ impl<S: Sink> Listening<S> {
     pub fn run<G: Gate>(self, gate: &G, turns: u64) -> Ended<S>
         requires { IsSoundListener (state_of_listener S.record_list S.is_open self) }
         ensures sound { IsSoundListener (state_of_ended S.record_list S.is_open result) }
-        ensures turns { (h : ListenerState) × Reaches (G.may_pass gate.now) turns (state_of_listener S.record_list S.is_open self) h × (state_of_ended S.record_list S.is_open result ≡ ended_by h Turns) }
-        ensures answers { self.cause ≡ None → AnswersBatches S.record_list S.may_answer self.intake result.intake (Some result.cause) }
-        ensures writes { self.cause ≡ None → WritesBatches S.record_list S.page self.intake result.intake (Some result.cause) }
+        ensures turns { (h : ListenerState)
+            × Reaches (G.may_pass gate.now) turns (state_of_listener S.record_list S.is_open self) h
+            × (state_of_ended S.record_list S.is_open result ≡ ended_by h Turns) }
+        ensures answers { self.cause ≡ None
+            → AnswersBatches S.record_list S.may_answer self.intake result.intake (Some result.cause) }
+        ensures writes { self.cause ≡ None
+            → WritesBatches S.record_list S.page self.intake result.intake (Some result.cause) }
         ensures rests { self.cause ≢ None → result.intake.sink ≡ self.intake.sink }
     {
         let mut listener = self;
@@ -191,7 +206,8 @@ impl<S: Sink> Listening<S> {
     pub fn finish(self) -> Ended<S>
         requires { IsSoundListener (state_of_listener S.record_list S.is_open self) }
         ensures sound { IsSoundListener (state_of_ended S.record_list S.is_open result) }
-        ensures ended { state_of_ended S.record_list S.is_open result ≡ ended_by (state_of_listener S.record_list S.is_open self) Given }
+        ensures ended { state_of_ended S.record_list S.is_open result
+            ≡ ended_by (state_of_listener S.record_list S.is_open self) Given }
         ensures writes { self.cause ≡ None → WritesClose S.record_list S.page self.intake.sink result.intake.sink }
         ensures rests { self.cause ≢ None → result.intake.sink ≡ self.intake.sink }
     {

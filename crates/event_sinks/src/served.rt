@@ -1,13 +1,15 @@
 //! Whether the listeners were handed what the journal hands over.
 
-ghost use Rattle.std.specs.Prelude.{◌≡◌, ◌↔◌, ◌==◌, ℕ, true, [], ◌∷◌, Option, Some, IfOk, IsTrue, MatchOption, OnOk, if◌then◌else◌, option_map};
+ghost use Rattle.std.specs.Prelude.{◌≡◌, ◌↔◌, ◌==◌, ℕ, true, [], ◌∷◌, Option, Some, IfOk, IsTrue, MatchOption, OnOk};
+ghost use Rattle.std.specs.Prelude.{if◌then◌else◌, option_map};
 ghost use Rattle.shared_tree.specs.declared.pipe.Batch.{Batch};
 ghost use Rattle.shared_tree.specs.Calls.{BookContents};
 ghost use Rattle.shared_tree.specs.Pipes.{IsIn, Lacks};
 ghost use Rattle.std.specs.Prelude.{◌<◌, drop, get_or, length};
 ghost use Rattle.shared_tree.specs.Handed.{batch};
 ghost use Rattle.event_sinks.specs.Audited.{IsFaultAt, IsFirstFault, IsServedAt, batches_of, outcomes, since};
-ghost use Rattle.event_sinks.specs.Tracks.{Comes, EndsLastAt, Follows, HandsOn, HandsOver, IsSpelled, IsTracked, blank, given_by, handed_at, noted, track_at};
+ghost use Rattle.event_sinks.specs.Tracks.{Comes, EndsLastAt, Follows, HandsOn, HandsOver, IsSpelled, IsTracked, blank};
+ghost use Rattle.event_sinks.specs.Tracks.{given_by, handed_at, noted, track_at};
 
 use crate::audit::SettleFault;
 use crate::listener::{Cause, Ended};
@@ -22,7 +24,7 @@ use tree_core::{Call, Entry, Reply};
 struct Progress {
     // How many are the same.
     taken: usize,
-    // The place of the first one that is not.
+    // The sequence number of the first one that is not.
     differs: Option<u64>,
 }
 
@@ -39,13 +41,14 @@ struct Track {
     progress: Progress,
 }
 
-/// What is wrong with the least instance with which anything is.
+// The first fault, by instance number.
 pub(crate) fn first_unserved<S>(
     alloc: Global,
     book: &Book,
     ended: &[Ended<S>],
 ) -> Result<Option<SettleFault>, AllocError>
-    ensures { IfOk result (λ o. MatchOption o ((n : ℕ) → IsServedAt book.now (outcomes ended.now) n) (λ f. IsFirstFault book.now (outcomes ended.now) f)) }
+    ensures { IfOk result (λ o. MatchOption o ((n : ℕ) → IsServedAt book.now (outcomes ended.now) n)
+        (λ f. IsFirstFault book.now (outcomes ended.now) f)) }
 {
     let mut tracks = tracks_of(alloc, book, ended)?;
     hand_all(&mut tracks, book, ended);
@@ -58,7 +61,8 @@ fn tracks_of<S>(
     book: &Book,
     ended: &[Ended<S>],
 ) -> Result<BTreeMap<u32, Track>, AllocError>
-    ensures { IfOk result (λ m. (n : ℕ) → IsTracked book.now (outcomes ended.now) (batches_of book.now n) n (track_at m n)) }
+    ensures { IfOk result (λ m.
+        (n : ℕ) → IsTracked book.now (outcomes ended.now) (batches_of book.now n) n (track_at m n)) }
 {
     let mut tracks = piped_tracks(alloc, book.pipes())?;
     for at in 0..ended.len() {
@@ -69,7 +73,8 @@ fn tracks_of<S>(
 
 // A blank track of each of these numbers.
 fn piped_tracks(alloc: Global, pipes: &[u32]) -> Result<BTreeMap<u32, Track>, AllocError>
-    ensures { IfOk result (λ m. (n : ℕ) → MatchOption (track_at m n) (Lacks pipes.now n) (λ t. IsIn pipes.now n × (t ≡ blank true))) }
+    ensures { IfOk result (λ m.
+        (n : ℕ) → MatchOption (track_at m n) (Lacks pipes.now n) (λ t. IsIn pipes.now n × (t ≡ blank true))) }
 {
     let mut tracks = BTreeMap::new(alloc);
     for number in pipes {
@@ -80,15 +85,18 @@ fn piped_tracks(alloc: Global, pipes: &[u32]) -> Result<BTreeMap<u32, Track>, Al
 
 // Puts the track of a number.
 fn put(tracks: &mut BTreeMap<u32, Track>, number: u32, track: Track) -> Result<(), AllocError>
-    ensures { OnOk result ((n : ℕ) → track_at tracks.new n ≡ if n == number then Some track else track_at tracks.old n) }
+    ensures { OnOk result ((n : ℕ)
+        → track_at tracks.new n ≡ if n == number then Some track else track_at tracks.old n) }
 {
     tracks.insert(number, track)?;
     Ok(())
 }
 
-// Notes that a listener, which stands at this place, ended for an instance.
+// Notes that the listener at this index ended for an instance.
 fn note(tracks: &mut BTreeMap<u32, Track>, number: u32, at: usize) -> Result<(), AllocError>
-    ensures { OnOk result ((n : ℕ) → track_at tracks.new n ≡ if n == number then Some (noted at (track_at tracks.old number)) else track_at tracks.old n) }
+    ensures { OnOk result ((n : ℕ)
+        → track_at tracks.new n
+        ≡ if n == number then Some (noted at (track_at tracks.old number)) else track_at tracks.old n) }
 {
     let track = match tracks.get(&number) {
         Some(track) => *track,
@@ -121,7 +129,8 @@ fn hand_entry<S>(
     place: u64,
 )
     requires { cut < place }
-    ensures { (o : Option Batch) → HandsOver entry.now place o → HandsOn cut (outcomes ended.now) o tracks.old tracks.new }
+    ensures { (o : Option Batch) → HandsOver entry.now place o
+        → HandsOn cut (outcomes ended.now) o tracks.old tracks.new }
 {
     if let Some((number, bytes)) = given(entry) {
         hand(tracks, ended, cut, number, place, bytes);
@@ -138,7 +147,8 @@ fn hand<S>(
     bytes: &[u8],
 )
     requires { cut < place }
-    ensures { (b : Batch) → IsSpelled b number place bytes.now → HandsOn cut (outcomes ended.now) (Some b) tracks.old tracks.new }
+    ensures { (b : Batch) → IsSpelled b number place bytes.now
+        → HandsOn cut (outcomes ended.now) (Some b) tracks.old tracks.new }
 {
     if let Some(track) = tracks.get_mut(&number) {
         let handed = handed_at(ended, track.first);
@@ -176,7 +186,7 @@ fn next_since(handed: &[Batch], cut: u64, from: usize) -> usize
     handed.len()
 }
 
-// Whether it is the batch of this instance and place whose records these bytes spell.
+// Whether it is the batch of this instance and sequence number whose records these bytes spell.
 fn is_batch(one: &Batch, instance: u32, place: u64, bytes: &[u8]) -> bool
     ensures { (b : Batch) → IsSpelled b instance place bytes.now → IsTrue result ↔ (b ≡ one.now) }
 {
@@ -184,14 +194,14 @@ fn is_batch(one: &Batch, instance: u32, place: u64, bytes: &[u8]) -> bool
     is_at(one, instance, place) && spells(one.records.as_slice(), bytes)
 }
 
-// Whether it is a batch of this instance and place.
+// Whether it is a batch of this instance and sequence number.
 fn is_at(one: &Batch, instance: u32, place: u64) -> bool
     ensures { IsTrue result ↔ ((one.now.instance ≡ instance) × (one.now.place ≡ place)) }
 {
     one.instance == instance && one.place == place
 }
 
-// The batches that the listener at a place was handed.
+// The batches that the listener at an index was handed.
 fn handed_at<S>(ended: &[Ended<S>], at: Option<usize>) -> &[Batch]
     ensures { result.now ≡ handed_at (outcomes ended.now) at }
 {
@@ -201,7 +211,7 @@ fn handed_at<S>(ended: &[Ended<S>], at: Option<usize>) -> &[Batch]
     }
 }
 
-// Whether the listener at a place ended by the end batch.
+// Whether the listener at an index ended by the end batch.
 fn is_ended_at<S>(ended: &[Ended<S>], at: Option<usize>) -> bool
     ensures { IsTrue result ↔ EndsLastAt (outcomes ended.now) at }
 {
@@ -217,7 +227,10 @@ fn first_fault<S>(
     ended: &[Ended<S>],
     cut: u64,
 ) -> Option<SettleFault>
-    ensures { (b : BookContents) → b.state.place ≡ cut → ((n : ℕ) → IsTracked b (outcomes ended.now) [] n (track_at tracks.now n)) → MatchOption result ((n : ℕ) → IsServedAt b (outcomes ended.now) n) (λ f. IsFirstFault b (outcomes ended.now) f) }
+    ensures { (b : BookContents) → b.state.place ≡ cut
+        → ((n : ℕ) → IsTracked b (outcomes ended.now) [] n (track_at tracks.now n))
+        → MatchOption result ((n : ℕ) → IsServedAt b (outcomes ended.now) n)
+        (λ f. IsFirstFault b (outcomes ended.now) f) }
 {
     for (number, track) in tracks {
         if let Some(fault) = fault_of(*number, track, ended, cut) {
@@ -229,7 +242,9 @@ fn first_fault<S>(
 
 // What is wrong with an instance, once all batches were compared.
 fn fault_of<S>(number: u32, track: &Track, ended: &[Ended<S>], cut: u64) -> Option<SettleFault>
-    ensures { (b : BookContents) → b.state.place ≡ cut → IsTracked b (outcomes ended.now) [] number (Some track.now) → MatchOption result (IsServedAt b (outcomes ended.now) number) (λ f. IsFaultAt b (outcomes ended.now) number f) }
+    ensures { (b : BookContents) → b.state.place ≡ cut → IsTracked b (outcomes ended.now) [] number (Some track.now)
+        → MatchOption result (IsServedAt b (outcomes ended.now) number)
+        (λ f. IsFaultAt b (outcomes ended.now) number f) }
 {
     let differing = |place| SettleFault::HandedDiffers {
         instance: number,
@@ -267,7 +282,7 @@ impl Track {
         }
     }
 
-    // The same, where one more listener ended, which stands at this place.
+    // The same once one more listener ended, the one at this index.
     fn noting(self, at: usize) -> Track
         ensures { result ≡ noted at (Some self) }
     {
@@ -308,7 +323,7 @@ impl Progress {
         }
     }
 
-    // The place of the first batch that is not the journal's, where no more is handed over.
+    // The sequence number of the first batch that is not the journal's, if no more is handed over.
     fn difference(self, handed: &[Batch], cut: u64) -> Option<u64>
         ensures { Comes cut [] handed.now self result }
     {

@@ -37,7 +37,7 @@ pub trait Sink: Send + Drop {
         ensures answer { may_answer self.old [] event.now result }
         ensures page { PutsText (page self.old) event.now result (page self.new) }
 
-        // What it may answer from now on could be told before.
+        // What it may answer from now on was known before.
         ensures later { OnOk result (Foretells (may_answer self.old) (event.now ∷ []) (may_answer self.new)) };
 
     /// Ends it: it takes no more records.

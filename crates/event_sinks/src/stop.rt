@@ -39,19 +39,23 @@ impl<S: Sink> Sink for StopSink<S> {
 
     fn put(&mut self, event: &Event) -> Result<(), SinkFault>
         requires { S.is_open (inner_of self.old) ≡ true }
-        ensures ok { OnOk result (S.record_list (inner_of self.new) ≡ S.record_list (inner_of self.old) ++ event.now ∷ []) }
+        ensures ok { OnOk result
+            (S.record_list (inner_of self.new) ≡ S.record_list (inner_of self.old) ++ event.now ∷ []) }
         ensures err { OnErr result (S.record_list (inner_of self.new) ≡ S.record_list (inner_of self.old)) }
         ensures stays { S.is_open (inner_of self.new) ≡ true }
 
         ensures page { PutsText (S.page (inner_of self.old)) event.now result (S.page (inner_of self.new)) }
 
         // What was passed on counts, and nothing is where none is left.
-        ensures left { MatchResult result (λ _. left_of self.old ≡ left_of self.new + 1) (λ _. left_of self.new ≡ left_of self.old) }
+        ensures left { MatchResult result (λ _. left_of self.old ≡ left_of self.new + 1)
+            (λ _. left_of self.new ≡ left_of self.old) }
         ensures stopped { left_of self.old ≡ 0 → (result ≡ Err Full) × (self.new ≡ self.old) }
 
         // Where some are left, it is an answer that the other sink may give.
         ensures answer { StopsAt (left_of self.old) (S.may_answer (inner_of self.old)) [] event.now result }
-        ensures later { OnOk result (Foretells (StopsAt (left_of self.old) (S.may_answer (inner_of self.old))) (event.now ∷ []) (StopsAt (left_of self.new) (S.may_answer (inner_of self.new)))) }
+        ensures later { OnOk result
+            (Foretells (StopsAt (left_of self.old) (S.may_answer (inner_of self.old))) (event.now ∷ [])
+            (StopsAt (left_of self.new) (S.may_answer (inner_of self.new)))) }
     {
         if self.left == 0 {
             return Err(SinkFault::Full);

@@ -9,7 +9,7 @@ use shared_tree::{Book, SeatLog};
 use std::alloc::{AllocError, Global};
 use tree_core::{Entry, Kept};
 
-/// How many calls the seats kept, as far as a `u64` can say.
+// How many calls the seats kept, as far as a `u64` can say.
 pub(crate) fn count_calls(logs: &[SeatLog]) -> u64
     ensures { result ≡ min (calls_of logs.now) 18446744073709551615 }
 {
@@ -20,7 +20,7 @@ pub(crate) fn count_calls(logs: &[SeatLog]) -> u64
     calls
 }
 
-/// Whether the seats kept so many calls.
+// Whether the seats kept this number of calls.
 pub(crate) fn are_as_many(entries: u64, logs: &[SeatLog]) -> bool
     ensures { IsTrue result ↔ (entries ≡ calls_of logs.now) }
 {
@@ -35,7 +35,7 @@ pub(crate) fn are_as_many(entries: u64, logs: &[SeatLog]) -> bool
     left == 0
 }
 
-// Whether the call can be the next one of the seat of this number. There is a mark for each place.
+// Whether the call can be the next one of the seat of this number. There is a mark for each sequence number.
 fn is_next(cut: u64, journal: &[Entry], seen: &[bool], number: u32, last: u64, kept: &Kept) -> bool
     requires { length seen.now ≡ cut + length journal.now }
     ensures { IsTrue result ↔ IsNext cut journal.now seen.now number last kept.now }
@@ -52,7 +52,8 @@ fn is_next(cut: u64, journal: &[Entry], seen: &[bool], number: u32, last: u64, k
     stands(cut, journal, number, kept)
 }
 
-// Whether a call whose place is one of the whole journal is the journal's entry there, where that is above the cut's.
+// Whether a call whose sequence number is one of the whole journal is the journal's entry of that number, if it is
+// above the cut's.
 fn stands(cut: u64, journal: &[Entry], number: u32, kept: &Kept) -> bool
     requires low { 0 < kept.now.place }
     requires high { kept.now.place ≤ cut + length journal.now }
@@ -70,7 +71,7 @@ fn stands(cut: u64, journal: &[Entry], number: u32, kept: &Kept) -> bool
     entry.call.is_same(&kept.call) && entry.reply.is_same(&kept.reply)
 }
 
-// Marks the places of a seat's calls, where each can be the next one.
+// Marks the sequence numbers of a seat's calls, if each call can be the next one.
 fn is_clean(cut: u64, journal: &[Entry], seen: &mut [bool], log: &SeatLog) -> bool
     requires { length seen.old ≡ cut + length journal.now }
     ensures clean { OnTrue result (AreNext cut journal.now seen.old log.now.number 0 log.now.kept) }
@@ -88,19 +89,15 @@ fn is_clean(cut: u64, journal: &[Entry], seen: &mut [bool], log: &SeatLog) -> bo
     true
 }
 
-/// The first seat whose kept calls are not the book's.
-///
-/// It takes time in proportion to the places and the kept calls. Where they are as many, there is a mark for each kept
-/// call.
-///
-/// # Errors
-/// Want of memory for a mark at each place.
+// The first seat whose kept calls are not the book's. It takes time in proportion to the sequence numbers and the kept
+// calls. It fails if it is out of memory for the marks, one for each sequence number.
 pub(crate) fn first_stray(
     alloc: Global,
     book: &Book,
     logs: &[SeatLog],
 ) -> Result<Option<u32>, AllocError>
-    ensures { IfOk result (λ o. MatchOption o (AreKept book.now.state.place book.now.state.entries logs.now) (λ n. IsStray book.now.state.place book.now.state.entries logs.now n)) }
+    ensures { IfOk result (λ o. MatchOption o (AreKept book.now.state.place book.now.state.entries logs.now)
+        (λ n. IsStray book.now.state.place book.now.state.entries logs.now n)) }
 {
     book.law();
     let _last = book.entries();
@@ -115,7 +112,8 @@ fn stray_of(
     logs: &[SeatLog],
 ) -> Result<Option<u32>, AllocError>
     requires { cut + length journal.now < 2 ^ 64 }
-    ensures { IfOk result (λ o. MatchOption o (AreKept cut journal.now logs.now) (λ n. IsStray cut journal.now logs.now n)) }
+    ensures { IfOk result (λ o.
+        MatchOption o (AreKept cut journal.now logs.now) (λ n. IsStray cut journal.now logs.now n)) }
 {
     let mut seen = vec![in alloc; false; cut as usize + journal.len()]?;
     for log in logs {

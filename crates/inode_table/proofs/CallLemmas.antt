@@ -8,7 +8,7 @@ use Rattle.inode_table.specs.Kept.{is_directory, IsTable}
 use Rattle.inode_table.specs.Tree.{Tree, at, what_at}
 use Rattle.tree_paths.specs.Paths.{is_below}
 use Rattle.inode_table.specs.World as world
-use Rattle.inode_table.specs.Refusals.{is_directory_seen}
+use Rattle.inode_table.specs.Refusals.{is_directory_seen, parent_of}
 use Rattle.inode_table.specs.TableWorld.{kind_of, file_of}
 use Rattle.inode_table.specs.Stands.{seen_row, look_in}
 use Rattle.inode_table.specs.declared.seen.Seen.{Seen}
@@ -20,6 +20,10 @@ use Rattle.inode_table.proofs.SeenLemmas.{is_value, NodeAt, node-at, parent-seen
 some-from : {A : Type 0} (o : Option A) → o ≢ None → IsSome o
 some-from None h = absurd (h refl)
 some-from (Some x) h = refl
+
+-- a path's last name, as it is handed over
+pub named : (path : List Label) (last name : Label) → path ≡ parent_of path ++ last ∷ [] → name ≡ last → path ≡ parent_of path ++ name ∷ []
+named path last name parts same = parts ∙ ap (λ (l : Label). parent_of path ++ l ∷ []) (sym same)
 
 module _ (t : Tree) (table : IsTable t.rows) where
   -- a path that is there, cut at its last name

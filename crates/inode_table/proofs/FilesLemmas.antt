@@ -1,172 +1,173 @@
--- The rows of all nodes are those of the world's files.
-use Rattle.std.proofs.Common.{◌≡◌, ◌≢◌, ◌⊎◌, ℕ, ◌+◌, ◌<◌, ◌≤◌, ◌&&◌, Bool, true, false, T, cond, List, [], ◌∷◌, length, map, Option, Some, None, option_map, refl, sym, ap, ◌∙◌, subst, inl, inr, arith}
-use Rattle.std.specs.BTreeMap as tree
-use Rattle.std.specs.BTreeMap.{BTreeMap}
+-- The rows of all nodes, sorted by number, are those of the world's files.
+use Rattle.std.proofs.Common.{◌≡◌, ◌≢◌, ℕ, zero, suc, ◌+◌, ◌<◌, false, T, eqb, List, [], ◌∷◌, ◌++◌, append_assoc, length, get_or, map, Option, Some, None, option_map, refl, sym, ap, ◌∙◌, subst, inl, inr, arith}
 use Rattle.std.specs.Cmp.{nat_cmp_total}
 use Rattle.std.specs.FinMap as finmap
 use Rattle.std.specs.FinMap.{is_sorted, nat_cmp-IsAntisymmetric}
-use Rattle.std.specs.FinMap.Entries.{below_all}
-use Rattle.std.specs.List.{AllByRecursion}
-use Rattle.std.specs.List.Sorted.{IsStrictlySortedBy}
-use Rattle.std.specs.Map.{keys_of, lookup}
-use Rattle.std.specs.Ordering.{is_eq, is_lt, nat_cmp}
-use Rattle.std.specs.declared.cmp.Ordering.TheVariants.{Less}
+use Rattle.std.specs.List.{AllByRecursion, Contains, IsDistinct}
+use Rattle.std.specs.List.Sorted.{IsNonDecreasing, IsNonDecreasingBy, IsPermutation, IsStrictlySortedBy}
+use Rattle.std.specs.Map.{keys_of}
+use Rattle.std.specs.Ordering.{nat_cmp}
 use Rattle.std.proofs.lemmas.Bool.{cases_eq}
-use Rattle.std.proofs.lemmas.List.{length-map}
-use Rattle.std.proofs.lemmas.Map.Keys.{sorted_head, sorted_tail}
-use Rattle.slab.specs.Slab.{Slab, get}
+use Rattle.std.proofs.lemmas.List.{get_or-map, length-map}
+use Rattle.std.proofs.lemmas.List.Sorted.{Contains-permutation, IsPermutation-map, IsPermutation-sym}
+use Rattle.std.proofs.lemmas.Map.Keys.{IsDistinct-IsPermutation, IsDistinct-cons, IsStrictlyIncreasing-from_distinct, sorted_from_strictly_increasing}
+use borrow.Author.Tests.{eq-eqb, ne_eqb}
+use Rattle.slab.specs.Slab.{Slab, entries, entries_from}
 use Rattle.inode_table.specs.declared.node.Node.{Node}
 use Rattle.inode_table.specs.declared.rows.FileRow.{FileRow}
-use Rattle.inode_table.specs.Listing.{AreListed, row_shown}
+use Rattle.inode_table.specs.Listing.{row_shown}
 use Rattle.inode_table.specs.Files.{file_row}
-use Rattle.inode_table.specs.Rows.{Rows, What, shown, what}
-use Rattle.inode_table.specs.Kept.{row_of, rows_of, IsTable}
+use Rattle.inode_table.specs.Rows.{Row, Rows, What, shown, what}
+use Rattle.inode_table.specs.Kept.{row_of, rows_of}
 use Rattle.inode_table.specs.Stands.{Stands}
 use Rattle.inode_table.specs.TableWorld.{file_of}
 use Rattle.inode_table.specs.Tree.{Tree}
 use Rattle.inode_table.specs.World.{File, World}
-use Rattle.inode_table.proofs.RowsLemmas.{row-rows_of}
+use Rattle.inode_table.proofs.EntriesLemmas.{In, In-find, In-map, In-unmap, entries-of, find-In, in_order}
 use Rattle.inode_table.proofs.TreeLemmas.{same_some, some_none}
-use Rattle.inode_table.proofs.WorldLemmas.{tie, within}
 
-abbrev Files : Type 0
-Files = BTreeMap ℕ FileRow
+-- ---- the rows of the nodes
 
--- ---- the nodes one by one
+abbrev number_in : FileRow → ℕ
+number_in row = row.number
 
--- the map has the rows of the nodes below a key, and no other
-pub record AreListedTo (rs : Rows) (n : ℕ) (files : Files) : Type 0 where
-  pub ordered : tree.IsOrdered nat_cmp files
-  pub told : (q : ℕ) (row : FileRow) → tree.get nat_cmp files q ≡ Some row → (k : ℕ) × (v : What) × (what rs k ≡ Some v) × (v.number ≡ q) × (row_shown v ≡ row)
-  pub all : (k : ℕ) (v : What) → k < n → what rs k ≡ Some v → tree.get nat_cmp files v.number ≡ Some (row_shown v)
+-- the rows of the nodes, in the order of their keys
+abbrev rows_in : Rows → List FileRow
+rows_in [] = []
+rows_in (None ∷ rs) = rows_in rs
+rows_in (Some r ∷ rs) = row_shown (shown r) ∷ rows_in rs
 
-pub listed-none : (rs : Rows) (files : Files) → tree.IsEmpty files → tree.IsOrdered nat_cmp files → AreListedTo rs 0 files
-listed-none rs files none ordered = record {
-  ordered = ordered;
-  told = λ q row e. absurd (some_none (ap (lookup (tree.is_at (nat_cmp q))) none) e);
-  all = λ k v below. absurd (omega (arith, below));
-}
+rows-entries : (slots : List (Option Node)) (key : ℕ) → map (λ (e : ℕ × Node). row_shown (shown (row_of e.1))) (entries_from key slots) ≡ rows_in (map (option_map row_of) slots)
+rows-entries [] key = refl
+rows-entries (None ∷ slots) key = rows-entries slots (key + 1)
+rows-entries (Some n ∷ slots) key = ap (λ rows. row_shown (shown (row_of n)) ∷ rows) (rows-entries slots (key + 1))
 
-module _ (s : Slab Node) (k : ℕ) where
-  pub what-none : None ≡ get s k → what (rows_of s) k ≡ None
-  what-none found = ap (option_map shown) (row-rows_of s k ∙ ap (option_map row_of) (sym found))
+-- the row of the next node is added
+pub rows-turn : {A B : Type 0} (f : A → B) (was is all : List B) (left rest : List A) (a : A) (b : B) → was ++ map f left ≡ all → left ≡ a ∷ rest → is ≡ was ++ b ∷ [] → b ≡ f a → is ++ map f rest ≡ all
+rows-turn f was is all left rest a b so_far next add row =
+    ap (λ es. es ++ map f rest) (add ∙ ap (λ x. was ++ x ∷ []) row) ∙ append_assoc was (f a ∷ []) (map f rest) ∙ ap (λ es. was ++ map f es) (sym next) ∙ so_far
 
-  pub what-node : (n : Node) → Some n ≡ get s k → what (rows_of s) k ≡ Some (shown (row_of n))
-  what-node n found = ap (option_map shown) (row-rows_of s k ∙ ap (option_map row_of) (sym found))
+-- each row is that of a node
+abbrev IsRowIn : Rows → FileRow → Type 0
+IsRowIn rs row = (k : ℕ) × (v : What) × (what rs k ≡ Some v) × (row_shown v ≡ row)
 
-last : (k n : ℕ) → k < n + 1 → k ≢ n → k < n
-last k n below off = omega arith
+row-from : (rs : Rows) (row : FileRow) → In (rows_in rs) row → IsRowIn rs row
+row-from [] row h = absurd h
+row-from (None ∷ rs) row h = let from = row-from rs row h in (suc from.0, from.1, from.2, from.3)
+row-from (Some r ∷ rs) row (inl is) = (0, shown r, refl, is)
+row-from (Some r ∷ rs) row (inr h) = let from = row-from rs row h in (suc from.0, from.1, from.2, from.3)
 
-pub listed-skip : (rs : Rows) (n : ℕ) (files : Files) → AreListedTo rs n files → what rs n ≡ None → AreListedTo rs (n + 1) files
-listed-skip rs n files is none = record {
-  ordered = is.ordered;
-  told = is.told;
-  all = λ k v below there. elim (cases_eq k n) [
-    | inl same ↦ absurd (some_none none (ap (what rs) (sym same) ∙ there))
-    | inr off ↦ is.all k v (last k n below off) there
-  ];
-}
+row-to : (rs : Rows) (k : ℕ) (v : What) → what rs k ≡ Some v → In (rows_in rs) (row_shown v)
+row-to [] k v e = absurd (some_none refl e)
+row-to (None ∷ rs) zero v e = absurd (some_none refl e)
+row-to (None ∷ rs) (suc k) v e = row-to rs k v e
+row-to (Some r ∷ rs) zero v e = inl (ap row_shown (same_some (shown r) v e))
+row-to (Some r ∷ rs) (suc k) v e = inr (row-to rs k v e)
 
-pub listed-more : (rs : Rows) (table : IsTable rs) (n : ℕ) (files new : Files) (w : What) (row : FileRow) → AreListedTo rs n files → what rs n ≡ Some w → row ≡ row_shown w
-    → tree.Updates nat_cmp files new w.number (Some row) → tree.IsOrdered nat_cmp new → AreListedTo rs (n + 1) new
-listed-more rs table n files new w row is here shows put ordered = record {
-  ordered = ordered;
-  told = λ q r e. told q r (tie nat_cmp_total nat_cmp-IsAntisymmetric w.number q) e;
-  all = λ k v below there. elim (cases_eq k n) [
-    | inl same ↦
-        let is_w : v ≡ w = same_some v w (sym there ∙ ap (what rs) same ∙ here) in
-        ap (λ (u : What). tree.get nat_cmp new u.number) is_w ∙ put.1 ∙ ap Some shows ∙ ap (λ (u : What). Some (row_shown u)) (sym is_w)
-    | inr off ↦
-        other v.number (tie nat_cmp_total nat_cmp-IsAntisymmetric w.number v.number) (λ same. off (table.numbers k n v w there here (sym same)))
-        ∙ is.all k v (last k n below off) there
-  ];
-}
-  where
-    other : (q : ℕ) → ((w.number ≡ q) × (tree.is_at (nat_cmp w.number) q ≡ true)) ⊎ ((w.number ≢ q) × (tree.is_at (nat_cmp w.number) q ≡ false)) → w.number ≢ q → tree.get nat_cmp new q ≡ tree.get nat_cmp files q
-    other q (inl same) off = absurd (off same.0)
-    other q (inr apart) off = put.0 q ∙ ap (λ b. cond b (Some row) (tree.get nat_cmp files q)) apart.1
+-- nodes with the same number are the same
+abbrev HasOwnNumbers : Rows → Type 0
+HasOwnNumbers rs = (j k : ℕ) (v w : What) → what rs j ≡ Some v → what rs k ≡ Some w → v.number ≡ w.number → j ≡ k
 
-    told : (q : ℕ) (r : FileRow) → ((w.number ≡ q) × (tree.is_at (nat_cmp w.number) q ≡ true)) ⊎ ((w.number ≢ q) × (tree.is_at (nat_cmp w.number) q ≡ false)) → tree.get nat_cmp new q ≡ Some r
-        → (k : ℕ) × (v : What) × (what rs k ≡ Some v) × (v.number ≡ q) × (row_shown v ≡ r)
-    told q r (inl same) e =
-        (n, w, here, same.0, sym shows ∙ same_some row r (sym put.1 ∙ ap (tree.get nat_cmp new) same.0 ∙ e))
-    told q r (inr apart) e = is.told q r (sym (put.0 q ∙ ap (λ b. cond b (Some row) (tree.get nat_cmp files q)) apart.1) ∙ e)
+own-tail : (o : Option Row) (rs : Rows) → HasOwnNumbers (o ∷ rs) → HasOwnNumbers rs
+own-tail o rs own j k v w a b same = let e = own (suc j) (suc k) v w a b same in omega (arith, e)
 
-pub listed-all : (s : Slab Node) (files : Files) (n : ℕ) → length s.slots ≤ n → (table : IsTable (rows_of s)) → AreListedTo (rows_of s) n files → AreListed (rows_of s) files
-listed-all s files n enough table is = record {
-  ordered = is.ordered;
-  told = is.told;
-  all = λ k v there. is.all k v (let h = within (rows_of s) k v there in omega (arith, h, enough, length-map s.slots (option_map row_of))) there;
-}
+own-apart : (n : ℕ) (rows : List FileRow) → ((row : FileRow) → In rows row → n ≢ row.number) → AllByRecursion (λ m. eqb n m ≡ false) (map number_in rows)
+own-apart n [] off = tt
+own-apart n (row ∷ rows) off = (ne_eqb n row.number (off row (inl refl)), own-apart n rows (λ r h. off r (inr h)))
 
--- ---- the world's files
+own-distinct : (rs : Rows) → HasOwnNumbers rs → IsDistinct eqb (map number_in (rows_in rs))
+unfolding IsDistinct
+own-distinct [] own = tt
+own-distinct (None ∷ rs) own = own-distinct rs (own-tail None rs own)
+own-distinct (Some r ∷ rs) own =
+    IsDistinct-cons eqb r.number (map number_in (rows_in rs))
+    (own-apart r.number (rows_in rs) (λ row h same.
+    let from = row-from rs row h in
+    let e : 0 ≡ suc from.0 = own 0 (suc from.0) (shown r) from.1 refl from.2 (same ∙ sym (ap number_in from.3)) in
+    absurd (omega (arith, e))))
+    (own-distinct rs (own-tail (Some r) rs own))
 
-abbrev rowed : List (ℕ × File) → List (ℕ × FileRow)
-rowed es = map (λ e. (e.0, file_row e)) es
+-- ---- the rows in order
 
-both : (a b : Bool) → T a → T b → T (a && b)
-both true b p q = q
-both false b p q = p
+numbers-rise : (rows : List FileRow) → IsNonDecreasingBy number_in rows → IsNonDecreasing (map number_in rows)
+numbers-rise [] up i j d low high = absurd (omega (arith, high))
+numbers-rise (row ∷ rows) up i j d low high =
+    let all = row ∷ rows in
+    let below : j < length all = omega (arith, high, length-map all number_in) in
+    let is_i = get_or-map number_in all i row d (omega (arith, low, below)) in
+    let is_j = get_or-map number_in all j row d below in
+    let rise = up i j row low below in
+    omega (arith, is_i, is_j, rise)
 
-all_below : (k : ℕ) (es : List (ℕ × FileRow)) → AllByRecursion (λ y. nat_cmp k y ≡ Less) (keys_of es) → T (below_all nat_cmp k es)
-all_below k [] h = tt
-all_below k (e ∷ es) h = subst (λ o. T (is_lt o && below_all nat_cmp k es)) (sym h.0) (all_below k es h.1)
-
-in_order : (es : List (ℕ × FileRow)) → IsStrictlySortedBy nat_cmp (keys_of es) → T (is_sorted nat_cmp es)
-in_order [] h = tt
-in_order (e ∷ es) h = both _ _ (all_below e.0 es (sorted_head nat_cmp e.0 (keys_of es) h)) (in_order es (sorted_tail nat_cmp e.0 (keys_of es) h))
-
-rowed-below : (k : ℕ) (es : List (ℕ × File)) → below_all nat_cmp k (rowed es) ≡ below_all nat_cmp k es
-rowed-below k [] = refl
-rowed-below k (e ∷ es) = ap (λ b. is_lt (nat_cmp k e.0) && b) (rowed-below k es)
-
-rowed-sorted : (es : List (ℕ × File)) → is_sorted nat_cmp (rowed es) ≡ is_sorted nat_cmp es
-rowed-sorted [] = refl
-rowed-sorted (e ∷ es) = ap (λ b. b && is_sorted nat_cmp (rowed es)) (rowed-below e.0 es) ∙ ap (λ b. below_all nat_cmp e.0 es && b) (rowed-sorted es)
-
-find-rowed : (es : List (ℕ × File)) (q : ℕ) → finmap.find nat_cmp q (rowed es) ≡ option_map (λ f. file_row (q, f)) (finmap.find nat_cmp q es)
-find-rowed [] q = refl
-find-rowed (e ∷ es) q =
-    elim (tie nat_cmp_total nat_cmp-IsAntisymmetric q e.0) [
-      | inl same ↦
-          ap (λ b. cond b (Some (file_row e)) (finmap.find nat_cmp q (rowed es))) same.1
-          ∙ ap (λ n. Some (file_row (n, e.1))) (sym same.0)
-          ∙ sym (ap (λ b. option_map (λ f. file_row (q, f)) (cond b (Some e.1) (finmap.find nat_cmp q es))) same.1)
-      | inr off ↦
-          ap (λ b. cond b (Some (file_row e)) (finmap.find nat_cmp q (rowed es))) off.1 ∙ find-rowed es q
-          ∙ sym (ap (λ b. option_map (λ f. file_row (q, f)) (cond b (Some e.1) (finmap.find nat_cmp q es))) off.1)
+eqb-flips : (x y : ℕ) → eqb x y ≡ eqb y x
+eqb-flips x y =
+    elim (cases_eq x y) [
+      | inl same ↦ eq-eqb x y same ∙ sym (eq-eqb y x (sym same))
+      | inr off ↦ ne_eqb x y off ∙ sym (ne_eqb y x (λ e. off (sym e)))
     ]
 
-find-lookup : (es : List (ℕ × FileRow)) (q : ℕ) → finmap.find nat_cmp q es ≡ lookup (tree.is_at (nat_cmp q)) es
-find-lookup [] q = refl
-find-lookup (e ∷ es) q = ap (cond (is_eq (nat_cmp q e.0)) (Some e.1)) (find-lookup es q)
+Contains-In : {A : Type 0} (xs : List A) (a : A) → In xs a → Contains xs a
+Contains-In [] a h = absurd h
+Contains-In (x ∷ xs) a (inl is) = (0, omega arith, is)
+Contains-In (x ∷ xs) a (inr h) = let at = Contains-In xs a h in (suc at.0, (let below = at.1 in omega (arith, below)), at.2)
 
-same-lists : (es fs : List (ℕ × FileRow)) → T (is_sorted nat_cmp es) → T (is_sorted nat_cmp fs) → ((q : ℕ) → finmap.find nat_cmp q es ≡ finmap.find nat_cmp q fs) → es ≡ fs
-same-lists es fs p q is =
-    sym (finmap.entries-from_sorted nat_cmp es p)
-    ∙ ap finmap.entries (finmap.same_map nat_cmp_total nat_cmp-IsAntisymmetric (finmap.from_sorted es) (finmap.from_sorted fs) (λ k. finmap.get-from_sorted nat_cmp es k p ∙ is k ∙ sym (finmap.get-from_sorted nat_cmp fs k q)))
-    ∙ finmap.entries-from_sorted nat_cmp fs q
+In-Contains : {A : Type 0} (xs : List A) (a : A) (k : ℕ) → k < length xs → get_or xs k a ≡ a → In xs a
+In-Contains [] a k below is = absurd (omega (arith, below))
+In-Contains (x ∷ xs) a zero below is = inl is
+In-Contains (x ∷ xs) a (suc k) below is = inr (In-Contains xs a k (omega (arith, below)) is)
 
-pub files-rows : (t : Tree) (w : World) (files : Files) → Stands t w → AreListed t.rows files → tree.values files ≡ map file_row (finmap.entries w.files)
-files-rows t w files stands is =
-    ap (map (λ (e : ℕ × FileRow). e.1)) (same-lists files.entries (rowed (finmap.entries w.files)) (in_order files.entries is.ordered)
-    (subst T (sym (rowed-sorted (finmap.entries w.files))) (finmap.entries_sorted w.files))
-    (λ q. find-lookup files.entries q ∙ got q (tree.get nat_cmp files q) refl ∙ ap (option_map (λ f. file_row (q, f))) (finmap.get-entries w.files q) ∙ sym (find-rowed (finmap.entries w.files) q)))
-    ∙ unrowed (finmap.entries w.files)
-  where
-    unrowed : (es : List (ℕ × File)) → map (λ (e : ℕ × FileRow). e.1) (rowed es) ≡ map file_row es
-    unrowed [] = refl
-    unrowed (e ∷ es) = ap (λ rows. file_row e ∷ rows) (unrowed es)
+In-permutation : {A : Type 0} (xs ys : List A) (a : A) → IsPermutation xs ys → In xs a → In ys a
+In-permutation xs ys a moved h = let at = Contains-permutation xs ys a moved (Contains-In xs a h) in In-Contains ys a at.0 at.1 at.2
 
-    got : (q : ℕ) (o : Option FileRow) → tree.get nat_cmp files q ≡ o → o ≡ option_map (λ f. file_row (q, f)) (finmap.get w.files q)
-    got q (Some row) e =
-        let from = is.told q row e in
-        let there : finmap.get w.files q ≡ Some (file_of from.1) = ap (finmap.get w.files) (sym from.3) ∙ stands.files from.0 from.1 from.2 in
-        ap Some (sym from.4) ∙ ap (λ n. Some (file_row (n, file_of from.1))) from.3 ∙ sym (ap (option_map (λ f. file_row (q, f))) there)
-    got q None e = none (finmap.get w.files q) refl
-      where
-        none : (o : Option File) → finmap.get w.files q ≡ o → None ≡ option_map (λ f. file_row (q, f)) o
-        none None there = refl
-        none (Some f) there =
-            let from = stands.no_more q f there in
-            absurd (some_none e (ap (tree.get nat_cmp files) (sym from.3) ∙ is.all from.0 from.1 from.2))
+-- a row as an entry of the world's files
+abbrev entry_of : FileRow → ℕ × File
+entry_of row = (row.number, record { kind = row.kind; mode = row.mode; bytes = row.bytes })
+
+keys-entries : (rows : List FileRow) → keys_of (map entry_of rows) ≡ map number_in rows
+keys-entries [] = refl
+keys-entries (row ∷ rows) = ap (λ ns. row.number ∷ ns) (keys-entries rows)
+
+rows-back : (rows : List FileRow) → map file_row (map entry_of rows) ≡ rows
+rows-back [] = refl
+rows-back (row ∷ rows) = ap (λ rs. row ∷ rs) (rows-back rows)
+
+module _ (t : Tree) (w : World) (stands : Stands t w) (rows : List FileRow) (moved : IsPermutation (rows_in t.rows) rows) (rise : IsNonDecreasingBy number_in rows) where
+  es : List (ℕ × File)
+  es = map entry_of rows
+
+  up : T (is_sorted nat_cmp es)
+  unfolding es
+  up =
+      let distinct = IsDistinct-IsPermutation eqb eqb-flips (map number_in (rows_in t.rows)) (map number_in rows)
+      (IsPermutation-map number_in (rows_in t.rows) rows moved) (own-distinct t.rows stands.table.numbers) in
+      in_order nat_cmp (map entry_of rows)
+      (subst (IsStrictlySortedBy nat_cmp) (sym (keys-entries rows))
+      (sorted_from_strictly_increasing (map number_in rows) (IsStrictlyIncreasing-from_distinct (map number_in rows) (numbers-rise rows rise) distinct)))
+
+  found : (q : ℕ) → finmap.find nat_cmp q es ≡ finmap.get w.files q
+  unfolding es
+  found q = by (finmap.find nat_cmp q es) refl
+    where
+      none : finmap.find nat_cmp q es ≡ None → (o : Option File) → finmap.get w.files q ≡ o → None ≡ o
+      none absent None e = refl
+      none absent (Some f) e =
+          let from = stands.no_more q f e in
+          let there = In-map entry_of rows (row_shown from.1) (In-permutation (rows_in t.rows) rows (row_shown from.1) moved (row-to t.rows from.0 from.1 from.2)) in
+          absurd (some_none (ap (λ n. finmap.find nat_cmp n es) from.3 ∙ absent) (find-In nat_cmp_total nat_cmp-IsAntisymmetric es from.1.number (file_of from.1) up there))
+
+      by : (o : Option File) → finmap.find nat_cmp q es ≡ o → finmap.find nat_cmp q es ≡ finmap.get w.files q
+      by None e = e ∙ none e (finmap.get w.files q) refl
+      by (Some f) e =
+          let entry = In-unmap entry_of rows (q, f) (In-find nat_cmp_total nat_cmp-IsAntisymmetric es q f e) in
+          let from = row-from t.rows entry.0 (In-permutation rows (rows_in t.rows) entry.0 (IsPermutation-sym (rows_in t.rows) rows moved) entry.1) in
+          e ∙ sym (subst (λ (x : ℕ × File). finmap.get w.files x.0 ≡ Some x.1) (ap entry_of from.3 ∙ entry.2) (stands.files from.0 from.1 from.2))
+
+  rows-of : rows ≡ map file_row (finmap.entries w.files)
+  unfolding es
+  rows-of = sym (rows-back rows) ∙ ap (map file_row) (entries-of nat_cmp_total nat_cmp-IsAntisymmetric es w.files up found)
+
+-- the rows of all nodes, sorted by number
+pub files-rows : (t : Tree) (w : World) (s : Slab Node) (rows sorted : List FileRow) → t.rows ≡ rows_of s → Stands t w → rows ≡ map (λ (e : ℕ × Node). row_shown (shown (row_of e.1))) (entries s)
+    → IsPermutation rows sorted → IsNonDecreasingBy (λ (row : FileRow). row.number) sorted → sorted ≡ map file_row (finmap.entries w.files)
+files-rows t w s rows sorted same stands all moved rise =
+    rows-of t w stands sorted (subst (λ rs. IsPermutation rs sorted) (all ∙ rows-entries s.slots 0 ∙ ap rows_in (sym same)) moved) rise

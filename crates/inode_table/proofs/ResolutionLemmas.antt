@@ -1,6 +1,6 @@
 -- What a walk along a path finds.
-use Rattle.std.proofs.Common.{◌≡◌, ℕ, zero, suc, ◌≤◌, List, [], ◌∷◌, ◌++◌, take, length, Option, Some, None, Result, Ok, Err, true, is_some, refl, sym, ap, subst, ◌∙◌, arith, if◌then◌else◌}
-use Rattle.std.proofs.lemmas.List.{take-append-le}
+use Rattle.std.proofs.Common.{◌≡◌, ℕ, zero, suc, ◌-◌, ◌≤◌, cond, append_assoc, List, [], ◌∷◌, ◌++◌, take, length, Option, Some, None, Result, Ok, Err, true, is_some, refl, sym, ap, subst, ◌∙◌, arith, if◌then◌else◌}
+use Rattle.std.proofs.lemmas.List.{append-nil, take-append-le}
 use Rattle.std.specs.Option.{option_and_then}
 use Rattle.tree_paths.specs.declared.refusal.Refusal.{Refusal}
 use Rattle.tree_paths.specs.declared.refusal.Refusal.TheVariants.{Enoent, Enotdir}
@@ -11,11 +11,12 @@ use Rattle.inode_table.specs.Refusals.{Look, find, is_directory_seen, longest_th
 use Rattle.inode_table.specs.Rows.{Label, child}
 use Rattle.inode_table.specs.Stands.{look_in, seen_at}
 use Rattle.inode_table.specs.Tree.{Tree, at}
-use Rattle.inode_table.specs.Kept.{IsTable}
+use Rattle.inode_table.specs.Kept.{is_directory, IsTable}
 use Rattle.inode_table.specs.Walk.{walk}
 use Rattle.inode_table.proofs.FindLemmas.{absent-seen, found-none, live-there, stops-absent, stops-missing, take-whole, there-seen}
 use Rattle.inode_table.proofs.TableLemmas.{StopsAt}
 use Rattle.inode_table.proofs.TableWorldLemmas.{look-world, numbered}
+use Rattle.inode_table.proofs.ChangeLemmas.{walk_end}
 use Rattle.inode_table.proofs.WalkLemmas.{walk-append}
 
 longest-more : (seen : Look) (q s : List Label) (n : ℕ) → n ≤ length q → longest_there seen (q ++ s) n ≡ longest_there seen q n
@@ -100,3 +101,56 @@ resolved-kept t u paths same path is = record { here = kept path.names path.here
           missing = ap (λ w. find (look w) p) same ∙ is.missing;
           absent = ap (λ w. look w p) same ∙ is.absent;
         }
+
+-- ---- one name after the other
+
+-- the names before this one lead to the key
+pub record WalksTo (c : ℕ → Label → Option ℕ) (whole : List Label) (name : Label) (left : List Label) (key : ℕ) : Type 0 where
+  pub front : List Label
+  pub cut : whole ≡ front ++ name ∷ left
+  pub there : walk c 0 front ≡ Some key
+
+pub walks-first : (c : ℕ → Label → Option ℕ) (name : Label) (left : List Label) → WalksTo c (name ∷ left) name left 0
+walks-first c name left = record { front = []; cut = refl; there = refl }
+
+pub walks-on : (c : ℕ → Label → Option ℕ) (whole : List Label) (name next : Label) (names left : List Label) (key there : ℕ) → WalksTo c whole name names key → names ≡ next ∷ left → c key name ≡ Some there
+    → WalksTo c whole next left there
+walks-on c whole name next names left key there w cut leads =
+    record {
+      front = w.front ++ name ∷ [];
+      cut = w.cut ∙ ap (λ (r : List Label). w.front ++ name ∷ r) cut ∙ sym (append_assoc w.front (name ∷ []) (next ∷ left));
+      there = walk_end c key w.front name w.there ∙ leads;
+    }
+
+parent-cons : (x y : Label) (p : List Label) → parent_of (x ∷ y ∷ p) ≡ x ∷ parent_of (y ∷ p)
+parent-cons x y p = let n : length (x ∷ y ∷ p) - 1 ≡ suc (length (y ∷ p) - 1) = omega arith in ap (λ (k : ℕ). take k (x ∷ y ∷ p)) n
+
+parent-append : (front : List Label) (x : Label) (p : List Label) → parent_of (front ++ x ∷ p) ≡ front ++ parent_of (x ∷ p)
+parent-append [] x p = refl
+parent-append (l ∷ []) x p = parent-cons l x p
+parent-append (l ∷ m ∷ front) x p = parent-cons l m (front ++ x ∷ p) ∙ ap (λ (r : List Label). l ∷ r) (parent-append (m ∷ front) x p)
+
+parent-one : (front : List Label) (x : Label) → parent_of (front ++ x ∷ []) ≡ front
+parent-one front x = parent-append front x [] ∙ append-nil front
+
+module _ (t : Tree) (table : IsTable t.rows) where
+  pub walk-parent : (whole : List Label) (name : Label) (left : List Label) (key found : ℕ) → WalksTo (child t.rows) whole name left key → left ≡ [] → found ≡ key → IsFound t (parent_of whole) (Ok found)
+  walk-parent whole name left key found w none same =
+      let parent : parent_of whole ≡ w.front = ap parent_of (w.cut ∙ ap (λ (r : List Label). w.front ++ name ∷ r) none) ∙ parent-one w.front name in
+      subst (λ (p : List Label). IsFound t p (Ok found)) (sym parent) (found-at t table w.front key found w.there same)
+
+  pub walk-here : (whole : List Label) (name last : Label) (left : List Label) (key : ℕ) (r : Result ℕ Refusal) → WalksTo (child t.rows) whole name left key → left ≡ [] → last ≡ name
+      → ((p : List Label) → at t p ≡ Some key → IsFound t (p ++ last ∷ []) r) → IsFound t whole r
+  walk-here whole name last left key r w none same here =
+      let cut : w.front ++ last ∷ [] ≡ whole = sym (w.cut ∙ (λ i. w.front ++ sym same i ∷ none i)) in
+      subst (λ (p : List Label). IsFound t p r) cut (here w.front w.there)
+
+  pub walk-stops : (whole : List Label) (name next : Label) (names left : List Label) (key : ℕ) (e : Refusal) → WalksTo (child t.rows) whole name names key → names ≡ next ∷ left
+      → child t.rows key name ≡ None → e ≡ cond (is_directory t.rows key) Enoent Enotdir → IsFound t whole (Err e) × IsFound t (parent_of whole) (Err e)
+  walk-stops whole name next names left key e w more missing answer =
+      let cut : whole ≡ w.front ++ name ∷ next ∷ left = w.cut ∙ ap (λ (r : List Label). w.front ++ name ∷ r) more in
+      let none : at t (w.front ++ name ∷ []) ≡ None = walk_end (child t.rows) key w.front name w.there ∙ missing in
+      let parent : parent_of whole ≡ w.front ++ name ∷ parent_of (next ∷ left) = ap parent_of cut ∙ parent-append w.front name (next ∷ left) ∙ ap (λ (r : List Label). w.front ++ r) (parent-cons name next left) in (
+        stops-at t table whole e (record { front = w.front; label = name; rest = next ∷ left; key = key; cut = cut; there = w.there; missing = none; answer = answer }),
+        stops-at t table (parent_of whole) e (record { front = w.front; label = name; rest = parent_of (next ∷ left); key = key; cut = parent; there = w.there; missing = none; answer = answer }),
+      )

@@ -18,7 +18,8 @@ module _ {N : Type 0} where
     pub parents : (k j : ℕ) (l : N) → child k l ≡ Some j → is_directory k ≡ true
     pub reached : (k j : ℕ) (l : N) → child k l ≡ Some j → (p : List N) × (walk child 0 p ≡ Some k)
     pub children : (k j : ℕ) (l : N) → child k l ≡ Some j → is_live j ≡ true
-    pub one_path : (k : ℕ) (p q : List N) → is_directory k ≡ true → walk child 0 p ≡ Some k → walk child 0 q ≡ Some k → p ≡ q
+    pub one_path : (k : ℕ) (p q : List N) → is_directory k ≡ true → walk child 0 p ≡ Some k → walk child 0 q ≡ Some k
+        → p ≡ q
 
 abbrev pub body_of : Content → Body
 body_of (Regular v) = File v.items (vec_capacity v)

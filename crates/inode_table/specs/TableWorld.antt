@@ -61,7 +61,7 @@ world_in rs = record {
   files = files_below rs (length rs);
 }
 
--- the world that contracts see of a table, however much room it has
+-- the world that contracts see of a table, whatever its capacity
 abbrev pub world_of : Tree → World
 world_of t = world_in t.rows
 

@@ -4,9 +4,8 @@ ghost use Rattle.std.specs.Prelude.{◌≡◌, ◌≢◌, ◌++◌, ◌∷◌, [
 ghost use Rattle.inode_table.specs.Refusals.{parent_of};
 
 use crate::key::Key;
-use record_codec::Name;
 use std::marker::Model;
-use tree_paths::{Path, Refusal};
+use tree_paths::{Path, PathName, Refusal};
 
 /// A path, and what [`crate::Table::resolve`] found along it, in the table as it was then.
 #[derive(Drop)]
@@ -32,14 +31,13 @@ impl<'a> Resolved<'a> {
         self.path
     }
 
-    /// The names of the directory of the path's last name, and that name.
-    pub(crate) fn parent_and_name(&self) -> (&'a [Name], &'a Name)
+    /// The last name of the path.
+    pub(crate) fn last_name(&self) -> PathName<'a>
         requires { self.now.names ≢ [] }
-        ensures parts { self.now.names ≡ result.0.now ++ result.1.now ∷ [] }
-        ensures parent { result.0.now ≡ parent_of self.now.names }
+        ensures { self.now.names ≡ parent_of self.now.names ++ result ∷ [] }
     {
-        match self.path.parent_and_name() {
-            Some(parts) => parts,
+        match self.path.last_name() {
+            Some(name) => name,
             None => unreachable!(),
         }
     }

@@ -115,24 +115,6 @@ impl Table {
         let _ = &self.nodes;
     }
 
-    // The key to which the path leads, or why there is none.
-    fn walk(&self, path: &[Name]) -> Result<usize, Refusal>
-        ensures found { IfOk result (λ key. at self.now path.now ≡ Some key) }
-        ensures there { IfOk result (λ key. IsSome (what_at self.now key)) }
-        ensures none { IfOk result (λ _. find (look_in self.now) path.now ≡ None) }
-        ensures missing { IfErr result (λ refusal. find (look_in self.now) path.now ≡ Some refusal) }
-        ensures absent { IfErr result (λ _. look_in self.now path.now ≡ None) }
-    {
-        let mut key = ROOT;
-        for name in path {
-            match child(&self.nodes, key, name) {
-                Some(next) => key = next,
-                None => return Err(refusal_at(&self.nodes, key)),
-            }
-        }
-        Ok(key)
-    }
-
     // The node under a key.
     fn node(&self, key: Key) -> &Node
         requires { IsSome (number_of self.now (Some key)) }

@@ -1,4 +1,4 @@
--- Codes of values, by which proofs tell them apart. No public clause cites this module.
+-- Codes of values, by which proofs distinguish them. No public clause cites this module.
 use Rattle.std.specs.Coded.{Coded, coded_ℕ}
 use Rattle.std.specs.FinMap as finmap
 use Rattle.instance_table.specs.contracts.instance.Instance as instance

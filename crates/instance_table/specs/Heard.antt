@@ -1,4 +1,4 @@
--- How what is staged is told, one after the other. No public clause cites this module.
+-- How staged events and ended watches are delivered, one after the other. No public clause cites this module.
 use Rattle.std.specs.Prelude.{List, fold}
 use Rattle.watch_table.specs.Watching.{removed}
 use Rattle.event_queue.specs.Backlogs.{after_offer}
@@ -7,14 +7,14 @@ use Rattle.event_rules.specs.declared.staging.StagedEnd.{StagedEnd}
 use Rattle.instance_table.specs.declared.instance.Instance.{Instance}
 use Rattle.instance_table.specs.Instances.{Instances, changed}
 
--- an instance that hears an event, and one of which a watch ends
+-- an instance that receives an event, and one of which a watch ends
 abbrev pub hears : StagedEvent → Instance → Instance
 hears h i = record i { queue = after_offer i.queue h.event }
 
 abbrev pub ends : StagedEnd → Instance → Instance
 ends d i = record i { watches = removed i.watches d.wd }
 
--- the instances once each event was heard, and once each of the watches ended
+-- the instances once each event was delivered, and once each of the watches ended
 abbrev pub heard_all : Instances → List StagedEvent → Instances
 heard_all m hs = fold (λ m h. changed m h.id (hears h)) m hs
 

@@ -13,9 +13,11 @@ marked ids = map (λ id. (id, tt)) ids
 abbrev pub set_of : List ℕ → IdSet
 set_of ids = from_entries (marked ids)
 
--- where a number is among others, or else the place between those below it and those above
+-- the index of a number among others, or else the index between those below it and those above
 abbrev pub IsPlace : List ℕ → ℕ → Result ℕ ℕ → Type 0
 IsPlace ids id place =
     MatchResult place
     (λ i. (i < length ids) × (slice_index_or ids i 0 ≡ id))
-    (λ i. (i ≤ length ids) × ((k : ℕ) → k < i → slice_index_or ids k 0 < id) × ((k : ℕ) → i ≤ k → k < length ids → id < slice_index_or ids k 0))
+    (λ i.
+    (i ≤ length ids) × ((k : ℕ) → k < i → slice_index_or ids k 0 < id)
+    × ((k : ℕ) → i ≤ k → k < length ids → id < slice_index_or ids k 0))

@@ -33,9 +33,10 @@ WaitingAreEvents m = (id : ℕ) → AreEvents (waiting_of (instance_of m id))
 
 -- a new instance, which watches nothing (inotify_init(2))
 abbrev pub new_instance : Limits → ℕ → Bool → Instance
-new_instance limits limit is_piped = record { is_piped = is_piped; watches = no_watches limits; queue = record { limit = limit; waiting = [] } }
+new_instance limits limit is_piped =
+    record { is_piped = is_piped; watches = no_watches limits; queue = record { limit = limit; waiting = [] } }
 
--- an instance after notices: it hears the events that they raise, and the watches that end are gone
+-- an instance after notices: it receives the events that they raise, and the watches that end are gone
 abbrev pub told : List Notice → Instance → Instance
 told ns i = record i { watches = watches_after i.watches ns; queue = fold after_offer i.queue (events_of i.watches ns) }
 
@@ -43,7 +44,7 @@ told ns i = record i { watches = watches_after i.watches ns; queue = fold after_
 abbrev pub watching : ℕ → ℕ → Instance → Instance
 watching number mask i = record i { watches = added i.watches number mask }
 
--- an instance without the watch of a descriptor, which is told so (inotify_rm_watch(2))
+-- an instance without the watch of a descriptor, which receives an IN_IGNORED (inotify_rm_watch(2))
 abbrev pub unwatching : ℤ → Instance → Instance
 unwatching wd i = record i { watches = removed i.watches wd; queue = after_offer i.queue (ignored wd) }
 

@@ -10,8 +10,8 @@ use Rattle.instance_table.specs.Opened.{by_number, ids_of}
 abbrev pub instances_of : Inside → Instances
 instances_of a = by_number a.opened.items
 
--- the index notes who watches each file, and nobody else, with no row for a file that nobody watches; what waits are events;
--- the instances are in the order of their numbers, each of which stands once
+-- the index has exactly the instances that watch each file, and no row for an unwatched file; the queued records are
+-- events; the instances are in strictly ascending order of their numbers
 pub record NotesEveryWatch (a : Inside) : Type 0 where
   pub noted : (number id : ℕ) → is_noted a.index number id ≡ watches_file number (instance_of (instances_of a) id)
   pub rows : HasNoEmptyRow a.index

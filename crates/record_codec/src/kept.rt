@@ -13,8 +13,8 @@ pub(crate) const FRONT_LEN: usize = 8;
 
 /// The bytes of a name: in the value itself where it has room for them, and else in memory.
 ///
-/// The byte that tells which it is stands before the others, so that with 23 bytes of a name the value takes 24, and
-/// an `Option` of it 32.
+/// The byte that tells which it is stands before the others, so that with 31 bytes of a name the value takes 32, and
+/// an `Option` of it 40.
 pub(crate) enum Kept {
     /// As many bytes as there is room for.
     Full([u8; NAME_IN_PLACE]),
@@ -45,21 +45,32 @@ impl Kept {
         ensures sound { IfOk result IsKept }
     {
         let len = bytes.len();
-        // Cleared up here it takes three stores. Right before the copy LLVM would clear what the copy leaves, by a call.
-        let mut short = [0; NAME_IN_PLACE - 1];
         if NAME_IN_PLACE < len {
             return in_memory(alloc, bytes);
         }
+        Ok(Kept::in_place(bytes))
+    }
+
+    /// These bytes in the value itself.
+    #[inline(always)]
+    pub(crate) fn in_place(bytes: &[u8]) -> Kept
+        requires { length bytes.now ≤ NAME_IN_PLACE }
+        ensures kept { kept_bytes result ≡ bytes.now }
+        ensures sound { IsKept result }
+    {
+        let len = bytes.len();
+        // Cleared up here it takes four stores. Right before the copy LLVM would clear what the copy leaves, by a call.
+        let mut short = [0; NAME_IN_PLACE - 1];
         if len == NAME_IN_PLACE {
             let mut full = [0; NAME_IN_PLACE];
             full.copy_from_slice(bytes);
-            return Ok(Kept::Full(full));
+            return Kept::Full(full);
         }
         short[..len].copy_from_slice(bytes);
-        Ok(Kept::Short {
+        Kept::Short {
             len: len as u8,
             bytes: short,
-        })
+        }
     }
 
     /// The bytes.

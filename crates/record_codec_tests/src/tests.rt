@@ -129,8 +129,8 @@ fn names(rt: HostRuntime) -> Result<(), Fail> {
 
 #[test]
 fn names_of_each_kind_of_length(rt: HostRuntime) -> Result<(), Fail> {
-    equal(&rt, (NAME_IN_PLACE, NAME_MAX), (23, 255));
-    for len in [1, 22, 23, 24, 255] {
+    equal(&rt, (NAME_IN_PLACE, NAME_MAX), (31, 255));
+    for len in [1, 30, 31, 32, 255] {
         let mut bytes = vec![in rt.alloc(); b'm'; len]?;
         bytes[len - 1] = b'z';
         let name = Name::new(rt.alloc(), &bytes)?.ok_or("a name")?;
@@ -147,9 +147,9 @@ fn names_of_each_kind_of_length(rt: HostRuntime) -> Result<(), Fail> {
 
 #[test]
 fn sizes(rt: HostRuntime) {
-    equal(&rt, size_of::<Name>(), 24);
-    equal(&rt, size_of::<Option<Name>>(), 32);
-    equal(&rt, size_of::<Event>(), 48);
+    equal(&rt, size_of::<Name>(), 32);
+    equal(&rt, size_of::<Option<Name>>(), 40);
+    equal(&rt, size_of::<Event>(), 56);
 }
 
 #[test]

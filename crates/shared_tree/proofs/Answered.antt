@@ -37,7 +37,8 @@ pump-answered place id bytes b None (Some i) e =
       ap (λ (rs : List Event). reply.Records (spelling rs)) (sym (same-id id (oldest bytes i)) ∙ ap (λ (x : Batch). x.records) is),
     )
 
-close-answered : (place id : ℕ) (b : Batch) (r : Reply) → where_done r (batch id place []) ≡ Some b → (b.place ≡ place) × (b.instance ≡ id) × (b.records ≡ []) × (r ≡ reply.Done)
+close-answered : (place id : ℕ) (b : Batch) (r : Reply) → where_done r (batch id place []) ≡ Some b
+    → (b.place ≡ place) × (b.instance ≡ id) × (b.records ≡ []) × (r ≡ reply.Done)
 close-answered place id b reply.Done e =
     let is : batch id place [] ≡ b = some-is (batch id place []) b e in
     (ap (λ (x : Batch). x.place) (sym is), ap (λ (x : Batch). x.instance) (sym is), ap (λ (x : Batch). x.records) (sym is), refl)

@@ -1,5 +1,7 @@
 -- Nothing follows the end batch of an instance.
-use Rattle.std.proofs.Common.{◌≡◌, ◌⊎◌, ℕ, zero, suc, ◌+◌, ◌<◌, ◌==◌, Bool, true, false, cond, eqb, List, [], ◌∷◌, ◌++◌, length, take, Option, Some, None, option_map, refl, sym, ap, ◌∙◌, subst, inl, inr, arith, append_assoc}
+use Rattle.std.proofs.Common.{◌≡◌, ◌⊎◌, ℕ, zero, suc, ◌+◌, ◌<◌, ◌==◌, Bool, true, false, cond, eqb, List, [], ◌∷◌, ◌++◌}
+use Rattle.std.proofs.Common.{length, take, Option, Some, None, option_map, refl, sym, ap, ◌∙◌, subst, inl, inr, arith}
+use Rattle.std.proofs.Common.{append_assoc}
 use Rattle.std.proofs.lemmas.Bool.{eqb-true}
 use Rattle.std.proofs.lemmas.Bool.Decides.{nat_tests}
 use Rattle.record_codec.specs.declared.event.Event.{Event}
@@ -37,7 +39,9 @@ some-oldest : (bytes : ℕ) (i : Instance) → first_row (read_rows true bytes (
 unfolding read_rows
 some-oldest bytes i passes none =
     let each = each-passes (read_rows true bytes (Some i)) passes in
-    some-taken (fitting bytes i.queue.waiting) i.queue.waiting (row-passes (fitting bytes i.queue.waiting == 0) Einval each.1.1.0) (row-passes (length i.queue.waiting == 0) Eagain each.1.0) none
+    some-taken (fitting bytes i.queue.waiting) i.queue.waiting
+    (row-passes (fitting bytes i.queue.waiting == 0) Einval each.1.1.0)
+    (row-passes (length i.queue.waiting == 0) Eagain each.1.0) none
 
 some-is : (xs ys : List Event) → ◌≡◌ {A = Option (List Event)} (Some xs) (Some ys) → xs ≡ ys
 some-is xs ys e = cc
@@ -78,7 +82,10 @@ pub below-opening : (limits : Limits) → AreBelow (opening limits)
 below-opening limits id i there = let both : ◌≡◌ {A = Option Instance} None (Some i) = sym (none-opening limits id) ∙ there in absurd (cc)
 
 gone-after : (tells : Told) (t : Tree) (c : Call) (id : ℕ) → IsGone t id → IsGone (after t c) id
-gone-after tells t c id gone = let made = gone.made in let more = (tells t c).rising in record { none = none-after t c id gone.none (inl made); made = omega (arith, made, more) }
+gone-after tells t c id gone =
+    let made = gone.made in
+    let more = (tells t c).rising in
+    record { none = none-after t c id gone.none (inl made); made = omega (arith, made, more) }
 
 -- an instance that is gone is handed nothing
 gone-hands : (tells : Told) (t : Tree) (place : ℕ) (es : List Entry) (id : ℕ) → IsGone t id → handed_from t place es id ≡ []
@@ -87,7 +94,8 @@ gone-hands tells t place (e ∷ es) id gone =
     ap (λ (bs : List Batch). bs ++ handed_from (after t e.call) (place + 1) es id) (hands-none tells t place id gone.none e.call)
     ∙ gone-hands tells (after t e.call) (place + 1) es id (gone-after tells t e.call id gone)
 
-closed-none : (t : Tree) (id : ℕ) (r : Option Refusal) → refusal_of t (call.Close id) ≡ r → reply_by r reply.Done ≡ reply.Done → instance_of (tree_by r t (accepted t (call.Close id))).instances id ≡ None
+closed-none : (t : Tree) (id : ℕ) (r : Option Refusal) → refusal_of t (call.Close id) ≡ r
+    → reply_by r reply.Done ≡ reply.Done → instance_of (tree_by r t (accepted t (call.Close id))).instances id ≡ None
 closed-none t id (Some why) is e = absurd (cc)
 closed-none t id None is e =
     let same : eqb id id ≡ true = grind (arith, nat_tests) in
@@ -116,7 +124,8 @@ module _ (tells : Told) (t : Tree) (place id : ℕ) (below : AreBelow t) where
   pump-one from bytes A None e = inl refl
   pump-one from bytes A (Some rs) e = one-where (eqb from id) (batch from place rs) A (λ same none. absurd (pumps-some t from bytes rs e none))
 
-  close-one : (from : ℕ) (r : Reply) → reply_of t (call.Close from) ≡ r → HandsOne (hands (where_done r (batch from place [])) id) (IsGone (after t (call.Close from)) id)
+  close-one : (from : ℕ) (r : Reply) → reply_of t (call.Close from) ≡ r
+      → HandsOne (hands (where_done r (batch from place [])) id) (IsGone (after t (call.Close from)) id)
   close-one from reply.Done e =
       one-where (eqb from id) (batch from place []) (IsGone (after t (call.Close from)) id) (λ same none.
       subst (λ (n : ℕ). IsGone (after t (call.Close from)) n) (eqb-true from id same) (closed-gone tells t from below e))
@@ -148,7 +157,8 @@ none-split [] rest b e = cc
 none-split (x ∷ before) rest b e = cc
 
 -- one call more before the others
-one-more : (bs later : List Batch) (A : Type 0) → HandsOne bs A → (A → later ≡ []) → NothingFollowsTheEnd later → (before rest : List Batch) (b : Batch) → bs ++ later ≡ before ++ b ∷ rest → b.records ≡ [] → rest ≡ []
+one-more : (bs later : List Batch) (A : Type 0) → HandsOne bs A → (A → later ≡ []) → NothingFollowsTheEnd later
+    → (before rest : List Batch) (b : Batch) → bs ++ later ≡ before ++ b ∷ rest → b.records ≡ [] → rest ≡ []
 one-more bs later A (inl nothing) over ends before rest b e none = ends before rest b (sym (ap (λ (xs : List Batch). xs ++ later) nothing) ∙ e) none
 one-more bs later A (inr (x, one, last)) over ends [] rest b e none =
     let whole : x ∷ later ≡ b ∷ rest = sym (ap (λ (xs : List Batch). xs ++ later) one) ∙ e in
@@ -159,21 +169,23 @@ one-more bs later A (inr (x, one, last)) over ends (y ∷ before) rest b e none 
 ends-from : (tells : Told) (t : Tree) (place : ℕ) (es : List Entry) (id : ℕ) → AreBelow t → NothingFollowsTheEnd (handed_from t place es id)
 ends-from tells t place [] id below = λ before rest b e none. absurd (none-split before rest b e)
 ends-from tells t place (e ∷ es) id below =
-    one-more (hands (handed_by t place e.call) id) (handed_from (after t e.call) (place + 1) es id) (IsGone (after t e.call) id) (hands-one tells t place id below e.call)
+    one-more (hands (handed_by t place e.call) id) (handed_from (after t e.call) (place + 1) es id)
+    (IsGone (after t e.call) id) (hands-one tells t place id below e.call)
     (gone-hands tells (after t e.call) (place + 1) es id) (ends-from tells (after t e.call) (place + 1) es id (below-after tells t e.call below))
 
 pub ends-last : (tells : Told) → EndBatchesComeLast
 unfolding handed
 ends-last tells = λ limits es id. ends-from tells (opening limits) 1 es id (below-opening limits)
 
--- ---- an end batch tells that the instance is gone
+-- ---- an end batch means that the instance is gone
 
 gone-stays : (tells : Told) (t : Tree) (es : List Entry) (id : ℕ) → IsGone t id → IsGone (tree_after t es) id
 gone-stays tells t [] id gone = gone
 gone-stays tells t (e ∷ es) id gone = gone-stays tells (after t e.call) es id (gone-after tells t e.call id gone)
 
 -- one call more before the others: where either has an end batch, this is so
-one-ends : (bs later : List Batch) (A B : Type 0) → HandsOne bs A → (A → B) → ((before rest : List Batch) (b : Batch) → later ≡ before ++ b ∷ rest → b.records ≡ [] → B)
+one-ends : (bs later : List Batch) (A B : Type 0) → HandsOne bs A → (A → B)
+    → ((before rest : List Batch) (b : Batch) → later ≡ before ++ b ∷ rest → b.records ≡ [] → B)
     → (before rest : List Batch) (b : Batch) → bs ++ later ≡ before ++ b ∷ rest → b.records ≡ [] → B
 one-ends bs later A B (inl nothing) stays ends before rest b e none = ends before rest b (sym (ap (λ (xs : List Batch). xs ++ later) nothing) ∙ e) none
 one-ends bs later A B (inr (x, one, last)) stays ends [] rest b e none =
@@ -182,12 +194,18 @@ one-ends bs later A B (inr (x, one, last)) stays ends [] rest b e none =
 one-ends bs later A B (inr (x, one, last)) stays ends (y ∷ before) rest b e none =
     ends before rest b (rest-is x y later (before ++ b ∷ rest) (sym (ap (λ (xs : List Batch). xs ++ later) one) ∙ e)) none
 
-pub gone-from : (tells : Told) (t : Tree) (place : ℕ) (es : List Entry) (id : ℕ) → AreBelow t → (before rest : List Batch) (b : Batch) → handed_from t place es id ≡ before ++ b ∷ rest → b.records ≡ [] → IsGone (tree_after t es) id
+pub gone-from : (tells : Told) (t : Tree) (place : ℕ) (es : List Entry) (id : ℕ) → AreBelow t
+    → (before rest : List Batch) (b : Batch) → handed_from t place es id ≡ before ++ b ∷ rest → b.records ≡ []
+    → IsGone (tree_after t es) id
 gone-from tells t place [] id below = λ before rest b e none. absurd (none-split before rest b e)
 gone-from tells t place (e ∷ es) id below =
-    one-ends (hands (handed_by t place e.call) id) (handed_from (after t e.call) (place + 1) es id) (IsGone (after t e.call) id) (IsGone (tree_after (after t e.call) es) id) (hands-one tells t place id below e.call)
+    one-ends (hands (handed_by t place e.call) id) (handed_from (after t e.call) (place + 1) es id)
+    (IsGone (after t e.call) id) (IsGone (tree_after (after t e.call) es) id)
+    (hands-one tells t place id below e.call)
     (gone-stays tells (after t e.call) es id) (gone-from tells (after t e.call) (place + 1) es id (below-after tells t e.call below))
 
 -- a front of what an instance is handed that ends with the end batch is all of it
-pub front-is-all : EndBatchesComeLast → (limits : Limits) (es : List Entry) (id : ℕ) (front rest : List Batch) (b : Batch) → handed limits es id ≡ (front ++ b ∷ []) ++ rest → b.records ≡ [] → rest ≡ []
+pub front-is-all : EndBatchesComeLast
+    → (limits : Limits) (es : List Entry) (id : ℕ) (front rest : List Batch) (b : Batch)
+    → handed limits es id ≡ (front ++ b ∷ []) ++ rest → b.records ≡ [] → rest ≡ []
 front-is-all last limits es id front rest b e none = last limits es id front rest b (e ∙ append_assoc front (b ∷ []) rest) none

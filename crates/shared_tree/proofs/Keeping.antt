@@ -1,5 +1,7 @@
 -- What the locked value keeps of a whole journal, over one entry more.
-use Rattle.std.proofs.Common.{◌≡◌, ◌⊎◌, ℕ, zero, suc, ◌+◌, ◌<◌, ◌≤◌, Bool, true, false, cond, eqb, List, [], ◌∷◌, ◌++◌, length, map, Option, Some, None, option_map, is_some, refl, sym, ap, ◌∙◌, subst, inl, inr, arith, append-nil, append_assoc, length-append}
+use Rattle.std.proofs.Common.{◌≡◌, ◌⊎◌, ℕ, zero, suc, ◌+◌, ◌<◌, ◌≤◌, Bool, true, false, cond, eqb, List, [], ◌∷◌, ◌++◌}
+use Rattle.std.proofs.Common.{length, map, Option, Some, None, option_map, is_some, refl, sym, ap, ◌∙◌, subst, inl, inr}
+use Rattle.std.proofs.Common.{arith, append-nil, append_assoc, length-append}
 use Rattle.std.specs.FinMap as finmap
 use Rattle.std.specs.FinMap.{get-empty}
 use Rattle.std.specs.Ordering.{nat_cmp}
@@ -77,15 +79,20 @@ handed_from-snoc t place at [] e id is =
     append-nil (hands (handed_by t place e.call) id) ∙ ap (λ p. hands (handed_by t p e.call) id) (sym same)
 handed_from-snoc t place at (x ∷ es) e id is =
     ap (λ r. hands (handed_by t place x.call) id ++ r) (handed_from-snoc (after t x.call) (place + 1) at es e id (omega (arith, is)))
-    ∙ sym (append_assoc (hands (handed_by t place x.call) id) (handed_from (after t x.call) (place + 1) es id) (hands (handed_by (tree_after (after t x.call) es) at e.call) id))
+    ∙ sym
+    (append_assoc (hands (handed_by t place x.call) id) (handed_from (after t x.call) (place + 1) es id)
+    (hands (handed_by (tree_after (after t x.call) es) at e.call) id))
 
-handed-snoc : (s : Journaled) (e : Entry) (id : ℕ) → handed_since (with_entry s e) id ≡ handed_since s id ++ hands (handed_by (now s) (last_place s + 1) e.call) id
+handed-snoc : (s : Journaled) (e : Entry) (id : ℕ)
+    → handed_since (with_entry s e) id ≡ handed_since s id ++ hands (handed_by (now s) (last_place s + 1) e.call) id
 unfolding handed_since now
 handed-snoc s e id = handed_from-snoc s.start (s.place + 1) (last_place s + 1) s.entries e id (omega arith)
 
 piped_of-snoc : (es : List Entry) (e : Entry) → piped_of (es ++ e ∷ []) ≡ piped_of es ++ piped_by e.call e.reply
 piped_of-snoc [] e = append-nil (piped_by e.call e.reply)
-piped_of-snoc (x ∷ es) e = ap (λ r. piped_by x.call x.reply ++ r) (piped_of-snoc es e) ∙ sym (append_assoc (piped_by x.call x.reply) (piped_of es) (piped_by e.call e.reply))
+piped_of-snoc (x ∷ es) e =
+    ap (λ r. piped_by x.call x.reply ++ r) (piped_of-snoc es e)
+    ∙ sym (append_assoc (piped_by x.call x.reply) (piped_of es) (piped_by e.call e.reply))
 
 map_deliver : (f g : ℕ → List Batch) (o : Option Batch) (ns : List ℕ) → ((id : ℕ) → g id ≡ f id ++ hands o id) → map g ns ≡ deliver o ns (map f ns)
 map_deliver f g o [] more = refl
@@ -116,7 +123,8 @@ all-hands (Some b) id is = by (eqb b.instance id)
     by true = (is, tt)
     by false = tt
 
-module _ (tells : Told) (s : Journaled) (e : Entry) (numbers : List ℕ) (sent : List (List Batch)) (total : ℕ) (held : IsHeldWhole s numbers sent total) (lawful : e.reply ≡ reply_of (now s) e.call)
+module _ (tells : Told) (s : Journaled) (e : Entry) (numbers : List ℕ) (sent : List (List Batch)) (total : ℕ)
+    (held : IsHeldWhole s numbers sent total) (lawful : e.reply ≡ reply_of (now s) e.call)
     (sound : IfSome (handed_by (now s) (last_place s + 1) e.call) IsOfEvents) where
   abbrev t : Tree
   t = now s
@@ -155,16 +163,21 @@ module _ (tells : Told) (s : Journaled) (e : Entry) (numbers : List ℕ) (sent :
 
   -- the numbers that are made
   made-cases : (made ≡ []) ⊎ ((made ≡ t.next_id ∷ []) × ((now new).next_id ≡ t.next_id + 1) × (e.reply ≡ reply.Instance t.next_id))
-  made-cases = elim (piped_by-cases e.call e.reply) as (λ _. (made ≡ []) ⊎ ((made ≡ t.next_id ∷ []) × ((now new).next_id ≡ t.next_id + 1) × (e.reply ≡ reply.Instance t.next_id))) [
-    | inl none ↦ inl none
-    | inr one ↦ inr (one-made one.0 one.1 one.2 one.3)
-  ]
+  made-cases =
+      elim (piped_by-cases e.call e.reply) as (λ _.
+      (made ≡ [])
+      ⊎ ((made ≡ t.next_id ∷ []) × ((now new).next_id ≡ t.next_id + 1) × (e.reply ≡ reply.Instance t.next_id))) [
+        | inl none ↦ inl none
+        | inr one ↦ inr (one-made one.0 one.1 one.2 one.3)
+      ]
     where
-      one-made : (limit id : ℕ) → e.call ≡ call.Init limit true → e.reply ≡ reply.Instance id → (made ≡ t.next_id ∷ []) × ((now new).next_id ≡ t.next_id + 1) × (e.reply ≡ reply.Instance t.next_id)
+      one-made : (limit id : ℕ) → e.call ≡ call.Init limit true → e.reply ≡ reply.Instance id
+          → (made ≡ t.next_id ∷ []) × ((now new).next_id ≡ t.next_id + 1) × (e.reply ≡ reply.Instance t.next_id)
       one-made limit id is says =
           let same = is-next id says in (
             ap (λ c. piped_by c e.reply) is ∙ ap (λ r. piped_by (call.Init limit true) r) says ∙ ap (λ (n : ℕ). n ∷ []) same,
-            ap (λ (u : Tree). u.next_id) later ∙ ap (λ c. (after t c).next_id) is ∙ next-init t limit true id (sym (ap (λ c. reply_of t c) is) ∙ sym lawful ∙ says),
+            ap (λ (u : Tree). u.next_id) later ∙ ap (λ c. (after t c).next_id) is
+                ∙ next-init t limit true id (sym (ap (λ c. reply_of t c) is) ∙ sym lawful ∙ says),
             says ∙ ap (λ (n : ℕ). reply.Instance n) same,
           )
 
@@ -174,9 +187,17 @@ module _ (tells : Told) (s : Journaled) (e : Entry) (numbers : List ℕ) (sent :
   piped : numbers ++ made ≡ piped_of new.entries
   piped = ap (λ (ns : List ℕ). ns ++ made) held.piped ∙ sym (piped_of-snoc s.entries e)
 
-  rises-by : (made ≡ []) ⊎ ((made ≡ t.next_id ∷ []) × ((now new).next_id ≡ t.next_id + 1) × (e.reply ≡ reply.Instance t.next_id)) → Rises 1 (numbers ++ made) (now new).next_id
-  rises-by (inl none) = subst (λ (ms : List ℕ). Rises 1 (numbers ++ ms) (now new).next_id) (sym none) (subst (λ (ns : List ℕ). Rises 1 ns (now new).next_id) (sym (append-nil numbers)) (Rises-weaken numbers 1 t.next_id (now new).next_id grows held.rises))
-  rises-by (inr (one, more, says)) = subst (λ (ms : List ℕ). Rises 1 (numbers ++ ms) (now new).next_id) (sym one) (subst (λ (n : ℕ). Rises 1 (numbers ++ t.next_id ∷ []) n) (sym more) (Rises-snoc numbers 1 t.next_id held.rises))
+  rises-by : (made ≡ [])
+      ⊎ ((made ≡ t.next_id ∷ []) × ((now new).next_id ≡ t.next_id + 1) × (e.reply ≡ reply.Instance t.next_id))
+      → Rises 1 (numbers ++ made) (now new).next_id
+  rises-by (inl none) =
+      subst (λ (ms : List ℕ). Rises 1 (numbers ++ ms) (now new).next_id) (sym none)
+      (subst (λ (ns : List ℕ). Rises 1 ns (now new).next_id) (sym (append-nil numbers))
+      (Rises-weaken numbers 1 t.next_id (now new).next_id grows held.rises))
+  rises-by (inr (one, more, says)) =
+      subst (λ (ms : List ℕ). Rises 1 (numbers ++ ms) (now new).next_id) (sym one)
+      (subst (λ (n : ℕ). Rises 1 (numbers ++ t.next_id ∷ []) n) (sym more)
+      (Rises-snoc numbers 1 t.next_id held.rises))
 
   made-are-next : (id : ℕ) → IsIn made id → t.next_id ≤ id
   made-are-next id there = by made-cases
@@ -196,7 +217,8 @@ module _ (tells : Told) (s : Journaled) (e : Entry) (numbers : List ℕ) (sent :
       ∙ sym (map_deliver (handed_since s) (handed_since new) o (piped_of s.entries) (handed-snoc s e)) in
       let fresh : map (λ (id : ℕ). []) made ≡ map (handed_since new) made =
       sym (map-none (handed_since new) made (λ id there. hands-nothing id (made-are-next id there))) in
-      ap (λ (xss : List (List Batch)). xss ++ map (λ (id : ℕ). []) made) old ∙ ap (λ (xss : List (List Batch)). map (handed_since new) (piped_of s.entries) ++ xss) fresh
+      ap (λ (xss : List (List Batch)). xss ++ map (λ (id : ℕ). []) made) old
+      ∙ ap (λ (xss : List (List Batch)). map (handed_since new) (piped_of s.entries) ++ xss) fresh
       ∙ sym (map-append (handed_since new) (piped_of s.entries) made) ∙ ap (map (handed_since new)) (sym (piped_of-snoc s.entries e))
 
   events : (id : ℕ) → AreOfEvents (handed_since new id)
@@ -212,7 +234,9 @@ module _ (tells : Told) (s : Journaled) (e : Entry) (numbers : List ℕ) (sent :
     where
       by : WasOpen t id i ⊎ IsMade t e.call id i → id < (now new).next_id
       by (inl (j, there, same)) = let old = held.below id j there in omega (arith, old, grows)
-      by (inr is) = let more : (now new).next_id ≡ t.next_id + 1 = ap (λ (u : Tree). u.next_id) later ∙ is.grows in let next = is.is_next in omega (arith, next, more)
+      by (inr is) =
+          let more : (now new).next_id ≡ t.next_id + 1 = ap (λ (u : Tree). u.next_id) later ∙ is.grows in
+          let next = is.is_next in omega (arith, next, more)
 
   unmade : (id : ℕ) → (now new).next_id ≤ id → handed_since new id ≡ []
   unmade id past = hands-nothing id (omega (arith, grows, past))
@@ -226,7 +250,9 @@ module _ (tells : Told) (s : Journaled) (e : Entry) (numbers : List ℕ) (sent :
         λ there. same ∙ way.1 (was made-cases there under),
       )
     where
-      was : (made ≡ []) ⊎ ((made ≡ t.next_id ∷ []) × ((now new).next_id ≡ t.next_id + 1) × (e.reply ≡ reply.Instance t.next_id)) → IsIn (numbers ++ made) id → id < t.next_id → IsIn numbers id
+      was : (made ≡ [])
+          ⊎ ((made ≡ t.next_id ∷ []) × ((now new).next_id ≡ t.next_id + 1) × (e.reply ≡ reply.Instance t.next_id))
+          → IsIn (numbers ++ made) id → id < t.next_id → IsIn numbers id
       was (inl none) there under = subst (λ (ns : List ℕ). IsIn ns id) (ap (λ (ms : List ℕ). numbers ++ ms) none ∙ append-nil numbers) there
       was (inr (one, more, says)) there under =
           elim (IsIn-snoc numbers t.next_id id (subst (λ (ms : List ℕ). IsIn (numbers ++ ms) id) one there)) as (λ _. IsIn numbers id) [
@@ -279,7 +305,8 @@ length-map f (n ∷ ns) = ap suc (length-map f ns)
 
 pub held-length : (s : Journaled) (ns : List ℕ) (xss : List (List Batch)) (total : ℕ) → IsHeldWhole s ns xss total → length ns ≡ length xss
 held-length s ns xss total held =
-    ap (λ (ms : List ℕ). length ms) held.piped ∙ sym (length-map (handed_since s) (piped_of s.entries)) ∙ ap (λ (yss : List (List Batch)). length yss) (sym held.pushed)
+    ap (λ (ms : List ℕ). length ms) held.piped ∙ sym (length-map (handed_since s) (piped_of s.entries))
+    ∙ ap (λ (yss : List (List Batch)). length yss) (sym held.pushed)
 
 pub deliver-none : (ns : List ℕ) (xss : List (List Batch)) → length ns ≡ length xss → deliver None ns xss ≡ xss
 deliver-none [] [] len = refl
@@ -288,28 +315,45 @@ deliver-none (n ∷ ns) [] len = absurd (omega arith)
 deliver-none (n ∷ ns) (xs ∷ xss) len = rw (append-nil xs, deliver-none ns xss (omega arith)) refl
 
 -- a call that makes no pipe
-pub held-carries : (tells : Told) (s longer : Journaled) (e : Entry) (ns : List ℕ) (xss : List (List Batch)) (total more : ℕ) (o : Option Batch) → IsHeldWhole s ns xss total → longer ≡ with_entry s e → e.reply ≡ reply_of (now s) e.call
-    → piped_by e.call e.reply ≡ [] → more ≡ total + 1 → o ≡ handed_by (now s) (last_place s + 1) e.call → IfSome (handed_by (now s) (last_place s + 1) e.call) IsOfEvents → IsHeldWhole longer ns (deliver o ns xss) more
+pub held-carries : (tells : Told) (s longer : Journaled) (e : Entry) (ns : List ℕ) (xss : List (List Batch))
+    (total more : ℕ) (o : Option Batch)
+    → IsHeldWhole s ns xss total → longer ≡ with_entry s e → e.reply ≡ reply_of (now s) e.call
+    → piped_by e.call e.reply ≡ [] → more ≡ total + 1 → o ≡ handed_by (now s) (last_place s + 1) e.call
+    → IfSome (handed_by (now s) (last_place s + 1) e.call) IsOfEvents → IsHeldWhole longer ns (deliver o ns xss) more
 held-carries tells s longer e ns xss total more o held is lawful none one batch sound =
     let step = held-more tells s e ns xss total held lawful sound in
     let numbers : ns ++ piped_by e.call e.reply ≡ ns = ap (λ (ms : List ℕ). ns ++ ms) none ∙ append-nil ns in
     let pipes : deliver (handed_by (now s) (last_place s + 1) e.call) ns xss ++ map (λ (id : ℕ). []) (piped_by e.call e.reply) ≡ deliver o ns xss =
-    ap (λ (ms : List ℕ). deliver (handed_by (now s) (last_place s + 1) e.call) ns xss ++ map (λ (id : ℕ). []) ms) none ∙ append-nil _ ∙ ap (λ b. deliver b ns xss) (sym batch) in
+    ap (λ (ms : List ℕ). deliver (handed_by (now s) (last_place s + 1) e.call) ns xss ++ map (λ (id : ℕ). []) ms) none
+    ∙ append-nil _ ∙ ap (λ b. deliver b ns xss) (sym batch) in
     subst (λ (j : Journaled). IsHeldWhole j ns (deliver o ns xss) more) (sym is)
     (subst (λ (n : ℕ). IsHeldWhole (with_entry s e) ns (deliver o ns xss) n) (sym one)
     (subst (λ (yss : List (List Batch)). IsHeldWhole (with_entry s e) ns yss (total + 1)) pipes
-    (subst (λ (ms : List ℕ). IsHeldWhole (with_entry s e) ms (deliver (handed_by (now s) (last_place s + 1) e.call) ns xss ++ map (λ (id : ℕ). []) (piped_by e.call e.reply)) (total + 1)) numbers step)))
+    (subst
+    (λ (ms : List ℕ).
+    IsHeldWhole (with_entry s e) ms
+    (deliver (handed_by (now s) (last_place s + 1) e.call) ns xss
+    ++ map (λ (id : ℕ). []) (piped_by e.call e.reply))
+    (total + 1))
+    numbers step)))
 
 -- a call that makes an instance with a pipe
-pub held-opens : (tells : Told) (s longer : Journaled) (caller limit : ℕ) (r : Reply) (ns : List ℕ) (xss : List (List Batch)) (total more : ℕ) → IsHeldWhole s ns xss total
-    → longer ≡ with_entry s (record { caller = caller; call = call.Init limit true; reply = r }) → r ≡ reply_of (now s) (call.Init limit true) → more ≡ total + 1
+pub held-opens : (tells : Told) (s longer : Journaled) (caller limit : ℕ) (r : Reply) (ns : List ℕ)
+    (xss : List (List Batch)) (total more : ℕ)
+    → IsHeldWhole s ns xss total
+    → longer ≡ with_entry s (record { caller = caller; call = call.Init limit true; reply = r })
+    → r ≡ reply_of (now s) (call.Init limit true) → more ≡ total + 1
     → IsHeldWhole longer (ns ++ piped_by (call.Init limit true) r) (xss ++ map (λ (id : ℕ). []) (piped_by (call.Init limit true) r)) more
 held-opens tells s longer caller limit r ns xss total more held is lawful one =
     let e : Entry = record { caller = caller; call = call.Init limit true; reply = r } in
     let step = held-more tells s e ns xss total held lawful tt in
     subst (λ (j : Journaled). IsHeldWhole j (ns ++ piped_by e.call e.reply) (xss ++ map (λ (id : ℕ). []) (piped_by e.call e.reply)) more) (sym is)
     (subst (λ (n : ℕ). IsHeldWhole (with_entry s e) (ns ++ piped_by e.call e.reply) (xss ++ map (λ (id : ℕ). []) (piped_by e.call e.reply)) n) (sym one)
-    (subst (λ (yss : List (List Batch)). IsHeldWhole (with_entry s e) (ns ++ piped_by e.call e.reply) (yss ++ map (λ (id : ℕ). []) (piped_by e.call e.reply)) (total + 1)) (deliver-none ns xss (held-length s ns xss total held)) step))
+    (subst
+    (λ (yss : List (List Batch)).
+    IsHeldWhole (with_entry s e) (ns ++ piped_by e.call e.reply)
+    (yss ++ map (λ (id : ℕ). []) (piped_by e.call e.reply)) (total + 1))
+    (deliver-none ns xss (held-length s ns xss total held)) step))
 
 -- ---- the pipe of a call
 
@@ -318,8 +362,11 @@ some-open o (i, e) = ap is_some e
 
 module _ (tells : Told) (ns : List ℕ) (ps : List Piped) (t : Tree) (place : ℕ) (at : Option ℕ) where
   -- the pipe that was looked for is ready for what is pumped
-  pumps-ready : (id bytes : ℕ) (rs : List Event) (r : Reply) → IsLooked ns ps t (Some id) at → reply_of t (call.Pump id bytes) ≡ r → IsReady ns ps at (option_map (batch id place) (where_records r rs))
-  pumps-ready id bytes rs (reply.Records bs) looked e = let there = (tells t (call.Pump id bytes)).pumped id bytes bs refl e in looked (some-open (instance_of t.instances id) (there.0, there.1))
+  pumps-ready : (id bytes : ℕ) (rs : List Event) (r : Reply) → IsLooked ns ps t (Some id) at
+      → reply_of t (call.Pump id bytes) ≡ r → IsReady ns ps at (option_map (batch id place) (where_records r rs))
+  pumps-ready id bytes rs (reply.Records bs) looked e =
+      let there = (tells t (call.Pump id bytes)).pumped id bytes bs refl e in
+      looked (some-open (instance_of t.instances id) (there.0, there.1))
   pumps-ready id bytes rs (reply.File a) looked e = tt
   pumps-ready id bytes rs (reply.Instance n) looked e = tt
   pumps-ready id bytes rs (reply.Wd wd) looked e = tt
@@ -348,13 +395,16 @@ module _ (tells : Told) (ns : List ℕ) (ps : List Piped) (t : Tree) (place : �
   end-ready (call.Close from) looked = closes-ready from (reply_of t (call.Close from)) looked refl
 
 -- where the pipe of an open instance is full, the instance has a pipe
-has-pipe : (s : Journaled) (ns : List ℕ) (xss : List (List Batch)) (total id : ℕ) → IsHeldWhole s ns xss total → IsFilled ns (now s) (Some id) → HasPipe (instance_of (now s).instances id)
+has-pipe : (s : Journaled) (ns : List ℕ) (xss : List (List Batch)) (total id : ℕ) → IsHeldWhole s ns xss total
+    → IsFilled ns (now s) (Some id) → HasPipe (instance_of (now s).instances id)
 has-pipe s ns xss total id held (i, there, listed) = subst HasPipe (sym there) ((held.with_pipe id i there).1 listed)
 
-pub pump-full : (s : Journaled) (ns : List ℕ) (xss : List (List Batch)) (total id bytes : ℕ) → IsHeldWhole s ns xss total → IsFilled ns (now s) (Some id) → IsForPipe (now s) (call.Pump id bytes)
+pub pump-full : (s : Journaled) (ns : List ℕ) (xss : List (List Batch)) (total id bytes : ℕ)
+    → IsHeldWhole s ns xss total → IsFilled ns (now s) (Some id) → IsForPipe (now s) (call.Pump id bytes)
 pump-full s ns xss total id bytes held filled = has-pipe s ns xss total id held filled
 
-pub close-full : (s : Journaled) (ns : List ℕ) (xss : List (List Batch)) (total : ℕ) (c : Call) → IsHeldWhole s ns xss total → IsFilled ns (now s) (closed_of c) → IsForPipe (now s) c
+pub close-full : (s : Journaled) (ns : List ℕ) (xss : List (List Batch)) (total : ℕ) (c : Call)
+    → IsHeldWhole s ns xss total → IsFilled ns (now s) (closed_of c) → IsForPipe (now s) c
 close-full s ns xss total (call.File f) held filled = absurd filled
 close-full s ns xss total (call.Init limit is_piped) held filled = absurd filled
 close-full s ns xss total (call.AddWatch from p mask) held filled = absurd filled
@@ -413,28 +463,42 @@ pump-sound : (id place : ℕ) (x : Option (List Event)) → IfSome x AreEvents �
 pump-sound id place None is = tt
 pump-sound id place (Some rs) is = is
 
-pub held-call : (tells : Told) (s longer : Journaled) (seat left : Seated) (c : Call) (r : Receipt) (ns : List ℕ) (xss : List (List Batch)) (total more : ℕ) (closed : Option ℕ) (o : Option Batch) → IsHeldWhole s ns xss total → JoinsJournal s seat c longer left r
+pub held-call : (tells : Told) (s longer : Journaled) (seat left : Seated) (c : Call) (r : Receipt) (ns : List ℕ)
+    (xss : List (List Batch)) (total more : ℕ) (closed : Option ℕ) (o : Option Batch)
+    → IsHeldWhole s ns xss total → JoinsJournal s seat c longer left r
     → IsTrue (is_plain c) → more ≡ total + 1 → closed ≡ closed_of c → o ≡ end_of closed r.place r.reply → IsHeldWhole longer ns (deliver o ns xss) more
 held-call tells s longer seat left c r ns xss total more closed o held enters plain one shut is =
     let e : Entry = record { caller = seat.number; call = c; reply = r.reply } in
     let batch : o ≡ handed_by (now s) (last_place s + 1) c =
     is ∙ ap (λ x. end_of x r.place r.reply) shut ∙ ap (λ x. end_of (closed_of c) r.place x) enters.reply ∙ end_of-handed (now s) c r.place plain
     ∙ ap (λ (p : ℕ). handed_by (now s) p c) (next-place s longer e r.place enters.entry enters.place) in
-    held-carries tells s longer e ns xss total more o held enters.entry enters.reply (plain-makes-none c r.reply plain) one batch (end-sound (now s) (last_place s + 1) c plain)
+    held-carries tells s longer e ns xss total more o held enters.entry enters.reply (plain-makes-none c r.reply plain)
+    one batch (end-sound (now s) (last_place s + 1) c plain)
 
-pub held-pump : (tells : Told) (s longer : Journaled) (seat left : Seated) (id bytes : ℕ) (r : Receipt) (ns : List ℕ) (xss : List (List Batch)) (total more : ℕ) (rs : Option (List Event)) (o : Option Batch) → IsHeldWhole s ns xss total
-    → JoinsJournal s seat (call.Pump id bytes) longer left r → more ≡ total + 1 → rs ≡ pumped (now s) id bytes → IfSome rs AreEvents → o ≡ option_map (batch id r.place) rs → IsHeldWhole longer ns (deliver o ns xss) more
+pub held-pump : (tells : Told) (s longer : Journaled) (seat left : Seated) (id bytes : ℕ) (r : Receipt) (ns : List ℕ)
+    (xss : List (List Batch)) (total more : ℕ) (rs : Option (List Event)) (o : Option Batch)
+    → IsHeldWhole s ns xss total
+    → JoinsJournal s seat (call.Pump id bytes) longer left r → more ≡ total + 1 → rs ≡ pumped (now s) id bytes
+    → IfSome rs AreEvents → o ≡ option_map (batch id r.place) rs → IsHeldWhole longer ns (deliver o ns xss) more
 held-pump tells s longer seat left id bytes r ns xss total more rs o held enters one given events is =
     let e : Entry = record { caller = seat.number; call = call.Pump id bytes; reply = r.reply } in
     let handed_over : o ≡ handed_by (now s) (last_place s + 1) (call.Pump id bytes) =
-    is ∙ ap (λ x. option_map (batch id r.place) x) given ∙ ap (λ (p : ℕ). handed_by (now s) p (call.Pump id bytes)) (next-place s longer e r.place enters.entry enters.place) in
-    held-carries tells s longer e ns xss total more o held enters.entry enters.reply refl one handed_over (pump-sound id (last_place s + 1) (pumped (now s) id bytes) (subst (λ x. IfSome x AreEvents) given events))
+    is ∙ ap (λ x. option_map (batch id r.place) x) given
+    ∙ ap (λ (p : ℕ). handed_by (now s) p (call.Pump id bytes)) (next-place s longer e r.place enters.entry enters.place)
+    in
+    held-carries tells s longer e ns xss total more o held enters.entry enters.reply refl one handed_over
+    (pump-sound id (last_place s + 1) (pumped (now s) id bytes) (subst (λ x. IfSome x AreEvents) given events))
 
-pub held-open : (tells : Told) (s longer : Journaled) (seat left : Seated) (limit : ℕ) (r : Receipt) (ns : List ℕ) (xss : List (List Batch)) (total more : ℕ) → IsHeldWhole s ns xss total → JoinsJournal s seat (call.Init limit true) longer left r
-    → more ≡ total + 1 → IsHeldWhole longer (ns ++ piped_by (call.Init limit true) r.reply) (xss ++ map (λ (id : ℕ). []) (piped_by (call.Init limit true) r.reply)) more
-held-open tells s longer seat left limit r ns xss total more held enters one = held-opens tells s longer seat.number limit r.reply ns xss total more held enters.entry enters.reply one
+pub held-open : (tells : Told) (s longer : Journaled) (seat left : Seated) (limit : ℕ) (r : Receipt) (ns : List ℕ)
+    (xss : List (List Batch)) (total more : ℕ)
+    → IsHeldWhole s ns xss total → JoinsJournal s seat (call.Init limit true) longer left r
+    → more ≡ total + 1
+    → IsHeldWhole longer (ns ++ piped_by (call.Init limit true) r.reply)
+    (xss ++ map (λ (id : ℕ). []) (piped_by (call.Init limit true) r.reply)) more
+held-open tells s longer seat left limit r ns xss total more held enters one =
+    held-opens tells s longer seat.number limit r.reply ns xss total more held enters.entry enters.reply one
 
--- ---- what waits tells what is open
+-- ---- what waits determines what is open
 
 not-waiting : (f : Instance → ℕ) (x : Option Instance) (o : Option ℕ) → o ≡ option_map f x → is_some o ≡ false → IsSome x → ⊥
 not-waiting f None o e none some = cc

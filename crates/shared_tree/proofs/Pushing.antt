@@ -1,5 +1,6 @@
 -- What is in the pipes after a push.
-use Rattle.std.proofs.Common.{◌≡◌, ◌≢◌, ◌∙◌, sym, ap, refl, ℕ, zero, suc, ◌+◌, ◌<◌, ◌≤◌, List, [], ◌∷◌, ◌++◌, length, get_or, arith, rules, append-nil, nat_eq, true, false, inl, inr}
+use Rattle.std.proofs.Common.{◌≡◌, ◌≢◌, ◌∙◌, sym, ap, refl, ℕ, zero, suc, ◌+◌, ◌<◌, ◌≤◌, List, [], ◌∷◌, ◌++◌, length}
+use Rattle.std.proofs.Common.{get_or, arith, rules, append-nil, nat_eq, true, false, inl, inr}
 use Rattle.std.proofs.Math.ListN.{set}
 use Rattle.std.proofs.lemmas.Bool.Decides.{nat_tests}
 use Rattle.std.proofs.lemmas.List.Sorted.{searched}
@@ -44,7 +45,9 @@ pub looked-length : (ns : List ℕ) (ps qs : List Piped) → length ns ≡ lengt
 looked-length ns ps qs len same = len ∙ sym (length-sents ps) ∙ ap (λ (xss : List (List Batch)). length xss) (sym same) ∙ length-sents qs
 
 pub pushed-length : (ns : List ℕ) (ps qs : List Piped) (k : ℕ) (b : Batch) → length ns ≡ length ps → sents qs ≡ pushed_at (sents ps) k b → length ns ≡ length qs
-pushed-length ns ps qs k b len is = len ∙ sym (length-sents ps) ∙ sym (ap (λ (xss : List (List Batch)). length xss) is ∙ length-pushed (sents ps) k b) ∙ length-sents qs
+pushed-length ns ps qs k b len is =
+    len ∙ sym (length-sents ps) ∙ sym (ap (λ (xss : List (List Batch)). length xss) is ∙ length-pushed (sents ps) k b)
+    ∙ length-sents qs
 
 -- ---- the pipe of a batch
 
@@ -75,7 +78,8 @@ rises_from [] i k least next rises at = absurd (search (rules, at))
 rises_from (n ∷ ns) i zero least next rises at = let same : n ≡ i = ap (λ (o : Option ℕ). unwrap_or o 0) at in omega (arith, rises.0)
 rises_from (n ∷ ns) i (suc k) least next rises at = let h = rises_from ns i k (n + 1) next rises.1 at in omega (arith, rises.0)
 
-deliver_pushed : (ns : List ℕ) (ps : List Piped) (b : Batch) (k least next : ℕ) → length ns ≡ length ps → Rises least ns next → slice_get ns k ≡ Some b.instance → deliver (Some b) ns (sents ps) ≡ pushed_at (sents ps) k b
+deliver_pushed : (ns : List ℕ) (ps : List Piped) (b : Batch) (k least next : ℕ) → length ns ≡ length ps
+    → Rises least ns next → slice_get ns k ≡ Some b.instance → deliver (Some b) ns (sents ps) ≡ pushed_at (sents ps) k b
 deliver_pushed [] [] b k least next len rises at = refl
 deliver_pushed [] (p ∷ ps) b k least next len rises at = absurd (omega arith)
 deliver_pushed (n ∷ ns) [] b k least next len rises at = absurd (omega arith)
@@ -86,18 +90,20 @@ deliver_pushed (n ∷ ns) (p ∷ ps) b (suc k) least next len rises at =
     let above = rises_from ns b.instance k (n + 1) next rises.1 at in
     rw (hands_other b n (omega (arith, above)), append-nil p.sent, deliver_pushed ns ps b k (n + 1) next (omega arith) rises.1 at) refl
 
--- what a push at the found place makes of the pipes
+-- the pipes after a push at the index that was found
 abbrev pub pushed_by : Option Batch → Option ℕ → List (List Batch) → List (List Batch)
 pushed_by (Some b) (Some k) xss = pushed_at xss k b
 pushed_by _ _ xss = xss
 
-pub delivered : (ns : List ℕ) (ps : List Piped) (at : Option ℕ) (o : Option Batch) (next : ℕ) → IsReady ns ps at o → Rises 1 ns next → length ns ≡ length ps → pushed_by o at (sents ps) ≡ deliver o ns (sents ps)
+pub delivered : (ns : List ℕ) (ps : List Piped) (at : Option ℕ) (o : Option Batch) (next : ℕ) → IsReady ns ps at o
+    → Rises 1 ns next → length ns ≡ length ps → pushed_by o at (sents ps) ≡ deliver o ns (sents ps)
 delivered ns ps at None next ready rises len = sym (deliver_none ns ps len)
 delivered ns ps None (Some b) next ready rises len = sym (deliver_lacks ns ps b len ready.0)
 delivered ns ps (Some k) (Some b) next ready rises len = sym (deliver_pushed ns ps b k 1 next len rises ready.0)
 
--- the same of a pipe that was borrowed from its place
-pub pushed_there : (ps : List Piped) (k : ℕ) (p q : Piped) (b : Batch) → p ≡ get_or ps k p → q.sent ≡ p.sent ++ b ∷ [] → sents (set ps k q) ≡ pushed_at (sents ps) k b
+-- the same of a pipe that was borrowed from its index
+pub pushed_there : (ps : List Piped) (k : ℕ) (p q : Piped) (b : Batch) → p ≡ get_or ps k p → q.sent ≡ p.sent ++ b ∷ []
+    → sents (set ps k q) ≡ pushed_at (sents ps) k b
 pushed_there ps k p q b is e = sents_pushed ps k p q b (e ∙ ap (λ (r : Piped). r.sent ++ b ∷ []) is)
 
 pub looked_there : (ps : List Piped) (k : ℕ) (p q : Piped) → p ≡ get_or ps k p → q.sent ≡ p.sent → sents (set ps k q) ≡ sents ps
@@ -126,7 +132,8 @@ lacks_all : (ns : List ℕ) (id : ℕ) → ((k : ℕ) → k < length ns → get_
 lacks_all [] id other = tt
 lacks_all (n ∷ ns) id other = (other 0 (omega arith), lacks_all ns id (λ k p. other (suc k) (omega arith)))
 
-parted : (ns : List ℕ) (id i : ℕ) → ((k : ℕ) → k < i → get_or ns k 0 < id) → ((k : ℕ) → i ≤ k → k < length ns → id < get_or ns k 0) → (k : ℕ) → k < length ns → get_or ns k 0 ≢ id
+parted : (ns : List ℕ) (id i : ℕ) → ((k : ℕ) → k < i → get_or ns k 0 < id)
+    → ((k : ℕ) → i ≤ k → k < length ns → id < get_or ns k 0) → (k : ℕ) → k < length ns → get_or ns k 0 ≢ id
 parted ns id i below above k within =
     elim (Rattle.std.proofs.lemmas.Bool.cases_order k i) [
       | inl same ↦ let h = above k (omega arith) within in omega arith

@@ -1,5 +1,6 @@
 -- What is handed to an instance with a pipe is what is read of it.
-use Rattle.std.proofs.Common.{◌≡◌, ◌⊎◌, ℕ, ◌+◌, ◌≤◌, Bool, true, false, not, cond, eqb, List, [], ◌∷◌, ◌++◌, Option, Some, None, option_map, refl, sym, ap, ◌∙◌, subst, inl, inr, arith, append-nil}
+use Rattle.std.proofs.Common.{◌≡◌, ◌⊎◌, ℕ, ◌+◌, ◌≤◌, Bool, true, false, not, cond, eqb, List, [], ◌∷◌, ◌++◌, Option}
+use Rattle.std.proofs.Common.{Some, None, option_map, refl, sym, ap, ◌∙◌, subst, inl, inr, arith, append-nil}
 use Rattle.std.proofs.lemmas.Bool.{eqb-true}
 use Rattle.std.proofs.lemmas.Grind.{flat_map-append}
 use Rattle.std.specs.List.{AllByRecursion}
@@ -57,7 +58,8 @@ done-records from place id (reply.Wd wd) = refl
 done-records from place id (reply.Refused why) = refl
 
 -- what a pump hands over is what it reads
-pump-reads : (bytes : ℕ) (r : Option Refusal) (o : Option Instance) (f : Instance → List Event) → unwrap_or (where_records (reply_by r (read_answer bytes o)) (where_open r o f)) [] ≡ where_open r o f
+pump-reads : (bytes : ℕ) (r : Option Refusal) (o : Option Instance) (f : Instance → List Event)
+    → unwrap_or (where_records (reply_by r (read_answer bytes o)) (where_open r o f)) [] ≡ where_open r o f
 pump-reads bytes (Some why) o f = refl
 pump-reads bytes None None f = refl
 pump-reads bytes None (Some i) f = refl
@@ -69,11 +71,15 @@ pump-here t from bytes id = by (eqb from id) refl
   where
     by : (x : Bool) → eqb from id ≡ x → cond x (read_by t (call.Pump from bytes) from) [] ≡ read_by t (call.Pump from bytes) id
     by true same = ap (read_by t (call.Pump from bytes)) (eqb-true from id same)
-    by false other = sym (none-open (refusal_of t (call.Pump from bytes)) (instance_of t.instances id) (records_for (call.Pump from bytes) id) (λ i. ap (λ x. cond x (oldest bytes i) []) other))
+    by false other =
+        sym
+        (none-open (refusal_of t (call.Pump from bytes)) (instance_of t.instances id)
+        (records_for (call.Pump from bytes) id) (λ i. ap (λ x. cond x (oldest bytes i) []) other))
 
 -- of an instance with a pipe a call hands over what it reads
 module _ (tells : Told) (t : Tree) (place id : ℕ) (pipes : (i : Instance) → instance_of t.instances id ≡ Some i → IsTrue i.is_piped) where
-  reads-none : (from bytes : ℕ) (x : Bool) → eqb from id ≡ x → (r : Option Refusal) → refusal_of t (call.Read from bytes) ≡ r → (o : Option Instance) → instance_of t.instances id ≡ o
+  reads-none : (from bytes : ℕ) (x : Bool) → eqb from id ≡ x → (r : Option Refusal)
+      → refusal_of t (call.Read from bytes) ≡ r → (o : Option Instance) → instance_of t.instances id ≡ o
       → where_open r o (λ i. cond x (oldest bytes i) []) ≡ []
   reads-none from bytes x same (Some why) is o at = refl
   reads-none from bytes x same None is None at = refl
@@ -87,9 +93,18 @@ module _ (tells : Told) (t : Tree) (place id : ℕ) (pipes : (i : Instance) → 
   sent-by : (c : Call) → records_of (hands (handed_by t place c) id) ≡ read_by t c id
   unfolding read_by
   sent-by (call.File f) = sym (none-open (refusal_of t (call.File f)) (instance_of t.instances id) (records_for (call.File f) id) (λ i. refl))
-  sent-by (call.Init limit is_piped) = sym (none-open (refusal_of t (call.Init limit is_piped)) (instance_of t.instances id) (records_for (call.Init limit is_piped) id) (λ i. refl))
-  sent-by (call.AddWatch from p mask) = sym (none-open (refusal_of t (call.AddWatch from p mask)) (instance_of t.instances id) (records_for (call.AddWatch from p mask) id) (λ i. refl))
-  sent-by (call.RmWatch from wd) = sym (none-open (refusal_of t (call.RmWatch from wd)) (instance_of t.instances id) (records_for (call.RmWatch from wd) id) (λ i. refl))
+  sent-by (call.Init limit is_piped) =
+      sym
+      (none-open (refusal_of t (call.Init limit is_piped)) (instance_of t.instances id)
+      (records_for (call.Init limit is_piped) id) (λ i. refl))
+  sent-by (call.AddWatch from p mask) =
+      sym
+      (none-open (refusal_of t (call.AddWatch from p mask)) (instance_of t.instances id)
+      (records_for (call.AddWatch from p mask) id) (λ i. refl))
+  sent-by (call.RmWatch from wd) =
+      sym
+      (none-open (refusal_of t (call.RmWatch from wd)) (instance_of t.instances id)
+      (records_for (call.RmWatch from wd) id) (λ i. refl))
   sent-by (call.Read from bytes) = sym (reads-none from bytes (eqb from id) refl (refusal_of t (call.Read from bytes)) refl (instance_of t.instances id) refl)
   sent-by (call.Pump from bytes) =
       given-records from place id (pumped t from bytes)
@@ -101,16 +116,22 @@ module _ (tells : Told) (t : Tree) (place id : ℕ) (pipes : (i : Instance) → 
 
 -- ---- the instances with a pipe that a journal makes
 
-in-cases : (c : Call) (r : Reply) (ns : List ℕ) (id : ℕ) → IsIn (piped_by c r ++ ns) id → IsIn ns id ⊎ ((limit : ℕ) × (c ≡ call.Init limit true) × (r ≡ reply.Instance id))
+in-cases : (c : Call) (r : Reply) (ns : List ℕ) (id : ℕ) → IsIn (piped_by c r ++ ns) id
+    → IsIn ns id ⊎ ((limit : ℕ) × (c ≡ call.Init limit true) × (r ≡ reply.Instance id))
 in-cases c r ns id there = by (piped_by-cases c r)
   where
-    first : (limit n : ℕ) → c ≡ call.Init limit true → r ≡ reply.Instance n → IsIn (n ∷ ns) id → IsIn ns id ⊎ ((limit : ℕ) × (c ≡ call.Init limit true) × (r ≡ reply.Instance id))
+    first : (limit n : ℕ) → c ≡ call.Init limit true → r ≡ reply.Instance n → IsIn (n ∷ ns) id
+        → IsIn ns id ⊎ ((limit : ℕ) × (c ≡ call.Init limit true) × (r ≡ reply.Instance id))
     first limit n is says (inl same) = inr (limit, is, says ∙ ap (λ (m : ℕ). reply.Instance m) same)
     first limit n is says (inr more) = inl more
 
-    by : (piped_by c r ≡ []) ⊎ ((limit : ℕ) × (n : ℕ) × (c ≡ call.Init limit true) × (r ≡ reply.Instance n)) → IsIn ns id ⊎ ((limit : ℕ) × (c ≡ call.Init limit true) × (r ≡ reply.Instance id))
+    by : (piped_by c r ≡ []) ⊎ ((limit : ℕ) × (n : ℕ) × (c ≡ call.Init limit true) × (r ≡ reply.Instance n))
+        → IsIn ns id ⊎ ((limit : ℕ) × (c ≡ call.Init limit true) × (r ≡ reply.Instance id))
     by (inl none) = inl (subst (λ (ms : List ℕ). IsIn (ms ++ ns) id) none there)
-    by (inr (limit, n, is, says)) = first limit n is says (subst (λ (ms : List ℕ). IsIn (ms ++ ns) id) (ap (λ d. piped_by d r) is ∙ ap (piped_by (call.Init limit true)) says) there)
+    by (inr (limit, n, is, says)) =
+        first limit n is says
+        (subst (λ (ms : List ℕ). IsIn (ms ++ ns) id)
+        (ap (λ d. piped_by d r) is ∙ ap (piped_by (call.Init limit true)) says) there)
 
 -- their numbers are not behind the next one
 piped-later : (tells : Told) (t : Tree) (es : List Entry) (id : ℕ) → IsLawfulFrom t es → IsIn (piped_of es) id → t.next_id ≤ id
@@ -129,12 +150,15 @@ record HasItsPipe (t : Tree) (es : List Entry) (id : ℕ) : Type 0 where
 is-init : (limit other : ℕ) (b : Bool) → call.Init limit true ≡ call.Init other b → IsTrue b
 is-init limit other b e = cc
 
-module _ (tells : Told) (t : Tree) (e : Entry) (es : List Entry) (id : ℕ) (is : e.reply ≡ reply_of t e.call) (lawful : IsLawfulFrom (after t e.call) es) (has : HasItsPipe t (e ∷ es) id) where
+module _ (tells : Told) (t : Tree) (e : Entry) (es : List Entry) (id : ℕ) (is : e.reply ≡ reply_of t e.call)
+    (lawful : IsLawfulFrom (after t e.call) es) (has : HasItsPipe t (e ∷ es) id) where
   open-after : (i : Instance) → instance_of (after t e.call).instances id ≡ Some i → IsTrue i.is_piped
   open-after i there = by (opened-by t e.call id i there)
     where
       made : IsMade t e.call id i → IsIn (piped_of es) id ⊎ ((limit : ℕ) × (e.call ≡ call.Init limit true) × (e.reply ≡ reply.Instance id)) → IsTrue i.is_piped
-      made m (inl more) = let past = piped-later tells (after t e.call) es id lawful more in let next = m.is_next in let grows = m.grows in absurd (omega (arith, past, next, grows))
+      made m (inl more) =
+          let past = piped-later tells (after t e.call) es id lawful more in
+          let next = m.is_next in let grows = m.grows in absurd (omega (arith, past, next, grows))
       made m (inr (limit, init, says)) = is-init limit m.limit i.is_piped (sym init ∙ m.init)
 
       by : WasOpen t id i ⊎ IsMade t e.call id i → IsTrue i.is_piped
@@ -148,18 +172,25 @@ module _ (tells : Told) (t : Tree) (e : Entry) (es : List Entry) (id : ℕ) (is 
       by (inl more) = more
       by (inr (limit, init, says)) =
           let next = (tells t e.call).opened id (sym is ∙ says) in
-          let grows : (after t e.call).next_id ≡ t.next_id + 1 = ap (λ c. (after t c).next_id) init ∙ next-init t limit true id (sym (ap (reply_of t) init) ∙ sym is ∙ says) in
+          let grows : (after t e.call).next_id ≡ t.next_id + 1 =
+          ap (λ c. (after t c).next_id) init
+          ∙ next-init t limit true id (sym (ap (reply_of t) init) ∙ sym is ∙ says) in
           absurd (omega (arith, past, next, grows))
 
 -- ---- a journal
 
-sent-from : (tells : Told) (t : Tree) (place : ℕ) (es : List Entry) (id : ℕ) → IsLawfulFrom t es → HasItsPipe t es id → records_of (handed_from t place es id) ≡ read_in t es id
+sent-from : (tells : Told) (t : Tree) (place : ℕ) (es : List Entry) (id : ℕ) → IsLawfulFrom t es → HasItsPipe t es id
+    → records_of (handed_from t place es id) ≡ read_in t es id
 sent-from tells t place [] id lawful has = refl
 sent-from tells t place (e ∷ es) id lawful has =
     flat_map-append (λ (b : Batch). b.records) (hands (handed_by t place e.call) id) (handed_from (after t e.call) (place + 1) es id)
     ∙ ap (λ (rs : List Event). rs ++ records_of (handed_from (after t e.call) (place + 1) es id)) (sent-by tells t place id has.opened e.call)
     ∙ ap (λ (rs : List Event). read_by t e.call id ++ rs)
-    (sent-from tells (after t e.call) (place + 1) es id lawful.1 (record { opened = open-after tells t e es id lawful.0 lawful.1 has; later = later-after tells t e es id lawful.0 lawful.1 has }))
+    (sent-from tells (after t e.call) (place + 1) es id lawful.1
+    (record {
+      opened = open-after tells t e es id lawful.0 lawful.1 has;
+      later = later-after tells t e es id lawful.0 lawful.1 has;
+    }))
 
 all-in : (P : ℕ → Type 0) (ns : List ℕ) → ((id : ℕ) → IsIn ns id → P id) → AllByRecursion P ns
 all-in P [] holds = tt

@@ -22,7 +22,7 @@ use Rattle.shared_tree.specs.Held.{closed_of, end_of}
 use Rattle.tree_core.specs.Calls.{is_plain}
 use Rattle.std.specs.Prelude.{IsTrue}
 
--- what every reply tells of its tree
+-- what every reply says about its tree
 abbrev pub Told : Type 0
 Told = (t : Tree) (c : Call) → RepliesTell t c
 
@@ -40,7 +40,8 @@ open-not o none (i, some) = let e : ◌≡◌ {A = Option Instance} None (Some i
 
 -- an instance that is not open is handed nothing
 module _ (tells : Told) (t : Tree) (place id : ℕ) (none : instance_of t.instances id ≡ None) where
-  pumps-none : (from bytes : ℕ) (rs : List Event) (r : Reply) → reply_of t (call.Pump from bytes) ≡ r → hands (option_map (batch from place) (where_records r rs)) id ≡ []
+  pumps-none : (from bytes : ℕ) (rs : List Event) (r : Reply) → reply_of t (call.Pump from bytes) ≡ r
+      → hands (option_map (batch from place) (where_records r rs)) id ≡ []
   pumps-none from bytes rs (reply.Records bs) e =
       same-or-not from id (batch from place rs) (λ same.
       let there = (tells t (call.Pump from bytes)).pumped from bytes bs refl e in
@@ -126,14 +127,18 @@ pub record IsMade (t : Tree) (c : Call) (id : ℕ) (i : Instance) : Type 0 where
 abbrev WasOpenOr : Option Instance → Type 0 → Instance → Type 0
 WasOpenOr o A i = ((j : Instance) × (o ≡ Some j) × (i.is_piped ≡ j.is_piped)) ⊎ A
 
-kept-there : (f : Instance → Instance) (same : (j : Instance) → (f j).is_piped ≡ j.is_piped) (o : Option Instance) (A : Type 0) (i : Instance) → option_map f o ≡ Some i → WasOpenOr o A i
+kept-there : (f : Instance → Instance) (same : (j : Instance) → (f j).is_piped ≡ j.is_piped) (o : Option Instance)
+    (A : Type 0) (i : Instance)
+    → option_map f o ≡ Some i → WasOpenOr o A i
 kept-there f same None A i e = absurd (cc)
 kept-there f same (Some j) A i e = inl (j, refl, ap (λ (x : Instance). x.is_piped) (is e) ∙ same j)
   where
     is : ◌≡◌ {A = Option Instance} (Some (f j)) (Some i) → i ≡ f j
     is h = cc
 
-changed-there : (f : Instance → Instance) (same : (j : Instance) → (f j).is_piped ≡ j.is_piped) (b : Bool) (o : Option Instance) (A : Type 0) (i : Instance) → cond b (option_map f o) o ≡ Some i → WasOpenOr o A i
+changed-there : (f : Instance → Instance) (same : (j : Instance) → (f j).is_piped ≡ j.is_piped) (b : Bool)
+    (o : Option Instance) (A : Type 0) (i : Instance)
+    → cond b (option_map f o) o ≡ Some i → WasOpenOr o A i
 changed-there f same true o A i e = kept-there f same o A i e
 changed-there f same false o A i e = inl (i, e, refl)
 
@@ -141,7 +146,8 @@ closed-there : (b : Bool) (o : Option Instance) (A : Type 0) (i : Instance) → 
 closed-there true o A i e = absurd (cc)
 closed-there false o A i e = inl (i, e, refl)
 
-made-there : (t : Tree) (limit : ℕ) (p : Bool) (id : ℕ) (i : Instance) → refusal_of t (call.Init limit p) ≡ None → id ≡ t.next_id → i ≡ new_instance t.limits limit p → IsMade t (call.Init limit p) id i
+made-there : (t : Tree) (limit : ℕ) (p : Bool) (id : ℕ) (i : Instance) → refusal_of t (call.Init limit p) ≡ None
+    → id ≡ t.next_id → i ≡ new_instance t.limits limit p → IsMade t (call.Init limit p) id i
 unfolding after_init
 made-there t limit p id i e next is = record {
   limit = limit;
@@ -152,23 +158,29 @@ made-there t limit p id i e next is = record {
 }
 
 init-there : (t : Tree) (limit : ℕ) (p : Bool) (id : ℕ) (i : Instance) → refusal_of t (call.Init limit p) ≡ None → (b : Bool) → eqb id t.next_id ≡ b
-    → cond b (Some (new_instance t.limits limit p)) (instance_of t.instances id) ≡ Some i → WasOpenOr (instance_of t.instances id) (IsMade t (call.Init limit p) id i) i
+    → cond b (Some (new_instance t.limits limit p)) (instance_of t.instances id) ≡ Some i
+    → WasOpenOr (instance_of t.instances id) (IsMade t (call.Init limit p) id i) i
 init-there t limit p id i e true same h = inr (made-there t limit p id i e (eqb-true id t.next_id same) (is h))
   where
     is : ◌≡◌ {A = Option Instance} (Some (new_instance t.limits limit p)) (Some i) → i ≡ new_instance t.limits limit p
     is g = cc
 init-there t limit p id i e false other h = inl (i, h, refl)
 
-accepted-there : (t : Tree) (c : Call) (id : ℕ) (i : Instance) → refusal_of t c ≡ None → left_of t c id (instance_of t.instances id) ≡ Some i → WasOpenOr (instance_of t.instances id) (IsMade t c id i) i
+accepted-there : (t : Tree) (c : Call) (id : ℕ) (i : Instance) → refusal_of t c ≡ None
+    → left_of t c id (instance_of t.instances id) ≡ Some i → WasOpenOr (instance_of t.instances id) (IsMade t c id i) i
 accepted-there t (call.File f) id i e h = kept-there (told (notices_of t.world f (cookie_now t.next_cookie))) (λ j. refl) (instance_of t.instances id) _ i h
 accepted-there t (call.Init limit p) id i e h = init-there t limit p id i e (eqb id t.next_id) refl h
-accepted-there t (call.AddWatch from p mask) id i e h = changed-there (watching (number_seen (look t.world p)) (known mask)) (λ j. refl) (eqb id from) (instance_of t.instances id) _ i h
+accepted-there t (call.AddWatch from p mask) id i e h =
+    changed-there (watching (number_seen (look t.world p)) (known mask)) (λ j. refl) (eqb id from)
+    (instance_of t.instances id) _ i h
 accepted-there t (call.RmWatch from wd) id i e h = changed-there (unwatching wd) (λ j. refl) (eqb id from) (instance_of t.instances id) _ i h
 accepted-there t (call.Read from bytes) id i e h = changed-there (after_reading bytes) (λ j. refl) (eqb id from) (instance_of t.instances id) _ i h
 accepted-there t (call.Pump from bytes) id i e h = changed-there (after_reading bytes) (λ j. refl) (eqb id from) (instance_of t.instances id) _ i h
 accepted-there t (call.Close from) id i e h = closed-there (eqb id from) (instance_of t.instances id) _ i h
 
-by-refusal : (t : Tree) (c : Call) (id : ℕ) (i : Instance) (o : Option Refusal) → refusal_of t c ≡ o → instance_of (tree_by o t (accepted t c)).instances id ≡ Some i → WasOpenOr (instance_of t.instances id) (IsMade t c id i) i
+by-refusal : (t : Tree) (c : Call) (id : ℕ) (i : Instance) (o : Option Refusal) → refusal_of t c ≡ o
+    → instance_of (tree_by o t (accepted t c)).instances id ≡ Some i
+    → WasOpenOr (instance_of t.instances id) (IsMade t c id i) i
 by-refusal t c id i (Some r) e h = inl (i, h, refl)
 by-refusal t c id i None e h = accepted-there t c id i e (sym (instance_of-accepted t c id) ∙ h)
 
@@ -176,11 +188,14 @@ by-refusal t c id i None e h = accepted-there t c id i e (sym (instance_of-accep
 pub opened-by : (t : Tree) (c : Call) (id : ℕ) (i : Instance) → instance_of (after t c).instances id ≡ Some i → WasOpen t id i ⊎ IsMade t c id i
 opened-by t c id i h = by-refusal t c id i (refusal_of t c) refl h
 
-next-by : (t : Tree) (limit : ℕ) (p : Bool) (id : ℕ) (o : Option Refusal) → reply_by o (reply.Instance t.next_id) ≡ reply.Instance id → (tree_by o t (accepted t (call.Init limit p))).next_id ≡ t.next_id + 1
+next-by : (t : Tree) (limit : ℕ) (p : Bool) (id : ℕ) (o : Option Refusal)
+    → reply_by o (reply.Instance t.next_id) ≡ reply.Instance id
+    → (tree_by o t (accepted t (call.Init limit p))).next_id ≡ t.next_id + 1
 unfolding after_init
 next-by t limit p id (Some r) e = absurd (cc)
 next-by t limit p id None e = refl
 
 -- where an instance is made, the next number is one more
-pub next-init : (t : Tree) (limit : ℕ) (p : Bool) (id : ℕ) → reply_of t (call.Init limit p) ≡ reply.Instance id → (after t (call.Init limit p)).next_id ≡ t.next_id + 1
+pub next-init : (t : Tree) (limit : ℕ) (p : Bool) (id : ℕ) → reply_of t (call.Init limit p) ≡ reply.Instance id
+    → (after t (call.Init limit p)).next_id ≡ t.next_id + 1
 next-init t limit p id e = next-by t limit p id (refusal_of t (call.Init limit p)) e

@@ -15,7 +15,9 @@ or-right false = refl
 
 spent : (s : Journaled) → IsSpent s → is_spent s ≡ true
 spent s (inl full) = ap (λ b. b || nat_le (2 ^ 64) (last_place s + 1)) (le-leb s.start.limits.journal (length s.entries) full)
-spent s (inr last) = ap (λ b. nat_le s.start.limits.journal (length s.entries) || b) (le-leb (2 ^ 64) (last_place s + 1) last) ∙ or-right (nat_le s.start.limits.journal (length s.entries))
+spent s (inr last) =
+    ap (λ b. nat_le s.start.limits.journal (length s.entries) || b) (le-leb (2 ^ 64) (last_place s + 1) last)
+    ∙ or-right (nat_le s.start.limits.journal (length s.entries))
 
 -- both tests fail
 not-spent : (s : Journaled) → (IsSpent s → ⊥) → is_spent s ≡ false

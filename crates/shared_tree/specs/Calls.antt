@@ -1,5 +1,6 @@
 -- What contracts see of a tree behind a lock, and what a call by a seat does to it.
-use Rattle.std.specs.Prelude.{◌≡◌, ◌+◌, ◌^◌, ◌||◌, ℕ, nat_le, Bool, true, false, List, [], ◌∷◌, ◌++◌, Option, Some, None, IsTrue, length, map}
+use Rattle.std.specs.Prelude.{◌≡◌, ◌+◌, ◌^◌, ◌||◌, ℕ, nat_le, Bool, true, false, List, [], ◌∷◌, ◌++◌, Option, Some}
+use Rattle.std.specs.Prelude.{None, IsTrue, length, map}
 use Rattle.tree_paths.specs.Rows.{first_row, row}
 use Rattle.tree_paths.specs.declared.refusal.Refusal.{Refusal}
 use Rattle.tree_paths.specs.declared.refusal.Refusal.TheVariants.{Enomem, JournalFull, PipeFull}
@@ -15,8 +16,8 @@ use Rattle.shared_tree.specs.declared.pipe.Batch.{Batch}
 use Rattle.shared_tree.specs.Seats.{Seated, seated}
 use Rattle.shared_tree.specs.Handed.{handed_all, handed_by, piped_by, piped_of, deliver}
 
--- the tree with its journal, the instances that were made with a pipe, what each pipe was sent in the order in which the pipes
--- were made, and the ledger's total
+-- the tree with its journal, the instances that were made with a pipe, what each pipe was sent in the order in which
+-- the pipes were made, and the ledger's total
 pub record TreeWithPipes : Type 0 where
   pub state : Journaled
   pub pipes : List ℕ
@@ -34,16 +35,18 @@ pub record IsSent (state : Journaled) (pipes : List ℕ) (sent : List (List Batc
   pub pipes_are : pipes ≡ piped_of (past ++ state.entries)
   pub sent_are : sent ≡ handed_all state.start.limits (past ++ state.entries)
 
--- what a call does beside its entry: an instance with a pipe that it made has a pipe more, which was sent nothing; the batch
--- that it hands over joins what the pipe of its instance was sent; and the ledger's total is one more
+-- what a call does beside its entry: an instance with a pipe that it made has a pipe more, which was sent nothing; the
+-- batch that it hands over joins what the pipe of its instance was sent; and the ledger's total is one more
 pub record HandsOver (old : TreeWithPipes) (c : Call) (r : Receipt) (new : TreeWithPipes) : Type 0 where
   pub pipes_are : new.pipes ≡ old.pipes ++ piped_by c r.reply
-  pub sent_are : new.sent ≡ deliver (handed_by (now old.state) r.place c) old.pipes old.sent ++ map (λ id. []) (piped_by c r.reply)
+  pub sent_are : new.sent
+      ≡ deliver (handed_by (now old.state) r.place c) old.pipes old.sent ++ map (λ id. []) (piped_by c r.reply)
   pub counted : new.total ≡ old.total + 1
 
 -- a call by a seat is one entry more, under the seat's number and with the reply of the tree before it. The seat keeps
 -- this one call more
-pub record JoinsJournal (old : Journaled) (seat : Seated) (c : Call) (new : Journaled) (left : Seated) (r : Receipt) : Type 0 where
+pub record JoinsJournal (old : Journaled) (seat : Seated) (c : Call) (new : Journaled) (left : Seated)
+    (r : Receipt) : Type 0 where
   pub entry : new ≡ with_entry old (record { caller = seat.number; call = c; reply = r.reply })
   pub reply : r.reply ≡ reply_of (now old) c
   pub place : r.place ≡ last_place new
@@ -63,8 +66,8 @@ IsForPipe t _ = ⊥
 abbrev pub is_spent : Journaled → Bool
 is_spent s = nat_le s.start.limits.journal (length s.entries) || nat_le (2 ^ 64) (last_place s + 1)
 
--- why a call is not carried out: it says that its pipe has no free place, the journal is full, or there is no memory. Whether a
--- pipe is full no contract knows, since its feed may free a place at any time
+-- why a call is not carried out: it reports a full pipe, the journal is full, or it is out of memory. No contract knows
+-- whether a pipe is full, since its feed may free a slot at any time
 abbrev pub unable_rows : Bool → Journaled → List (Option Refusal)
 unable_rows says_full old = row says_full PipeFull ∷ row (is_spent old) JournalFull ∷ Some Enomem ∷ []
 
@@ -78,8 +81,8 @@ pub record IsWhyNot (old : Journaled) (c : Call) (e : Refusal) : Type 0 where
   pub for_pipe : says_full ≡ true → IsForPipe (now old) c
   pub first : first_row (unable_rows says_full old) ≡ Some e
 
--- what contracts see of a journal that has ended: the state, the place of its last entry, the numbers of its pipes, and what
--- each was sent
+-- what contracts see of a journal that has ended: the state, the sequence number of its last entry, the numbers of its
+-- pipes, and what each was sent
 pub record BookContents : Type 0 where
   pub state : Journaled
   pub entries : ℕ

@@ -1,5 +1,6 @@
 -- What a journal hands to the pipes of its instances.
-use Rattle.std.specs.Prelude.{◌≡◌, ℕ, ◌+◌, ◌<◌, ◌≤◌, true, List, [], ◌∷◌, ◌++◌, Option, Some, None, option_map, map, flat_map}
+use Rattle.std.specs.Prelude.{◌≡◌, ℕ, ◌+◌, ◌<◌, ◌≤◌, true, List, [], ◌∷◌, ◌++◌, Option, Some, None, option_map, map}
+use Rattle.std.specs.Prelude.{flat_map}
 use Rattle.std.specs.List.{AllByRecursion}
 use Rattle.record_codec.specs.declared.event.Event.{Event}
 use Rattle.record_codec.specs.Records.{AreEvents, spelling}
@@ -22,8 +23,8 @@ abbrev pub where_done : Reply → Batch → Option Batch
 where_done reply.Done b = Some b
 where_done _ b = None
 
--- the batch that a call at a place of the journal hands over: the records of a pump, or the end batch, which has none,
--- of a close. A refused call hands over nothing
+-- the batch that a call with this sequence number hands over: a pump its records, a close the end batch, which has
+-- none. A refused call hands over nothing
 abbrev pub handed_by : Tree → ℕ → Call → Option Batch
 handed_by t place (call.Pump id bytes) = option_map (batch id place) (pumped t id bytes)
 handed_by t place (call.Close id) = where_done (reply_of t (call.Close id)) (batch id place [])
@@ -44,7 +45,7 @@ abbrev pub handed_from : Tree → ℕ → List Entry → ℕ → List Batch
 handed_from t place [] id = []
 handed_from t place (e ∷ es) id = hands (handed_by t place e.call) id ++ handed_from (after t e.call) (place + 1) es id
 
--- what a whole journal hands to an instance, in order. Places run from 1
+-- what a whole journal hands to an instance, in order. Sequence numbers begin at 1
 unfoldable pub handed : Limits → List Entry → ℕ → List Batch
 handed limits es id = handed_from (opening limits) 1 es id
 
@@ -77,7 +78,9 @@ IsAnswered (call.Close id) r b = (b.instance ≡ id) × (b.records ≡ []) × (r
 IsAnswered _ r b = ⊥
 
 abbrev pub BatchesAreAnswered : Type 0
-BatchesAreAnswered = (t : Tree) (place : ℕ) (c : Call) (b : Batch) → handed_by t place c ≡ Some b → (b.place ≡ place) × IsAnswered c (reply_of t c) b
+BatchesAreAnswered =
+    (t : Tree) (place : ℕ) (c : Call) (b : Batch) → handed_by t place c ≡ Some b
+    → (b.place ≡ place) × IsAnswered c (reply_of t c) b
 
 -- nothing follows the end batch: a batch without records is the last
 abbrev pub NothingFollowsTheEnd : List Batch → Type 0
@@ -90,17 +93,21 @@ EndBatchesComeLast = (limits : Limits) (es : List Entry) (id : ℕ) → NothingF
 abbrev pub records_of : List Batch → List Event
 records_of bs = flat_map (λ b. b.records) bs
 
--- what a state and its past hand to an instance is what the past hands, at places up to the cut, and then what the entries
--- since hand, at later places. Where an end batch is among the first, it is their last, and the instance is closed at the cut
+-- a state and its past hand an instance first what the past hands it, with sequence numbers up to the cut, and then
+-- what the entries since hand it, with later ones. If an end batch is among the first, it is their last, and the
+-- instance is closed at the cut
 pub record IsParted (s : Journaled) (past : List Entry) (id : ℕ) : Type 0 where
   pub parted : handed s.start.limits (past ++ s.entries) id ≡ handed s.start.limits past id ++ handed_since s id
   pub early : AllByRecursion (λ b. b.place ≤ s.place) (handed s.start.limits past id)
   pub late : AllByRecursion (λ b. s.place < b.place) (handed_since s id)
-  pub ended : (before rest : List Batch) (b : Batch) → handed s.start.limits past id ≡ before ++ b ∷ rest → b.records ≡ [] → (rest ≡ []) × (instance_of s.start.instances id ≡ None)
+  pub ended : (before rest : List Batch) (b : Batch) → handed s.start.limits past id ≡ before ++ b ∷ rest
+      → b.records ≡ [] → (rest ≡ []) × (instance_of s.start.instances id ≡ None)
 
 abbrev pub CutsPartBatches : Type 0
 CutsPartBatches = (s : Journaled) (past : List Entry) (id : ℕ) → IsPast s.start s.place past → IsParted s past id
 
 -- what a lawful journal hands to an instance with a pipe is what it reads of that instance
 abbrev pub SentIsRead : Type 0
-SentIsRead = (limits : Limits) (es : List Entry) → IsLawful limits es → AllByRecursion (λ id. records_of (handed limits es id) ≡ read_in (opening limits) es id) (piped_of es)
+SentIsRead =
+    (limits : Limits) (es : List Entry) → IsLawful limits es
+    → AllByRecursion (λ id. records_of (handed limits es id) ≡ read_in (opening limits) es id) (piped_of es)

@@ -1,5 +1,6 @@
 -- What the value behind the lock keeps, and what its own functions say. No public clause cites this module.
-use Rattle.std.specs.Prelude.{◌≡◌, ◌<◌, ◌≤◌, ◌+◌, ◌↔◌, ◌⊎◌, ⊤, ℕ, zero, suc, List, [], ◌∷◌, ◌++◌, Option, Some, None, IsSome, IsTrue, map, slice_get}
+use Rattle.std.specs.Prelude.{◌≡◌, ◌<◌, ◌≤◌, ◌+◌, ◌↔◌, ◌⊎◌, ⊤, ℕ, zero, suc, List, [], ◌∷◌, ◌++◌, Option, Some, None}
+use Rattle.std.specs.Prelude.{IsSome, IsTrue, map, slice_get}
 use Rattle.tree_paths.specs.declared.refusal.Refusal.{Refusal}
 use Rattle.tree_paths.specs.declared.refusal.Refusal.TheVariants.{Enomem, JournalFull}
 use Rattle.instance_table.specs.declared.instance.Instance.{Instance}
@@ -41,7 +42,7 @@ IsPlaceOf ns id (Some k) = slice_get ns k ≡ Some id
 abbrev pub sents : List Piped → List (List Batch)
 sents ps = map (λ p. p.sent) ps
 
--- one batch more in the pipe at a place
+-- one more batch in the pipe at an index
 abbrev pub pushed_at : List (List Batch) → ℕ → Batch → List (List Batch)
 pushed_at [] k b = []
 pushed_at (xs ∷ xss) zero b = (xs ++ b ∷ []) ∷ xss
@@ -54,7 +55,7 @@ abbrev pub HasRoom : List Piped → Option ℕ → Type 0
 HasRoom ps None = ⊤
 HasRoom ps (Some k) = FreeAt ps k
 
--- the pipe of an instance was looked for, and has room where the instance is open
+-- the pipe of an instance was looked up, and has a free slot if the instance is open
 abbrev pub IsLooked : List ℕ → List Piped → Tree → Option ℕ → Option ℕ → Type 0
 IsLooked ns ps t None at = ⊤
 IsLooked ns ps t (Some id) at = IsSome (instance_of t.instances id) → IsPlaceOf ns id at × HasRoom ps at
@@ -74,16 +75,16 @@ abbrev pub end_of : Option ℕ → ℕ → Reply → Option Batch
 end_of None place r = None
 end_of (Some id) place r = where_done r (batch id place [])
 
--- a batch can be handed over at this place
+-- a batch can be handed over to the pipe at this index
 abbrev pub IsReady : List ℕ → List Piped → Option ℕ → Option Batch → Type 0
 IsReady ns ps at None = ⊤
 IsReady ns ps at (Some b) = IsPlaceOf ns b.instance at × HasRoom ps at
 
 -- ---- the locked value
 
--- of a whole journal: the total is the number of entries; the pipes are those of the instances that were made with one, in order, and each
--- was sent what the journal hands to its instance; the open instances that have a pipe are those with is_piped; an
--- instance that is still to be made has no pipe and was handed nothing; what was handed are events
+-- of a whole journal: the total is the number of entries; the pipes are those of the instances that were made with one,
+-- in order, and each was sent what the journal hands to its instance; the open instances that have a pipe are those
+-- with is_piped; an instance that is still to be made has no pipe and was handed nothing; what was handed are events
 pub record IsHeldWhole (state : Journaled) (numbers : List ℕ) (sent : List (List Batch)) (total : ℕ) : Type 0 where
   pub counted : total ≡ last_place state
   pub piped : numbers ≡ piped_of state.entries
@@ -92,7 +93,8 @@ pub record IsHeldWhole (state : Journaled) (numbers : List ℕ) (sent : List (Li
   pub below : (id : ℕ) (i : Instance) → instance_of (now state).instances id ≡ Some i → id < (now state).next_id
   pub unmade : (id : ℕ) → (now state).next_id ≤ id → handed_since state id ≡ []
   pub events : (id : ℕ) → AreOfEvents (handed_since state id)
-  pub with_pipe : (id : ℕ) (i : Instance) → instance_of (now state).instances id ≡ Some i → IsTrue i.is_piped ↔ IsIn numbers id
+  pub with_pipe : (id : ℕ) (i : Instance) → instance_of (now state).instances id ≡ Some i
+      → IsTrue i.is_piped ↔ IsIn numbers id
 
 -- a state whose journal was never cut: what was cut off, and the entries since
 abbrev pub whole : Journaled → List Entry → Journaled

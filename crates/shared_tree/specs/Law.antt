@@ -21,20 +21,23 @@ abbrev pub AtEach : (Tree → Call → Type 0) → Tree → List Entry → Type 
 AtEach P t [] = ⊤
 AtEach P t (e ∷ es) = P t e.call × AtEach P (after t e.call) es
 
--- the i-th pair of IN_MOVED_FROM and IN_MOVED_TO that a call raises has the i-th of its cookies, and all other events have none
+-- the i-th pair of IN_MOVED_FROM and IN_MOVED_TO that a call raises has the i-th of its cookies, and all other events
+-- have none
 abbrev pub TiesMoves : Tree → Call → Type 0
 TiesMoves t c = (id : ℕ) → AreTied (moves_with (cookies_used t c)) (marks_of (events (raised_by t c id)))
 
--- a call that is refused leaves the files, the watches and what waits as they were; what joined and what was read of each
--- instance are as before it
+-- a call that is refused leaves the files, the watches and what waits as they were; what joined and what was read of
+-- each instance are as before it
 abbrev pub RefusedAddsNothing : Tree → Call → Type 0
 RefusedAddsNothing t c = (refusal : Refusal) → reply_of t c ≡ reply.Refused refusal → AddsNothing t c
 
--- the records that were read of an instance since the cut, followed by those that wait, are those that waited at the cut and the
--- events that the journal raises for it, in order, each once, but for those merged into an equal unread neighbour and those
--- lost behind a mark. The queue that each event found is what had joined and was not read yet
+-- the records that were read of an instance since the cut, followed by those that wait, are those that waited at the
+-- cut and the events that the journal raises for it, in order, each once, but for those merged into an equal unread
+-- neighbour and those lost behind a mark. The queue that each event found is what had joined and was not read yet
 pub record IsTold (s : Journaled) (id : ℕ) : Type 0 where
-  pub order : IsInOrder (read_in s.start s.entries id) (waiting_of (instance_of s.start.instances id) ++ joined (raised_in s.start s.entries id)) (instance_of (now s).instances id)
+  pub order : IsInOrder (read_in s.start s.entries id)
+      (waiting_of (instance_of s.start.instances id) ++ joined (raised_in s.start s.entries id))
+      (instance_of (now s).instances id)
   pub bytes : bytes_read id s.entries ≡ spelling (read_in s.start s.entries id)
   pub accounted : AreAccountedFor (raised_in s.start s.entries id)
   pub found : FindsTheUnread s.start s.entries id
@@ -46,4 +49,5 @@ pub record HasCookiesInTurn (s : Journaled) : Type 0 where
 
 -- an open instance has a pipe exactly where it was made with one
 abbrev pub HasPipesOfPiped : TreeWithPipes → Type 0
-HasPipesOfPiped h = (id : ℕ) (i : Instance) → instance_of (now h.state).instances id ≡ Some i → IsTrue i.is_piped ↔ IsIn h.pipes id
+HasPipesOfPiped h =
+    (id : ℕ) (i : Instance) → instance_of (now h.state).instances id ≡ Some i → IsTrue i.is_piped ↔ IsIn h.pipes id

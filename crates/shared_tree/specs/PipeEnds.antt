@@ -2,7 +2,7 @@
 use Rattle.std.specs.Prelude.{ℕ, Bool, List}
 use Rattle.shared_tree.specs.declared.pipe.Batch.{Batch}
 
--- the end that hands over: what it has sent, and how many places it knows to be free
+-- the sending end: what it has sent, and how many slots it knows to be free
 pub record Piped : Type 0 where
   pub sent : List Batch
   pub free : ℕ
@@ -10,8 +10,8 @@ pub record Piped : Type 0 where
 abbrev pub piped : List Batch → ℕ → Piped
 piped sent free = record { sent = sent; free = free }
 
--- the pipes of a tree, in the order of the numbers of their instances: these numbers, the ends that hand over, and whether
--- there is room for one pipe more
+-- the pipes of a tree, in the order of the numbers of their instances: these numbers, the sending ends, and whether
+-- there is capacity for one more pipe
 pub record PipesState : Type 0 where
   pub numbers : List ℕ
   pub ends : List Piped

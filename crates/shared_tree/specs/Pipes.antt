@@ -4,7 +4,7 @@ use Rattle.tree_core.specs.declared.reply.Reply.{Reply}
 use Rattle.tree_core.specs.declared.reply.Reply.TheVariants as reply
 use Rattle.shared_tree.specs.declared.pipe.Batch.{Batch}
 
--- the end that takes: whose batches it takes, those that it has received, and how many places its pipe has
+-- the receiving end: whose batches it takes, those that it has received, and how many slots its pipe has
 pub record Fed : Type 0 where
   pub instance : ℕ
   pub received : List Batch
@@ -13,7 +13,7 @@ pub record Fed : Type 0 where
 abbrev pub fed : ℕ → List Batch → ℕ → Fed
 fed instance received slots = record { instance = instance; received = received; slots = slots }
 
--- the feed of a new instance, with so many places
+-- the feed of a new instance, with so many slots
 abbrev pub feed_of : Reply → ℕ → Option Fed
 feed_of (reply.Instance id) slots = Some (fed id [] slots)
 feed_of _ slots = None

@@ -39,7 +39,8 @@ impl Model for Book {
 
     ghost coded = { book_contents_code };
 
-    ghost view = { λ b. record { state = b.core; entries = b.entries; pipes = b.pipes.numbers; sent = sents b.pipes.ends } };
+    ghost view = { λ b.
+        record { state = b.core; entries = b.entries; pipes = b.pipes.numbers; sent = sents b.pipes.ends } };
 
     ghost invariant = { λ b. IsBook b.core b.entries b.pipes.numbers (sents b.pipes.ends) };
 }
@@ -64,14 +65,14 @@ impl Book {
         self.core.journal()
     }
 
-    /// What the last cut kept of the tree, and the place of the last entry before it.
+    /// What the last cut kept of the tree, and the sequence number of the last entry before it.
     pub fn snapshot(&self) -> &Snapshot
         ensures { IsSnapshotOf self.now.state.start self.now.state.place result.now }
     {
         self.core.snapshot()
     }
 
-    /// How many entries the whole journal has: the place of the last one.
+    /// How many entries the whole journal has, which is the sequence number of the last one.
     pub fn entries(&self) -> u64
         ensures { result ≡ self.now.entries }
     {

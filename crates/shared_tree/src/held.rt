@@ -1,6 +1,7 @@
 //! What lies under the lock.
 
-ghost use Rattle.std.specs.Prelude.{◌≡◌, ◌+◌, ◌<◌, ◌≤◌, ℕ, [], vec_len, vec_capacity, option_map, IfOk, IfErr, IfSome, OnOk, OnErr, IsTrue, true};
+ghost use Rattle.std.specs.Prelude.{◌≡◌, ◌+◌, ◌<◌, ◌≤◌, ℕ, [], vec_len, vec_capacity, option_map, IfOk, IfErr, IfSome};
+ghost use Rattle.std.specs.Prelude.{OnOk, OnErr, IsTrue, true};
 ghost use Rattle.record_codec.specs.Records.{AreEvents};
 ghost use Rattle.tree_paths.specs.declared.refusal.Refusal.TheVariants.{Enomem, JournalFull};
 ghost use Rattle.instance_table.specs.Instances.{instance_of, waiting_of};
@@ -83,7 +84,7 @@ fn check_room(core: &State) -> Result<(), Refusal>
     Ok(())
 }
 
-// Room to keep one more call, where the journal takes one more.
+// Reserves memory to keep one more call, if the journal takes one more.
 fn make_room(core: &State, kept: &mut Vec<Kept>) -> Result<(), Refusal>
     ensures items { kept.new.items ≡ kept.old.items }
     ensures room { OnOk result (vec_len kept.new < vec_capacity kept.new) }
@@ -187,7 +188,7 @@ fn pumped_batch(instance: u32, place: u64, records: Option<Events>) -> Option<Ba
     }
 }
 
-// A new pipe, and room for it beside the others, where the journal takes one more entry.
+// Makes a pipe, and reserves memory for it beside the others, if the journal takes one more entry.
 fn make_pipe(
     alloc: Global,
     core: &State,
@@ -244,20 +245,22 @@ impl<L: Ledger> Held<L> {
 
     /// What holds whenever the lock is free. It does nothing.
     ///
-    /// Of each instance the records that were read, followed by those that wait, are the events that the journal raises
-    /// for it, in order, each once, but for those that are merged into an equal unread neighbour and those that are
-    /// lost behind a mark; all of them are events, so that the bytes that were read are the records of these alone. No
-    /// two moves share a cookie. Nothing of a watch follows its `IN_IGNORED`. A refused call adds nothing: what
-    /// joined, what was read and the tree are as before it. An open instance has a pipe exactly where it was made with
-    /// one. Each pipe was sent what the whole journal hands to its instance, and that are events. The ledger's total is
-    /// the place of the last entry.
+    /// The records that were read of an instance, followed by those that wait, are the events that the journal raises
+    /// for it, in order and each once, except those that are merged into an equal unread neighbour and those that are
+    /// lost after a mark. All of them are events, so that the bytes that were read are the records of these alone. No
+    /// two moves share a cookie. Nothing of a watch follows its `IN_IGNORED`. A refused call adds nothing: what joined,
+    /// what was read and the tree are as before it. An open instance has a pipe exactly if it was made with one. Each
+    /// pipe was sent what the whole journal hands to its instance, which are events. The ledger's total is the sequence
+    /// number of the last entry.
     pub fn law(&self)
         ensures lawful { IsLawfulFrom self.now.state.start self.now.state.entries }
         ensures sound { IsSoundTree self.now.state.start }
         ensures told { (id : ℕ) → IsTold self.now.state id }
         ensures records { RecordsAreEvents self.now.state }
         ensures cookies { HasCookiesInTurn self.now.state }
-        ensures ends { (id : ℕ) → EndsOnce (waiting_of (instance_of self.now.state.start.instances id)) (raised_in self.now.state.start self.now.state.entries id) }
+        ensures ends { (id : ℕ)
+            → EndsOnce (waiting_of (instance_of self.now.state.start.instances id))
+            (raised_in self.now.state.start self.now.state.entries id) }
         ensures refused { AtEach RefusedAddsNothing self.now.state.start self.now.state.entries }
         ensures with_pipe { HasPipesOfPiped self.now }
         ensures sent { IsSent self.now.state self.now.pipes self.now.sent }
@@ -278,7 +281,7 @@ impl<L: Ledger> Held<L> {
     ///
     /// # Errors
     /// The first that holds; all is then as before, and nothing is journalled.
-    /// - `PipeFull`, where the call is a close of an open instance whose pipe has no free place.
+    /// - `PipeFull`, where the call is a close of an open instance whose pipe is full.
     /// - `JournalFull`, where the journal has as many entries as its limit.
     /// - `ENOMEM`, where there is no memory for the call.
     pub fn call(&mut self, seat: &mut Seat<L>, call: Call) -> Result<Receipt, Refusal>
@@ -309,7 +312,7 @@ impl<L: Ledger> Held<L> {
     ///
     /// # Errors
     /// The first that holds; all is then as before, and nothing is journalled.
-    /// - `PipeFull`, where the instance is open and its pipe has no free place.
+    /// - `PipeFull`, where the instance is open and its pipe is full.
     /// - `JournalFull`, where the journal has as many entries as its limit.
     /// - `ENOMEM`, where there is no memory for the call.
     pub fn pump(
@@ -318,7 +321,8 @@ impl<L: Ledger> Held<L> {
         instance: u32,
         bytes: u32,
     ) -> Result<Receipt, Refusal>
-        ensures ok { IfOk result (λ r. JoinsJournal self.old.state seat.old (Pump instance bytes) self.new.state seat.new r) }
+        ensures ok { IfOk result (λ r.
+            JoinsJournal self.old.state seat.old (Pump instance bytes) self.new.state seat.new r) }
         ensures hands { IfOk result (λ r. HandsOver self.old (Pump instance bytes) r self.new) }
         ensures room { OnOk result (¬ IsSpent self.old.state) }
         ensures err { OnErr result ((self.new ≡ self.old) × (seat.new ≡ seat.old)) }
@@ -338,9 +342,9 @@ impl<L: Ledger> Held<L> {
         Ok(receipt)
     }
 
-    /// Makes an instance with a pipe of 1 to 65,536 places, for a seat. The feed is there exactly where the reply is an
-    /// instance, and has its number and just so many places. `limit` is how many records may wait in the queue, as in
-    /// [`Call::Init`].
+    /// Makes an instance with a pipe of 1 to 65,536 slots, for a seat. There is a feed exactly if the reply is an
+    /// instance; it has that instance's number and this number of slots. `limit` is how many records may wait in the
+    /// queue, as in [`Call::Init`].
     ///
     /// # Errors
     /// The first that holds; all is then as before, and nothing is journalled.
@@ -353,7 +357,8 @@ impl<L: Ledger> Held<L> {
         slots: usize,
     ) -> Result<(Receipt, Option<Feed>), Refusal>
         requires slots { (1 ≤ slots) × (slots ≤ 65536) }
-        ensures ok { IfOk result (λ r. JoinsJournal self.old.state seat.old (Init limit true) self.new.state seat.new r.0) }
+        ensures ok { IfOk result (λ r.
+            JoinsJournal self.old.state seat.old (Init limit true) self.new.state seat.new r.0) }
         ensures feed { IfOk result (λ r. r.1 ≡ feed_of r.0.reply slots) }
         ensures hands { IfOk result (λ r. HandsOver self.old (Init limit true) r.0 self.new) }
         ensures room { OnOk result (¬ IsSpent self.old.state) }

@@ -17,17 +17,17 @@ pub fn end_batches_come_last()
     replies_tell();
 }
 
-/// A law: the records that a lawful journal hands to an instance with a pipe, one batch after another, are those that it
-/// reads of that instance.
+/// A law: the records that a lawful journal hands to an instance with a pipe, one batch after another, are those that
+/// it reads of that instance.
 pub fn sent_is_read()
     ensures { SentIsRead }
 {
     replies_tell();
 }
 
-/// A law: what a state and its past hand to an instance is what the past hands, at places up to the cut, and then what
-/// the entries since hand, at later places. Where an end batch is among the first, it is their last, and the instance is
-/// closed at the cut.
+/// A law: a state and its past hand an instance first what the past hands it, with sequence numbers up to the cut, and
+/// then what the entries since hand it, with later ones. If an end batch is among the first, it is their last, and the
+/// instance is closed at the cut.
 pub fn cuts_part_batches()
     ensures { CutsPartBatches }
 {

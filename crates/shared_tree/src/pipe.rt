@@ -14,7 +14,7 @@ use std::marker::Model;
 pub struct Batch {
     /// The number of the instance.
     pub instance: u32,
-    /// The place of the call's entry in the journal, the first being 1.
+    /// The sequence number of the call's entry in the journal, from 1.
     pub place: u64,
     /// The records that were pumped, one at least. The end batch, which comes of the close, has none.
     pub records: Events,
@@ -29,7 +29,7 @@ impl Batch {
     }
 }
 
-// The end that hands over. Contracts see what it has sent, and how many places it knows to be free.
+// The sending end. Contracts see what it has sent, and how many slots it knows to be free.
 pub(crate) struct Pipe {
     producer: Producer<Batch>,
 }
@@ -50,7 +50,7 @@ impl Model for Pipe {
 }
 
 impl Pipe {
-    // Whether no place is free. The listener may free one at any time.
+    // Whether no slot is free. The listener may free one at any time.
     pub(crate) fn is_full(&mut self) -> bool
         ensures sent { self.new.sent ≡ self.old.sent }
         ensures free { result ≡ false → 0 < self.new.free }
@@ -69,7 +69,7 @@ impl Pipe {
 
 /// The end of a pipe that takes. It belongs to a listener, who needs neither the tree nor its lock.
 ///
-/// Contracts see the number of its instance, the batches that it has received, and how many places the pipe has.
+/// Contracts see the number of its instance, the batches that it has received, and how many slots the pipe has.
 pub struct Feed {
     instance: u32,
     consumer: Consumer<Batch>,
@@ -123,7 +123,7 @@ impl Feed {
     }
 }
 
-// A pipe with just so many places. Its feed has no number yet.
+// Makes a pipe with this number of slots. Its feed has no number yet.
 pub(crate) fn open_pipe(alloc: Global, slots: usize) -> Result<(Pipe, Feed), AllocError>
     ensures { IfOk result (λ r. (r.0.sent ≡ []) × (r.1 ≡ fed 0 [] slots)) }
 {

@@ -6,7 +6,8 @@ ghost use Rattle.tree_core.specs.declared.call.Call.TheVariants.{Init};
 ghost use Rattle.tree_core.specs.Journal.{now};
 ghost use Rattle.shared_tree.specs.Pipes.{feed_of};
 ghost use Rattle.shared_tree.specs.Handed.{piped_by, deliver};
-ghost use Rattle.shared_tree.specs.Held.{sents, pushed_at, FreeAt, IsFilled, IsLooked, IsPlaceOf, IsReady, IsRising, Rises};
+ghost use Rattle.shared_tree.specs.Held.{sents, pushed_at, FreeAt, IsFilled, IsLooked, IsPlaceOf, IsReady, IsRising};
+ghost use Rattle.shared_tree.specs.Held.{Rises};
 
 use crate::pipe::{Batch, Feed, Pipe};
 use std::alloc::{AllocError, Global};
@@ -14,8 +15,8 @@ use std::marker::Model;
 use tree_core::{Reply, State};
 use tree_paths::Refusal;
 
-// The pipes of the instances that were made with one, in the order of their numbers, which rise. Contracts see the
-// numbers, the ends that hand over, and whether there is room for one pipe more.
+// The pipes of the instances that were made with one, in ascending order of their numbers. Contracts see the numbers,
+// the sending ends, and whether there is capacity for one more pipe.
 #[derive(Drop)]
 pub(crate) struct Pipes {
     numbers: Vec<u32>,
@@ -29,7 +30,9 @@ impl Model for Pipes {
 
     ghost Value = { PipesState };
 
-    ghost view = { λ p. pipes_state p.numbers.items p.ends.items (nat_le (vec_len p.numbers + 1) (vec_capacity p.numbers) && nat_le (vec_len p.ends + 1) (vec_capacity p.ends)) };
+    ghost view = { λ p. pipes_state p.numbers.items p.ends.items
+        (nat_le (vec_len p.numbers + 1) (vec_capacity p.numbers)
+        && nat_le (vec_len p.ends + 1) (vec_capacity p.ends)) };
 
     ghost invariant = { λ p. IsRising p.numbers.items × (length p.numbers.items ≡ length p.ends.items) };
 }
@@ -42,7 +45,7 @@ fn find(numbers: &[u32], instance: u32) -> Option<usize>
     numbers.binary_search(&instance).ok()
 }
 
-// Whether the pipe at a place has no free place.
+// Whether the pipe at an index has no free slot.
 fn is_full_at(pipes: &mut Vec<Pipe>, at: usize) -> bool
     requires { at < length pipes.old.items }
     ensures sent { sents pipes.new.items ≡ sents pipes.old.items }
@@ -52,7 +55,7 @@ fn is_full_at(pipes: &mut Vec<Pipe>, at: usize) -> bool
     pipe.is_full()
 }
 
-// Hands a batch to the pipe at a place.
+// Hands a batch to the pipe at an index.
 fn push_at(pipes: &mut Vec<Pipe>, at: usize, batch: Batch)
     requires { FreeAt pipes.old.items at }
     ensures { sents pipes.new.items ≡ pushed_at (sents pipes.old.items) at batch }
@@ -79,7 +82,7 @@ impl Pipes {
         self.numbers.as_slice()
     }
 
-    // Finds the pipe of an instance that is open, and sees that it has a free place.
+    // Finds the pipe of an open instance, and checks that it has a free slot.
     pub(crate) fn look(
         &mut self,
         core: &State,
@@ -122,7 +125,7 @@ impl Pipes {
         push_at(ends, at, batch);
     }
 
-    // Room for one more.
+    // Reserves memory for one more pipe.
     pub(crate) fn reserve(&mut self) -> Result<(), AllocError>
         ensures numbers { self.new.numbers ≡ self.old.numbers }
         ensures ends { self.new.ends ≡ self.old.ends }
@@ -138,7 +141,8 @@ impl Pipes {
         requires room { IsTrue self.old.has_room }
         requires next { (id : ℕ) → reply.now ≡ Reply.Instance id → Rises 1 self.old.numbers id }
         ensures numbers { (limit : ℕ) → self.new.numbers ≡ self.old.numbers ++ piped_by (Init limit true) reply.now }
-        ensures sent { (limit : ℕ) → sents self.new.ends ≡ sents self.old.ends ++ map (λ (id : ℕ). []) (piped_by (Init limit true) reply.now) }
+        ensures sent { (limit : ℕ)
+            → sents self.new.ends ≡ sents self.old.ends ++ map (λ (id : ℕ). []) (piped_by (Init limit true) reply.now) }
         ensures feed { result ≡ feed_of reply.now feed.slots }
     {
         match reply {

@@ -1,4 +1,4 @@
-//! Who may call, and what each was told.
+//! Who may call, and the replies that each got.
 
 ghost use Rattle.std.specs.Prelude.{◌≡◌, ◌+◌, ◌<◌, ◌≤◌, [], length, IfOk, IfErr, OnOk};
 ghost use Rattle.tree_paths.specs.declared.refusal.Refusal.TheVariants.{SeatsSpent};
@@ -141,7 +141,9 @@ impl<L: Ledger> Pass<L> {
     /// `SeatsSpent`, exactly where as many seats were given as the limit says.
     pub fn seat(&mut self) -> Result<Seat<L>, Refusal>
         ensures seat { IfOk result (λ s. s ≡ seated (self.old.given + 1) []) }
-        ensures pass { IfOk result (λ s. (self.new.parts + 1 ≡ self.old.parts) × (self.new.amount ≡ self.old.amount) × (self.new.given ≡ self.old.given + 1) × (self.new.seats ≡ self.old.seats)) }
+        ensures pass { IfOk result (λ s.
+            (self.new.parts + 1 ≡ self.old.parts) × (self.new.amount ≡ self.old.amount)
+            × (self.new.given ≡ self.old.given + 1) × (self.new.seats ≡ self.old.seats)) }
         ensures left { OnOk result (self.old.given < self.old.seats) }
         ensures err { IfErr result (λ e. (e ≡ SeatsSpent) × (self.old.given ≡ self.old.seats) × (self.new ≡ self.old)) }
     {
@@ -166,7 +168,8 @@ impl<L: Ledger> Pass<L> {
     /// Takes a seat back, with its share of the ledger, and gives what it kept. It takes no memory.
     pub fn join(&mut self, seat: Seat<L>) -> SeatLog
         ensures log { (result.number ≡ seat.number) × (result.kept ≡ seat.kept) }
-        ensures pass { self.new ≡ passing (self.old.parts + 1) (self.old.amount + length seat.kept) self.old.given self.old.seats }
+        ensures pass { self.new
+            ≡ passing (self.old.parts + 1) (self.old.amount + length seat.kept) self.old.given self.old.seats }
     {
         let (log, share) = seat.into_log();
         self.share.merge(share);

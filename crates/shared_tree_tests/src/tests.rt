@@ -19,7 +19,7 @@ use tree_core::{Call, Receipt, Reply};
 use tree_ops::{Answer, FileCall};
 use tree_paths::{Limits, Path, Refusal};
 
-/// Room for all that waits, in bytes.
+/// The size in bytes of a buffer for all that waits.
 const ALL: u32 = 4096;
 
 /// The bit `IN_CREATE`.
@@ -32,7 +32,7 @@ enum Step {
     Sits(Result<(), Refusal>),
     /// The seat is given back. Its number, and how many calls it kept.
     Stands(u32, usize),
-    /// An instance with a limit and a pipe of so many places.
+    /// An instance with a limit and a pipe of so many slots.
     Opens(u32, usize, Says),
     /// An instance with no pipe.
     Inits(Says),
@@ -54,7 +54,7 @@ enum Step {
     Pumps(u32, Says),
     /// An instance is pumped of what fits into so many bytes.
     PumpsAtMost(u32, u32, Says),
-    /// A batch that the feed of an instance gives: its place and how many records it has.
+    /// A batch that the feed of an instance gives: its sequence number and how many records it has.
     Gives(u32, u64, usize),
     /// The feed of an instance is there, and gives nothing.
     GivesNothing(u32),
@@ -62,7 +62,7 @@ enum Step {
     HasFeed(u32),
     /// No feed of an instance has come.
     HasNoFeed(u32),
-    /// The place of the last entry that a call made.
+    /// The sequence number of the last entry that a call made.
     WasAt(u64),
     /// The feed of an instance is let go.
     Goes(u32),
@@ -70,11 +70,11 @@ enum Step {
     Waits(u32, Option<usize>),
     /// How many entries the journal has.
     Counts(usize),
-    /// The journal is cut behind the entry of this place.
+    /// The journal is cut after the entry of this sequence number.
     Cuts(u64),
     /// How many more calls the journal takes.
     HasRoomFor(u64),
-    /// A directory is made: the place of the call, and the number of the directory.
+    /// A directory is made: the sequence number of the call, and the number of the directory.
     Makes(&'static str, u64, u32),
 }
 
@@ -90,6 +90,7 @@ enum Says {
     Fails(Refusal),
 }
 
+// The outcome that a reply stands for.
 fn answered(reply: &Reply) -> Says {
     match reply {
         Reply::File(_) => Says::File,
@@ -101,7 +102,8 @@ fn answered(reply: &Reply) -> Says {
     }
 }
 
-/// A tree with one seat, and the feeds of its instances 1 and 2. The place is that of the last call that made an entry.
+/// A tree with one seat, and the feeds of its instances 1 and 2. The sequence number is that of the last call that made
+/// an entry.
 #[derive(Drop)]
 struct Stage<L: Ledger> {
     alloc: Global,
@@ -114,6 +116,7 @@ struct Stage<L: Ledger> {
 }
 
 impl<L: Ledger> Stage<L> {
+    // Makes a tree with no seat taken and no feed.
     fn new(alloc: Global, blank: Blank, limits: Limits) -> Result<Stage<L>, Refusal>
         requires name { blank.name ≡ L.name }
         requires parts { (blank.parts ≡ L.parts) × (blank.parts ≡ 65537) }
@@ -130,18 +133,20 @@ impl<L: Ledger> Stage<L> {
         })
     }
 
+    // Takes a seat.
     fn sits(&mut self) -> Result<(), Refusal> {
         self.seat = Some(self.pass.seat()?);
         Ok(())
     }
 
+    // Gives the seat back. Returns its number and how many calls it kept.
     fn stands(&mut self) -> Option<(u32, usize)> {
         let seat = self.seat.take()?;
         let log = self.pass.join(seat);
         Some((log.number, log.kept.as_slice().len()))
     }
 
-    // What a call came to. The place of its entry is kept.
+    // The outcome of a call. The sequence number of its entry is kept.
     fn said(&mut self, receipt: Result<Receipt, Refusal>) -> Says {
         match receipt {
             Ok(receipt) => {
@@ -152,6 +157,7 @@ impl<L: Ledger> Stage<L> {
         }
     }
 
+    // Makes a call under the seat, if there is one.
     fn calls(&mut self, call: Result<Call, Refusal>) -> Says
         requires { ForOk call (λ c. IsTrue (is_plain c)) }
     {
@@ -166,7 +172,7 @@ impl<L: Ledger> Stage<L> {
         self.said(told)
     }
 
-    // Makes a directory. The place of the call, and the number of the directory.
+    // Makes a directory. Returns the sequence number of the call and the number of the directory.
     fn makes(&mut self, text: &str) -> Option<(u64, u32)> {
         let Stage { held, seat, .. } = self;
         let seat = seat.as_mut()?;
@@ -178,6 +184,7 @@ impl<L: Ledger> Stage<L> {
         }
     }
 
+    // Pumps an instance under the seat, if there is one.
     fn pumps(&mut self, instance: u32, bytes: u32) -> Says {
         let Stage { held, seat, .. } = self;
         let told = match seat {
@@ -202,6 +209,7 @@ impl<L: Ledger> Stage<L> {
         }
     }
 
+    // Keeps a feed, if it is that of instance 1 or 2.
     fn keeps(&mut self, feed: Option<Feed>) {
         let Some(feed) = feed else {
             return;
@@ -213,6 +221,7 @@ impl<L: Ledger> Stage<L> {
         }
     }
 
+    // Takes a batch from the feed of an instance.
     fn takes(&mut self, instance: u32) -> Option<Batch> {
         match instance {
             1 => self.first.as_mut()?.take(),
@@ -220,6 +229,7 @@ impl<L: Ledger> Stage<L> {
         }
     }
 
+    // Whether the feed of an instance is kept.
     fn has_feed(&self, instance: u32) -> bool {
         match instance {
             1 => self.first.is_some(),
@@ -227,6 +237,7 @@ impl<L: Ledger> Stage<L> {
         }
     }
 
+    // Drops the feed of an instance. Whether there was one.
     fn goes(&mut self, instance: u32) -> bool {
         match instance {
             1 => self.first.take().is_some(),
@@ -301,6 +312,7 @@ impl<L: Ledger> Stage<L> {
     }
 }
 
+// The call that makes an instance without a pipe.
 fn init() -> Call
     ensures { IsTrue (is_plain result) }
 {
@@ -310,6 +322,7 @@ fn init() -> Call
     }
 }
 
+// The call that reads all that waits in an instance.
 fn read(instance: u32) -> Call
     ensures { IsTrue (is_plain result) }
 {
@@ -319,12 +332,14 @@ fn read(instance: u32) -> Call
     }
 }
 
+// The call that closes an instance.
 fn close(instance: u32) -> Call
     ensures { IsTrue (is_plain result) }
 {
     Call::Close { instance }
 }
 
+// The call that watches a path for new files.
 fn watch(alloc: Global, instance: u32, text: &str) -> Result<Call, Refusal>
     ensures { IfOk result (λ c. IsTrue (is_plain c)) }
 {
@@ -336,6 +351,7 @@ fn watch(alloc: Global, instance: u32, text: &str) -> Result<Call, Refusal>
     })
 }
 
+// The call that makes a file.
 fn create(alloc: Global, text: &str) -> Result<Call, Refusal>
     ensures { IfOk result (λ c. IsTrue (is_plain c)) }
 {
@@ -343,6 +359,7 @@ fn create(alloc: Global, text: &str) -> Result<Call, Refusal>
     Ok(Call::File(FileCall::Create { path, mode: 0o644 }))
 }
 
+// The call that makes a directory.
 fn mkdir(alloc: Global, text: &str) -> Result<Call, Refusal>
     ensures { IfOk result (λ c. IsTrue (is_plain c)) }
 {
@@ -350,6 +367,7 @@ fn mkdir(alloc: Global, text: &str) -> Result<Call, Refusal>
     Ok(Call::File(FileCall::Mkdir { path, mode: 0o755 }))
 }
 
+// The call that sets the length of a file.
 fn truncate(alloc: Global, text: &str, len: u64) -> Result<Call, Refusal>
     ensures { IfOk result (λ c. IsTrue (is_plain c)) }
 {
@@ -357,6 +375,7 @@ fn truncate(alloc: Global, text: &str, len: u64) -> Result<Call, Refusal>
     Ok(Call::File(FileCall::Truncate { path, len }))
 }
 
+// The call that adds a path to a file.
 fn link(alloc: Global, old: &str, new: &str) -> Result<Call, Refusal>
     ensures { IfOk result (λ c. IsTrue (is_plain c)) }
 {
@@ -365,6 +384,7 @@ fn link(alloc: Global, old: &str, new: &str) -> Result<Call, Refusal>
     Ok(Call::File(FileCall::Link { old, new }))
 }
 
+// The call that renames a path.
 fn rename(alloc: Global, old: &str, new: &str) -> Result<Call, Refusal>
     ensures { IfOk result (λ c. IsTrue (is_plain c)) }
 {
@@ -373,6 +393,7 @@ fn rename(alloc: Global, old: &str, new: &str) -> Result<Call, Refusal>
     Ok(Call::File(FileCall::Rename { old, new }))
 }
 
+// The call that removes a path.
 fn unlink(alloc: Global, text: &str) -> Result<Call, Refusal>
     ensures { IfOk result (λ c. IsTrue (is_plain c)) }
 {
@@ -380,7 +401,7 @@ fn unlink(alloc: Global, text: &str) -> Result<Call, Refusal>
     Ok(Call::File(FileCall::Unlink { path }))
 }
 
-// Whether it is a batch of this instance, of this place and of so many records.
+// Whether it is a batch of this instance, with this sequence number and so many records.
 fn is_batch(batch: &Option<Batch>, instance: u32, place: u64, records: usize) -> bool {
     match batch {
         Some(batch) => {

@@ -15,7 +15,7 @@ use Rattle.record_codec.specs.Records.{AreEvents, IsEvent, record_bytes, spellin
 use Rattle.tree_paths.specs.Rows.{row, first_row}
 use Rattle.tree_paths.specs.declared.limits.Limits.{Limits}
 use Rattle.tree_paths.specs.declared.refusal.Refusal.{Refusal}
-use Rattle.tree_paths.specs.declared.refusal.Refusal.TheVariants.{Enomem, Ebadf, Einval, Emfile}
+use Rattle.tree_paths.specs.declared.refusal.Refusal.TheVariants.{Ebadf, Einval, Emfile}
 use Rattle.inode_table.specs.declared.seen.Kind.TheVariants.{Directory}
 use Rattle.inode_table.specs.declared.seen.Seen.{Seen}
 use Rattle.inode_table.specs.TableWorld.{HasNumbersBelow}
@@ -88,10 +88,10 @@ copied-some (Some b) x e h = (b.now, sym e)
 pub at-instance : (P : Instance → Type 0) (o : Option Instance) (i : Instance) → o ≡ Some i → IfSome o P → P i
 at-instance P o i e h = subst (λ x. IfSome x P) e h
 
--- a refusal that is no want of memory
-pub first-of-two : (A : Type 0) (r : Refusal) → (r ≡ Enomem → ⊥) → A ⊎ (r ≡ Enomem) → A
-first-of-two A r apart (inl a) = a
-first-of-two A r apart (inr e) = absurd (apart e)
+-- a refusal, or out of memory
+pub either-of : {A B C : Type 0} → (A → B) → A ⊎ C → B ⊎ C
+either-of f (inl a) = inl (f a)
+either-of f (inr c) = inr c
 
 alone : (o : Option Refusal) → first_row (o ∷ []) ≡ o
 alone None = refl
@@ -134,10 +134,6 @@ module _ (t : Tree) (is : IsNumbered t) where
     };
     given = is.given;
   }
-
--- what is said of the instance of a number
-pub fault-there : (m : Instances) (fault : Option Instance → Option Refusal) (id : ℕ) (o : Option Instance) (r : Option Refusal) → o ≡ instance_of m id → r ≡ fault o → fault (instance_of m id) ≡ r
-fault-there m fault id o r e h = sym (h ∙ ap fault e)
 
 -- ---- the rows of a call to watch, where the instance is there
 

@@ -1,5 +1,6 @@
 -- What a file system shows of its tree where no call is made.
-use Rattle.std.proofs.Common.{◌≡◌, ℕ, length, Option, Some, None, refl, sym, ap, ◌∙◌, inl, inr}
+use Rattle.std.proofs.Common.{◌≡◌, ℕ, ◌-◌, List, [], ◌∷◌, length, Option, Some, None, refl, sym, ap, ◌∙◌, inl, inr, arith}
+use Rattle.std.specs.List.{last_or, slice_get}
 use Rattle.std.specs.Prelude.{option_map, Result, Ok, Err, IfOk, IfErr, ◌⊎◌}
 use Rattle.record_codec.specs.Records.{spelling}
 use Rattle.tree_paths.specs.declared.refusal.Refusal.{Refusal}
@@ -61,3 +62,12 @@ module _ (t : Tree) (m : FileSystem) (f : FileCall) where
 pub of-answer : (r s : Result Answer Refusal) → r ≡ s → IfOk r (λ a. s ≡ Ok a) × IfErr r (λ refusal. s ≡ Err refusal)
 of-answer (Ok a) s e = (sym e, tt)
 of-answer (Err refusal) s e = (tt, sym e)
+
+-- the last element, counted from the front
+last_or-get : {A : Type 0} (o : Option A) (x : A) (xs : List A) → slice_get (x ∷ xs) (length xs) ≡ last_or o (x ∷ xs)
+last_or-get o x [] = refl
+last_or-get o x (y ∷ ys) = last_or-get (Some x) y ys
+
+pub last-get : {A : Type 0} (xs : List A) → slice_get xs (length xs - 1) ≡ last_or None xs
+last-get [] = refl
+last-get (x ∷ xs) = let e : length (x ∷ xs) - 1 ≡ length xs = omega arith in ap (slice_get (x ∷ xs)) e ∙ last_or-get None x xs

@@ -1,40 +1,28 @@
--- What a pump hands over.
-use Rattle.std.proofs.Common.{◌≡◌, ℕ, Bool, true, false, eqb, if◌then◌else◌, List, [], Option, Some, None, IsSome, is_some, option_map, Result, Ok, Err, refl, sym, ap, ◌∙◌, arith}
+-- Reads and pumps, and what a pump hands over.
+use Rattle.std.proofs.Common.{◌≡◌, ℕ, Bool, true, false, eqb, if◌then◌else◌, List, [], Option, Some, None, IsSome, is_some, option_map, Result, Ok, Err, IsErrAnd, inl, inr, take, refl, sym, ap, subst, ◌∙◌, arith}
 use Rattle.std.proofs.lemmas.Bool.Decides.{nat_tests}
 use Rattle.std.specs.Option.{unwrap_or}
-use Rattle.std.specs.Prelude.{IfOk, IfErr, IfSome, OnOk, OnErr}
+use Rattle.std.specs.Prelude.{◌⊎◌, IfOk, IfErr, IfSome}
 use Rattle.record_codec.specs.Records.{AreEvents, spelling}
 use Rattle.record_codec.specs.declared.event.Event.{Event}
+use Rattle.tree_paths.specs.Rows.{first_row}
 use Rattle.tree_paths.specs.declared.refusal.Refusal.{Refusal}
+use Rattle.tree_paths.specs.declared.refusal.Refusal.TheVariants.{Enomem}
+use Rattle.event_queue.specs.Reads.{fitting}
 use Rattle.instance_table.specs.declared.instance.Instance.{Instance}
-use Rattle.instance_table.specs.Instances.{instance_of}
+use Rattle.instance_table.specs.Instances.{Instances, WaitingAreEvents, after_read, instance_of, waiting_of}
 use Rattle.tree_core.specs.declared.call.Call.TheVariants as call
-use Rattle.tree_core.specs.declared.file_system.Pumped.{Pumped}
-use Rattle.tree_core.specs.declared.file_system.Replies.{Replies}
+use Rattle.tree_core.specs.declared.file_system.Begun.{Begun}
+use Rattle.tree_core.specs.declared.file_system.FileSystem.{FileSystem}
+use Rattle.tree_core.specs.declared.file_system.Rest.TheVariants.{Take}
 use Rattle.tree_core.specs.declared.reply.Reply.{Reply}
 use Rattle.tree_core.specs.declared.reply.Reply.TheVariants as reply
-use Rattle.tree_core.specs.Tree.{Tree, refusal_of, reply_of, read_answer}
+use Rattle.tree_core.specs.Tree.{Tree, refusal_of, reply_of, accepted, accepted_reply, after_accepted_read, after_reading, read_answer, read_rows}
 use Rattle.tree_core.specs.Histories.{oldest, pumped, read_by, records_for, where_open, where_records}
-use Rattle.tree_core.specs.FileSystems.{replies_in}
-use Rattle.tree_core.proofs.Instances.{read-open}
-use Rattle.tree_core.proofs.Serving.{reply_of-accepted, reply_of-refused}
-
--- what is said of the replies of a pump
-pub replies_in-if_ok : (result : Result Pumped Refusal) (P : Replies → Type 0) → IfOk result (λ p. P p.replies) → IfOk (replies_in result) P
-replies_in-if_ok (Ok p) P h = h
-replies_in-if_ok (Err e) P h = tt
-
-pub replies_in-on_ok : (result : Result Pumped Refusal) (A : Type 0) → OnOk result A → OnOk (replies_in result) A
-replies_in-on_ok (Ok p) A h = h
-replies_in-on_ok (Err e) A h = tt
-
-pub replies_in-on_err : (result : Result Pumped Refusal) (A : Type 0) → OnErr result A → OnErr (replies_in result) A
-replies_in-on_err (Ok p) A h = tt
-replies_in-on_err (Err e) A h = h
-
-pub replies_in-if_err : (result : Result Pumped Refusal) (P : Refusal → Type 0) → IfErr result P → IfErr (replies_in result) P
-replies_in-if_err (Ok p) P h = tt
-replies_in-if_err (Err e) P h = h
+use Rattle.tree_core.specs.FileSystems.{tree_in, Attempts, IsNumbered, reading, taken}
+use Rattle.tree_core.proofs.Instances.{IsNumbered-changed, changed-same, read-open}
+use Rattle.tree_core.proofs.Serving.{IsAnswered, failed-attempts, reply_of-accepted, reply_of-refused}
+use Rattle.tree_core.proofs.Spelled.{read-events}
 
 read_by-accepted : (t : Tree) (id bytes : ℕ) (i : Instance) → instance_of t.instances id ≡ Some i → refusal_of t (call.Pump id bytes) ≡ None → read_by t (call.Pump id bytes) id ≡ oldest bytes i
 unfolding read_by
@@ -52,6 +40,14 @@ pumped-accepted t id bytes (Some i) at none there =
 pub pumped-refused : (t : Tree) (id bytes : ℕ) (r : Refusal) → refusal_of t (call.Pump id bytes) ≡ Some r → pumped t id bytes ≡ None
 pumped-refused t id bytes r is = ap (λ r. where_records r (read_by t (call.Pump id bytes) id)) (reply_of-refused t (call.Pump id bytes) r is)
 
+where-events : (r : Reply) (es fs : List Event) → AreEvents es → where_records r es ≡ Some fs → AreEvents fs
+where-events (reply.Records bytes) es fs are is = subst (λ (o : Option (List Event)). IfSome o AreEvents) is are
+where-events (reply.File a) es fs are is = absurd (cc)
+where-events (reply.Instance id) es fs are is = absurd (cc)
+where-events (reply.Wd wd) es fs are is = absurd (cc)
+where-events reply.Done es fs are is = absurd (cc)
+where-events (reply.Refused r) es fs are is = absurd (cc)
+
 -- the reply of a pump has the bytes of the records that it hands over
 pumped-by : (t : Tree) (id bytes : ℕ) (o : Option Refusal) → refusal_of t (call.Pump id bytes) ≡ o → (x : Option Instance) → instance_of t.instances id ≡ x
     → (es : List Event) → pumped t id bytes ≡ Some es → reply_of t (call.Pump id bytes) ≡ reply.Records (spelling es)
@@ -62,12 +58,69 @@ pumped-by t id bytes None is (Some i) at es e =
     let same : oldest bytes i ≡ es = ap (λ (o : Option (List Event)). unwrap_or o []) (sym (pumped-accepted t id bytes (Some i) at is refl) ∙ e) in
     reply_of-accepted t (call.Pump id bytes) is ∙ ap (read_answer bytes) at ∙ ap (λ xs. reply.Records (spelling xs)) same
 
-pub records-spelled : (t : Tree) (id bytes : ℕ) (o : Option (List Event)) (r : Reply) → o ≡ pumped t id bytes → IfSome o AreEvents → r ≡ reply_of t (call.Pump id bytes)
+-- a pump hands over events, whose bytes its reply has
+pub records-spelled : (t : Tree) → WaitingAreEvents t.instances → (id bytes : ℕ) (o : Option (List Event)) (r : Reply) → o ≡ pumped t id bytes → r ≡ reply_of t (call.Pump id bytes)
     → IfSome o (λ es. AreEvents es × (r ≡ reply.Records (spelling es)))
-records-spelled t id bytes None r is are e = tt
-records-spelled t id bytes (Some es) r is are e = (are, e ∙ pumped-by t id bytes (refusal_of t (call.Pump id bytes)) refl (instance_of t.instances id) refl es (sym is))
+records-spelled t waits id bytes None r is e = tt
+records-spelled t waits id bytes (Some es) r is e =
+    (where-events (reply_of t (call.Pump id bytes)) (read_by t (call.Pump id bytes) id) es (read-events t waits (call.Pump id bytes) id) (sym is), e ∙ pumped-by t id bytes (refusal_of t (call.Pump id bytes)) refl (instance_of t.instances id) refl es (sym is))
 
--- what is said of an Ok holds of what stands there in any other way
-pub if_ok-same : (result : Result Pumped Refusal) (x y : Option (List Event)) → x ≡ y → IfOk result (λ p. p.records ≡ x) → IfOk result (λ p. p.records ≡ y)
-if_ok-same (Ok p) x y e h = h ∙ e
-if_ok-same (Err r) x y e h = tt
+-- ---- reads and pumps
+
+read-refusal : (pumps : Bool) (t : Tree) (id bytes : ℕ) → refusal_of t (reading pumps id bytes) ≡ first_row (read_rows pumps bytes (instance_of t.instances id))
+read-refusal true t id bytes = refl
+read-refusal false t id bytes = refl
+
+read-reply : (pumps : Bool) (t : Tree) (id bytes : ℕ) → accepted_reply t (reading pumps id bytes) ≡ read_answer bytes (instance_of t.instances id)
+read-reply true t id bytes = refl
+read-reply false t id bytes = refl
+
+read-after : (pumps : Bool) (t : Tree) (id bytes : ℕ) → accepted t (reading pumps id bytes) ≡ after_accepted_read t id bytes
+read-after true t id bytes = refl
+read-after false t id bytes = refl
+
+module _ (m : FileSystem) (pumps : Bool) (id bytes : ℕ) where
+  pub read-refused : (new : FileSystem) (result : Result Begun Refusal) (r : Refusal) → IsErrAnd result (λ e. e ≡ r) → first_row (read_rows pumps bytes (instance_of m.instances id)) ≡ Some r → tree_in new ≡ tree_in m → Attempts m (reading pumps id bytes) result new
+  read-refused new result r is refused same = failed-attempts m new (reading pumps id bytes) result r is (inl (read-refusal pumps (tree_in m) id bytes ∙ refused)) same
+
+  -- the records that fit are left to be taken
+  pub read-attempts : (i : Instance) (place count : ℕ) (records : List ℕ) → IsNumbered (tree_in m) → instance_of m.instances id ≡ Some i
+      → first_row (read_rows pumps bytes (instance_of m.instances id)) ≡ None → count ≡ fitting bytes i.queue.waiting → records ≡ spelling (take count i.queue.waiting)
+      → Attempts m (reading pumps id bytes) (Ok (record { reply = reply.Records records; rest = Take id place count })) m
+  unfolding after_accepted_read
+  read-attempts i place count records numbered at passes fits said = record {
+    passes = read-refusal pumps (tree_in m) id bytes ∙ passes;
+    reply =
+        ap reply.Records (said ∙ ap (λ n. spelling (take n i.queue.waiting)) fits)
+        ∙ ap (read_answer bytes) (sym at) ∙ sym (read-reply pumps (tree_in m) id bytes);
+    rest = tt;
+    tree =
+        ap (λ (x : Instances). record (tree_in m) { instances = x }) (changed-same m.instances id (after_read count) (after_reading bytes) i at (ap (λ n. after_read n i) fits))
+        ∙ sym (read-after pumps (tree_in m) id bytes);
+    begun = λ _. refl;
+    numbered = subst IsNumbered (sym (read-after pumps (tree_in m) id bytes)) (IsNumbered-changed (tree_in m) numbered id (after_reading bytes));
+    refused = tt;
+    err = tt;
+  }
+
+-- what a read takes
+pub read-taken : (m : FileSystem) (id bytes : ℕ) (i : Instance) (place count : ℕ) → instance_of m.instances id ≡ Some i → count ≡ fitting bytes i.queue.waiting
+    → taken m (Take id place count) ≡ option_map (oldest bytes) (instance_of m.instances id)
+read-taken m id bytes i place count at fits =
+    ap (λ o. Some (take count (waiting_of o))) at ∙ ap (λ n. Some (take n i.queue.waiting)) fits ∙ ap (option_map (oldest bytes)) (sym at)
+
+-- what a pump takes, also where it is refused
+pump-answered : (m : FileSystem) (id bytes : ℕ) (r : Refusal) (result : Result Begun Refusal) → (refusal_of (tree_in m) (call.Pump id bytes) ≡ Some r) ⊎ (r ≡ Enomem) → IsAnswered result r → IfOk result (λ b. taken m b.rest ≡ pumped (tree_in m) id bytes)
+pump-answered m id bytes r result why (inl is) = subst (λ (x : Result Begun Refusal). IfOk x (λ b. taken m b.rest ≡ pumped (tree_in m) id bytes)) (sym is.1) tt
+pump-answered m id bytes r result (inl refused) (inr is) =
+    subst (λ (x : Result Begun Refusal). IfOk x (λ b. taken m b.rest ≡ pumped (tree_in m) id bytes)) (sym is.1) (sym (pumped-refused (tree_in m) id bytes r refused))
+pump-answered m id bytes r result (inr memory) (inr is) = absurd (is.0 memory)
+
+pub pump-taken : (m : FileSystem) (id bytes : ℕ) (tried result : Result Begun Refusal) → Attempts m (call.Pump id bytes) tried m
+    → IfOk tried (λ b. taken m b.rest ≡ option_map (oldest bytes) (instance_of m.instances id)) → IfOk tried (λ b. result ≡ Ok b) → IfErr tried (IsAnswered result)
+    → IfOk result (λ b. taken m b.rest ≡ pumped (tree_in m) id bytes)
+pump-taken m id bytes (Ok b) result h records is none =
+    let o = instance_of m.instances id in
+    subst (λ (x : Result Begun Refusal). IfOk x (λ b. taken m b.rest ≡ pumped (tree_in m) id bytes)) (sym is)
+    (records ∙ sym (pumped-accepted (tree_in m) id bytes o refl h.passes (read-open true bytes o (sym h.passes))))
+pump-taken m id bytes (Err r) result h records none is = pump-answered m id bytes r result h.refused is

@@ -18,3 +18,7 @@ pub record Applies {X : Type 0} (receipt : X → Receipt) (old : Journaled) (cal
   pub err : OnErr result (new ≡ old)
   pub full : (result ≡ Err JournalFull) ↔ IsSpent old
   pub errors : IfErr result (λ e. (e ≡ JournalFull) ⊎ (e ≡ Enomem))
+
+-- the receipt of an entry at this place
+abbrev pub receipt_of : Journaled → Call → ℕ → Receipt
+receipt_of old call place = record { place = place; reply = reply_of (now old) call }

@@ -34,6 +34,6 @@ abbrev pub IsSpelled : Reply → Type 0
 IsSpelled (reply.Records bytes) = (events : List Event) × AreEvents events × (bytes ≡ spelling events)
 IsSpelled _ = ⊤
 
--- what is kept of a call is its place, the call and its reply
+-- what is kept of a call is its sequence number, the call and its reply
 abbrev pub IsKeptAs : Receipt → Kept → Call → Type 0
 IsKeptAs receipt kept c = kept ≡ record { place = receipt.place; call = c; reply = receipt.reply }

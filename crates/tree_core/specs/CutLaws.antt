@@ -8,8 +8,8 @@ use Rattle.tree_core.specs.Sound.{IsSoundTree}
 use Rattle.tree_core.specs.Snapshots.{IsSnapshotOf}
 use Rattle.tree_core.specs.Journal.{Journaled, IsLawful, IsLawfulFrom, IsPast, last_place, now, stands_for, tree_after}
 
--- a journal that is cut behind its front: the tree at the cut is sound, and the rest is lawful from it and leads where the
--- whole journal leads. So each call of the rest is answered as in the whole journal
+-- a journal that is cut behind its front: the tree at the cut is sound, and the rest is lawful from it and leads where
+-- the whole journal leads. So each call of the rest is answered as in the whole journal
 pub record GoesOn (limits : Limits) (front rest : List Entry) (t : Tree) : Type 0 where
   pub sound : IsSoundTree t
   pub lawful : IsLawful limits front
@@ -17,16 +17,18 @@ pub record GoesOn (limits : Limits) (front rest : List Entry) (t : Tree) : Type 
   pub leads : tree_after t rest ≡ stands_for limits (front ++ rest)
 
 abbrev pub CutsKeepAnswers : Type 0
-CutsKeepAnswers = (limits : Limits) (front rest : List Entry) → IsLawful limits (front ++ rest) → GoesOn limits front rest (stands_for limits front)
+CutsKeepAnswers =
+    (limits : Limits) (front rest : List Entry) → IsLawful limits (front ++ rest)
+    → GoesOn limits front rest (stands_for limits front)
 
--- sound trees of which a snapshot is one are one, and so are the places: a snapshot tells all
+-- a snapshot and the limits determine a sound tree and its sequence number
 abbrev pub SnapshotsTellAll : Type 0
 SnapshotsTellAll =
     (t u : Tree) (p q : ℕ) (s : Snapshot) → IsSoundTree t → IsSoundTree u → t.limits ≡ u.limits
     → IsSnapshotOf t p s → IsSnapshotOf u q s → (t ≡ u) × (p ≡ q)
 
--- a state and its past are one whole journal, which is lawful where the state's is: it leads to the state's tree, and its last
--- place is the state's
+-- a state and its past are one whole journal, which is lawful if the state's is: it leads to the state's tree, and its
+-- last sequence number is the state's
 pub record IsWhole (s : Journaled) (past : List Entry) : Type 0 where
   pub lawful : IsLawful s.start.limits (past ++ s.entries)
   pub leads : stands_for s.start.limits (past ++ s.entries) ≡ now s
@@ -34,4 +36,5 @@ pub record IsWhole (s : Journaled) (past : List Entry) : Type 0 where
   pub sound : IsSoundTree s.start
 
 abbrev pub PastsMakeWhole : Type 0
-PastsMakeWhole = (s : Journaled) (past : List Entry) → IsPast s.start s.place past → IsLawfulFrom s.start s.entries → IsWhole s past
+PastsMakeWhole =
+    (s : Journaled) (past : List Entry) → IsPast s.start s.place past → IsLawfulFrom s.start s.entries → IsWhole s past

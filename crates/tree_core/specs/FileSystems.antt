@@ -1,15 +1,21 @@
 -- The tree of a file system, and what it does for a call. No public clause cites this module.
-use Rattle.std.specs.Prelude.{◌≡◌, Bool, true, false, Option, Some, None, Result, Ok, Err, IfOk, IfErr, OnOk, OnErr}
+use Rattle.std.specs.Prelude.{◌≡◌, ◌⊎◌, ⊤, ℕ, Bool, true, false, List, Option, Some, None, Result, IfOk, IfErr, OnOk, OnErr, take}
+use Rattle.record_codec.specs.declared.event.Event.{Event}
 use Rattle.tree_paths.specs.declared.refusal.Refusal.{Refusal}
 use Rattle.tree_paths.specs.declared.refusal.Refusal.TheVariants.{Enomem}
 use Rattle.inode_table.specs.TableWorld.{world_of, HasNumbersBelow}
+use Rattle.instance_table.specs.Instances.{after_read, all_changed, changed, instance_of, told, waiting_of}
+use Rattle.instance_table.specs.Staging.{IsStaged}
 use Rattle.tree_core.specs.declared.call.Call.{Call}
+use Rattle.tree_core.specs.declared.call.Call.TheVariants as call
+use Rattle.tree_core.specs.declared.file_system.Begun.{Begun}
 use Rattle.tree_core.specs.declared.file_system.FileSystem.{FileSystem}
-use Rattle.tree_core.specs.declared.file_system.Pumped.{Pumped}
-use Rattle.tree_core.specs.declared.file_system.Replies.{Replies}
+use Rattle.tree_core.specs.declared.file_system.Rest.{Rest}
+use Rattle.tree_core.specs.declared.file_system.Rest.TheVariants.{Nothing, Notify, Take}
 use Rattle.tree_core.specs.declared.reply.Reply.{Reply}
+use Rattle.tree_core.specs.Calls.{takes_memory}
 use Rattle.tree_core.specs.Sound.{IsCounted}
-use Rattle.tree_core.specs.Tree.{Tree, reply_of, after}
+use Rattle.tree_core.specs.Tree.{Tree, refusal_of, accepted_reply, accepted, reply_of, after}
 
 -- the numbers that come next are counted, and the files have numbers below the next one
 pub record IsNumbered (t : Tree) : Type 0 where
@@ -27,21 +33,59 @@ tree_in m = record {
   instances = m.instances;
 }
 
-abbrev pub kept_where : Bool → Reply → Option Reply
-kept_where true r = Some r
-kept_where false r = None
+-- ---- what is left to do of a call
 
--- a reply, with a copy where it is kept
-abbrev pub copies_of : Bool → Reply → Replies
-copies_of keeps r = record { journaled = r; given = r; kept = kept_where keeps r }
+-- the events that are to be delivered are staged
+abbrev pub CanFinish : FileSystem → Rest → Type 0
+CanFinish m Nothing = ⊤
+CanFinish m Notify = IsStaged m.instances m.notices m.staging
+CanFinish m (Take id place count) = ⊤
 
-abbrev pub replies_in : Result Pumped Refusal → Result Replies Refusal
-replies_in (Ok p) = Ok p.replies
-replies_in (Err e) = Err e
+-- the tree once it is done
+abbrev pub finished : FileSystem → Rest → Tree
+finished m Nothing = tree_in m
+finished m Notify = record (tree_in m) { instances = all_changed m.instances (told m.notices) }
+finished m (Take id place count) = record (tree_in m) { instances = changed m.instances id (after_read count) }
 
--- a call is replied to as in the tree, and leads to the tree after it. An error is want of memory, and leaves the tree as it was
-pub record Executes (old : FileSystem) (c : Call) (keeps : Bool) (result : Result Replies Refusal) (new : FileSystem) : Type 0 where
-  pub replies : IfOk result (λ r. r ≡ copies_of keeps (reply_of (tree_in old) c))
+-- the records that it takes out of a queue
+abbrev pub taken : FileSystem → Rest → Option (List Event)
+taken m Nothing = None
+taken m Notify = None
+taken m (Take id place count) = Some (take count (waiting_of (instance_of m.instances id)))
+
+-- ---- calls
+
+-- a pump, or a read
+abbrev pub reading : Bool → ℕ → ℕ → Call
+reading true id bytes = call.Pump id bytes
+reading false id bytes = call.Read id bytes
+
+-- a call is accepted and begun, and once the rest is done it leads to the tree after it. Until then a call whose reply
+-- has a list leaves the tree as it was. Or it is refused, or out of memory, and leaves the tree as it was
+pub record Attempts (old : FileSystem) (c : Call) (result : Result Begun Refusal) (new : FileSystem) : Type 0 where
+  pub passes : OnOk result (refusal_of (tree_in old) c ≡ None)
+  pub reply : IfOk result (λ b. b.reply ≡ accepted_reply (tree_in old) c)
+  pub rest : IfOk result (λ b. CanFinish new b.rest)
+  pub tree : IfOk result (λ b. finished new b.rest ≡ accepted (tree_in old) c)
+  pub begun : IfOk result (λ b. takes_memory b.reply ≡ true → tree_in new ≡ tree_in old)
+  pub numbered : OnOk result (IsNumbered (accepted (tree_in old) c))
+  pub refused : IfErr result (λ r. (refusal_of (tree_in old) c ≡ Some r) ⊎ (r ≡ Enomem))
+  pub err : OnErr result (tree_in new ≡ tree_in old)
+
+-- the same, where a refusal is a reply, and an error is out of memory
+pub record Begins (old : FileSystem) (c : Call) (result : Result Begun Refusal) (new : FileSystem) : Type 0 where
+  pub reply : IfOk result (λ b. b.reply ≡ reply_of (tree_in old) c)
+  pub rest : IfOk result (λ b. CanFinish new b.rest)
+  pub tree : IfOk result (λ b. finished new b.rest ≡ after (tree_in old) c)
+  pub begun : IfOk result (λ b. takes_memory b.reply ≡ true → tree_in new ≡ tree_in old)
+  pub numbered : OnOk result (IsNumbered (after (tree_in old) c))
+  pub err : OnErr result (tree_in new ≡ tree_in old)
+  pub memory : IfErr result (λ refusal. refusal ≡ Enomem)
+
+-- a call that was begun, whose reply was copied, and whose rest was done is replied to as in the tree, and leads to the
+-- tree after it. An error is out of memory, and leaves the tree as it was
+pub record Executes (old : FileSystem) (c : Call) (result : Result Reply Refusal) (new : FileSystem) : Type 0 where
+  pub reply : IfOk result (λ r. r ≡ reply_of (tree_in old) c)
   pub tree : OnOk result (tree_in new ≡ after (tree_in old) c)
   pub err : OnErr result (tree_in new ≡ tree_in old)
   pub numbered : IsNumbered (tree_in new)

@@ -1,5 +1,6 @@
 -- What the calls of a journal raise for an instance, what becomes of it, and what is read.
-use Rattle.std.specs.Prelude.{ℕ, Bool, true, false, ◌==◌, List, [], ◌∷◌, ◌++◌, Option, Some, None, map, take, if◌then◌else◌}
+use Rattle.std.specs.Prelude.{ℕ, Bool, true, false, ◌==◌, List, [], ◌∷◌, ◌++◌, Option, Some, None, map, take}
+use Rattle.std.specs.Prelude.{if◌then◌else◌}
 use Rattle.std.specs.List.{filter, flat_map}
 use Rattle.record_codec.specs.declared.event.Event.{Event}
 use Rattle.tree_paths.specs.declared.refusal.Refusal.{Refusal}
@@ -57,7 +58,8 @@ raised_to b (e ∷ es) = record { queue = b; event = e } ∷ raised_to (after_of
 
 -- what a call raises for the instance of a number
 unfoldable pub raised_by : Tree → Call → ℕ → List Raised
-raised_by t c id = where_open (refusal_of t c) (instance_of t.instances id) (λ i. raised_to i.queue (events_for t c id i))
+raised_by t c id =
+    where_open (refusal_of t c) (instance_of t.instances id) (λ i. raised_to i.queue (events_for t c id i))
 
 -- the records that a call reads of the instance of a number
 unfoldable pub read_by : Tree → Call → ℕ → List Event
@@ -101,7 +103,7 @@ is_merging Merged = true
 is_merging Marked = false
 is_merging Lost = false
 
--- an event is lost also where a mark joins in its place
+-- an event is also lost if a mark joins instead of it
 abbrev pub is_losing : Offered → Bool
 is_losing Kept = false
 is_losing Merged = false

@@ -22,8 +22,8 @@ stands_for limits es = tree_after (opening limits) es
 unfoldable pub IsLawful : Limits → List Entry → Type 0
 IsLawful limits es = IsLawfulFrom (opening limits) es
 
--- a state, as its callers see it: the tree at the last cut, at first the opening tree; the place of the last entry before
--- it; and the entries since
+-- a state, as its callers see it: the tree at the last cut, at first the opening tree; the sequence number of the last
+-- entry before it; and the entries since
 pub record Journaled : Type 0 where
   pub start : Tree
   pub place : ℕ
@@ -33,7 +33,7 @@ pub record Journaled : Type 0 where
 unfoldable pub now : Journaled → Tree
 now s = tree_after s.start s.entries
 
--- the place of the last entry
+-- the sequence number of the last entry
 abbrev pub last_place : Journaled → ℕ
 last_place s = s.place + length s.entries
 
@@ -49,11 +49,11 @@ with_entry s e = record s { entries = s.entries ++ e ∷ [] }
 abbrev pub cut_off : Journaled → Journaled
 cut_off s = record { start = now s; place = last_place s; entries = [] }
 
--- no entry more is taken: there are as many since the cut as the limit says, or all places were given
+-- the journal is full: there are as many entries since the cut as the limit says, or all sequence numbers were given
 abbrev pub IsSpent : Journaled → Type 0
 IsSpent s = (s.start.limits.journal ≤ length s.entries) ⊎ (2 ^ 64 ≤ last_place s + 1)
 
--- the entries that were cut off: a lawful journal that leads to the tree at the cut, its last entry at this place
+-- the entries that were cut off: a lawful journal that leads to the tree at the cut, with this last sequence number
 pub record IsPast (start : Tree) (place : ℕ) (past : List Entry) : Type 0 where
   pub lawful : IsLawful start.limits past
   pub places : length past ≡ place

@@ -1,5 +1,5 @@
--- Laws of all lawful journals, from any sound tree on: what is raised for an instance, what joins its queue, and what is
--- read of it.
+-- Laws of all lawful journals, from any sound tree on: what is raised for an instance, what joins its queue, and what
+-- is read of it.
 use Rattle.std.specs.Prelude.{◌≡◌, ℕ, ◌+◌, ◌≤◌, not, List, [], ◌∷◌, ◌++◌, Option, Some, None, All, length, count_by}
 use Rattle.std.specs.List.{filter}
 use Rattle.record_codec.specs.declared.event.Event.{Event}
@@ -16,7 +16,8 @@ use Rattle.tree_core.specs.declared.reply.Reply.TheVariants as reply
 use Rattle.tree_core.specs.Tree.{Tree}
 use Rattle.tree_core.specs.Journal.{IsLawfulFrom, Journaled, now, tree_after}
 use Rattle.tree_core.specs.Sound.{IsSoundTree}
-use Rattle.tree_core.specs.Histories.{Raised, raised_by, raised_in, read_in, fate, is_keeping, is_merging, is_losing, joined, kept, if_same}
+use Rattle.tree_core.specs.Histories.{Raised, raised_by, raised_in, read_in, fate, is_keeping, is_merging, is_losing}
+use Rattle.tree_core.specs.Histories.{joined, kept, if_same}
 
 -- ---- what was read, and what waits
 
@@ -29,7 +30,8 @@ IsInOrder read joined None = (given_up : List Event) × (read ++ given_up ≡ jo
 abbrev pub ReadsAreInOrder : Type 0
 ReadsAreInOrder =
     (t : Tree) (es : List Entry) (id : ℕ) → IsSoundTree t
-    → IsInOrder (read_in t es id) (waiting_of (instance_of t.instances id) ++ joined (raised_in t es id)) (instance_of (tree_after t es).instances id)
+    → IsInOrder (read_in t es id) (waiting_of (instance_of t.instances id) ++ joined (raised_in t es id))
+    (instance_of (tree_after t es).instances id)
 
 abbrev pub bytes_in : Reply → List ℕ
 bytes_in (reply.Records bytes) = bytes
@@ -48,10 +50,11 @@ bytes_read id (e ∷ es) = bytes_of id e.call e.reply ++ bytes_read id es
 
 -- the bytes of the replies are those of the records that were read
 abbrev pub BytesAreOfRecords : Type 0
-BytesAreOfRecords = (t : Tree) (es : List Entry) (id : ℕ) → IsLawfulFrom t es → bytes_read id es ≡ spelling (read_in t es id)
+BytesAreOfRecords =
+    (t : Tree) (es : List Entry) (id : ℕ) → IsLawfulFrom t es → bytes_read id es ≡ spelling (read_in t es id)
 
--- what was read of each instance since the cut, and what waits in it, are events: their values fit their types, and their
--- names are names. So the bytes that were read are the records of these events alone
+-- what was read of each instance since the cut, and what waits in it, are events: their values fit their types, and
+-- their names are names. So the bytes that were read are the records of these events alone
 pub record RecordsAreEvents (s : Journaled) : Type 0 where
   pub read : (id : ℕ) → AreEvents (read_in s.start s.entries id)
   pub waiting : WaitingAreEvents (now s).instances
@@ -61,16 +64,19 @@ pub record RecordsAreEvents (s : Journaled) : Type 0 where
 -- each event is kept, merged or lost, and the records that joined are those that were kept, in order, and marks
 pub record AreAccountedFor (rs : List Raised) : Type 0 where
   pub fates : All (λ r. HasFate r.queue r.event (fate r)) rs
-  pub count : length rs ≡ count_by (λ r. is_keeping (fate r)) rs + (count_by (λ r. is_merging (fate r)) rs + count_by (λ r. is_losing (fate r)) rs)
+  pub count : length rs
+      ≡ count_by (λ r. is_keeping (fate r)) rs
+      + (count_by (λ r. is_merging (fate r)) rs + count_by (λ r. is_losing (fate r)) rs)
   pub order : filter (λ e. not (is_mark e)) (joined rs) ≡ kept rs
 
--- the queue that each raised event found is what had joined, or waited at first, and was not read yet. So a lost event has an
--- unread mark behind it, or before it, and a mark joins only where all earlier ones were read
+-- the queue that each raised event found is what had joined, or waited at first, and was not read yet. So a lost event
+-- has an unread mark behind it, or before it, and a mark joins only where all earlier ones were read
 abbrev pub FindsTheUnread : Tree → List Entry → ℕ → Type 0
 FindsTheUnread t es id =
     (front rest : List Entry) (e : Entry) (before later : List Raised) (r : Raised)
     → es ≡ front ++ e ∷ rest → raised_by (tree_after t front) e.call id ≡ before ++ r ∷ later
-    → read_in t front id ++ r.queue.waiting ≡ waiting_of (instance_of t.instances id) ++ joined (raised_in t front id ++ before)
+    → read_in t front id ++ r.queue.waiting
+    ≡ waiting_of (instance_of t.instances id) ++ joined (raised_in t front id ++ before)
 
 abbrev pub EventsFindTheUnread : Type 0
 EventsFindTheUnread = (t : Tree) (es : List Entry) (id : ℕ) → IsSoundTree t → FindsTheUnread t es id
@@ -86,8 +92,10 @@ pub record IsUntouched (t : Tree) (es : List Entry) (id : ℕ) : Type 0 where
   pub read : read_in t es id ≡ []
 
 abbrev pub UnmadeInstancesHearNothing : Type 0
-UnmadeInstancesHearNothing = (t : Tree) (es : List Entry) (id : ℕ) → IsSoundTree t → (tree_after t es).next_id ≤ id → IsUntouched t es id
+UnmadeInstancesHearNothing =
+    (t : Tree) (es : List Entry) (id : ℕ) → IsSoundTree t → (tree_after t es).next_id ≤ id → IsUntouched t es id
 
 -- an instance that is closed stays closed: nothing is raised for it any more, and nothing is read of it
 abbrev pub ClosedInstancesHearNothing : Type 0
-ClosedInstancesHearNothing = (t : Tree) (es : List Entry) (id : ℕ) → instance_of t.instances id ≡ None → id + 1 ≤ t.next_id → IsUntouched t es id
+ClosedInstancesHearNothing =
+    (t : Tree) (es : List Entry) (id : ℕ) → instance_of t.instances id ≡ None → id + 1 ≤ t.next_id → IsUntouched t es id

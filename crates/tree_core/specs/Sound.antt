@@ -12,8 +12,8 @@ use Rattle.instance_table.specs.declared.instance.Instance.{Instance}
 use Rattle.instance_table.specs.Instances.{instance_of}
 use Rattle.tree_core.specs.Tree.{Tree}
 
--- each number that comes next is within its limit, or the one above it, where all were given; open instances have numbers below
--- the next
+-- each number that comes next is within its limit, or the one above it, where all were given; open instances have
+-- numbers below the next
 pub record IsCounted (t : Tree) : Type 0 where
   pub numbers : t.next_number ≤ t.limits.numbers + 1
   pub cookies : t.next_cookie ≤ t.limits.cookies + 1
@@ -22,14 +22,17 @@ pub record IsCounted (t : Tree) : Type 0 where
 
 -- nothing of a watch follows its IN_IGNORED
 abbrev pub NothingFollowsIgnored : List Event → Type 0
-NothingFollowsIgnored es = (before after : List Event) (e : Event) → es ≡ before ++ e ∷ after → IsTrue (says_ended e) → TellsNothing e.wd after
+NothingFollowsIgnored es =
+    (before after : List Event) (e : Event) → es ≡ before ++ e ∷ after → IsTrue (says_ended e) → TellsNothing e.wd after
 
 -- the mark, or a record whose descriptor and cookie were given
 abbrev pub IsGivenRecord : Tree → Instance → Event → Type 0
-IsGivenRecord t i e = (e ≡ overflow_mark) ⊎ ((pos 1 ≤ℤ e.wd) × (e.wd <ℤ pos i.watches.next_wd) × ((e.cookie ≡ 0) ⊎ (e.cookie < t.next_cookie)))
+IsGivenRecord t i e =
+    (e ≡ overflow_mark)
+    ⊎ ((pos 1 ≤ℤ e.wd) × (e.wd <ℤ pos i.watches.next_wd) × ((e.cookie ≡ 0) ⊎ (e.cookie < t.next_cookie)))
 
--- the watches of an open instance are sound and of files that are there, and its queue keeps its bounds. Where an IN_IGNORED
--- waits, its watch has ended, and no later record is of it
+-- the watches of an open instance are sound and of files that are there, and its queue keeps its bounds. Where an
+-- IN_IGNORED waits, its watch has ended, and no later record is of it
 pub record IsSoundInstance (t : Tree) (i : Instance) : Type 0 where
   pub watches : IsSound i.watches
   pub most_watches : i.watches.most_watches ≡ t.limits.watches

@@ -1,5 +1,6 @@
 -- What a tree answers to each call, and what it is after it.
-use Rattle.std.specs.Prelude.{ℕ, ℤ, ◌+◌, Bool, true, false, ◌||◌, List, [], ◌∷◌, Option, Some, None, is_none, length, take, nat_lt, nat_le, ◌==◌, if◌then◌else◌}
+use Rattle.std.specs.Prelude.{ℕ, ℤ, ◌+◌, Bool, true, false, ◌||◌, List, [], ◌∷◌, Option, Some, None, is_none, length}
+use Rattle.std.specs.Prelude.{take, nat_lt, nat_le, ◌==◌, if◌then◌else◌}
 use Rattle.std.specs.FinMap as finmap
 use Rattle.record_codec.specs.Records.{spelling}
 use Rattle.tree_paths.specs.Greatest.{most_cookies}
@@ -19,7 +20,8 @@ use Rattle.watch_table.specs.Watching.{add_refusal, watched_by, wd_added}
 use Rattle.event_queue.specs.Reads.{fitting}
 use Rattle.event_rules.specs.Table.{notices_of}
 use Rattle.instance_table.specs.declared.instance.Instance.{Instance}
-use Rattle.instance_table.specs.Instances.{Instances, instance_of, new_instance, told, watching, unwatching, after_read, changed, all_changed}
+use Rattle.instance_table.specs.Instances.{Instances, instance_of, new_instance, told, watching, unwatching, after_read}
+use Rattle.instance_table.specs.Instances.{changed, all_changed}
 use Rattle.tree_core.specs.declared.call.Call.{Call}
 use Rattle.tree_core.specs.declared.call.Call.TheVariants as call
 use Rattle.tree_core.specs.declared.reply.Reply.{Reply}
@@ -36,9 +38,17 @@ pub record Tree : Type 0 where
 
 -- the root alone, and no instance
 unfoldable pub opening : Limits → Tree
-opening limits = record { limits = limits; world = opening_world; next_number = root_number + 1; next_cookie = 1; next_id = 1; instances = finmap.empty }
+opening limits =
+    record {
+      limits = limits;
+      world = opening_world;
+      next_number = root_number + 1;
+      next_cookie = 1;
+      next_id = 1;
+      instances = finmap.empty;
+    }
 
--- the cookie that the next rename gets. All that a record has room for may be spent, which 0 says
+-- the cookie that the next rename gets, or 0 if all cookies that fit into a record are spent
 abbrev pub cookie_now : ℕ → ℕ
 cookie_now next = if nat_le next most_cookies then next else 0
 
@@ -81,7 +91,8 @@ way_row false false = None
 unfoldable pub read_rows : Bool → ℕ → Option Instance → List (Option Refusal)
 read_rows pumps bytes None = Some Ebadf ∷ []
 read_rows pumps bytes (Some i) =
-    way_row pumps i.is_piped ∷ row (length i.queue.waiting == 0) Eagain ∷ row (fitting bytes i.queue.waiting == 0) Einval ∷ []
+    way_row pumps i.is_piped ∷ row (length i.queue.waiting == 0) Eagain
+    ∷ row (fitting bytes i.queue.waiting == 0) Einval ∷ []
 
 -- why no instance is closed
 unfoldable pub close_rows : Option Instance → List (Option Refusal)
@@ -91,7 +102,8 @@ close_rows o = row (is_none o) Ebadf ∷ []
 abbrev pub refusal_of : Tree → Call → Option Refusal
 refusal_of t (call.File f) = ops.refused t.world t.limits (counts_of t) f
 refusal_of t (call.Init limit is_piped) = first_row (init_rows t.limits t.instances t.next_id limit)
-refusal_of t (call.AddWatch id p mask) = first_row (add_watch_rows (look t.world) p (known mask) (instance_of t.instances id))
+refusal_of t (call.AddWatch id p mask) =
+    first_row (add_watch_rows (look t.world) p (known mask) (instance_of t.instances id))
 refusal_of t (call.RmWatch id wd) = first_row (rm_watch_rows wd (instance_of t.instances id))
 refusal_of t (call.Read id bytes) = first_row (read_rows false bytes (instance_of t.instances id))
 refusal_of t (call.Pump id bytes) = first_row (read_rows true bytes (instance_of t.instances id))
@@ -99,7 +111,7 @@ refusal_of t (call.Close id) = first_row (close_rows (instance_of t.instances id
 
 -- ---- what an accepted call does
 
--- the files as the call leaves them; each instance is told of it
+-- the files as the call leaves them; each instance is notified
 unfoldable pub after_file : Tree → FileCall → Tree
 after_file t f =
     record t {
@@ -111,7 +123,11 @@ after_file t f =
 
 -- a new instance
 unfoldable pub after_init : Tree → ℕ → Bool → Tree
-after_init t limit is_piped = record t { next_id = t.next_id + 1; instances = finmap.insert t.instances t.next_id (new_instance t.limits limit is_piped) }
+after_init t limit is_piped =
+    record t {
+      next_id = t.next_id + 1;
+      instances = finmap.insert t.instances t.next_id (new_instance t.limits limit is_piped);
+    }
 
 abbrev pub number_seen : Option Seen → ℕ
 number_seen None = 0
@@ -119,7 +135,8 @@ number_seen (Some s) = s.number
 
 -- an instance watches what stands at a path
 unfoldable pub after_add_watch : Tree → ℕ → List (List ℕ) → ℕ → Tree
-after_add_watch t id p mask = record t { instances = changed t.instances id (watching (number_seen (look t.world p)) (known mask)) }
+after_add_watch t id p mask =
+    record t { instances = changed t.instances id (watching (number_seen (look t.world p)) (known mask)) }
 
 -- a watch of an instance ends
 unfoldable pub after_rm_watch : Tree → ℕ → ℤ → Tree

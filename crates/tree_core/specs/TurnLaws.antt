@@ -1,6 +1,7 @@
--- Laws of all lawful journals, from any sound tree on: numbers, descriptors and cookies are given once, and nothing follows
--- the end of a watch.
-use Rattle.std.specs.Prelude.{◌≡◌, ◌≢◌, ◌⊎◌, ⊤, ℕ, ℤ, pos, ◌≤ℤ◌, ◌<ℤ◌, ◌+◌, ◌≤◌, List, [], ◌∷◌, ◌++◌, Option, Some, None, All, IsTrue, not}
+-- Laws of all lawful journals, from any sound tree on: numbers, descriptors and cookies are given once, and nothing
+-- follows the end of a watch.
+use Rattle.std.specs.Prelude.{◌≡◌, ◌≢◌, ◌⊎◌, ⊤, ℕ, ℤ, pos, ◌≤ℤ◌, ◌<ℤ◌, ◌+◌, ◌≤◌, List, [], ◌∷◌, ◌++◌, Option, Some}
+use Rattle.std.specs.Prelude.{None, All, IsTrue, not}
 use Rattle.record_codec.specs.declared.event.Event.{Event}
 use Rattle.tree_paths.specs.declared.limits.Limits.{Limits}
 use Rattle.tree_paths.specs.declared.refusal.Refusal.{Refusal}
@@ -81,20 +82,24 @@ cookies_in t (e ∷ es) = cookies_used t e.call ++ cookies_in (after t e.call) e
 abbrev pub CookiesAreInTurn : Type 0
 CookiesAreInTurn = (t : Tree) (es : List Entry) → AreInTurn t.next_cookie (cookies_in t es)
 
--- the i-th pair of IN_MOVED_FROM and IN_MOVED_TO that a call raises has the i-th of its cookies, and all other events have none
+-- the i-th pair of IN_MOVED_FROM and IN_MOVED_TO that a call raises has the i-th of its cookies, and all other events
+-- have none
 abbrev pub CookiesTieMoves : Type 0
-CookiesTieMoves = (t : Tree) (c : Call) (id : ℕ) → AreTied (moves_with (cookies_used t c)) (marks_of (events (raised_by t c id)))
+CookiesTieMoves =
+    (t : Tree) (c : Call) (id : ℕ) → AreTied (moves_with (cookies_used t c)) (marks_of (events (raised_by t c id)))
 
 -- ---- the end of a watch
 
--- neither of what is raised for an instance does anything of a watch follow its IN_IGNORED, so there is one at most, nor of
--- what waited at first and joins its queue
+-- neither of what is raised for an instance does anything of a watch follow its IN_IGNORED, so there is one at most,
+-- nor of what waited at first and joins its queue
 pub record EndsOnce (waiting : List Event) (rs : List Raised) : Type 0 where
   pub raised : NothingFollowsIgnored (events rs)
   pub joined : NothingFollowsIgnored (waiting ++ joined rs)
 
 abbrev pub WatchesEndOnce : Type 0
-WatchesEndOnce = (t : Tree) (es : List Entry) (id : ℕ) → IsSoundTree t → EndsOnce (waiting_of (instance_of t.instances id)) (raised_in t es id)
+WatchesEndOnce =
+    (t : Tree) (es : List Entry) (id : ℕ) → IsSoundTree t
+    → EndsOnce (waiting_of (instance_of t.instances id)) (raised_in t es id)
 
 abbrev pub wd_in : Reply → List ℤ
 wd_in (reply.Wd wd) = wd ∷ []
@@ -121,7 +126,9 @@ next_wd_of (Some i) = i.watches.next_wd
 
 -- the descriptors of an instance run 1, 2, 3 and so on; those of one that was open at first run on from its next one
 abbrev pub DescriptorsRunOn : Type 0
-DescriptorsRunOn = (t : Tree) (es : List Entry) (id : ℕ) → IsSoundTree t → IsLawfulFrom t es → RunOn (next_wd_of (instance_of t.instances id)) (wds_given id es)
+DescriptorsRunOn =
+    (t : Tree) (es : List Entry) (id : ℕ) → IsSoundTree t → IsLawfulFrom t es
+    → RunOn (next_wd_of (instance_of t.instances id)) (wds_given id es)
 
 -- a descriptor whose watch has ended is never given again, and nothing of it is raised
 abbrev pub DescriptorsEndForGood : Type 0
@@ -130,25 +137,31 @@ DescriptorsEndForGood =
     → IsSoundTree t → IsLawfulFrom t es → instance_of t.instances id ≡ Some i → HasEnded i.watches wd
     → All (λ given. given ≢ wd) (wds_given id es) × TellsNothing wd (events (raised_in t es id))
 
--- ---- what a reply tells of its tree
+-- ---- what a reply says about its tree
 
--- it is none of those that no tree gives: want of memory, a full journal, a full pipe. A call that is refused so is no entry
+-- it is none of those that no tree gives: out of memory, a full journal, a full pipe. A call with such a refusal makes
+-- no entry
 abbrev pub IsOfTree : Refusal → Type 0
 IsOfTree refusal = (refusal ≢ Enomem) × (refusal ≢ JournalFull) × (refusal ≢ PipeFull)
 
--- what a refused call adds: the tree is as before, and so is for each instance what was raised, so what joined, and what was read
+-- what a refused call adds: the tree is as before, and so is for each instance what was raised, so what joined, and
+-- what was read
 pub record AddsNothing (t : Tree) (c : Call) : Type 0 where
   pub tree : after t c ≡ t
   pub raised : (id : ℕ) → raised_by t c id ≡ []
   pub read : (id : ℕ) → read_by t c id ≡ []
 
 -- records are read of open instances without a pipe, and pumped of those with one; a new instance has the next number;
--- numbers of instances never fall; a closed instance was open; a refused call adds nothing, and its refusal is one of the tree's
+-- numbers of instances never fall; a closed instance was open; a refused call adds nothing, and its refusal is one of
+-- the tree's
 pub record RepliesTell (t : Tree) (c : Call) : Type 0 where
-  pub read : (id count : ℕ) (bytes : List ℕ) → c ≡ call.Read id count → reply_of t c ≡ reply.Records bytes → (i : Instance) × (instance_of t.instances id ≡ Some i) × IsTrue (not i.is_piped)
-  pub pumped : (id count : ℕ) (bytes : List ℕ) → c ≡ call.Pump id count → reply_of t c ≡ reply.Records bytes → (i : Instance) × (instance_of t.instances id ≡ Some i) × IsTrue i.is_piped
+  pub read : (id count : ℕ) (bytes : List ℕ) → c ≡ call.Read id count → reply_of t c ≡ reply.Records bytes
+      → (i : Instance) × (instance_of t.instances id ≡ Some i) × IsTrue (not i.is_piped)
+  pub pumped : (id count : ℕ) (bytes : List ℕ) → c ≡ call.Pump id count → reply_of t c ≡ reply.Records bytes
+      → (i : Instance) × (instance_of t.instances id ≡ Some i) × IsTrue i.is_piped
   pub opened : (id : ℕ) → reply_of t c ≡ reply.Instance id → id ≡ t.next_id
-  pub closed : (id : ℕ) → c ≡ call.Close id → reply_of t c ≡ reply.Done → (i : Instance) × (instance_of t.instances id ≡ Some i)
+  pub closed : (id : ℕ) → c ≡ call.Close id → reply_of t c ≡ reply.Done
+      → (i : Instance) × (instance_of t.instances id ≡ Some i)
   pub rising : t.next_id ≤ (after t c).next_id
   pub refused : (refusal : Refusal) → reply_of t c ≡ reply.Refused refusal → AddsNothing t c
   pub of_tree : (refusal : Refusal) → reply_of t c ≡ reply.Refused refusal → IsOfTree refusal

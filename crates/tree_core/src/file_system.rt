@@ -1,19 +1,17 @@
 //! The files and the instances: what they answer to each call.
-ghost use Rattle.std.specs.Prelude.{◌≡◌, ◌≤◌, ◌+◌, ◌^◌, true, IfOk, IfErr, IfSome, OnOk, OnErr, IsSome, length, option_map, take};
+ghost use Rattle.std.specs.Prelude.{◌≡◌, ◌≢◌, ◌⊎◌, ◌≤◌, ◌+◌, ◌^◌, None, Some, Ok, Err, IfOk, IfErr, OnOk, OnErr, length, option_map, take};
 ghost use Rattle.tree_core.specs.Snapshots.{IsSnapshotOf};
 ghost use Rattle.std.specs.Option.{option_copied};
 ghost use Rattle.record_codec.specs.Records.{AreEvents, spelling};
 ghost use Rattle.tree_paths.specs.Rows.{first_row};
 ghost use Rattle.tree_paths.specs.declared.refusal.Refusal.TheVariants.{Enomem};
-ghost use Rattle.tree_core.specs.Calls.{takes_memory};
 ghost use Rattle.inode_table.specs.TableWorld.{world_of};
-ghost use Rattle.tree_ops.specs.ReadyCall.{IsReady};
 ghost use Rattle.tree_ops.specs.Refused.{cookies_of};
 ghost use Rattle.event_rules.specs.Table.{notices_of};
-ghost use Rattle.instance_table.specs.Instances.{all_changed, changed, instance_of, told};
+ghost use Rattle.instance_table.specs.Instances.{all_changed, instance_of, told};
 ghost use Rattle.tree_core.specs.Histories.{oldest, pumped};
-ghost use Rattle.tree_core.specs.FileSystems.{tree_in, Executes, copies_of, replies_in, IsNumbered};
-ghost use Rattle.tree_core.specs.Tree.{opening, counts_of, init_rows, rm_watch_rows, read_rows, close_rows, read_answer, after_reading};
+ghost use Rattle.tree_core.specs.FileSystems.{tree_in, Attempts, Begins, CanFinish, IsNumbered, finished, reading, taken};
+ghost use Rattle.tree_core.specs.Tree.{opening, counts_of, init_rows, rm_watch_rows, read_rows, close_rows};
 
 use crate::call::Call;
 use crate::reply::Reply;
@@ -60,50 +58,37 @@ impl Drop for FileSystem {
     }
 }
 
-/// What a call answers: for the journal, for who made the call, and for what is kept of it, where it is kept.
+/// A call that was begun: what it answers, and what is left to do. Until that is done, a call whose reply has a list
+/// leaves the tree as it was.
 #[derive(Drop)]
-pub struct Replies {
-    pub journaled: Reply,
-    pub given: Reply,
-    pub kept: Option<Reply>,
+pub struct Begun {
+    pub reply: Reply,
+    pub rest: Rest,
 }
 
-/// What a pump answers, with the records that it read, if it read any.
+/// What is left to do of a call. It takes no memory.
 #[derive(Drop)]
-pub struct Pumped {
-    pub replies: Replies,
-    pub records: Option<Events>,
+pub enum Rest {
+    /// Nothing is left.
+    Nothing,
+    /// The staged events are delivered.
+    Notify,
+    /// The oldest records leave the queue of an instance. The place is looked at first.
+    Take {
+        instance: u32,
+        place: usize,
+        count: usize,
+    },
 }
 
-impl Replies {
-    // A reply, and copies of it.
-    #[inline(always)]
-    fn of(reply: Reply, keeps: bool) -> Result<Replies, Refusal>
-        ensures ok { IfOk result (λ r. r ≡ copies_of keeps reply) }
-        ensures err { IfErr result (λ refusal. refusal ≡ Enomem) }
-        ensures memory { OnErr result (takes_memory reply ≡ true) }
+impl Begun {
+    // A reply of which nothing is left to do.
+    fn complete(reply: Reply) -> Begun
+        ensures { result ≡ record { reply = reply; rest = Rest.Nothing } }
     {
-        let given = reply.copy()?;
-        let kept = if keeps { Some(reply.copy()?) } else { None };
-        Ok(Replies {
-            journaled: reply,
-            given,
-            kept,
-        })
-    }
-
-    // A refusal. It takes no memory.
-    fn refused(refusal: Refusal, keeps: bool) -> Replies
-        ensures { result ≡ copies_of keeps (Reply.Refused refusal) }
-    {
-        Replies {
-            journaled: Reply::Refused(refusal),
-            given: Reply::Refused(refusal),
-            kept: if keeps {
-                Some(Reply::Refused(refusal))
-            } else {
-                None
-            },
+        Begun {
+            reply,
+            rest: Rest::Nothing,
         }
     }
 }
@@ -144,24 +129,83 @@ impl FileSystem {
         })
     }
 
-    /// Carries out a call, which may be refused. What takes memory comes first: an error leaves all as it was.
+    /// Begins a call, which may be refused: all that can fail. An error leaves the tree as it was.
     #[inline(always)]
-    pub fn answer(&mut self, call: &Call, keeps: bool) -> Result<Replies, Refusal>
+    pub fn begin(&mut self, call: &Call) -> Result<Begun, Refusal>
         requires { IsNumbered (tree_in self.old) }
-        ensures { Executes self.old call.now keeps result self.new }
+        ensures { Begins self.old call.now result self.new }
+    {
+        answered(self.attempt(call))
+    }
+
+    /// Begins a [`Call::Pump`].
+    pub fn begin_pump(&self, id: u32, bytes: u32) -> Result<Begun, Refusal>
+        requires { IsNumbered (tree_in self.now) }
+        ensures begun { Begins self.now (Call.Pump id bytes) result self.now }
+        ensures records { IfOk result (λ b. taken self.now b.rest ≡ pumped (tree_in self.now) id bytes) }
+    {
+        answered(self.read(id, bytes, true))
+    }
+
+    /// Does the rest of a call that was begun. It takes no memory.
+    pub fn finish(&mut self, rest: Rest)
+        requires { CanFinish self.old rest }
+        ensures { tree_in self.new ≡ finished self.old rest }
+    {
+        match rest {
+            Rest::Nothing => {}
+            Rest::Notify => self
+                .instances
+                .tell(self.notices.as_slice(), &mut self.staging),
+            Rest::Take {
+                instance,
+                place,
+                count,
+            } => self.instances.drop_oldest(instance, place, count),
+        }
+    }
+
+    /// Does the rest of a pump that was begun, and moves the records out of the queue. An error leaves all as it was.
+    pub fn finish_pump(&mut self, rest: Rest) -> Result<Option<Events>, Refusal>
+        requires { CanFinish self.old rest }
+        ensures tree { OnOk result (tree_in self.new ≡ finished self.old rest) }
+        ensures records { IfOk result (λ records. records ≡ taken self.old rest) }
+        ensures err { OnErr result (self.new ≡ self.old) }
+        ensures memory { IfErr result (λ refusal. refusal ≡ Enomem) }
+    {
+        let Rest::Take {
+            instance,
+            place,
+            count,
+        } = rest
+        else {
+            self.finish(rest);
+            return Ok(None);
+        };
+        let mut records = Vec::with_capacity(self.alloc, count)?;
+        self.instances
+            .move_oldest(instance, place, count, &mut records);
+        Ok(Some(Events::from_vec(records)))
+    }
+
+    // Begins a call, or answers why it is refused.
+    #[inline(always)]
+    fn attempt(&mut self, call: &Call) -> Result<Begun, Refusal>
+        requires { IsNumbered (tree_in self.old) }
+        ensures { Attempts self.old call.now result self.new }
     {
         match call {
-            Call::File(call) => self.file(call, keeps),
-            Call::Init { limit, piped } => self.init(*limit, *piped, keeps),
+            Call::File(call) => self.file(call),
+            Call::Init { limit, piped } => self.init(*limit, *piped),
             Call::AddWatch {
                 instance,
                 path,
                 mask,
-            } => self.add_watch(*instance, path, *mask, keeps),
-            Call::RmWatch { instance, wd } => self.rm_watch(*instance, *wd, keeps),
-            Call::Read { instance, bytes } => self.read(*instance, *bytes, keeps),
-            Call::Pump { instance, bytes } => self.pump(*instance, *bytes, keeps),
-            Call::Close { instance } => self.close(*instance, keeps),
+            } => self.add_watch(*instance, path, *mask),
+            Call::RmWatch { instance, wd } => self.rm_watch(*instance, *wd),
+            Call::Read { instance, bytes } => self.read(*instance, *bytes, false),
+            Call::Pump { instance, bytes } => self.read(*instance, *bytes, true),
+            Call::Close { instance } => self.close(*instance),
         }
     }
 
@@ -175,232 +219,150 @@ impl FileSystem {
         }
     }
 
-    // Carries out a call on files.
-    fn file(&mut self, call: &FileCall, keeps: bool) -> Result<Replies, Refusal>
+    // Begins a call on files.
+    fn file(&mut self, call: &FileCall) -> Result<Begun, Refusal>
         requires { IsNumbered (tree_in self.old) }
-        ensures { Executes self.old (Call.File call.now) keeps result self.new }
+        ensures { Attempts self.old (Call.File call.now) result self.new }
     {
         let counts = self.counts();
-        let paths = Paths::of(&self.table, call);
-        let ready = match check(&self.table, call, &paths, &counts, &self.limits) {
-            Ok(ready) => ready,
-            Err(refusal) => return Ok(Replies::refused(refusal, keeps)),
-        };
+        let paths = Paths::resolve(&self.table, call);
+        let ready = check(paths, &counts, &self.limits)?;
         note(
-            &self.table,
             &self.instances,
             &ready,
             counts.next_cookie,
             &mut self.notices,
         )?;
-        let told = self.notices.as_slice();
-        self.instances.stage(told, &mut self.staging)?;
+        self.instances
+            .stage(self.notices.as_slice(), &mut self.staging)?;
         let numbers = ready.numbers();
         let cookies = ready.cookies();
-        let answer = carry_out(self.alloc, &mut self.table, &ready)?;
-        let replies = Replies::of(Reply::File(answer), keeps)?;
-        self.instances.tell(told, &mut self.staging);
+        let plan = ready.into_plan();
+        let answer = carry_out(self.alloc, &mut self.table, &plan)?;
         self.next_number += numbers;
         self.next_cookie += u64::from(cookies);
-        Ok(replies)
+        Ok(Begun {
+            reply: Reply::File(answer),
+            rest: Rest::Notify,
+        })
     }
 
     // Why no instance is made.
     #[tactic(auto, unfolding(crate::specs::Tree::init_rows))]
-    fn init_fault(&self, limit: u32) -> Option<Refusal>
-        ensures { result ≡ first_row (init_rows self.now.limits self.now.instances self.now.next_id limit) }
+    fn check_init(&self, limit: u32) -> Result<(), Refusal>
+        ensures passes { OnOk result (first_row (init_rows self.now.limits self.now.instances self.now.next_id limit) ≡ None) }
+        ensures refused { IfErr result (λ r. first_row (init_rows self.now.limits self.now.instances self.now.next_id limit) ≡ Some r) }
     {
         if limit == 0 || limit > self.limits.queue {
-            return Some(Refusal::Einval);
+            return Err(Refusal::Einval);
         }
         if self.instances.len() >= self.limits.instances as usize {
-            return Some(Refusal::Emfile);
+            return Err(Refusal::Emfile);
         }
         if self.next_id > self.limits.ids {
-            return Some(Refusal::Emfile);
+            return Err(Refusal::Emfile);
         }
-        None
+        Ok(())
     }
 
     // Makes an instance.
-    fn init(&mut self, limit: u32, piped: bool, keeps: bool) -> Result<Replies, Refusal>
+    fn init(&mut self, limit: u32, piped: bool) -> Result<Begun, Refusal>
         requires { IsNumbered (tree_in self.old) }
-        ensures { Executes self.old (Call.Init limit piped) keeps result self.new }
+        ensures { Attempts self.old (Call.Init limit piped) result self.new }
     {
-        if let Some(refusal) = self.init_fault(limit) {
-            return Ok(Replies::refused(refusal, keeps));
-        }
+        self.check_init(limit)?;
         let id = self.next_id;
-        let replies = Replies::of(Reply::Instance(id), keeps)?;
         self.instances.open(id, limit, piped, &self.limits)?;
         self.next_id += 1;
-        Ok(replies)
+        Ok(Begun::complete(Reply::Instance(id)))
     }
 
     // Watches a file.
-    fn add_watch(
-        &mut self,
-        id: u32,
-        path: &Path,
-        mask: u32,
-        keeps: bool,
-    ) -> Result<Replies, Refusal>
+    fn add_watch(&mut self, id: u32, path: &Path, mask: u32) -> Result<Begun, Refusal>
         requires { IsNumbered (tree_in self.old) }
-        ensures { Executes self.old (Call.AddWatch id path.now mask) keeps result self.new }
+        ensures { Attempts self.old (Call.AddWatch id path.now mask) result self.new }
     {
         let mut place = 0;
         if self.instances.find(id, &mut place).is_none() {
-            return Ok(Replies::refused(Refusal::Ebadf, keeps));
+            return Err(Refusal::Ebadf);
         }
         let mask = Mask::of(mask);
         if let Some(refusal) = mask.fault() {
-            return Ok(Replies::refused(refusal, keeps));
+            return Err(refusal);
         }
-        let seen = match self.table.look(&self.table.resolve(path)) {
-            Ok(seen) => seen,
-            Err(refusal) => return Ok(Replies::refused(refusal, keeps)),
-        };
+        let seen = self.table.look(&self.table.resolve(path))?;
         let is_directory = seen.kind == Kind::Directory;
-        match self
+        let wd = self
             .instances
-            .watch(id, place, seen.number, mask, is_directory)
-        {
-            Ok(wd) => Replies::of(Reply::Wd(wd), keeps),
-            Err(Refusal::Enomem) => Err(Refusal::Enomem),
-            Err(refusal) => Ok(Replies::refused(refusal, keeps)),
-        }
+            .watch(id, place, seen.number, mask, is_directory)?;
+        Ok(Begun::complete(Reply::Wd(wd)))
     }
 
     // Ends a watch.
-    fn rm_watch(&mut self, id: u32, wd: i32, keeps: bool) -> Result<Replies, Refusal>
+    fn rm_watch(&mut self, id: u32, wd: i32) -> Result<Begun, Refusal>
         requires { IsNumbered (tree_in self.old) }
-        ensures { Executes self.old (Call.RmWatch id wd) keeps result self.new }
+        ensures { Attempts self.old (Call.RmWatch id wd) result self.new }
     {
         let mut place = 0;
-        if let Some(refusal) = rm_watch_fault(self.instances.find(id, &mut place), wd) {
-            return Ok(Replies::refused(refusal, keeps));
-        }
-        let replies = Replies::of(Reply::Done, keeps)?;
+        check_rm_watch(self.instances.find(id, &mut place), wd)?;
         self.instances.unwatch(id, place, wd);
-        Ok(replies)
+        Ok(Begun::complete(Reply::Done))
     }
 
-    // Reads records.
-    fn read(&mut self, id: u32, bytes: u32, keeps: bool) -> Result<Replies, Refusal>
-        requires { IsNumbered (tree_in self.old) }
-        ensures { Executes self.old (Call.Read id bytes) keeps result self.new }
+    // Begins a read, or a pump.
+    fn read(&self, id: u32, bytes: u32, pumps: bool) -> Result<Begun, Refusal>
+        requires { IsNumbered (tree_in self.now) }
+        ensures begun { Attempts self.now (reading pumps id bytes) result self.now }
+        ensures records { IfOk result (λ b. taken self.now b.rest ≡ option_map (oldest bytes) (instance_of self.now.instances id)) }
     {
         let mut place = 0;
-        if let Some(refusal) = read_fault(self.instances.find(id, &mut place), bytes, false) {
-            return Ok(Replies::refused(refusal, keeps));
-        }
-        self.take_records(id, &mut place, bytes, keeps)
-    }
-
-    // Reads records for a pipe.
-    fn pump(&mut self, id: u32, bytes: u32, keeps: bool) -> Result<Replies, Refusal>
-        requires { IsNumbered (tree_in self.old) }
-        ensures { Executes self.old (Call.Pump id bytes) keeps result self.new }
-    {
-        let mut place = 0;
-        if let Some(refusal) = read_fault(self.instances.find(id, &mut place), bytes, true) {
-            return Ok(Replies::refused(refusal, keeps));
-        }
-        self.take_records(id, &mut place, bytes, keeps)
-    }
-
-    // Takes the records that fit out of an instance's queue. The place is looked at first.
-    fn take_records(
-        &mut self,
-        id: u32,
-        place: &mut usize,
-        bytes: u32,
-        keeps: bool,
-    ) -> Result<Replies, Refusal>
-        requires { IsSome (instance_of self.old.instances id) }
-        ensures replies { IfOk result (λ r. r ≡ copies_of keeps (read_answer bytes (instance_of self.old.instances id))) }
-        ensures ok { OnOk result (self.new ≡ record self.old { instances = changed self.old.instances id (after_reading bytes) }) }
-        ensures err { OnErr result (self.new ≡ self.old) }
-        ensures memory { IfErr result (λ refusal. refusal ≡ Enomem) }
-    {
-        let Some(instance) = self.instances.find(id, place) else {
-            unreachable!()
-        };
+        let instance = check_read(self.instances.find(id, &mut place), bytes, pumps)?;
         let fit = instance.queue.fit_len(bytes as usize);
         let records = spelled(self.alloc, &instance.queue, fit)?;
-        let replies = Replies::of(Reply::Records(records), keeps)?;
-        self.instances.drop_oldest(id, *place, fit.count);
-        Ok(replies)
-    }
-
-    /// Reads records for a pipe, and moves them out of the queue.
-    pub fn pump_out(&mut self, id: u32, bytes: u32) -> Result<Pumped, Refusal>
-        requires { IsNumbered (tree_in self.old) }
-        ensures served { Executes self.old (Call.Pump id bytes) true (replies_in result) self.new }
-        ensures records { IfOk result (λ p. p.records ≡ pumped (tree_in self.old) id bytes) }
-        ensures events { IfOk result (λ p. IfSome p.records AreEvents) }
-    {
-        let mut place = 0;
-        if let Some(refusal) = read_fault(self.instances.find(id, &mut place), bytes, true) {
-            return Ok(Pumped {
-                replies: Replies::refused(refusal, true),
-                records: None,
-            });
-        }
-        self.move_records(id, &mut place, bytes)
-    }
-
-    // Moves the records that fit out of an instance's queue. The place is looked at first.
-    fn move_records(&mut self, id: u32, place: &mut usize, bytes: u32) -> Result<Pumped, Refusal>
-        requires { IsSome (instance_of self.old.instances id) }
-        ensures replies { IfOk result (λ p. p.replies ≡ copies_of true (read_answer bytes (instance_of self.old.instances id))) }
-        ensures records { IfOk result (λ p. p.records ≡ option_map (oldest bytes) (instance_of self.old.instances id)) }
-        ensures events { IfOk result (λ p. IfSome p.records AreEvents) }
-        ensures ok { OnOk result (self.new ≡ record self.old { instances = changed self.old.instances id (after_reading bytes) }) }
-        ensures err { OnErr result (self.new ≡ self.old) }
-        ensures memory { IfErr result (λ refusal. refusal ≡ Enomem) }
-    {
-        let Some(instance) = self.instances.find(id, place) else {
-            unreachable!()
-        };
-        let fit = instance.queue.fit_len(bytes as usize);
-        let spelled = spelled(self.alloc, &instance.queue, fit)?;
-        let replies = Replies::of(Reply::Records(spelled), true)?;
-        let mut records = Vec::with_capacity(self.alloc, fit.count)?;
-        self.instances
-            .move_oldest(id, *place, fit.count, &mut records);
-        Ok(Pumped {
-            replies,
-            records: Some(Events::from_vec(records)),
+        Ok(Begun {
+            reply: Reply::Records(records),
+            rest: Rest::Take {
+                instance: id,
+                place,
+                count: fit.count,
+            },
         })
     }
 
     // Closes an instance.
-    fn close(&mut self, id: u32, keeps: bool) -> Result<Replies, Refusal>
+    fn close(&mut self, id: u32) -> Result<Begun, Refusal>
         requires { IsNumbered (tree_in self.old) }
-        ensures { Executes self.old (Call.Close id) keeps result self.new }
+        ensures { Attempts self.old (Call.Close id) result self.new }
     {
         let mut place = 0;
-        if let Some(refusal) = close_fault(self.instances.find(id, &mut place)) {
-            return Ok(Replies::refused(refusal, keeps));
-        }
-        let replies = Replies::of(Reply::Done, keeps)?;
+        check_close(self.instances.find(id, &mut place))?;
         self.instances.close(id, place);
-        Ok(replies)
+        Ok(Begun::complete(Reply::Done))
+    }
+}
+
+// What a call answers that was begun or refused. A refusal is a reply, and out of memory is an error.
+#[inline(always)]
+fn answered(begun: Result<Begun, Refusal>) -> Result<Begun, Refusal>
+    ensures begun { IfOk begun (λ b. result ≡ Ok b) }
+    ensures refused { IfErr begun (λ r. ((r ≡ Enomem) × (result ≡ Err Enomem)) ⊎ ((r ≢ Enomem) × (result ≡ Ok (record { reply = Reply.Refused r; rest = Rest.Nothing })))) }
+{
+    match begun {
+        Ok(begun) => Ok(begun),
+        Err(Refusal::Enomem) => Err(Refusal::Enomem),
+        Err(refusal) => Ok(Begun::complete(Reply::Refused(refusal))),
     }
 }
 
 // Notes what an accepted call tells, where anybody watches a file; else nobody hears of it.
 fn note(
-    table: &Table,
     instances: &Instances,
     ready: &Ready,
     cookie: u32,
     noted: &mut Notices,
 ) -> Result<(), Refusal>
-    requires ready { IsReady table.now ready.now }
-    requires cookies { cookie + cookies_of (world_of table.now) ready.now.call ≤ 2 ^ 32 }
-    ensures told { OnOk result (all_changed instances.now (told noted.new) ≡ all_changed instances.now (told (notices_of (world_of table.now) ready.now.call cookie))) }
+    requires { cookie + cookies_of (world_of ready.now.tree) ready.now.plan.call ≤ 2 ^ 32 }
+    ensures told { OnOk result (all_changed instances.now (told noted.new) ≡ all_changed instances.now (told (notices_of (world_of ready.now.tree) ready.now.plan.call cookie))) }
     ensures memory { IfErr result (λ refusal. refusal ≡ Enomem) }
 {
     unwatched_instances_stay();
@@ -408,54 +370,58 @@ fn note(
         noted.clear();
         return Ok(());
     }
-    notices(table, ready, cookie, noted)
+    notices(ready, cookie, noted)
 }
 
 // Why no watch is ended.
 #[tactic(auto, unfolding(crate::specs::Tree::rm_watch_rows))]
-fn rm_watch_fault(instance: Option<&Instance>, wd: i32) -> Option<Refusal>
-    ensures { result ≡ first_row (rm_watch_rows wd (option_copied instance.entry)) }
+fn check_rm_watch(instance: Option<&Instance>, wd: i32) -> Result<(), Refusal>
+    ensures passes { OnOk result (first_row (rm_watch_rows wd (option_copied instance.entry)) ≡ None) }
+    ensures refused { IfErr result (λ r. first_row (rm_watch_rows wd (option_copied instance.entry)) ≡ Some r) }
 {
     let Some(instance) = instance else {
-        return Some(Refusal::Ebadf);
+        return Err(Refusal::Ebadf);
     };
     if instance.watches.watched_by(wd).is_none() {
-        return Some(Refusal::Einval);
+        return Err(Refusal::Einval);
     }
-    None
+    Ok(())
 }
 
-// Why nothing is read, or pumped.
+// The instance that is read, or pumped, or why nothing is.
 #[tactic(auto, unfolding(crate::specs::Tree::read_rows))]
-fn read_fault(instance: Option<&Instance>, bytes: u32, pumps: bool) -> Option<Refusal>
-    ensures { result ≡ first_row (read_rows pumps bytes (option_copied instance.entry)) }
+fn check_read(instance: Option<&Instance>, bytes: u32, pumps: bool) -> Result<&Instance, Refusal>
+    ensures passes { OnOk result (first_row (read_rows pumps bytes (option_copied instance.entry)) ≡ None) }
+    ensures there { IfOk result (λ i. option_copied instance.entry ≡ Some i.now) }
+    ensures refused { IfErr result (λ r. first_row (read_rows pumps bytes (option_copied instance.entry)) ≡ Some r) }
 {
     let Some(instance) = instance else {
-        return Some(Refusal::Ebadf);
+        return Err(Refusal::Ebadf);
     };
     if pumps && !instance.is_piped {
-        return Some(Refusal::NotPiped);
+        return Err(Refusal::NotPiped);
     }
     if !pumps && instance.is_piped {
-        return Some(Refusal::Piped);
+        return Err(Refusal::Piped);
     }
     if instance.queue.is_empty() {
-        return Some(Refusal::Eagain);
+        return Err(Refusal::Eagain);
     }
     if !instance.queue.any_fits(bytes as usize) {
-        return Some(Refusal::Einval);
+        return Err(Refusal::Einval);
     }
-    None
+    Ok(instance)
 }
 
 // Why no instance is closed.
 #[tactic(auto, unfolding(crate::specs::Tree::close_rows))]
-fn close_fault(instance: Option<&Instance>) -> Option<Refusal>
-    ensures { result ≡ first_row (close_rows (option_copied instance.entry)) }
+fn check_close(instance: Option<&Instance>) -> Result<(), Refusal>
+    ensures passes { OnOk result (first_row (close_rows (option_copied instance.entry)) ≡ None) }
+    ensures refused { IfErr result (λ r. first_row (close_rows (option_copied instance.entry)) ≡ Some r) }
 {
     match instance {
-        Some(_) => None,
-        None => Some(Refusal::Ebadf),
+        Some(_) => Ok(()),
+        None => Err(Refusal::Ebadf),
     }
 }
 

@@ -1,20 +1,21 @@
 //! A tree with the journal of its calls.
-ghost use Rattle.std.specs.Prelude.{◌≡◌, ◌↔◌, ◌-◌, ◌+◌, ◌^◌, ◌<◌, ◌≤◌, ◌⊎◌, IfOk, IfErr, IfSome, OnOk, OnErr, length, true, vec_len, vec_capacity};
+ghost use Rattle.std.specs.Prelude.{◌≡◌, ◌↔◌, ◌-◌, ◌+◌, ◌^◌, ◌<◌, ◌≤◌, ◌⊎◌, IfOk, IfErr, IfSome, OnOk, OnErr, None, length, true, vec_len, vec_capacity};
 ghost use Rattle.record_codec.specs.Records.{AreEvents, spelling};
 ghost use Rattle.instance_table.specs.Instances.{WaitingAreEvents, watchers_of};
 ghost use Rattle.tree_core.specs.Histories.{pumped};
-ghost use Rattle.tree_core.specs.FileSystems.{copies_of};
-ghost use Rattle.tree_core.specs.Applied.{Applies};
-ghost use Rattle.tree_core.specs.Calls.{IsKeptAs, IsSpelled};
+ghost use Rattle.tree_core.specs.Applied.{Applies, receipt_of};
+ghost use Rattle.tree_core.specs.Calls.{IsKeptAs, IsSpelled, takes_memory};
 ghost use Rattle.tree_core.specs.QueueLaws.{RecordsAreEvents};
-ghost use Rattle.tree_core.specs.declared.reply.Reply.{Reply as ReplyValue};
 ghost use Rattle.tree_core.specs.Journal.{HasPast, IsLawfulFrom, cut_off, last_place, now, opened, waiting_in};
 ghost use Rattle.tree_core.specs.Snapshots.{IsSnapshotOf};
 ghost use Rattle.tree_core.specs.Sound.{IsSoundTree};
+ghost use Rattle.std.specs.Option.{option_copied};
+ghost use Rattle.std.specs.List.{last_or};
+ghost use Rattle.tree_core.specs.Tree.{reply_of};
 
 use crate::call::Call;
 use crate::cut_laws::pasts_make_whole;
-use crate::file_system::{FileSystem, Pumped, Replies};
+use crate::file_system::{Begun, FileSystem};
 use crate::reply::{Entry, Kept, Receipt, Reply};
 use crate::snapshot::Snapshot;
 use crate::turn_laws::trees_are_sound;
@@ -100,23 +101,54 @@ impl State {
             return Err(give_up(call, refusal));
         }
         self.file_system.instances.law();
-        let Replies {
-            journaled,
-            given,
-            ..
-        } = match self.file_system.answer(&call, false) {
-            Ok(replies) => replies,
+        let Begun { reply, rest } = match self.file_system.begin(&call) {
+            Ok(begun) => begun,
             Err(refusal) => return Err(give_up(call, refusal)),
         };
+        let given = match reply.copy() {
+            Ok(given) => given,
+            Err(refusal) => return Err(give_up(call, refusal)),
+        };
+        self.file_system.finish(rest);
         self.journal.push_reserved(Entry {
             caller,
             call,
-            reply: journaled,
+            reply,
         });
         Ok(Receipt {
             place: self.snapshot.place + self.journal.len() as u64,
             reply: given,
         })
+    }
+
+    /// Carries out a call as [`State::apply`], and leaves its reply to the journal: [`State::last_entry`] has the only
+    /// copy. It answers the place of the entry.
+    ///
+    /// # Errors
+    /// Those of [`State::apply`].
+    pub fn record(&mut self, caller: u32, call: Call) -> Result<u64, Refusal>
+        ensures applied { Applies (receipt_of self.old call) self.old caller call result self.new }
+        ensures spelled { OnOk result (IsSpelled (reply_of (now self.old) call)) }
+    {
+        if let Err(refusal) = make_room(
+            &mut self.journal,
+            &self.file_system.limits,
+            self.snapshot.place,
+        ) {
+            return Err(give_up(call, refusal));
+        }
+        self.file_system.instances.law();
+        let Begun { reply, rest } = match self.file_system.begin(&call) {
+            Ok(begun) => begun,
+            Err(refusal) => return Err(give_up(call, refusal)),
+        };
+        self.file_system.finish(rest);
+        self.journal.push_reserved(Entry {
+            caller,
+            call,
+            reply,
+        });
+        Ok(self.snapshot.place + self.journal.len() as u64)
     }
 
     /// Carries out a call as [`State::apply`], and also gives a copy of what the journal keeps of it. The copy is made
@@ -136,9 +168,10 @@ impl State {
         )?;
         let copy = call.copy()?;
         self.file_system.instances.law();
-        let replies = self.file_system.answer(&call, true)?;
+        let Begun { reply, rest } = self.file_system.begin(&call)?;
         let place = self.snapshot.place + self.journal.len() as u64 + 1;
-        let (receipt, reply, kept) = split_replies(replies, place, copy);
+        let (receipt, kept) = copies(&reply, place, copy)?;
+        self.file_system.finish(rest);
         self.journal.push_reserved(Entry {
             caller,
             call,
@@ -169,9 +202,10 @@ impl State {
             self.snapshot.place,
         )?;
         self.file_system.instances.law();
-        let Pumped { replies, records } = self.file_system.pump_out(instance, bytes)?;
+        let Begun { reply, rest } = self.file_system.begin_pump(instance, bytes)?;
         let place = self.snapshot.place + self.journal.len() as u64 + 1;
-        let (receipt, reply, kept) = split_replies(replies, place, Call::Pump { instance, bytes });
+        let (receipt, kept) = copies(&reply, place, Call::Pump { instance, bytes })?;
+        let records = self.file_system.finish_pump(rest)?;
         self.journal.push_reserved(Entry {
             caller,
             call: Call::Pump { instance, bytes },
@@ -189,6 +223,13 @@ impl State {
     {
         self.file_system.instances.law();
         self.journal.as_slice()
+    }
+
+    /// The last call since the last cut, with who made it and what it answered. `None` where there is none.
+    pub fn last_entry(&self) -> Option<&Entry>
+        ensures { option_copied result ≡ last_or None self.now.entries }
+    {
+        self.journal.last()
     }
 
     /// The place of the last entry, whether it was cut off or not: 0 where there is none.
@@ -282,25 +323,21 @@ fn give_up(_call: Call, refusal: Refusal) -> Refusal
     refusal
 }
 
-// The receipt, the journal's reply, and what is kept of a call.
-fn split_replies(replies: Replies, place: u64, call: Call) -> (Receipt, Reply, Kept)
-    requires { (r : ReplyValue) × (replies ≡ copies_of true r) }
-    ensures receipt { result.0 ≡ record { place = place; reply = replies.given } }
-    ensures journaled { result.1 ≡ replies.journaled }
-    ensures kept { IsKeptAs result.0 result.2 call }
+// The receipt of a call and what is kept of it, with copies of the reply.
+fn copies(reply: &Reply, place: u64, call: Call) -> Result<(Receipt, Kept), Refusal>
+    ensures receipt { IfOk result (λ r. r.0 ≡ record { place = place; reply = reply.now }) }
+    ensures kept { IfOk result (λ r. IsKeptAs r.0 r.1 call) }
+    ensures err { IfErr result (λ refusal. refusal ≡ Refusal.Enomem) }
+    ensures memory { OnErr result (takes_memory reply.now ≡ true) }
 {
-    let Replies {
-        journaled,
-        given,
-        kept,
-    } = replies;
-    let Some(reply) = kept else { unreachable!() };
-    (
-        Receipt {
-            place,
-            reply: given,
-        },
-        journaled,
-        Kept { place, call, reply },
-    )
+    let receipt = Receipt {
+        place,
+        reply: reply.copy()?,
+    };
+    let kept = Kept {
+        place,
+        call,
+        reply: reply.copy()?,
+    };
+    Ok((receipt, kept))
 }

@@ -36,6 +36,9 @@ const CALLER: u32 = 7;
 /// Room for all that waits, in bytes.
 const ALL: u32 = 4096;
 
+/// More names than a path here has.
+const PATH_NAMES: u32 = 16;
+
 /// A record: the descriptor, the mask, the cookie, and the name, which is empty where it has none.
 type Record<'a> = (i32, u32, u32, &'a str);
 
@@ -277,8 +280,10 @@ fn contents(alloc: Global, slice: &[u8]) -> Result<Reply, Refusal> {
 fn names(alloc: Global, text: &str) -> Result<Reply, Refusal> {
     let path = path(alloc, text)?;
     let mut names = Vec::new(alloc);
-    for name in path.names() {
-        names.push(name.copy()?)?;
+    let mut rest = path.names();
+    for _ in 0..PATH_NAMES {
+        let Some(name) = rest.next() else { break };
+        names.push(name.as_name().copy()?)?;
     }
     Ok(Reply::File(Answer::Names(Names::from_vec(names))))
 }

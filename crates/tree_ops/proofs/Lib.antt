@@ -13,3 +13,4 @@ pub mod WorldMoves
 pub mod WorldSwaps
 pub mod WorldsStay
 pub mod FilesAfter
+pub mod Moving

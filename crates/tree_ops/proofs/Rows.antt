@@ -1,5 +1,5 @@
 -- What is known where no row holds.
-use Rattle.std.proofs.Common.{◌≡◌, ◌≢◌, ◌==◌, ◌+◌, ◌&&◌, ◌||◌, nat_lt, ℕ, length, Bool, true, false, not, List, [], ◌∷◌, Option, Some, None, is_some, refl, sym, ap, ◌∙◌, if◌then◌else◌}
+use Rattle.std.proofs.Common.{◌≡◌, ◌≢◌, ◌==◌, ◌+◌, ◌++◌, ◌&&◌, ◌||◌, nat_lt, ℕ, length, Bool, true, false, not, List, [], ◌∷◌, Option, Some, None, is_some, refl, sym, ap, ◌∙◌, if◌then◌else◌}
 use Rattle.std.proofs.lemmas.Bool.{eqb-true}
 use Rattle.tree_paths.specs.declared.refusal.Refusal.{Refusal}
 use Rattle.tree_paths.specs.declared.refusal.Refusal.TheVariants.{Enoent, Enotdir, Eperm, Ebusy, Eexist, Eisdir, Einval, Efbig, Emlink, Enotempty}
@@ -263,3 +263,15 @@ unfolding list_rows
 list-known at p e =
     let h = each-none (list_rows at p) e in
     record { there = found-some at p h.0; directory = not-false (is_directory_seen (at p)) (row-false (not (is_directory_seen (at p))) Enotdir h.1.0) }
+
+-- ---- rows behind other rows
+
+pub first-passes : (rows more : List (Option Refusal)) → first_row rows ≡ None → first_row (rows ++ more) ≡ first_row more
+first-passes [] more e = refl
+first-passes (None ∷ rows) more e = first-passes rows more e
+first-passes (Some r ∷ rows) more e = absurd (cc)
+
+pub first-refuses : (rows more : List (Option Refusal)) (r : Refusal) → first_row rows ≡ Some r → first_row (rows ++ more) ≡ Some r
+first-refuses [] more r e = absurd (cc)
+first-refuses (None ∷ rows) more r e = first-refuses rows more r e
+first-refuses (Some s ∷ rows) more r e = e

@@ -1,5 +1,5 @@
 pub mod Refused
-pub mod Checked
+pub mod Moves
 pub mod CallPaths
 pub mod ReadyCall
 pub mod After

@@ -52,6 +52,23 @@ cookies_row limits counts = row ((counts.next_cookie == 0) || nat_lt limits.cook
 abbrev pub two_cookies_row : Limits → Counts → Option Refusal
 two_cookies_row limits counts = row ((counts.next_cookie == 0) || nat_lt limits.cookies (counts.next_cookie + 1)) CookiesSpent
 
+-- a new name cannot stand at the path
+abbrev pub name_rows : Look → List (List ℕ) → List (Option Refusal)
+name_rows seen_at p = row (is_root p) Eexist ∷ parent seen_at p ∷ row (is_some (seen_at p)) Eexist ∷ []
+
+-- nothing stands at the path, or a directory does
+abbrev pub file_rows : Look → List (List ℕ) → Refusal → List (Option Refusal)
+file_rows seen_at p refusal = find seen_at p ∷ row (is_directory_seen (seen_at p)) refusal ∷ []
+
+-- what stands at the old path cannot get the new one
+abbrev pub source_rows : Look → List (List ℕ) → List (List ℕ) → List (Option Refusal)
+source_rows seen_at old new =
+    row (is_root old || is_root new) Ebusy
+    ∷ find seen_at old
+    ∷ row (is_directory_seen (seen_at old) && is_below new old) Einval
+    ∷ parent seen_at new
+    ∷ []
+
 unfoldable pub make_rows : Look → Limits → Counts → List (List ℕ) → ℕ → List (Option Refusal)
 make_rows seen_at limits counts p mode =
     mode_row mode

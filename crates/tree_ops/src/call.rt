@@ -91,7 +91,7 @@ pub enum FileCall {
 
 impl FileCall {
     ghost use Rattle.tree_paths.specs.declared.refusal.Refusal.TheVariants.{Enomem};
-    ghost use Rattle.tree_ops.specs.Checked.{path_of, new_path_of};
+    ghost use Rattle.tree_ops.specs.CallPaths.{path_of, new_path_of};
 
     /// The same call once more. `Err` is want of memory.
     pub fn copy(&self) -> Result<FileCall, Refusal>

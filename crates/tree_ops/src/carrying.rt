@@ -1,6 +1,6 @@
 //! What accepted calls do.
 
-ghost use Rattle.std.specs.Prelude.{◌≡◌, ◌≢◌, List, [], None, true, false, IfOk, IfErr, OnOk, OnErr, IsSome, ◌&&◌, ◌+◌, ◌<◌, ◌≤◌, ◌^◌, length, take, drop};
+ghost use Rattle.std.specs.Prelude.{◌≡◌, ◌≢◌, [], None, true, false, IfOk, IfErr, OnOk, OnErr, IsSome, ◌+◌, ◌<◌, ◌≤◌, ◌^◌, length, take, drop};
 ghost use Rattle.std.specs.FinMap as finmap;
 ghost use Rattle.inode_table.specs.Bytes.{resized, written};
 ghost use Rattle.inode_table.specs.World.{IsWhole, look, with_file, changed_at};
@@ -8,14 +8,14 @@ ghost use Rattle.inode_table.specs.Resolution.{ResolvedPath, IsResolved};
 ghost use Rattle.inode_table.specs.Tree.{reserved_at};
 ghost use Rattle.inode_table.specs.TableWorld.{world_of, HasNumbersBelow};
 ghost use Rattle.inode_table.specs.Refusals.{is_directory_seen, parent_of};
-ghost use Rattle.tree_paths.specs.Paths.{is_below};
-ghost use Rattle.tree_ops.specs.Refused.{has_names_seen, are_same_seen};
 ghost use Rattle.tree_ops.specs.ReadyCall.{IsReady};
-ghost use Rattle.tree_ops.specs.After.{after, after_unlink, after_rename, after_exchange, bytes_at, answer_of, stat_of, names_in, numbers_of};
+ghost use Rattle.tree_ops.specs.After.{after, after_unlink, bytes_at, answer_of, stat_of, names_in, numbers_of};
 
 use crate::answer::Answer;
-use crate::call::{FileCall, RENAME_EXCHANGE};
-use crate::checking::{Ready, are_same};
+use crate::call::FileCall;
+use crate::lookup::Lookup;
+use crate::moves::Moves;
+use crate::plan::Plan;
 use inode_table::{Kind, Resolved, Table};
 use record_codec::Bytes;
 use std::alloc::{AllocError, Global};
@@ -106,57 +106,13 @@ fn unlink(table: &mut Table, path: &Resolved) -> Answer
     Answer::Done
 }
 
-// Moves what stands at a path, in the place of what stands at the other one.
-fn rename(table: &mut Table, old: &Resolved, new: &Resolved) -> Result<Answer, Refusal>
-    requires resolved { IsResolved table.old old.now }
-    requires other_resolved { IsResolved table.old new.now }
-    requires source { IsSome (look (world_of table.old) old.now.names) }
-    requires directory { is_directory_seen (look (world_of table.old) (parent_of new.now.names)) ≡ true }
-    requires named { old.now.names ≢ [] }
-    requires other_named { new.now.names ≢ [] }
-    requires below { (is_directory_seen (look (world_of table.old) old.now.names) && is_below new.now.names old.now.names) ≡ false }
-    requires empty { are_same_seen (look (world_of table.old) old.now.names) (look (world_of table.old) new.now.names) ≡ false → has_names_seen (look (world_of table.old) new.now.names) ≡ false }
-    ensures world { OnOk result (world_of table.new ≡ after_rename (world_of table.old) old.now.names new.now.names) }
-    ensures answer { IfOk result (λ answer. answer ≡ Answer.Done) }
-    ensures err { OnErr result (table.new.rows ≡ table.old.rows) }
-    ensures memory { IfErr result (λ refusal. refusal ≡ Refusal.Enomem) }
-{
-    table.law();
-    let is_same = are_same(table.seen(old), table.seen(new));
-    if is_same {
-        return Ok(Answer::Done);
-    }
-    table.replace_name(old, new)?;
-    Ok(Answer::Done)
-}
-
-// Exchanges what stands at two paths. It takes no memory.
-fn exchange(table: &mut Table, old: &Resolved, new: &Resolved) -> Answer
-    requires resolved { IsResolved table.old old.now }
-    requires other_resolved { IsResolved table.old new.now }
-    requires source { IsSome (look (world_of table.old) old.now.names) }
-    requires target { IsSome (look (world_of table.old) new.now.names) }
-    requires below { are_same_seen (look (world_of table.old) old.now.names) (look (world_of table.old) new.now.names) ≡ false → (is_directory_seen (look (world_of table.old) old.now.names) && is_below new.now.names old.now.names) ≡ false }
-    requires above { are_same_seen (look (world_of table.old) old.now.names) (look (world_of table.old) new.now.names) ≡ false → (is_directory_seen (look (world_of table.old) new.now.names) && is_below old.now.names new.now.names) ≡ false }
-    ensures world { world_of table.new ≡ after_exchange (world_of table.old) old.now.names new.now.names }
-    ensures answer { result ≡ Answer.Done }
-{
-    table.law();
-    let is_one = are_same(table.seen(old), table.seen(new));
-    if is_one {
-        return Answer::Done;
-    }
-    table.swap_names(old, new);
-    Answer::Done
-}
-
 // What is told of a file.
-pub(crate) fn stat(table: &Table, path: &Resolved) -> Answer
-    requires resolved { IsResolved table.now path.now }
-    requires there { IsSome (look (world_of table.now) path.now.names) }
-    ensures { result ≡ stat_of (world_of table.now) path.now.names }
+pub(crate) fn stat(path: &Lookup) -> Answer
+    requires { IsSome (look (world_of path.now.tree) path.now.path.names) }
+    ensures { result ≡ stat_of (world_of path.now.tree) path.now.path.names }
 {
-    let key = table.key(path);
+    let table = path.table();
+    let key = table.key(path.resolved());
     Answer::Stat {
         number: table.number(key),
         kind: table.kind(key),
@@ -189,55 +145,50 @@ pub(crate) fn front(bytes: &[u8], count: usize) -> &[u8]
 }
 
 // The bytes of a file from an offset on, up to a count.
-fn read(
-    alloc: Global,
-    table: &Table,
-    path: &Resolved,
-    offset: usize,
-    count: usize,
-) -> Result<Bytes, AllocError>
-    requires resolved { IsResolved table.now path.now }
-    requires there { IsSome (look (world_of table.now) path.now.names) }
-    ensures { IfOk result (λ bytes. bytes ≡ take count (drop offset (bytes_at (world_of table.now) path.now.names))) }
+fn read(alloc: Global, path: &Lookup, offset: usize, count: usize) -> Result<Bytes, AllocError>
+    requires { IsSome (look (world_of path.now.tree) path.now.path.names) }
+    ensures { IfOk result (λ bytes. bytes ≡ take count
+        (drop offset (bytes_at (world_of path.now.tree) path.now.path.names))) }
 {
-    let content = table.content(table.key(path));
-    let bytes = Vec::from_slice(alloc, front(rest(content, offset), count))?;
+    let bytes = Vec::from_slice(alloc, front(rest(path.content(), offset), count))?;
     Ok(Bytes::from_vec(bytes))
 }
 
 // The names in a directory, in the order of their bytes.
-pub(crate) fn list(alloc: Global, table: &Table, path: &Resolved) -> Result<Names, AllocError>
-    requires resolved { IsResolved table.now path.now }
-    requires there { IsSome (look (world_of table.now) path.now.names) }
-    requires directory { is_directory_seen (look (world_of table.now) path.now.names) ≡ true }
-    ensures { IfOk result (λ names. names ≡ names_in (world_of table.now) path.now.names) }
+pub(crate) fn list(alloc: Global, path: &Lookup) -> Result<Names, AllocError>
+    requires there { IsSome (look (world_of path.now.tree) path.now.path.names) }
+    requires directory { is_directory_seen (look (world_of path.now.tree) path.now.path.names) ≡ true }
+    ensures { IfOk result (λ names. names ≡ names_in (world_of path.now.tree) path.now.path.names) }
 {
+    let table = path.table();
     let mut names = Vec::new(alloc);
-    for name in table.child_names(table.key(path)) {
+    for name in table.child_names(table.key(path.resolved())) {
         names.push(name.copy()?)?;
     }
     Ok(Names::from_vec(names))
 }
 
-// Does what the call says.
-fn perform(alloc: Global, table: &mut Table, ready: &Ready) -> Result<Answer, Refusal>
-    requires ready { IsReady table.old ready.now }
-    ensures world { OnOk result (world_of table.new ≡ after (world_of table.old) ready.now.counts ready.now.call) }
-    ensures answer { IfOk result (λ answer. answer ≡ answer_of (world_of table.old) ready.now.counts ready.now.call) }
+// Does what a call that moves nothing says.
+fn perform(alloc: Global, table: &mut Table, plan: &Plan) -> Result<Answer, Refusal>
+    requires ready { IsReady table.old plan.now }
+    requires moves { plan.now.moves ≡ Moves.Nothing }
+    ensures world { OnOk result (world_of table.new ≡ after (world_of table.old) plan.now.counts plan.now.call) }
+    ensures answer { IfOk result (λ answer. answer ≡ answer_of (world_of table.old) plan.now.counts plan.now.call) }
     ensures err { OnErr result (table.new.rows ≡ table.old.rows) }
     ensures memory { IfErr result (λ refusal. refusal ≡ Refusal.Enomem) }
 {
-    let number = ready.counts.next_number;
-    let path = ready.path;
-    let other_path = ready.other_path;
-    match ready.call {
+    table.law();
+    let number = plan.counts.next_number;
+    let path = &plan.path;
+    match plan.call {
         FileCall::Create { mode, .. } => make(table, path, number, *mode, Kind::Regular),
         FileCall::Mkdir { mode, .. } => make(table, path, number, *mode, Kind::Directory),
         FileCall::Write { offset, bytes, .. } => {
             write(table, path, *offset as usize, bytes.as_slice())
         }
         FileCall::ReadFile { offset, count, .. } => {
-            let bytes = read(alloc, table, path, *offset as usize, *count as usize)?;
+            let path = Lookup::new(table, path);
+            let bytes = read(alloc, &path, *offset as usize, *count as usize)?;
             Ok(Answer::Bytes(bytes))
         }
         FileCall::Truncate { len, .. } => truncate(table, path, *len as usize),
@@ -246,7 +197,7 @@ fn perform(alloc: Global, table: &mut Table, ready: &Ready) -> Result<Answer, Re
             Ok(Answer::Done)
         }
         FileCall::Link { .. } => {
-            table.add_name(path, other_path)?;
+            table.add_name(path, plan.other_path())?;
             Ok(Answer::Done)
         }
         FileCall::Unlink { .. } => Ok(unlink(table, path)),
@@ -254,34 +205,53 @@ fn perform(alloc: Global, table: &mut Table, ready: &Ready) -> Result<Answer, Re
             table.drop_name(path);
             Ok(Answer::Done)
         }
-        FileCall::Rename { .. } => rename(table, path, other_path),
-        FileCall::Rename2 { flags, .. } if *flags == RENAME_EXCHANGE => {
-            Ok(exchange(table, path, other_path))
+        FileCall::Rename { .. } | FileCall::Rename2 { .. } => Ok(Answer::Done),
+        FileCall::Stat { .. } => Ok(stat(&Lookup::new(table, path))),
+        FileCall::List { .. } => Ok(Answer::Names(list(alloc, &Lookup::new(table, path))?)),
+    }
+}
+
+// Does what the call says.
+fn apply(alloc: Global, table: &mut Table, plan: &Plan) -> Result<Answer, Refusal>
+    requires ready { IsReady table.old plan.now }
+    ensures world { OnOk result (world_of table.new ≡ after (world_of table.old) plan.now.counts plan.now.call) }
+    ensures answer { IfOk result (λ answer. answer ≡ answer_of (world_of table.old) plan.now.counts plan.now.call) }
+    ensures err { OnErr result (table.new.rows ≡ table.old.rows) }
+    ensures memory { IfErr result (λ refusal. refusal ≡ Refusal.Enomem) }
+{
+    table.law();
+    match plan.moves {
+        Moves::Nothing => perform(alloc, table, plan),
+        Moves::Move => {
+            table.replace_name(&plan.path, plan.other_path())?;
+            Ok(Answer::Done)
         }
-        FileCall::Rename2 { .. } => rename(table, path, other_path),
-        FileCall::Stat { .. } => Ok(stat(table, path)),
-        FileCall::List { .. } => Ok(Answer::Names(list(alloc, table, path)?)),
+        Moves::Exchange => {
+            table.swap_names(&plan.path, plan.other_path());
+            Ok(Answer::Done)
+        }
     }
 }
 
 /// Does what the call says, and answers as the call's variant of [`FileCall`] says.
 ///
-/// `ready` was made by [`check`](crate::check) on this table, which has not changed since. If each file of the table had a
-/// path, each still has one.
+/// `plan` is that of a [`Ready`](crate::Ready) call on this table, which has not changed since. If each file of the table
+/// had a path, each still has one.
 ///
 /// # Errors
 /// `ENOMEM` alone, and then the table is as before.
-pub fn carry_out(alloc: Global, table: &mut Table, ready: &Ready) -> Result<Answer, Refusal>
-    requires ready { IsReady table.old ready.now }
-    ensures world { OnOk result (world_of table.new ≡ after (world_of table.old) ready.now.counts ready.now.call) }
-    ensures numbers { OnOk result (HasNumbersBelow (world_of table.new) (ready.now.counts.next_number + numbers_of ready.now.call)) }
-    ensures answer { IfOk result (λ answer. answer ≡ answer_of (world_of table.old) ready.now.counts ready.now.call) }
+pub fn carry_out(alloc: Global, table: &mut Table, plan: &Plan) -> Result<Answer, Refusal>
+    requires ready { IsReady table.old plan.now }
+    ensures world { OnOk result (world_of table.new ≡ after (world_of table.old) plan.now.counts plan.now.call) }
+    ensures numbers { OnOk result (HasNumbersBelow (world_of table.new)
+        (plan.now.counts.next_number + numbers_of plan.now.call)) }
+    ensures answer { IfOk result (λ answer. answer ≡ answer_of (world_of table.old) plan.now.counts plan.now.call) }
     ensures err { OnErr result (table.new.rows ≡ table.old.rows) }
     ensures err_world { OnErr result (world_of table.new ≡ world_of table.old) }
-    ensures err_numbers { OnErr result (HasNumbersBelow (world_of table.new) ready.now.counts.next_number) }
+    ensures err_numbers { OnErr result (HasNumbersBelow (world_of table.new) plan.now.counts.next_number) }
     ensures whole { IsWhole (world_of table.old) → IsWhole (world_of table.new) }
     ensures memory { IfErr result (λ refusal. refusal ≡ Refusal.Enomem) }
 {
     table.law();
-    perform(alloc, table, ready)
+    apply(alloc, table, plan)
 }

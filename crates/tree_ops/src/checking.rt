@@ -1,88 +1,22 @@
 //! Which calls are refused.
 ghost use Rattle.std.specs.Prelude.{◌≡◌, Some, None, IfOk, IfErr, OnOk};
+ghost use Rattle.std.specs.Result.{result_err};
 ghost use Rattle.inode_table.specs.World.{look};
-ghost use Rattle.inode_table.specs.Resolution.{IsResolved};
 ghost use Rattle.inode_table.specs.TableWorld.{world_of, HasNumbersBelow};
 ghost use Rattle.tree_paths.specs.Rows.{first_row};
 ghost use Rattle.inode_table.specs.Refusals.{is_directory_seen, find, parent};
-ghost use Rattle.tree_ops.specs.Refused.{is_root, make_rows, write_rows, read_rows, truncate_rows, chmod_rows, link_rows, unlink_rows, rmdir_rows, move_rows, rename_rows, noreplace_rows, swap_rows, exchange_rows, rename2_rows, list_rows, refusal_seen, cookies_seen, refused, cookies_of, has_names_seen, are_same_seen};
-ghost use Rattle.tree_ops.specs.CallPaths.{ArePathsOf};
-ghost use Rattle.tree_ops.specs.Checked.{path_of, other_path_of};
+ghost use Rattle.tree_ops.specs.Refused.{name_rows, file_rows, make_rows, write_rows, read_rows, truncate_rows, chmod_rows, link_rows, unlink_rows, rmdir_rows, move_rows, source_rows, rename_rows, noreplace_rows, swap_rows, exchange_rows, rename2_rows, list_rows, cookies_row, refusal_seen, refused, has_names_seen, are_same_seen};
 ghost use Rattle.tree_ops.specs.ReadyCall.{IsReady};
+ghost use Rattle.tree_ops.specs.CallPaths.{other_path_of, path_of};
+ghost use Rattle.tree_ops.specs.Moves.{moves_between, moves_for, moves_seen};
 
 use crate::call::{Counts, FileCall, MAX_MODE, RENAME_EXCHANGE, RENAME_NOREPLACE};
+use crate::lookup::Lookup;
+use crate::moves::Moves;
 use crate::paths::Paths;
-use inode_table::{Kind, Resolved, Seen, Table};
-use std::marker::Model;
+use crate::plan::Ready;
+use inode_table::{Kind, Seen};
 use tree_paths::{Limits, Refusal};
-
-/// A call that no row refuses on the table that it was checked on, as [`check`] makes it. It borrows the call and its paths.
-#[derive(Drop)]
-pub struct Ready<'a> {
-    pub(crate) call: &'a FileCall,
-    pub(crate) counts: Counts,
-    pub(crate) path: &'a Resolved<'a>,
-    pub(crate) other_path: &'a Resolved<'a>,
-    cookies: u32,
-}
-
-impl<'a> Model for Ready<'a> {
-    ghost use Rattle.tree_ops.specs.Checked.{Checked};
-
-    ghost Value = { Checked };
-
-    ghost view = { λ ready. record { call = ready.call.now; counts = ready.counts; path = ready.path.now; other_path = ready.other_path.now; cookies = ready.cookies } };
-}
-
-impl<'a> Ready<'a> {
-    ghost use Rattle.tree_ops.specs.After.{numbers_of};
-
-    /// The call that was checked.
-    pub fn call(&self) -> &'a FileCall
-        ensures { result.now ≡ self.now.call }
-    {
-        self.call
-    }
-
-    /// The path of the call, and the old one where it has two.
-    pub fn path(&self) -> &'a Resolved<'a>
-        ensures { result.now ≡ self.now.path }
-    {
-        self.path
-    }
-
-    /// The new path of the call, and its path where it has but one.
-    pub fn other_path(&self) -> &'a Resolved<'a>
-        ensures { result.now ≡ self.now.other_path }
-    {
-        self.other_path
-    }
-
-    /// How many file numbers the call uses: 1 for one that makes a file or a directory, and else 0.
-    pub fn numbers(&self) -> u32
-        ensures { result ≡ numbers_of self.now.call }
-    {
-        match self.call {
-            FileCall::Create { .. } | FileCall::Mkdir { .. } => 1,
-            _ => 0,
-        }
-    }
-
-    /// How many cookies the call uses: 1 for a rename that moves something, 2 for an exchange of two files, and else 0.
-    pub fn cookies(&self) -> u32
-        ensures { result ≡ self.now.cookies }
-    {
-        self.cookies
-    }
-}
-
-// Why nothing stands at a path, if nothing does.
-pub(crate) fn missing(table: &Table, path: &Resolved) -> Option<Refusal>
-    requires { IsResolved table.now path.now }
-    ensures { result ≡ find (look (world_of table.now)) path.now.names }
-{
-    table.look(path).err()
-}
 
 fn is_directory(seen: Option<Seen>) -> bool
     ensures { result ≡ is_directory_seen seen }
@@ -91,217 +25,6 @@ fn is_directory(seen: Option<Seen>) -> bool
         Some(seen) => matches!(seen.kind, Kind::Directory),
         None => false,
     }
-}
-
-// Why a name cannot stand in the directory of its path.
-#[tactic(auto, unfolding(inode_table::specs::Refusals::parent))]
-fn parent_fault(table: &Table, path: &Resolved) -> Option<Refusal>
-    requires resolved { IsResolved table.now path.now }
-    ensures { result ≡ parent (look (world_of table.now)) path.now.names }
-{
-    match table.look_parent(path) {
-        Err(refusal) => Some(refusal),
-        Ok(seen) => {
-            if is_directory(Some(seen)) {
-                None
-            } else {
-                Some(Refusal::Enotdir)
-            }
-        }
-    }
-}
-
-#[tactic(auto, unfolding(crate::specs::Refused::make_rows))]
-fn make_fault(
-    table: &Table,
-    path: &Resolved,
-    mode: u32,
-    counts: &Counts,
-    limits: &Limits,
-) -> Option<Refusal>
-    requires resolved { IsResolved table.now path.now }
-    ensures { result ≡ first_row (make_rows (look (world_of table.now)) limits.now counts.now path.now.names mode) }
-{
-    if mode > MAX_MODE {
-        return Some(Refusal::Einval);
-    }
-    if is_root(path) {
-        return Some(Refusal::Eexist);
-    }
-    if let Some(refusal) = parent_fault(table, path) {
-        return Some(refusal);
-    }
-    if table.seen(path).is_some() {
-        return Some(Refusal::Eexist);
-    }
-    if counts.next_number > limits.numbers {
-        return Some(Refusal::NumbersSpent);
-    }
-    None
-}
-
-#[tactic(auto, unfolding(crate::specs::Refused::read_rows))]
-pub(crate) fn read_fault(table: &Table, path: &Resolved) -> Option<Refusal>
-    requires resolved { IsResolved table.now path.now }
-    ensures { result ≡ first_row (read_rows (look (world_of table.now)) path.now.names) }
-{
-    match table.look(path) {
-        Err(refusal) => Some(refusal),
-        Ok(seen) if is_directory(Some(seen)) => Some(Refusal::Eisdir),
-        Ok(_) => None,
-    }
-}
-
-#[tactic(auto, unfolding(crate::specs::Refused::write_rows))]
-fn write_fault(
-    table: &Table,
-    path: &Resolved,
-    offset: u64,
-    count: usize,
-    limits: &Limits,
-) -> Option<Refusal>
-    requires resolved { IsResolved table.now path.now }
-    ensures { result ≡ first_row (write_rows (look (world_of table.now)) limits.now path.now.names offset count) }
-{
-    match table.look(path) {
-        Err(refusal) => Some(refusal),
-        Ok(seen) if is_directory(Some(seen)) => Some(Refusal::Eisdir),
-        Ok(_) => {
-            if count > 0 && u128::from(offset) + count as u128 > u128::from(limits.file_bytes) {
-                Some(Refusal::Efbig)
-            } else {
-                None
-            }
-        }
-    }
-}
-
-#[tactic(auto, unfolding(crate::specs::Refused::truncate_rows))]
-fn truncate_fault(table: &Table, path: &Resolved, len: u64, limits: &Limits) -> Option<Refusal>
-    requires resolved { IsResolved table.now path.now }
-    ensures { result ≡ first_row (truncate_rows (look (world_of table.now)) limits.now path.now.names len) }
-{
-    match table.look(path) {
-        Err(refusal) => Some(refusal),
-        Ok(seen) if is_directory(Some(seen)) => Some(Refusal::Eisdir),
-        Ok(_) => {
-            if len > u64::from(limits.file_bytes) {
-                Some(Refusal::Efbig)
-            } else {
-                None
-            }
-        }
-    }
-}
-
-#[tactic(auto, unfolding(crate::specs::Refused::chmod_rows))]
-fn chmod_fault(table: &Table, path: &Resolved, mode: u32) -> Option<Refusal>
-    requires resolved { IsResolved table.now path.now }
-    ensures { result ≡ first_row (chmod_rows (look (world_of table.now)) path.now.names mode) }
-{
-    if mode > MAX_MODE {
-        return Some(Refusal::Einval);
-    }
-    missing(table, path)
-}
-
-#[tactic(auto, unfolding(crate::specs::Refused::link_rows))]
-fn link_fault(table: &Table, old: &Resolved, new: &Resolved, limits: &Limits) -> Option<Refusal>
-    requires resolved { IsResolved table.now old.now }
-    requires other_resolved { IsResolved table.now new.now }
-    ensures { result ≡ first_row (link_rows (look (world_of table.now)) limits.now old.now.names new.now.names) }
-{
-    match table.look(old) {
-        Err(refusal) => Some(refusal),
-        Ok(file) => {
-            if is_directory(Some(file)) {
-                return Some(Refusal::Eperm);
-            }
-            if is_root(new) {
-                return Some(Refusal::Eexist);
-            }
-            if let Some(refusal) = parent_fault(table, new) {
-                return Some(refusal);
-            }
-            if table.seen(new).is_some() {
-                return Some(Refusal::Eexist);
-            }
-            if file.links >= u64::from(limits.links) {
-                return Some(Refusal::Emlink);
-            }
-            None
-        }
-    }
-}
-
-#[tactic(auto, unfolding(crate::specs::Refused::unlink_rows))]
-fn unlink_fault(table: &Table, path: &Resolved) -> Option<Refusal>
-    requires resolved { IsResolved table.now path.now }
-    ensures { result ≡ first_row (unlink_rows (look (world_of table.now)) path.now.names) }
-{
-    match table.look(path) {
-        Err(refusal) => Some(refusal),
-        Ok(seen) if is_directory(Some(seen)) => Some(Refusal::Eperm),
-        Ok(_) => None,
-    }
-}
-
-#[tactic(auto, unfolding(crate::specs::Refused::rmdir_rows))]
-fn rmdir_fault(table: &Table, path: &Resolved) -> Option<Refusal>
-    requires resolved { IsResolved table.now path.now }
-    ensures { result ≡ first_row (rmdir_rows (look (world_of table.now)) path.now.names) }
-{
-    if is_root(path) {
-        return Some(Refusal::Ebusy);
-    }
-    match table.look(path) {
-        Err(refusal) => Some(refusal),
-        Ok(seen) => {
-            if !is_directory(Some(seen)) {
-                Some(Refusal::Enotdir)
-            } else if seen.has_names {
-                Some(Refusal::Enotempty)
-            } else {
-                None
-            }
-        }
-    }
-}
-
-#[tactic(auto, unfolding(crate::specs::Refused::list_rows))]
-pub(crate) fn list_fault(table: &Table, path: &Resolved) -> Option<Refusal>
-    requires resolved { IsResolved table.now path.now }
-    ensures { result ≡ first_row (list_rows (look (world_of table.now)) path.now.names) }
-{
-    match table.look(path) {
-        Err(refusal) => Some(refusal),
-        Ok(seen) if is_directory(Some(seen)) => None,
-        Ok(_) => Some(Refusal::Enotdir),
-    }
-}
-
-#[tactic(auto, unfolding(crate::specs::Refused::move_rows))]
-fn move_fault(
-    old: Option<Seen>,
-    new: Option<Seen>,
-    counts: &Counts,
-    limits: &Limits,
-) -> Option<Refusal>
-    ensures { result ≡ first_row (move_rows limits.now counts.now old new) }
-{
-    if new.is_some() && is_directory(old) && !is_directory(new) {
-        return Some(Refusal::Enotdir);
-    }
-    if is_directory(new) && !is_directory(old) {
-        return Some(Refusal::Eisdir);
-    }
-    if has_names(new) {
-        return Some(Refusal::Enotempty);
-    }
-    if counts.next_cookie == 0 || counts.next_cookie > limits.cookies {
-        return Some(Refusal::CookiesSpent);
-    }
-    None
 }
 
 fn has_names(seen: Option<Seen>) -> bool
@@ -313,8 +36,8 @@ fn has_names(seen: Option<Seen>) -> bool
     }
 }
 
-/// Whether the same file stands at both paths.
-pub fn are_same(old: Option<Seen>, new: Option<Seen>) -> bool
+// Whether the same file stands at both paths.
+fn are_same(old: Option<Seen>, new: Option<Seen>) -> bool
     ensures { result ≡ are_same_seen old new }
 {
     match (old, new) {
@@ -323,240 +46,364 @@ pub fn are_same(old: Option<Seen>, new: Option<Seen>) -> bool
     }
 }
 
-#[tactic(auto, unfolding(crate::specs::Refused::rename_rows))]
-fn rename_fault(
-    table: &Table,
-    old: &Resolved,
-    new: &Resolved,
+// Whether something stands at the path.
+pub(crate) fn check_found(path: &Lookup) -> Result<(), Refusal>
+    ensures { result_err result ≡ find (look (world_of path.now.tree)) path.now.path.names }
+{
+    match path.find() {
+        Ok(_) => Ok(()),
+        Err(refusal) => Err(refusal),
+    }
+}
+
+// Whether a name can stand in the directory of its path.
+#[tactic(auto, unfolding(inode_table::specs::Refusals::parent))]
+fn check_parent(path: &Lookup) -> Result<(), Refusal>
+    ensures { result_err result ≡ parent (look (world_of path.now.tree)) path.now.path.names }
+{
+    match path.find_parent() {
+        Err(refusal) => Err(refusal),
+        Ok(seen) if is_directory(Some(seen)) => Ok(()),
+        Ok(_) => Err(Refusal::Enotdir),
+    }
+}
+
+// Whether a new name can stand at the path.
+fn check_name(path: &Lookup) -> Result<(), Refusal>
+    ensures { result_err result ≡ first_row (name_rows (look (world_of path.now.tree)) path.now.path.names) }
+{
+    if path.is_root() {
+        return Err(Refusal::Eexist);
+    }
+    check_parent(path)?;
+    if path.seen().is_some() {
+        return Err(Refusal::Eexist);
+    }
+    Ok(())
+}
+
+// Whether a regular file stands at the path; `refusal` says that a directory does.
+fn check_file(path: &Lookup, refusal: Refusal) -> Result<Seen, Refusal>
+    ensures err { result_err result ≡ first_row (file_rows (look
+        (world_of path.now.tree)) path.now.path.names refusal) }
+    ensures seen { IfOk result (λ seen. look (world_of path.now.tree) path.now.path.names ≡ Some seen) }
+{
+    match path.find() {
+        Err(refusal) => Err(refusal),
+        Ok(seen) if is_directory(Some(seen)) => Err(refusal),
+        Ok(seen) => Ok(seen),
+    }
+}
+
+#[tactic(auto, unfolding(crate::specs::Refused::make_rows))]
+fn check_make(path: &Lookup, mode: u32, counts: &Counts, limits: &Limits) -> Result<(), Refusal>
+    ensures { result_err result ≡ first_row (make_rows (look
+        (world_of path.now.tree)) limits.now counts.now path.now.path.names mode) }
+{
+    if mode > MAX_MODE {
+        return Err(Refusal::Einval);
+    }
+    check_name(path)?;
+    if counts.next_number > limits.numbers {
+        return Err(Refusal::NumbersSpent);
+    }
+    Ok(())
+}
+
+#[tactic(auto, unfolding(crate::specs::Refused::read_rows))]
+pub(crate) fn check_read(path: &Lookup) -> Result<(), Refusal>
+    ensures { result_err result ≡ first_row (read_rows (look (world_of path.now.tree)) path.now.path.names) }
+{
+    check_file(path, Refusal::Eisdir)?;
+    Ok(())
+}
+
+#[tactic(auto, unfolding(crate::specs::Refused::write_rows))]
+fn check_write(path: &Lookup, offset: u64, count: usize, limits: &Limits) -> Result<(), Refusal>
+    ensures { result_err result ≡ first_row (write_rows (look
+        (world_of path.now.tree)) limits.now path.now.path.names offset count) }
+{
+    check_file(path, Refusal::Eisdir)?;
+    if count > 0 && u128::from(offset) + count as u128 > u128::from(limits.file_bytes) {
+        return Err(Refusal::Efbig);
+    }
+    Ok(())
+}
+
+#[tactic(auto, unfolding(crate::specs::Refused::truncate_rows))]
+fn check_truncate(path: &Lookup, len: u64, limits: &Limits) -> Result<(), Refusal>
+    ensures { result_err result ≡ first_row (truncate_rows (look
+        (world_of path.now.tree)) limits.now path.now.path.names len) }
+{
+    check_file(path, Refusal::Eisdir)?;
+    if len > u64::from(limits.file_bytes) {
+        return Err(Refusal::Efbig);
+    }
+    Ok(())
+}
+
+#[tactic(auto, unfolding(crate::specs::Refused::chmod_rows))]
+fn check_chmod(path: &Lookup, mode: u32) -> Result<(), Refusal>
+    ensures { result_err result ≡ first_row (chmod_rows (look (world_of path.now.tree)) path.now.path.names mode) }
+{
+    if mode > MAX_MODE {
+        return Err(Refusal::Einval);
+    }
+    check_found(path)
+}
+
+#[tactic(auto, unfolding(crate::specs::Refused::link_rows))]
+fn check_link(old: &Lookup, new: &Lookup, limits: &Limits) -> Result<(), Refusal>
+    requires { new.now.tree ≡ old.now.tree }
+    ensures { result_err result ≡ first_row (link_rows (look
+        (world_of old.now.tree)) limits.now old.now.path.names new.now.path.names) }
+{
+    let file = check_file(old, Refusal::Eperm)?;
+    check_name(new)?;
+    if file.links >= u64::from(limits.links) {
+        return Err(Refusal::Emlink);
+    }
+    Ok(())
+}
+
+#[tactic(auto, unfolding(crate::specs::Refused::unlink_rows))]
+fn check_unlink(path: &Lookup) -> Result<(), Refusal>
+    ensures { result_err result ≡ first_row (unlink_rows (look (world_of path.now.tree)) path.now.path.names) }
+{
+    check_file(path, Refusal::Eperm)?;
+    Ok(())
+}
+
+#[tactic(auto, unfolding(crate::specs::Refused::rmdir_rows))]
+fn check_rmdir(path: &Lookup) -> Result<(), Refusal>
+    ensures { result_err result ≡ first_row (rmdir_rows (look (world_of path.now.tree)) path.now.path.names) }
+{
+    if path.is_root() {
+        return Err(Refusal::Ebusy);
+    }
+    match path.find() {
+        Err(refusal) => Err(refusal),
+        Ok(seen) if !is_directory(Some(seen)) => Err(Refusal::Enotdir),
+        Ok(seen) if seen.has_names => Err(Refusal::Enotempty),
+        Ok(_) => Ok(()),
+    }
+}
+
+#[tactic(auto, unfolding(crate::specs::Refused::list_rows))]
+pub(crate) fn check_list(path: &Lookup) -> Result<(), Refusal>
+    ensures { result_err result ≡ first_row (list_rows (look (world_of path.now.tree)) path.now.path.names) }
+{
+    match path.find() {
+        Err(refusal) => Err(refusal),
+        Ok(seen) if is_directory(Some(seen)) => Ok(()),
+        Ok(_) => Err(Refusal::Enotdir),
+    }
+}
+
+// Whether a cookie is left.
+fn check_cookie(counts: &Counts, limits: &Limits) -> Result<(), Refusal>
+    ensures { result_err result ≡ cookies_row limits.now counts.now }
+{
+    if counts.next_cookie == 0 || counts.next_cookie > limits.cookies {
+        return Err(Refusal::CookiesSpent);
+    }
+    Ok(())
+}
+
+// Whether what stands at the old path can get the new one, and what that is.
+fn check_source(paths: &Paths) -> Result<Seen, Refusal>
+    ensures err { result_err result ≡ first_row (source_rows (look (world_of paths.now.tree)) (path_of paths.now.call)
+        (other_path_of paths.now.call)) }
+    ensures seen { IfOk result (λ seen. look (world_of paths.now.tree) (path_of paths.now.call) ≡ Some seen) }
+{
+    let old = paths.path();
+    let new = paths.other_path();
+    if old.is_root() || new.is_root() {
+        return Err(Refusal::Ebusy);
+    }
+    let source = old.find()?;
+    if is_directory(Some(source)) && new.as_path().is_below(old.as_path()) {
+        return Err(Refusal::Einval);
+    }
+    check_parent(&new)?;
+    Ok(source)
+}
+
+// Whether one thing may replace the other.
+#[tactic(auto, unfolding(crate::specs::Refused::move_rows))]
+fn check_replaced(
+    old: Option<Seen>,
+    new: Option<Seen>,
     counts: &Counts,
     limits: &Limits,
-) -> Option<Refusal>
-    requires resolved { IsResolved table.now old.now }
-    requires other_resolved { IsResolved table.now new.now }
-    ensures { result ≡ first_row (rename_rows (look (world_of table.now)) limits.now counts.now old.now.names new.now.names) }
+) -> Result<(), Refusal>
+    ensures { result_err result ≡ first_row (move_rows limits.now counts.now old new) }
 {
-    if is_root(old) || is_root(new) {
-        return Some(Refusal::Ebusy);
+    if new.is_some() && is_directory(old) && !is_directory(new) {
+        return Err(Refusal::Enotdir);
     }
-    if let Some(refusal) = missing(table, old) {
-        return Some(refusal);
+    if is_directory(new) && !is_directory(old) {
+        return Err(Refusal::Eisdir);
     }
-    let source = table.seen(old);
-    if is_directory(source) && new.as_path().is_below(old.as_path()) {
-        return Some(Refusal::Einval);
+    if has_names(new) {
+        return Err(Refusal::Enotempty);
     }
-    if let Some(refusal) = parent_fault(table, new) {
-        return Some(refusal);
-    }
-    let target = table.seen(new);
+    check_cookie(counts, limits)
+}
+
+#[tactic(auto, unfolding(crate::specs::Refused::rename_rows))]
+fn check_rename(paths: &Paths, counts: &Counts, limits: &Limits) -> Result<Moves, Refusal>
+    ensures err { result_err result ≡ first_row (rename_rows (look (world_of paths.now.tree)) limits.now counts.now
+        (path_of paths.now.call) (other_path_of paths.now.call)) }
+    ensures moves { IfOk result (λ moves. moves ≡ moves_between Moves.Move (look (world_of paths.now.tree))
+        (path_of paths.now.call) (other_path_of paths.now.call)) }
+{
+    let source = Some(check_source(paths)?);
+    let target = paths.other_path().seen();
     if are_same(source, target) {
-        return None;
+        return Ok(Moves::Nothing);
     }
-    move_fault(source, target, counts, limits)
+    check_replaced(source, target, counts, limits)?;
+    Ok(Moves::Move)
 }
 
 #[tactic(auto, unfolding(crate::specs::Refused::noreplace_rows))]
-fn noreplace_fault(
-    table: &Table,
-    old: &Resolved,
-    new: &Resolved,
-    counts: &Counts,
-    limits: &Limits,
-) -> Option<Refusal>
-    requires resolved { IsResolved table.now old.now }
-    requires other_resolved { IsResolved table.now new.now }
-    ensures { result ≡ first_row (noreplace_rows (look (world_of table.now)) limits.now counts.now old.now.names new.now.names) }
+fn check_noreplace(paths: &Paths, counts: &Counts, limits: &Limits) -> Result<Moves, Refusal>
+    ensures err { result_err result ≡ first_row (noreplace_rows (look (world_of paths.now.tree)) limits.now counts.now
+        (path_of paths.now.call) (other_path_of paths.now.call)) }
+    ensures moves { IfOk result (λ moves. moves ≡ moves_between Moves.Move (look (world_of paths.now.tree))
+        (path_of paths.now.call) (other_path_of paths.now.call)) }
 {
-    if is_root(old) || is_root(new) {
-        return Some(Refusal::Ebusy);
+    check_source(paths)?;
+    if paths.other_path().seen().is_some() {
+        return Err(Refusal::Eexist);
     }
-    match table.look(old) {
-        Err(refusal) => Some(refusal),
-        Ok(source) => {
-            if is_directory(Some(source)) && new.as_path().is_below(old.as_path()) {
-                return Some(Refusal::Einval);
-            }
-            if let Some(refusal) = parent_fault(table, new) {
-                return Some(refusal);
-            }
-            let target = table.seen(new);
-            if target.is_some() {
-                return Some(Refusal::Eexist);
-            }
-            let next = counts.next_cookie;
-            if next == 0 || next > limits.cookies {
-                return Some(Refusal::CookiesSpent);
-            }
-            None
-        }
-    }
+    check_cookie(counts, limits)?;
+    Ok(Moves::Move)
 }
 
-// Why two files do not change places.
+// Whether two things may change places.
 #[tactic(auto, unfolding(crate::specs::Refused::swap_rows))]
-fn swap_fault(
-    old: &Resolved,
-    new: &Resolved,
+fn check_swap(
+    paths: &Paths,
     source: Option<Seen>,
     target: Option<Seen>,
     counts: &Counts,
     limits: &Limits,
-) -> Option<Refusal>
-    ensures { result ≡ first_row (swap_rows limits.now counts.now old.now.names new.now.names source target) }
+) -> Result<(), Refusal>
+    ensures { result_err result ≡ first_row (swap_rows limits.now counts.now (path_of paths.now.call)
+        (other_path_of paths.now.call) source target) }
 {
-    if is_directory(source) && new.as_path().is_below(old.as_path()) {
-        return Some(Refusal::Einval);
+    let old = paths.path().as_path();
+    let new = paths.other_path().as_path();
+    if is_directory(source) && new.is_below(old) {
+        return Err(Refusal::Einval);
     }
-    if is_directory(target) && old.as_path().is_below(new.as_path()) {
-        return Some(Refusal::Einval);
+    if is_directory(target) && old.is_below(new) {
+        return Err(Refusal::Einval);
     }
     let last = u64::from(counts.next_cookie) + 1;
     if counts.next_cookie == 0 || last > u64::from(limits.cookies) {
-        return Some(Refusal::CookiesSpent);
+        return Err(Refusal::CookiesSpent);
     }
-    None
+    Ok(())
 }
 
 #[tactic(auto, unfolding(crate::specs::Refused::exchange_rows))]
-fn exchange_fault(
-    table: &Table,
-    old: &Resolved,
-    new: &Resolved,
-    counts: &Counts,
-    limits: &Limits,
-) -> Option<Refusal>
-    requires resolved { IsResolved table.now old.now }
-    requires other_resolved { IsResolved table.now new.now }
-    ensures { result ≡ first_row (exchange_rows (look (world_of table.now)) limits.now counts.now old.now.names new.now.names) }
+fn check_exchange(paths: &Paths, counts: &Counts, limits: &Limits) -> Result<Moves, Refusal>
+    ensures err { result_err result ≡ first_row (exchange_rows (look (world_of paths.now.tree)) limits.now counts.now
+        (path_of paths.now.call) (other_path_of paths.now.call)) }
+    ensures moves { IfOk result (λ moves. moves ≡ moves_between Moves.Exchange (look (world_of paths.now.tree))
+        (path_of paths.now.call) (other_path_of paths.now.call)) }
 {
-    if is_root(old) || is_root(new) {
-        return Some(Refusal::Ebusy);
+    let old = paths.path();
+    let new = paths.other_path();
+    if old.is_root() || new.is_root() {
+        return Err(Refusal::Ebusy);
     }
-    match (table.look(old), table.look(new)) {
-        (Err(refusal), _) => Some(refusal),
-        (Ok(_), Err(refusal)) => Some(refusal),
-        (Ok(source), Ok(target)) => {
-            let (source, target) = (Some(source), Some(target));
-            if are_same(source, target) {
-                return None;
-            }
-            swap_fault(old, new, source, target, counts, limits)
-        }
+    let source = Some(old.find()?);
+    let target = Some(new.find()?);
+    if are_same(source, target) {
+        return Ok(Moves::Nothing);
     }
+    check_swap(paths, source, target, counts, limits)?;
+    Ok(Moves::Exchange)
 }
 
 #[tactic(auto, unfolding(crate::specs::Refused::rename2_rows))]
-fn rename2_fault(
-    table: &Table,
-    old: &Resolved,
-    new: &Resolved,
+fn check_rename2(
+    paths: &Paths,
     flags: u32,
     counts: &Counts,
     limits: &Limits,
-) -> Option<Refusal>
-    requires resolved { IsResolved table.now old.now }
-    requires other_resolved { IsResolved table.now new.now }
-    ensures { result ≡ first_row (rename2_rows (look (world_of table.now)) limits.now counts.now old.now.names new.now.names flags) }
+) -> Result<Moves, Refusal>
+    ensures err { result_err result ≡ first_row (rename2_rows (look (world_of paths.now.tree)) limits.now counts.now
+        (path_of paths.now.call) (other_path_of paths.now.call) flags) }
+    ensures moves { IfOk result (λ moves. moves ≡ moves_between (moves_for flags) (look (world_of paths.now.tree))
+        (path_of paths.now.call) (other_path_of paths.now.call)) }
 {
     match flags {
-        0 => rename_fault(table, old, new, counts, limits),
-        RENAME_NOREPLACE => noreplace_fault(table, old, new, counts, limits),
-        RENAME_EXCHANGE => exchange_fault(table, old, new, counts, limits),
-        _ => Some(Refusal::Einval),
+        0 => check_rename(paths, counts, limits),
+        RENAME_NOREPLACE => check_noreplace(paths, counts, limits),
+        RENAME_EXCHANGE => check_exchange(paths, counts, limits),
+        _ => Err(Refusal::Einval),
     }
 }
 
-fn is_root(path: &Resolved) -> bool
-    ensures { result ≡ is_root path.now.names }
-{
-    path.as_path().names().is_empty()
-}
-
-// Why a call is refused, if it is.
+// Why a call is refused, or what it moves.
 #[tactic(auto, unfolding(crate::specs::Refused::refusal_seen, crate::specs::Refused::find_rows))]
-fn fault(
-    table: &Table,
-    call: &FileCall,
-    path: &Resolved,
-    other_path: &Resolved,
-    counts: &Counts,
-    limits: &Limits,
-) -> Option<Refusal>
-    requires resolved { IsResolved table.now path.now }
-    requires other_resolved { IsResolved table.now other_path.now }
-    requires names { path.now.names ≡ path_of call.now }
-    requires other_names { other_path.now.names ≡ other_path_of call.now }
-    ensures { result ≡ refusal_seen (look (world_of table.now)) limits.now counts.now call.now }
-{
-    match call {
-        FileCall::Create { mode, .. } | FileCall::Mkdir { mode, .. } => {
-            make_fault(table, path, *mode, counts, limits)
-        }
-        FileCall::Write { offset, bytes, .. } => {
-            write_fault(table, path, *offset, bytes.as_slice().len(), limits)
-        }
-        FileCall::ReadFile { .. } => read_fault(table, path),
-        FileCall::Truncate { len, .. } => truncate_fault(table, path, *len, limits),
-        FileCall::Chmod { mode, .. } => chmod_fault(table, path, *mode),
-        FileCall::Link { .. } => link_fault(table, path, other_path, limits),
-        FileCall::Unlink { .. } => unlink_fault(table, path),
-        FileCall::Rmdir { .. } => rmdir_fault(table, path),
-        FileCall::Rename { .. } => rename_fault(table, path, other_path, counts, limits),
-        FileCall::Rename2 { flags, .. } => {
-            rename2_fault(table, path, other_path, *flags, counts, limits)
-        }
-        FileCall::Stat { .. } => missing(table, path),
-        FileCall::List { .. } => list_fault(table, path),
-    }
-}
-
-// How many cookies the call uses.
-fn cookies(table: &Table, call: &FileCall, path: &Resolved, other_path: &Resolved) -> u32
-    requires resolved { IsResolved table.now path.now }
-    requires other_resolved { IsResolved table.now other_path.now }
-    requires names { path.now.names ≡ path_of call.now }
-    requires other_names { other_path.now.names ≡ other_path_of call.now }
-    ensures { result ≡ cookies_seen (look (world_of table.now)) call.now }
-{
-    match call {
-        FileCall::Rename { .. } if !are_same(table.seen(path), table.seen(other_path)) => 1,
-        FileCall::Rename2 { flags, .. } if !are_same(table.seen(path), table.seen(other_path)) => {
-            if *flags == RENAME_EXCHANGE { 2 } else { 1 }
-        }
-        _ => 0,
-    }
-}
-
-/// Finds the first row that refuses the call, or makes it ready to be carried out. It takes no memory.
-///
-/// `paths` are those of the call as they are resolved on the table, by [`Paths::of`].
-/// `counts` says what the call gets where it makes a file or moves one. No number of the table has reached `next_number`.
-pub fn check<'a>(
-    table: &Table,
-    call: &'a FileCall,
-    paths: &'a Paths<'a>,
-    counts: &Counts,
-    limits: &Limits,
-) -> Result<Ready<'a>, Refusal>
-    requires paths { ArePathsOf table.now call.now paths.now }
-    requires numbers { HasNumbersBelow (world_of table.now) counts.now.next_number }
-    ensures refused { IfErr result (λ refusal. refused (world_of table.now) limits.now counts.now call.now ≡ Some refusal) }
-    ensures accepted { OnOk result (refused (world_of table.now) limits.now counts.now call.now ≡ None) }
-    ensures ready { IfOk result (λ ready. IsReady table.now ready) }
-    ensures call { IfOk result (λ ready. ready.call ≡ call.now) }
-    ensures counts { IfOk result (λ ready. ready.counts ≡ counts.now) }
-    ensures cookies { IfOk result (λ ready. ready.cookies ≡ cookies_of (world_of table.now) call.now) }
+fn check_call(paths: &Paths, counts: &Counts, limits: &Limits) -> Result<Moves, Refusal>
+    ensures err { result_err result ≡ refusal_seen (look
+        (world_of paths.now.tree)) limits.now counts.now paths.now.call }
+    ensures moves { IfOk result (λ moves. moves ≡ moves_seen (look (world_of paths.now.tree)) paths.now.call) }
 {
     let path = paths.path();
-    let other_path = paths.other_path();
-    match fault(table, call, path, other_path, counts, limits) {
-        Some(refusal) => Err(refusal),
-        None => Ok(Ready {
-            call,
+    let checked = match paths.call() {
+        FileCall::Create { mode, .. } | FileCall::Mkdir { mode, .. } => {
+            check_make(&path, *mode, counts, limits)
+        }
+        FileCall::Write { offset, bytes, .. } => {
+            check_write(&path, *offset, bytes.as_slice().len(), limits)
+        }
+        FileCall::ReadFile { .. } => check_read(&path),
+        FileCall::Truncate { len, .. } => check_truncate(&path, *len, limits),
+        FileCall::Chmod { mode, .. } => check_chmod(&path, *mode),
+        FileCall::Link { .. } => check_link(&path, &paths.other_path(), limits),
+        FileCall::Unlink { .. } => check_unlink(&path),
+        FileCall::Rmdir { .. } => check_rmdir(&path),
+        FileCall::Rename { .. } => return check_rename(paths, counts, limits),
+        FileCall::Rename2 { flags, .. } => return check_rename2(paths, *flags, counts, limits),
+        FileCall::Stat { .. } => check_found(&path),
+        FileCall::List { .. } => check_list(&path),
+    };
+    checked.and(Ok(Moves::Nothing))
+}
+
+/// Finds the first row that refuses a call, or makes the call ready to be carried out. It does not allocate.
+///
+/// `counts` says what the call gets where it makes a file or moves one. No number of the table has reached `next_number`.
+#[inline(always)]
+pub fn check<'t, 'a>(
+    paths: Paths<'t, 'a>,
+    counts: &Counts,
+    limits: &Limits,
+) -> Result<Ready<'t, 'a>, Refusal>
+    requires { HasNumbersBelow (world_of paths.tree) counts.now.next_number }
+    ensures refused { IfErr result (λ refusal. refused
+        (world_of paths.entry.tree) limits.now counts.now paths.entry.call ≡ Some refusal) }
+    ensures accepted { OnOk result (refused (world_of paths.entry.tree) limits.now counts.now paths.entry.call ≡ None) }
+    ensures ready { IfOk result (λ ready. IsReady ready.tree ready.plan) }
+    ensures tree { IfOk result (λ ready. ready.tree ≡ paths.entry.tree) }
+    ensures call { IfOk result (λ ready. ready.plan.call ≡ paths.entry.call) }
+    ensures counts { IfOk result (λ ready. ready.plan.counts ≡ counts.now) }
+{
+    paths.law();
+    match check_call(&paths, counts, limits) {
+        Err(refusal) => Err(refusal),
+        Ok(moves) => Ok(Ready {
+            paths,
             counts: *counts,
-            cookies: cookies(table, call, path, other_path),
-            path,
-            other_path,
+            moves,
         }),
     }
 }

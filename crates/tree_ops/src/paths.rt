@@ -1,35 +1,51 @@
 //! The paths of a call as they are resolved on a table.
 
 ghost use Rattle.std.specs.Prelude.{◌≡◌};
-ghost use Rattle.tree_ops.specs.CallPaths.{ArePathsOf};
+ghost use Rattle.tree_ops.specs.CallPaths.{ArePathsOf, path_of, other_path_of};
+ghost use Rattle.tree_ops.specs.ReadyCall.{plan_with};
 
-use crate::call::FileCall;
+use crate::call::{Counts, FileCall};
+use crate::lookup::Lookup;
+use crate::moves::Moves;
+use crate::plan::Plan;
 use inode_table::{Resolved, Table};
 use std::marker::Model;
 
-/// The paths of a call, each walked along once. [`crate::check`] borrows them, and what is [`crate::Ready`] lends them.
+/// The paths of a call on the table that each is resolved on, by one walk. [`crate::check`] takes them.
 #[derive(Drop)]
-pub struct Paths<'a> {
+pub struct Paths<'t, 'a> {
+    table: &'t Table,
+    call: &'a FileCall,
     path: Resolved<'a>,
     /// That of a call that has two.
     other_path: Option<Resolved<'a>>,
 }
 
-impl<'a> Model for Paths<'a> {
-    ghost use Rattle.tree_ops.specs.CallPaths.{ResolvedPaths};
+impl<'t, 'a> Model for Paths<'t, 'a> {
+    ghost use Rattle.tree_ops.specs.CallPaths.{ArePathsOf, PathsValue};
     ghost use Rattle.std.specs.Option.{unwrap_or};
 
-    ghost Value = { ResolvedPaths };
+    ghost Value = { PathsValue };
 
-    ghost view = { λ paths. record { path = paths.path; other_path = unwrap_or paths.other_path paths.path } };
+    ghost view = { λ p. record {
+      tree = p.table.now;
+      call = p.call.now;
+      paths = record { path = p.path; other_path = unwrap_or p.other_path p.path };
+    } };
+
+    ghost invariant = { λ p. ArePathsOf p.table.now p.call.now
+        (record { path = p.path; other_path = unwrap_or p.other_path p.path }) };
 }
 
-impl<'a> Paths<'a> {
-    /// Resolves the paths of a call on a table. It takes no memory.
-    pub fn of(table: &Table, call: &'a FileCall) -> Paths<'a>
-        ensures { ArePathsOf table.now call.now result }
+impl<'t, 'a> Paths<'t, 'a> {
+    /// Resolves the paths of a call on a table. It does not allocate.
+    pub fn resolve(table: &'t Table, call: &'a FileCall) -> Paths<'t, 'a>
+        ensures tree { result.tree ≡ table.now }
+        ensures call { result.call ≡ call.now }
     {
         Paths {
+            table,
+            call,
             path: table.resolve(call.path()),
             other_path: match call.other_path() {
                 Some(other_path) => Some(table.resolve(other_path)),
@@ -38,20 +54,57 @@ impl<'a> Paths<'a> {
         }
     }
 
-    /// The path of the call, and the old one where it has two.
-    pub fn path(&self) -> &Resolved<'a>
-        ensures { result.now ≡ self.now.path }
+    // What is true of the paths of every call, for a caller's proof.
+    #[inline(always)]
+    pub(crate) fn law(&self)
+        ensures { ArePathsOf self.now.tree self.now.call self.now.paths }
     {
-        &self.path
+        let _ = &self.table;
+    }
+
+    /// The call.
+    #[inline(always)]
+    pub fn call(&self) -> &'a FileCall
+        ensures { result.now ≡ self.now.call }
+    {
+        self.call
+    }
+
+    /// The path of the call, and the old one where it has two.
+    #[inline(always)]
+    pub fn path(&self) -> Lookup<'_>
+        ensures tree { result.tree ≡ self.now.tree }
+        ensures path { result.path ≡ self.now.paths.path }
+        ensures names { result.path.names ≡ path_of self.now.call }
+    {
+        Lookup::new(self.table, &self.path)
     }
 
     /// The new path of the call, and its path where it has but one.
-    pub fn other_path(&self) -> &Resolved<'a>
-        ensures { result.now ≡ self.now.other_path }
+    #[inline(always)]
+    pub fn other_path(&self) -> Lookup<'_>
+        ensures tree { result.tree ≡ self.now.tree }
+        ensures path { result.path ≡ self.now.paths.other_path }
+        ensures names { result.path.names ≡ other_path_of self.now.call }
     {
         match &self.other_path {
-            Some(other_path) => other_path,
-            None => &self.path,
+            Some(other_path) => Lookup::new(self.table, other_path),
+            None => Lookup::new(self.table, &self.path),
+        }
+    }
+
+    // The plan of the call, which borrows no table.
+    #[inline(always)]
+    pub(crate) fn into_plan(self, counts: Counts, moves: Moves) -> Plan<'a>
+        ensures plan { result ≡ plan_with self.entry counts moves }
+        ensures paths { ArePathsOf self.entry.tree self.entry.call self.entry.paths }
+    {
+        Plan {
+            call: self.call,
+            counts,
+            path: self.path,
+            other_path: self.other_path,
+            moves,
         }
     }
 }

@@ -9,7 +9,8 @@ ghost use Rattle.tree_ops.specs.Answered.{answered};
 use crate::answer::Answer;
 use crate::call::FileCall;
 use crate::carrying::{front, list, rest, stat};
-use crate::checking::{list_fault, missing, read_fault};
+use crate::checking::{check_found, check_list, check_read};
+use crate::lookup::Lookup;
 use inode_table::Table;
 use std::alloc::Global;
 use tree_paths::{Names, Path, Refusal};
@@ -19,10 +20,9 @@ pub fn peek_stat(table: &Table, path: &Path) -> Result<Answer, Refusal>
     ensures { (limits : Limits) (counts : Counts) → result ≡ answered (world_of table.now) limits counts (FileCall.Stat path.now) }
 {
     let path = table.resolve(path);
-    match missing(table, &path) {
-        Some(refusal) => Err(refusal),
-        None => Ok(stat(table, &path)),
-    }
+    let path = Lookup::new(table, &path);
+    check_found(&path)?;
+    Ok(stat(&path))
 }
 
 /// The names that [`FileCall::List`] would answer.
@@ -34,10 +34,9 @@ pub fn peek_names(alloc: Global, table: &Table, path: &Path) -> Result<Names, Re
     ensures err { (limits : Limits) (counts : Counts) → IfErr result (λ refusal. (answered (world_of table.now) limits counts (FileCall.List path.now) ≡ Err refusal) ⊎ (refusal ≡ Refusal.Enomem)) }
 {
     let path = table.resolve(path);
-    if let Some(refusal) = list_fault(table, &path) {
-        return Err(refusal);
-    }
-    Ok(list(alloc, table, &path)?)
+    let path = Lookup::new(table, &path);
+    check_list(&path)?;
+    Ok(list(alloc, &path)?)
 }
 
 /// The bytes that [`FileCall::ReadFile`] would answer, where they stand in the file. It takes no memory.
@@ -51,9 +50,7 @@ pub fn peek_bytes<'a>(
     ensures err { (limits : Limits) (counts : Counts) → IfErr result (λ refusal. answered (world_of table.now) limits counts (FileCall.ReadFile path.now offset count) ≡ Err refusal) }
 {
     let path = table.resolve(path);
-    if let Some(refusal) = read_fault(table, &path) {
-        return Err(refusal);
-    }
+    check_read(&Lookup::new(table, &path))?;
     let content = table.content(table.key(&path));
     Ok(front(rest(content, offset as usize), count as usize))
 }

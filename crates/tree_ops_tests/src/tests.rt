@@ -59,13 +59,14 @@ impl Calls {
     }
 
     fn made(&mut self, call: &FileCall) -> Result<Answer, Refusal> {
-        let paths = Paths::of(&self.table, call);
-        let ready = check(&self.table, call, &paths, &self.counts, &self.limits)?;
+        let paths = Paths::resolve(&self.table, call);
+        let ready = check(paths, &self.counts, &self.limits)?;
         let Some(next_number) = self.counts.next_number.checked_add(ready.numbers()) else {
             return Err(Refusal::NumbersSpent);
         };
         let next_cookie = self.counts.next_cookie.checked_add(ready.cookies());
-        let answer = carry_out(self.alloc, &mut self.table, &ready)?;
+        let plan = ready.into_plan();
+        let answer = carry_out(self.alloc, &mut self.table, &plan)?;
         self.counts.next_number = next_number;
         self.counts.next_cookie = next_cookie.unwrap_or(0);
         Ok(answer)
@@ -231,8 +232,8 @@ fn ready_calls(rt: HostRuntime) -> Result<(), Fail> {
     let calls = Calls::new(rt.alloc(), Limits::full())?;
     let path = calls.path("/a")?;
     let call = FileCall::Mkdir { path, mode: 0o755 };
-    let paths = Paths::of(&calls.table, &call);
-    let ready = check(&calls.table, &call, &paths, &calls.counts, &calls.limits)?;
+    let paths = Paths::resolve(&calls.table, &call);
+    let ready = check(paths, &calls.counts, &calls.limits)?;
     equal(&rt, ready.cookies(), 0);
     equal(&rt, ready.numbers(), 1);
     holds(

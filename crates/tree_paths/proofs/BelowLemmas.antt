@@ -1,5 +1,5 @@
 -- Whether one path is below another one.
-use Rattle.std.proofs.Common.{◌≡◌, ◌<◌, ◌≤◌, ◌+◌, ◌∷◌, ◌++◌, [], List, ℕ, Bool, true, false, cond, length, Option, Some, None, IsTrue, refl, sym, ap, ◌∙◌, arith}
+use Rattle.std.proofs.Common.{◌≡◌, ◌<◌, ◌≤◌, ◌+◌, ◌∷◌, ◌++◌, [], List, ℕ, Bool, true, false, not, cond, length, Option, Some, None, IsTrue, refl, sym, ap, ◌∙◌, arith}
 use Rattle.std.proofs.lemmas.Bool.{lt-ltb, ltb-true}
 use Rattle.std.proofs.lemmas.List.{length-append}
 use Rattle.std.proofs.lemmas.Map.Lookups.{exact_bytes}
@@ -7,6 +7,8 @@ use Rattle.std.specs.Cmp.{tied_itself, Equal-is}
 use Rattle.std.specs.Cmp.Lexicographic.{slice_cmp, nat_list_cmp_total}
 use Rattle.std.specs.Ordering.{nat_cmp, is_eq}
 use Rattle.std.specs.Prelude.{nat_lt}
+use Rattle.std.specs.Str.{bytes_eq}
+use Rattle.std.proofs.lemmas.Slice.Eq.{bytes_eq-Decides}
 use Rattle.tree_paths.specs.Paths.{IsBelow, is_below, is_some_name, rest_after, same_name}
 
 same_name-true : (m l : List ℕ) → same_name m l ≡ true → l ≡ m
@@ -59,3 +61,47 @@ short path above within = same-test path above (nat_lt (length above) (length pa
 
     longer : IsBelow path above → length above < length path
     longer b = let n : length path ≡ length above + length (b.0 ∷ b.1) = ap length b.2 ∙ length-append above (b.0 ∷ b.1) in omega arith
+
+-- ---- one name after the other
+
+pub below-first : (x : List ℕ) (path above : List (List ℕ)) → is_below (x ∷ path) (x ∷ above) ≡ is_below path above
+unfolding is_below
+below-first x path above = ap (λ b. is_some_name (cond b (rest_after above path) None)) (same_name-refl x)
+
+pub below-end : (x : List ℕ) (above : List (List ℕ)) → is_below [] (x ∷ above) ≡ false
+unfolding is_below
+below-end x above = refl
+
+pub below-apart : (x y : List ℕ) (path above : List (List ℕ)) → (y ≡ x → ⊥) → is_below (x ∷ path) (y ∷ above) ≡ false
+unfolding is_below
+below-apart x y path above apart = by (same_name y x) refl
+  where
+    by : (b : Bool) → same_name y x ≡ b → is_some_name (cond b (rest_after above path) None) ≡ false
+    by true e = absurd (apart (sym (same_name-true y x e)))
+    by false e = refl
+
+pub below-root : (path : List (List ℕ)) (r : Bool) → (IsTrue r → path ≡ []) × (path ≡ [] → IsTrue r) → not r ≡ is_below path []
+unfolding is_below
+below-root [] r both = ap not (both.1 refl)
+below-root (x ∷ path) true both = absurd (let e = both.0 refl in cc)
+below-root (x ∷ path) false both = refl
+
+pub none-below : (path above : List (List ℕ)) → (IsBelow path above → ⊥) → false ≡ is_below path above
+none-below path above h = same-test path above false (λ (t : IsTrue false). absurd cc, λ b. absurd (h b))
+
+not-same : (b : Bool) → not b ≡ true → b ≡ true → ⊥
+not-same true e f = cc
+not-same false e f = cc
+
+is-same : (b : Bool) → not b ≡ false → b ≡ true
+is-same true e = refl
+is-same false e = absurd cc
+
+pub apart-by : (x y a b : List ℕ) (r : Bool) → a ≡ x → b ≡ y → r ≡ not (bytes_eq a b) → r ≡ true → y ≡ x → ⊥
+apart-by x y a b r ax by is on same = not-same (bytes_eq a b) (sym is ∙ on) ((bytes_eq-Decides a b).1 (ax ∙ sym same ∙ sym by))
+
+pub below-step : (path above names others ns os : List (List ℕ)) (x y a b : List ℕ) (r : Bool) → is_below path above ≡ is_below names others → names ≡ x ∷ ns → others ≡ y ∷ os
+    → a ≡ x → b ≡ y → r ≡ not (bytes_eq a b) → r ≡ false → is_below path above ≡ is_below ns os
+below-step path above names others ns os x y a b r so_far n o ax by is off =
+    let same : x ≡ y = sym ax ∙ (bytes_eq-Decides a b).0 (is-same (bytes_eq a b) (sym is ∙ off)) ∙ by in
+    so_far ∙ (λ i. is_below (n i) (o i)) ∙ ap (λ (l : List ℕ). is_below (l ∷ ns) (y ∷ os)) same ∙ below-first y ns os

@@ -1,5 +1,5 @@
 -- A text cut at its first slash: what is asked of its names.
-use Rattle.std.proofs.Common.{◌≡◌, ◌≢◌, ℕ, ◌+◌, ◌-◌, ◌<◌, ◌≤◌, Bool, true, false, not, ◌&&◌, ◌||◌, cond, eqb, ltb, leb, List, [], ◌∷◌, ◌++◌, length, take, drop, get_or, zero, suc, Result, Ok, Err, refl, sym, ap, ◌∙◌, arith, take_all, append_assoc}
+use Rattle.std.proofs.Common.{◌≡◌, ◌≢◌, ℕ, ◌+◌, ◌-◌, ◌<◌, ◌≤◌, Bool, true, false, not, ◌&&◌, ◌||◌, cond, eqb, ltb, leb, List, [], ◌∷◌, ◌++◌, length, take, drop, get_or, zero, suc, Result, Ok, Err, refl, sym, ap, ◌∙◌, arith, take_all, append_assoc, length-append}
 use Rattle.std.specs.Prelude.{filter, MatchResult, IfOk}
 use Rattle.std.specs.Int.{from_bool}
 use Rattle.std.specs.List.{list_any, list_all}
@@ -10,6 +10,8 @@ use Rattle.std.proofs.lemmas.List.Splits.{slice_split_at, slice_split_none}
 use Rattle.record_codec.specs.Names.{is_name, is_name_byte}
 use Rattle.tree_paths.specs.declared.refusal.Refusal.{Refusal}
 use Rattle.tree_paths.specs.declared.refusal.Refusal.TheVariants.{Einval, Enametoolong}
+use Rattle.tree_paths.specs.declared.parse.Shape.{Shape}
+use Rattle.tree_paths.specs.Kept.{is_in_place, shape_of, slashed}
 use Rattle.tree_paths.specs.Paths.{parsed, names_of, is_null, is_dots, is_long}
 use Rattle.tree_paths.specs.Pieces.{pieces, is_nonempty}
 use Rattle.tree_paths.proofs.PathnameLemmas.{no_null, no_slashes}
@@ -131,9 +133,59 @@ count_step w n c =
     ap (λ (t : List (List ℕ)). length t) (names_step w n c) ∙ count_front (take n w) (pieces 47 (behind_front w n))
     ∙ ap (λ (k : ℕ). from_bool (ltb 0 k) + length (names_of (behind_front w n))) (length-take-le n w (omega (arith, c.inside)))
 
-pub one_at_most : (n : ℕ) → from_bool (ltb 0 n) ≤ n
-one_at_most zero = omega arith
-one_at_most (suc n) = let some : ltb 0 (suc n) ≡ true = lt-ltb 0 (suc n) (omega arith) in rw some (omega arith)
+abbrev text_len : List (List ℕ) → ℕ
+text_len names = length (slashed names)
+
+len_front : (x : List ℕ) (ps : List (List ℕ)) → text_len (filter is_nonempty (x ∷ ps)) ≡ (from_bool (ltb 0 (length x)) + length x) + text_len (filter is_nonempty ps)
+len_front [] ps = omega arith
+len_front (b ∷ bs) ps =
+    let some : ltb 0 (length (b ∷ bs)) ≡ true = lt-ltb 0 (length (b ∷ bs)) (omega arith) in
+    rw (nonempty-cons b bs, some) (omega (arith, length-append (b ∷ bs) (slashed (filter is_nonempty ps))))
+
+fits_front : (x : List ℕ) (ps : List (List ℕ)) → list_all is_in_place (filter is_nonempty (x ∷ ps)) ≡ (leb (length x) 31 && list_all is_in_place (filter is_nonempty ps))
+fits_front [] ps = refl
+fits_front (b ∷ bs) ps = rw (nonempty-cons b bs) refl
+
+and_and : (a b c : Bool) → (a && (b && c)) ≡ ((a && b) && c)
+and_and true b c = refl
+and_and false b c = refl
+
+pub len_step : (w : List ℕ) (n : ℕ) → IsCut w n → length (slashed (names_of w)) ≡ (from_bool (ltb 0 n) + n) + length (slashed (names_of (behind_front w n)))
+len_step w n c =
+    ap text_len (names_step w n c) ∙ len_front (take n w) (pieces 47 (behind_front w n))
+    ∙ ap (λ (k : ℕ). (from_bool (ltb 0 k) + k) + text_len (names_of (behind_front w n))) (length-take-le n w (omega (arith, c.inside)))
+
+pub fits_step : (w : List ℕ) (n : ℕ) → IsCut w n → (fits : Bool) → (fits && list_all is_in_place (names_of w)) ≡ ((fits && leb n 31) && list_all is_in_place (names_of (behind_front w n)))
+fits_step w n c fits =
+    ap (λ (b : Bool). fits && b)
+    (ap (list_all is_in_place) (names_step w n c) ∙ fits_front (take n w) (pieces 47 (behind_front w n))
+    ∙ ap (λ (k : ℕ). leb k 31 && list_all is_in_place (names_of (behind_front w n))) (length-take-le n w (omega (arith, c.inside))))
+    ∙ and_and fits (leb n 31) (list_all is_in_place (names_of (behind_front w n)))
+
+pub len_end : (w : List ℕ) (n : ℕ) → IsWhole w n → length (slashed (names_of w)) ≡ from_bool (ltb 0 n) + n
+len_end w n c =
+    ap text_len (names_end w n c.all c.front) ∙ len_front (take n w) []
+    ∙ ap (λ (k : ℕ). (from_bool (ltb 0 k) + k) + 0) (length-take-le n w (omega (arith, c.all))) ∙ omega arith
+
+and_true : (a : Bool) → (a && true) ≡ a
+and_true true = refl
+and_true false = refl
+
+pub fits_end : (w : List ℕ) (n : ℕ) → IsWhole w n → (fits : Bool) → (fits && list_all is_in_place (names_of w)) ≡ (fits && leb n 31)
+fits_end w n c fits =
+    ap (λ (b : Bool). fits && b)
+    (ap (list_all is_in_place) (names_end w n c.all c.front) ∙ fits_front (take n w) []
+    ∙ ap (λ (k : ℕ). leb k 31 && true) (length-take-le n w (omega (arith, c.all))) ∙ and_true (leb n 31))
+
+-- the shape of names, by its parts
+pub shape_by : (names : List (List ℕ)) (count len : ℕ) (fits : Bool) → length names ≡ count → length (slashed names) ≡ len → list_all is_in_place names ≡ fits
+    → ◌≡◌ {A = Shape} (record { count = count; len = len; fits = fits }) (shape_of names)
+unfolding shape_of
+shape_by names count len fits a b e = λ i. record { count = sym a i; len = sym b i; fits = sym e i }
+
+pub one_most : (n : ℕ) → from_bool (ltb 0 n) ≤ 1
+one_most zero = omega arith
+one_most (suc n) = let some : ltb 0 (suc n) ≡ true = lt-ltb 0 (suc n) (omega arith) in rw some (omega arith)
 
 pub dots_end : (w : List ℕ) (n : ℕ) → IsWhole w n → is_dots (take n w) ≡ false → list_any is_dots (names_of w) ≡ false
 dots_end w n c none =
@@ -170,21 +222,21 @@ no_more text few = ap (λ (b : Bool). b && eqb (get_or text (length text - 1) 0)
 abbrev chain : Bool → Bool → Bool → Result (List (List ℕ)) Refusal → Result (List (List ℕ)) Refusal
 chain null dots long r = cond null (Err Einval) (cond dots (Err Einval) (cond long (Err Enametoolong) r))
 
-pub record IsAnswer (r : Result ℕ Refusal) (p : Result (List (List ℕ)) Refusal) (names : List (List ℕ)) : Type 0 where
-  pub answer : MatchResult r (λ count. p ≡ Ok names) (λ refusal. p ≡ Err refusal)
-  pub count : IfOk r (λ count. count ≡ length names)
+pub record IsAnswer (r : Result Shape Refusal) (p : Result (List (List ℕ)) Refusal) (names : List (List ℕ)) : Type 0 where
+  pub answer : MatchResult r (λ shape. p ≡ Ok names) (λ refusal. p ≡ Err refusal)
+  pub shape : IfOk r (λ shape. shape ≡ shape_of names)
 
-by_chain : (null dots long : Bool) (names : List (List ℕ)) (r : Result ℕ Refusal) (p : Result (List (List ℕ)) Refusal)
-    → r ≡ cond null (Err Einval) (cond dots (Err Einval) (cond long (Err Enametoolong) (Ok (length names))))
+by_chain : (null dots long : Bool) (names : List (List ℕ)) (r : Result Shape Refusal) (p : Result (List (List ℕ)) Refusal)
+    → r ≡ cond null (Err Einval) (cond dots (Err Einval) (cond long (Err Enametoolong) (Ok (shape_of names))))
     → p ≡ chain null dots long (Ok names) → IsAnswer r p names
-by_chain true dots long names r p h k = record { answer = rw h k; count = rw h tt }
-by_chain false true long names r p h k = record { answer = rw h k; count = rw h tt }
-by_chain false false true names r p h k = record { answer = rw h k; count = rw h tt }
-by_chain false false false names r p h k = record { answer = rw h k; count = rw h refl }
+by_chain true dots long names r p h k = record { answer = rw h k; shape = rw h tt }
+by_chain false true long names r p h k = record { answer = rw h k; shape = rw h tt }
+by_chain false false true names r p h k = record { answer = rw h k; shape = rw h tt }
+by_chain false false false names r p h k = record { answer = rw h k; shape = rw h refl }
 
-pub text_answer : (text : List ℕ) (r : Result ℕ Refusal) → 0 < length text → length text < 4096 → get_or text 0 0 ≡ 47
+pub text_answer : (text : List ℕ) (r : Result Shape Refusal) → 0 < length text → length text < 4096 → get_or text 0 0 ≡ 47
     → (ltb 1 (length text) && eqb (get_or text (length text - 1) 0) 47) ≡ false
-    → r ≡ (let rest = take (length text - 1) (drop 1 text) in cond (list_any is_null rest) (Err Einval) (cond (list_any is_dots (names_of rest)) (Err Einval) (cond (list_any is_long (names_of rest)) (Err Enametoolong) (Ok (length (names_of rest))))))
+    → r ≡ (let rest = take (length text - 1) (drop 1 text) in cond (list_any is_null rest) (Err Einval) (cond (list_any is_dots (names_of rest)) (Err Einval) (cond (list_any is_long (names_of rest)) (Err Enametoolong) (Ok (shape_of (names_of rest))))))
     → IsAnswer r (parsed text) (names_of text)
 unfolding parsed
 text_answer text r some less first ends h =
@@ -194,8 +246,8 @@ text_answer text r some less first ends h =
     let names : names_of text ≡ names_of rest = ap names_of e in
     let none : eqb (length text) 0 ≡ false = ne_eqb (length text) 0 (λ z. omega (arith, some, z)) in
     let much : leb 4096 (length text) ≡ false = lt-leb 4096 (length text) less in
-    let back : cond (list_any is_null rest) (Err Einval) (cond (list_any is_dots (names_of rest)) (Err Einval) (cond (list_any is_long (names_of rest)) (Err Enametoolong) (Ok (length (names_of rest)))))
-    ≡ cond (list_any is_null text) (Err Einval) (cond (list_any is_dots (names_of text)) (Err Einval) (cond (list_any is_long (names_of text)) (Err Enametoolong) (Ok (length (names_of text))))) = rw (null, names) refl in
+    let back : cond (list_any is_null rest) (Err Einval) (cond (list_any is_dots (names_of rest)) (Err Einval) (cond (list_any is_long (names_of rest)) (Err Enametoolong) (Ok (shape_of (names_of rest)))))
+    ≡ cond (list_any is_null text) (Err Einval) (cond (list_any is_dots (names_of text)) (Err Einval) (cond (list_any is_long (names_of text)) (Err Enametoolong) (Ok (shape_of (names_of text))))) = rw (null, names) refl in
     by_chain (list_any is_null text) (list_any is_dots (names_of text)) (list_any is_long (names_of text)) (names_of text) r (parsed text) (h ∙ back) (rw (none, much, first, ends) refl)
 
 -- ---- the names of a text that is a path
@@ -240,7 +292,7 @@ is_cut w n f ne =
     let inside : n < length w = omega (arith, f.within, ne) in
     record { inside = inside; front = f.front; slash = slash_there w n inside f.front (f.end inside) f.no_null }
 
-front_by : (w : List ℕ) (n : ℕ) → IsFront w n → (t : Bool) → ltb n (length w) ≡ t → (ps : List (List ℕ)) × (names_of w ≡ filter is_nonempty (take n w ∷ ps))
+pub front_by : (w : List ℕ) (n : ℕ) → IsFront w n → (t : Bool) → ltb n (length w) ≡ t → (ps : List (List ℕ)) × (names_of w ≡ filter is_nonempty (take n w ∷ ps))
 front_by w n f true e = let lt = ltb-true n (length w) e in (pieces 47 (behind_front w n), names_step w n (is_cut w n f (λ z. omega (arith, lt, z))))
 front_by w n f false e = let ge = ltb-false n (length w) e in ([], names_end w n (omega (arith, ge, f.within)) f.front)
 
@@ -257,43 +309,6 @@ named_by (b ∷ bs) ps h =
 
 pub named_step : (w : List ℕ) (n : ℕ) → IsCut w n → list_all is_name (names_of w) ≡ true → list_all is_name (names_of (behind_front w n)) ≡ true
 named_step w n c h = named_by (take n w) (pieces 47 (behind_front w n)) (sym (ap (list_all is_name) (names_step w n c)) ∙ h)
-
--- ---- a path of one name
-
-pub record IsOneName (w : List ℕ) : Type 0 where
-  pub one : length (names_of w) ≡ 1
-  pub named : list_all is_name (names_of w) ≡ true
-  pub no_null : list_any is_null w ≡ false
-
-none_left : (xs : List (List ℕ)) → length xs ≡ 0 → xs ≡ []
-none_left [] e = refl
-none_left (x ∷ xs) e = absurd (omega (arith, e))
-
-pub only_front : (w : List ℕ) (n : ℕ) → IsFront w n → 0 < n → length (names_of w) ≡ 1 → names_of w ≡ take n w ∷ []
-only_front w n f some one =
-    let split = front_by w n f (ltb n (length w)) refl in
-    let has : 0 < length (take n w) = omega (arith, length-take-le n w f.within, some) in
-    let e : names_of w ≡ take n w ∷ filter is_nonempty split.0 = split.1 ∙ name_front (take n w) split.0 has in
-    let len : 1 ≡ suc (length (filter is_nonempty split.0)) = sym one ∙ ap (λ (t : List (List ℕ)). length t) e in
-    e ∙ ap (λ (t : List (List ℕ)). take n w ∷ t) (none_left (filter is_nonempty split.0) (omega (arith, len)))
-
--- the name that is made is the only one
-pub only_made : {E : Type 0} (r : Result (List ℕ) E) (names : List (List ℕ)) (x : List ℕ) → IfOk r (λ name. name ≡ x) → names ≡ x ∷ [] → IfOk r (λ name. names ≡ name ∷ [])
-only_made (Ok name) names x e h = h ∙ ap (λ (y : List ℕ). y ∷ []) (sym e)
-only_made (Err _) names x e h = tt
-
--- no name stands in front of a slash that comes first
-pub only_step : (w : List ℕ) → IsFront w 0 → IsOneName w → (0 < length w) × IsOneName (behind_front w 0)
-only_step w f is =
-    let some : 0 ≢ length w = (λ e. let none = count_end w 0 (record { all = e; front = f.front }) in omega (arith, none, is.one)) in
-    let c = is_cut w 0 f some in (
-      c.inside,
-      record {
-        one = let count = count_step w 0 c in omega (arith, count, is.one);
-        named = named_step w 0 c is.named;
-        no_null = sym (null_step w 0 c) ∙ is.no_null;
-      },
-    )
 
 -- ---- names that are gathered
 

@@ -3,3 +3,4 @@ mod FrontLemmas
 mod PathLemmas
 mod PathnameLemmas
 mod PieceLemmas
+mod SlashedLemmas

@@ -12,18 +12,18 @@ use Rattle.tree_paths.specs.Paths.{parsed, is_dots, is_long, is_null, pathname_o
 use Rattle.tree_paths.specs.Pieces.{pieces, is_nonempty}
 use Rattle.tree_paths.proofs.PieceLemmas.{nonempty-cons}
 
-record NameIs (name : List ℕ) : Type 0 where
-  some : 0 < length name
-  short : length name ≤ 255
-  no_dots : is_dots name ≡ false
-  bytes : list_all is_name_byte name ≡ true
+pub record NameIs (name : List ℕ) : Type 0 where
+  pub some : 0 < length name
+  pub short : length name ≤ 255
+  pub no_dots : is_dots name ≡ false
+  pub bytes : list_all is_name_byte name ≡ true
 
 both_not : (a b : Bool) → not a ≡ true → not b ≡ true → (a || b) ≡ false
 both_not true b h k = absurd cc
 both_not false true h k = absurd cc
 both_not false false h k = refl
 
-name_is : (name : List ℕ) → IsTrue (is_name name) → NameIs name
+pub name_is : (name : List ℕ) → IsTrue (is_name name) → NameIs name
 unfolding is_name
 name_is name h =
     let e = and_parts _ _ h in
@@ -37,16 +37,16 @@ name_is name h =
       bytes = e.1;
     }
 
-abbrev AreNames : List (List ℕ) → Type 0
+abbrev pub AreNames : List (List ℕ) → Type 0
 AreNames [] = Unit {0}
 AreNames (x ∷ xs) = NameIs x × AreNames xs
 
-are_names : (xs : List (List ℕ)) → All IsName xs → AreNames xs
+pub are_names : (xs : List (List ℕ)) → All IsName xs → AreNames xs
 are_names [] h = tt
 are_names (x ∷ xs) h = (name_is x (h 0 [] (omega arith)).named, are_names xs (λ k d lt. h (suc k) d (omega (arith, lt))))
 
 -- names, each behind a slash
-abbrev behind : List (List ℕ) → List ℕ
+abbrev pub behind : List (List ℕ) → List ℕ
 behind xs = flat_map (λ n. 47 ∷ n) xs
 
 -- ---- no zero
@@ -98,7 +98,7 @@ no_slashes [] h k d lt = absurd (omega (arith, lt))
 no_slashes (b ∷ bs) h zero d lt = no_slash b (and_parts (is_name_byte b) (list_all is_name_byte bs) h).0
 no_slashes (b ∷ bs) h (suc k) d lt = no_slashes bs (and_parts (is_name_byte b) (list_all is_name_byte bs) h).1 k d (omega (arith, lt))
 
-pieces-behind : (x : List ℕ) (xs : List (List ℕ)) → NameIs x → AreNames xs → pieces 47 (x ++ behind xs) ≡ x ∷ xs
+pub pieces-behind : (x : List ℕ) (xs : List (List ℕ)) → NameIs x → AreNames xs → pieces 47 (x ++ behind xs) ≡ x ∷ xs
 pieces-behind x [] f fs = rw (append-nil x) (slice_split_none (λ b. eqb b 47) x (no_slashes x f.bytes))
 pieces-behind x (m ∷ ms) f fs =
     slice_split_at (λ b. eqb b 47) x 47 (m ++ behind ms) (no_slashes x f.bytes) refl ∙ ap (λ (t : List (List ℕ)). x ∷ t) (pieces-behind m ms fs.0 fs.1)
@@ -107,7 +107,7 @@ name-nonempty : (x : List ℕ) → 0 < length x → is_nonempty x ≡ true
 name-nonempty [] some = absurd (omega arith)
 name-nonempty (b ∷ bs) some = nonempty-cons b bs
 
-filter-names : (xs : List (List ℕ)) → AreNames xs → filter is_nonempty xs ≡ xs
+pub filter-names : (xs : List (List ℕ)) → AreNames xs → filter is_nonempty xs ≡ xs
 filter-names [] h = refl
 filter-names (x ∷ xs) h = rw (name-nonempty x h.0.some) (ap (λ (t : List (List ℕ)). x ∷ t) (filter-names xs h.1))
 

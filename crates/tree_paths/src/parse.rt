@@ -1,25 +1,39 @@
 //! Pathnames as texts.
 
-ghost use Rattle.std.specs.Prelude.{◌≡◌, ◌∷◌, [], ◌≤◌, ◌<◌, true, false, IfOk, MatchResult, if◌then◌else◌, length, take, slice_index};
+ghost use Rattle.std.specs.Prelude.{◌≡◌, ◌+◌, ◌++◌, ◌∷◌, [], ◌≤◌, filter, ◌<◌, true, false, IfOk, MatchResult, if◌then◌else◌, length, take, slice_index};
 ghost use Rattle.std.specs.List.{list_any, list_all};
 ghost use Rattle.record_codec.specs.Names.{is_name_byte};
 ghost use Rattle.tree_paths.specs.declared.refusal.Refusal.TheVariants.{Einval, Enametoolong};
-ghost use Rattle.tree_paths.specs.Paths.{parsed, names_of, is_null, is_dots, is_long};
+ghost use Rattle.tree_paths.specs.Kept.{shape_of, slashed};
+ghost use Rattle.tree_paths.specs.Pieces.{is_nonempty};
+ghost use Rattle.tree_paths.specs.Paths.{parsed, names_of, is_null, is_dots, is_long, slash};
 
 use crate::Refusal;
-use record_codec::{NAME_MAX, Name};
+use record_codec::{NAME_IN_PLACE, NAME_MAX, Name};
 use std::alloc::{AllocError, Global};
 
 /// The bytes of a path's text with a zero byte behind it, as POSIX counts them.
 const PATH_MAX: usize = 4096;
 
-const SEPARATOR: u8 = b'/';
+/// What stands between names.
+pub(crate) const SEPARATOR: u8 = b'/';
 
-/// How many names a path's text has, or why the text is no path.
+/// What is asked of a path's text before its names are kept.
+#[derive(Clone, Copy)]
+pub(crate) struct Shape {
+    /// How many names it has.
+    pub(crate) count: usize,
+    /// How many bytes the names have with one slash before each.
+    pub(crate) len: usize,
+    /// Whether no name needs an allocation.
+    pub(crate) fits: bool,
+}
+
+/// The shape of a path's text, or why the text is no path.
 #[tactic(auto, unfolding(crate::specs::Paths::parsed))]
-pub(crate) fn count_of_names(text: &[u8]) -> Result<usize, Refusal>
-    ensures answer { MatchResult result (λ count. parsed text.now ≡ Ok (names_of text.now)) (λ refusal. parsed text.now ≡ Err refusal) }
-    ensures count { IfOk result (λ count. count ≡ length (names_of text.now)) }
+pub(crate) fn shape_of_text(text: &[u8]) -> Result<Shape, Refusal>
+    ensures answer { MatchResult result (λ shape. parsed text.now ≡ Ok (names_of text.now)) (λ refusal. parsed text.now ≡ Err refusal) }
+    ensures shape { IfOk result (λ shape. shape ≡ shape_of (names_of text.now)) }
 {
     if text.is_empty() {
         return Err(Refusal::Enoent);
@@ -33,16 +47,18 @@ pub(crate) fn count_of_names(text: &[u8]) -> Result<usize, Refusal>
     if 1 < text.len() && text[text.len() - 1] == SEPARATOR {
         return Err(Refusal::Einval);
     }
-    count_between(&text[1..])
+    shape_between(&text[1..])
 }
 
-/// How many names there are between slashes, or why they are no path's.
-fn count_between(text: &[u8]) -> Result<usize, Refusal>
-    ensures { result ≡ (if list_any is_null text.now then Err Einval else if list_any is_dots (names_of text.now) then Err Einval else if list_any is_long (names_of text.now) then Err Enametoolong else Ok (length (names_of text.now))) }
+/// The shape of names between slashes, or why they are no path's.
+fn shape_between(text: &[u8]) -> Result<Shape, Refusal>
+    ensures { result ≡ (if list_any is_null text.now then Err Einval else if list_any is_dots (names_of text.now) then Err Einval else if list_any is_long (names_of text.now) then Err Enametoolong else Ok (shape_of (names_of text.now))) }
 {
     let mut rest = text;
     let mut count = 0;
+    let mut bytes = 0;
     let mut has_long = false;
+    let mut fits = true;
     loop {
         let len = front_len(rest);
         let front = &rest[..len];
@@ -50,12 +66,15 @@ fn count_between(text: &[u8]) -> Result<usize, Refusal>
             return Err(Refusal::Einval);
         }
         count += usize::from(0 < len);
+        bytes += len;
         has_long |= NAME_MAX < len;
+        fits &= len <= NAME_IN_PLACE;
         if len == rest.len() {
             if has_long {
                 return Err(Refusal::Enametoolong);
             }
-            return Ok(count);
+            let len = count + bytes;
+            return Ok(Shape { count, len, fits });
         }
         if rest[len] != SEPARATOR {
             return Err(Refusal::Einval);
@@ -65,7 +84,7 @@ fn count_between(text: &[u8]) -> Result<usize, Refusal>
 }
 
 /// How many bytes stand before the first slash or zero byte.
-fn front_len(text: &[u8]) -> usize
+pub(crate) fn front_len(text: &[u8]) -> usize
     ensures within { result ≤ length text.now }
     ensures front { list_all is_name_byte (take result text.now) ≡ true }
     ensures end { result < length text.now → is_name_byte (slice_index text.now result) ≡ false }
@@ -86,22 +105,6 @@ fn has_dots(name: &[u8]) -> bool
     name == b".".as_slice() || name == b"..".as_slice()
 }
 
-/// The name of a path's text that has one. It takes no memory for a list of it.
-pub(crate) fn only_name(alloc: Global, text: &[u8]) -> Result<Name, AllocError>
-    requires path { parsed text.now ≡ Ok (names_of text.now) }
-    requires one { length (names_of text.now) ≡ 1 }
-    ensures { IfOk result (λ name. names_of text.now ≡ name ∷ []) }
-{
-    let mut rest = &text[1..];
-    loop {
-        let len = front_len(rest);
-        if 0 < len {
-            return Name::of(alloc, &rest[..len]);
-        }
-        rest = &rest[len + 1..];
-    }
-}
-
 /// The names of a path's text, in memory for `count` of them.
 pub(crate) fn names_in(alloc: Global, text: &[u8], count: usize) -> Result<Vec<Name>, AllocError>
     requires { parsed text.now ≡ Ok (names_of text.now) }
@@ -119,4 +122,44 @@ pub(crate) fn names_in(alloc: Global, text: &[u8], count: usize) -> Result<Vec<N
         }
         rest = &rest[len + 1..];
     }
+}
+
+/// Writes the names of a path's text to `out`, with one slash before each.
+pub(crate) fn squeeze(text: &[u8], out: &mut [u8])
+    requires path { parsed text.now ≡ Ok (names_of text.now) }
+    requires len { length out.old ≡ length (slashed (names_of text.now)) }
+    ensures { out.new ≡ slashed (names_of text.now) }
+{
+    let mut at = 0;
+    let mut rest = &text[1..];
+    loop {
+        let len = front_len(rest);
+        at = put_front(out, at, &rest[..len]);
+        if len == rest.len() {
+            return;
+        }
+        rest = &rest[len + 1..];
+    }
+}
+
+/// Writes a slash and a name at an index, unless there is no name, and returns the index behind them.
+fn put_front(out: &mut [u8], at: usize, name: &[u8]) -> usize
+    requires { at + length (slashed (filter is_nonempty (name.now ∷ []))) ≤ length out.old }
+    ensures end { result ≡ at + length (slashed (filter is_nonempty (name.now ∷ []))) }
+    ensures written { take result out.new ≡ take at out.old ++ slashed (filter is_nonempty (name.now ∷ [])) }
+{
+    if name.is_empty() {
+        return at;
+    }
+    put_name(out, at, name);
+    at + 1 + name.len()
+}
+
+/// Writes a slash and a name at an index.
+pub(crate) fn put_name(out: &mut [u8], at: usize, name: &[u8])
+    requires { at + 1 + length name.now ≤ length out.old }
+    ensures { take (at + 1 + length name.now) out.new ≡ take at out.old ++ slash ∷ name.now }
+{
+    out[at] = SEPARATOR;
+    out[at + 1..at + 1 + name.len()].copy_from_slice(name);
 }

@@ -1,22 +1,26 @@
 //! Paths from the root.
 
-ghost use Rattle.std.specs.Prelude.{◌≡◌, ◌⊎◌, ◌∷◌, ◌++◌, [], MatchOption, IfSome, IsSome, IfOk, IfErr, IsTrue, ◌-◌, ◌<◌, ◌↔◌, take, length};
+ghost use Rattle.std.specs.Prelude.{◌≡◌, ◌⊎◌, ◌∷◌, ◌++◌, [], MatchOption, IsSome, IfOk, IfErr, IsTrue, ◌-◌, ◌<◌, ◌↔◌, take, length};
 ghost use Rattle.std.specs.Prelude.{nat_eq};
 ghost use Rattle.std.proofs.Common.{rules};
 ghost use Rattle.std.specs.Cmp.Rules.{comparing};
 ghost use Rattle.std.specs.Cmp.{partial_order_from_own_ties};
 ghost use Rattle.std.specs.Cmp.Lexicographic.{pointwise, slice_cmp, lists_ties};
 ghost use Rattle.std.specs.Ordering.{as_partial_cmp, nat_cmp};
+ghost use Rattle.tree_paths.specs.Kept.{IsSlashed};
+ghost use Rattle.tree_paths.specs.Paths.{is_below, names_of};
 
 use crate::Refusal;
 use crate::kept::Kept;
-use crate::parse::count_of_names;
+use crate::left::PathNames;
+use crate::parse::{SEPARATOR, shape_of_text};
+use crate::path_name::PathName;
 use record_codec::Name;
-use std::alloc::Global;
+use std::alloc::{AllocError, Global};
 use std::cmp::Ordering;
 use std::marker::Model;
 
-/// A path from the root: its names. A path of one name takes no memory for a list of them.
+/// A path from the root: its names. A short one takes no allocation, and a longer one takes one, unless it has long names.
 #[derive(Debug)]
 pub struct Path {
     kept: Kept,
@@ -30,11 +34,13 @@ impl Drop for Path {
 
 impl Model for Path {
     ghost use Rattle.std.specs.Prelude.{ℕ, List};
-    ghost use Rattle.tree_paths.specs.Kept.{kept_names};
+    ghost use Rattle.tree_paths.specs.Kept.{kept_names, IsKept};
 
     ghost Value = { List (List ℕ) };
 
     ghost view = { λ path. kept_names path.kept };
+
+    ghost invariant = { λ path. IsKept path.kept };
 }
 
 impl PartialEq for Path {
@@ -46,7 +52,10 @@ impl PartialEq for Path {
         ensures value { result ≡ pointwise (pointwise nat_eq) self.now other.now }
         ensures same { IsTrue result ↔ (self.now ≡ other.now) }
     {
-        self.names() == other.names()
+        match (self.kept.text(), other.kept.text()) {
+            (Some(text), Some(other)) => text == other,
+            _ => are_same(self.names(), other.names()),
+        }
     }
 }
 
@@ -64,7 +73,7 @@ impl Ord for Path {
     ghost matches_eq = { lists_ties (slice_cmp nat_cmp) (lists_ties nat_cmp (λ x y. Prim.search (comparing, rules))) };
 
     fn cmp(&self, other: &Path) -> Ordering {
-        self.names().cmp(&other.names())
+        order(self.names(), other.names())
     }
 }
 
@@ -79,7 +88,7 @@ impl PartialOrd for Path {
 }
 
 impl Path {
-    ghost use Rattle.tree_paths.specs.Paths.{is_below, parsed};
+    ghost use Rattle.tree_paths.specs.Paths.{parsed};
     ghost use Rattle.tree_paths.specs.declared.refusal.Refusal.TheVariants.{Enomem};
 
     /// The path of a text. Several slashes together count as one.
@@ -90,43 +99,61 @@ impl Path {
         ensures err { IfErr result (λ refusal. (refusal ≡ Enomem) ⊎ (parsed text.now ≡ Err refusal)) }
         ensures refused { IfErr (parsed text.now) (λ refusal. result ≡ Err refusal) }
     {
-        let count = count_of_names(text)?;
+        let shape = shape_of_text(text)?;
         Ok(Path {
-            kept: Kept::of(alloc, text, count)?,
+            kept: Kept::of(alloc, text, shape)?,
         })
     }
 
-    /// The path of these names, the first one in the root. It takes no memory.
-    pub fn from_names(names: Vec<Name>) -> Path
-        ensures { result ≡ names.items }
+    /// The root's path.
+    pub fn root() -> Path
+        ensures { result ≡ [] }
     {
-        Path {
-            kept: Kept::Many(names),
-        }
+        Path { kept: Kept::root() }
     }
 
     /// The names, from the root on. The root's own path has none.
-    pub fn names(&self) -> &[Name]
-        ensures { result.now ≡ self.now }
+    pub fn names(&self) -> PathNames<'_>
+        ensures { result ≡ self.now }
     {
-        self.kept.names()
+        PathNames::of(self.kept.left())
     }
 
-    /// The names of the directory of the last name, and that name. `None` for the root.
-    pub fn parent_and_name(&self) -> Option<(&[Name], &Name)>
-        ensures parts { MatchOption result (self.now ≡ []) (λ parts. self.now ≡ parts.0.now ++ parts.1.now ∷ []) }
-        ensures parent { IfSome result (λ parts. parts.0.now ≡ take (length self.now - 1) self.now) }
+    /// The last name. `None` for the root.
+    pub fn last_name(&self) -> Option<PathName<'_>>
+        ensures parts { MatchOption result (self.now ≡ []) (λ name. self.now ≡ take (length self.now - 1) self.now ++ name ∷ []) }
         ensures some { IsSome result ↔ (0 < length self.now) }
     {
-        let (name, parent) = self.names().split_last()?;
-        Some((parent, name))
+        self.kept.last()
+    }
+
+    /// Whether it is the root's.
+    pub fn is_root(&self) -> bool
+        ensures { IsTrue result ↔ (self.now ≡ []) }
+    {
+        self.names().is_empty()
     }
 
     /// Whether the other path is a proper prefix of this one.
     pub fn is_below(&self, other: &Path) -> bool
         ensures { result ≡ is_below self.now other.now }
     {
-        other.names().len() < self.names().len() && self.names().starts_with(other.names())
+        match (self.kept.text(), other.kept.text()) {
+            (Some(text), Some(above)) => is_text_below(text, above),
+            _ => are_below(self.names(), other.names()),
+        }
+    }
+
+    /// The path with one more name.
+    ///
+    /// # Errors
+    /// `AllocError`, where there is no memory for it.
+    pub fn child(&self, alloc: Global, name: &Name) -> Result<Path, AllocError>
+        ensures { IfOk result (λ path. path ≡ self.now ++ name.now ∷ []) }
+    {
+        Ok(Path {
+            kept: self.kept.child(alloc, name)?,
+        })
     }
 
     /// The same path once more. `Err` is want of memory.
@@ -138,4 +165,79 @@ impl Path {
             kept: self.kept.copy()?,
         })
     }
+}
+
+// Whether the names are the same.
+fn are_same(names: PathNames, other: PathNames) -> bool
+    ensures { result ≡ pointwise (pointwise nat_eq) names.entry other.entry }
+{
+    let mut names = names;
+    let mut other = other;
+    loop {
+        let Some(name) = names.next() else {
+            return other.is_empty();
+        };
+        match other.next() {
+            Some(other) if name.as_name() == other.as_name() => {}
+            _ => return false,
+        }
+    }
+}
+
+// The order of names, one by one.
+fn order(names: PathNames, other: PathNames) -> Ordering
+    ensures { result ≡ slice_cmp (slice_cmp nat_cmp) names.entry other.entry }
+{
+    let mut names = names;
+    let mut other = other;
+    loop {
+        let Some(name) = names.next() else {
+            return if other.is_empty() {
+                Ordering::Equal
+            } else {
+                Ordering::Less
+            };
+        };
+        let Some(other_name) = other.next() else {
+            return Ordering::Greater;
+        };
+        match name.as_name().cmp(other_name.as_name()) {
+            Ordering::Equal => {}
+            unequal => return unequal,
+        }
+    }
+}
+
+// Whether the other names are a proper front of these.
+fn are_below(names: PathNames, above: PathNames) -> bool
+    ensures { result ≡ is_below names.entry above.entry }
+{
+    let mut names = names;
+    let mut above = above;
+    loop {
+        let Some(front) = above.next() else {
+            return !names.is_empty();
+        };
+        let Some(name) = names.next() else {
+            return false;
+        };
+        if name.as_name() != front.as_name() {
+            return false;
+        }
+    }
+}
+
+// Whether the other text is a proper front of this one, up to a slash.
+fn is_text_below(text: &[u8], above: &[u8]) -> bool
+    requires slashed { IsSlashed text.now }
+    requires above { IsSlashed above.now }
+    ensures { result ≡ is_below (names_of text.now) (names_of above.now) }
+{
+    if text.len() <= above.len() {
+        return false;
+    }
+    if text[above.len()] != SEPARATOR {
+        return false;
+    }
+    text.starts_with(above)
 }

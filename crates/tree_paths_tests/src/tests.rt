@@ -24,6 +24,29 @@ fn name(alloc: Global, bytes: &[u8]) -> Result<Name, Fail> {
     }
 }
 
+/// Whether these are the bytes of the names of a path, in order.
+fn has_names(path: &Path, bytes: &[&[u8]]) -> bool {
+    let mut names = path.names();
+    for bytes in bytes {
+        match names.next() {
+            Some(name) if name.as_name().bytes() == *bytes => {}
+            _ => return false,
+        }
+    }
+    names.is_empty()
+}
+
+/// How many names a path has, up to 4,096.
+fn count_of_names(path: &Path) -> usize {
+    let mut names = path.names();
+    for count in 0..4096 {
+        if names.next().is_none() {
+            return count;
+        }
+    }
+    4096
+}
+
 /// Whether these are the bytes of the names, in order.
 fn are(names: &[Name], bytes: &[&[u8]]) -> bool {
     names.len() == bytes.len()
@@ -74,33 +97,33 @@ fn paths_of_texts(rt: HostRuntime) -> Result<(), Fail> {
     let alloc = rt.alloc();
     holds(
         &rt,
-        "are(Path::parse(alloc, b'/')?.names(), &[])",
-        are(Path::parse(alloc, b"/")?.names(), &[]),
+        "has_names(&Path::parse(alloc, b'/')?, &[])",
+        has_names(&Path::parse(alloc, b"/")?, &[]),
     );
     holds(
         &rt,
-        "are(Path::parse(alloc, b'/a/b')?.names(), &[b'a', b'b'])",
-        are(Path::parse(alloc, b"/a/b")?.names(), &[b"a", b"b"]),
+        "has_names(&Path::parse(alloc, b'/a/b')?, &[b'a', b'b'])",
+        has_names(&Path::parse(alloc, b"/a/b")?, &[b"a", b"b"]),
     );
     holds(
         &rt,
-        "are(Path::parse(alloc, b'/a//b')?.names(), &[b'a', b'b'])",
-        are(Path::parse(alloc, b"/a//b")?.names(), &[b"a", b"b"]),
+        "has_names(&Path::parse(alloc, b'/a//b')?, &[b'a', b'b'])",
+        has_names(&Path::parse(alloc, b"/a//b")?, &[b"a", b"b"]),
     );
     holds(
         &rt,
-        "are(Path::parse(alloc, b'///a')?.names(), &[b'a'])",
-        are(Path::parse(alloc, b"///a")?.names(), &[b"a"]),
+        "has_names(&Path::parse(alloc, b'///a')?, &[b'a'])",
+        has_names(&Path::parse(alloc, b"///a")?, &[b"a"]),
     );
     holds(
         &rt,
-        "are(Path::parse(alloc, b'/..x/...')?.names(), &[b'..x', b'...'])",
-        are(Path::parse(alloc, b"/..x/...")?.names(), &[b"..x", b"..."]),
+        "has_names(&Path::parse(alloc, b'/..x/...')?, &[b'..x', b'...'])",
+        has_names(&Path::parse(alloc, b"/..x/...")?, &[b"..x", b"..."]),
     );
     holds(
         &rt,
-        "are(Path::parse(alloc, b'/ \\xff')?.names(), &[b' \\xff'])",
-        are(Path::parse(alloc, b"/ \xff")?.names(), &[b" \xff"]),
+        "has_names(&Path::parse(alloc, b'/ \\xff')?, &[b' \\xff'])",
+        has_names(&Path::parse(alloc, b"/ \xff")?, &[b" \xff"]),
     );
     Ok(())
 }
@@ -143,7 +166,7 @@ fn longest_texts(rt: HostRuntime) -> Result<(), Fail> {
     );
     text[4094] = b'b';
     text.truncate(4095);
-    equal(&rt, Path::parse(alloc, &text)?.names().len(), 2047);
+    equal(&rt, count_of_names(&Path::parse(alloc, &text)?), 2047);
     Ok(())
 }
 
@@ -154,8 +177,8 @@ fn longest_names(rt: HostRuntime) -> Result<(), Fail> {
     text[0] = b'/';
     holds(
         &rt,
-        "are(Path::parse(alloc, &text[..256])?.names(), &[&text[1..256]])",
-        are(Path::parse(alloc, &text[..256])?.names(), &[&text[1..256]]),
+        "has_names(&Path::parse(alloc, &text[..256])?, &[&text[1..256]])",
+        has_names(&Path::parse(alloc, &text[..256])?, &[&text[1..256]]),
     );
     equal(
         &rt,
@@ -170,23 +193,16 @@ fn longest_names(rt: HostRuntime) -> Result<(), Fail> {
 #[test]
 fn parts_of_paths(rt: HostRuntime) -> Result<(), Fail> {
     let alloc = rt.alloc();
-    let root = Path::from_names(Vec::new(alloc));
+    let root = Path::root();
     let above = Path::parse(alloc, b"/a/b")?;
     let below = Path::parse(alloc, b"/a/b/c")?;
     holds(
         &rt,
-        "root.parent_and_name().is_none()",
-        root.parent_and_name().is_none(),
+        "root.last_name().is_none() && root.is_root()",
+        root.last_name().is_none() && root.is_root(),
     );
-    match below.parent_and_name() {
-        Some((parent, name)) => {
-            holds(
-                &rt,
-                "are(parent, &[b'a', b'b'])",
-                are(parent, &[b"a", b"b"]),
-            );
-            equal(&rt, name.bytes(), b"c".as_slice());
-        }
+    match below.last_name() {
+        Some(name) => equal(&rt, name.as_name().bytes(), b"c".as_slice()),
         None => return Err(Fail::new("no name")),
     }
     holds(
@@ -220,6 +236,58 @@ fn parts_of_paths(rt: HostRuntime) -> Result<(), Fail> {
         "root < above && above < below",
         root < above && above < below,
     );
+    Ok(())
+}
+
+/// A path's text of names of these lengths.
+fn text_of(alloc: Global, lens: &[usize]) -> Result<Vec<u8>, AllocError> {
+    let mut text = Vec::new(alloc);
+    for len in lens {
+        text.push(b'/')?;
+        for _ in 0..*len {
+            text.push(b'n')?;
+        }
+    }
+    Ok(text)
+}
+
+/// Whether the path of a text has names of these lengths, and is what comes of one name after another from the root on.
+fn is_path_of(alloc: Global, text: &[u8], lens: &[usize]) -> Result<bool, Fail> {
+    let path = Path::parse(alloc, text)?;
+    let mut names = path.names();
+    let mut built = Path::root();
+    for len in lens {
+        match names.next() {
+            Some(name) if name.as_name().bytes().len() == *len => {
+                built = built.child(alloc, name.as_name())?;
+            }
+            _ => return Ok(false),
+        }
+    }
+    Ok(names.is_empty() && built == path && path.copy()? == path)
+}
+
+#[test]
+fn paths_of_every_shape(rt: HostRuntime) -> Result<(), Fail> {
+    let alloc = rt.alloc();
+    let shapes: [&[usize]; 9] = [
+        &[29],
+        &[30],
+        &[31],
+        &[32],
+        &[255],
+        &[14, 14],
+        &[14, 15],
+        &[3, 31, 2, 1, 8, 5],
+        &[3, 32, 2, 1, 8, 5],
+    ];
+    for lens in shapes {
+        let text = text_of(alloc, lens)?;
+        assert!(rt; is_path_of(alloc, &text, lens)?, "{lens:?}");
+        let mut doubled = vec![in alloc; b'/']?;
+        doubled.extend_from_slice(&text)?;
+        assert!(rt; is_path_of(alloc, &doubled, lens)?, "doubled {lens:?}");
+    }
     Ok(())
 }
 

@@ -4,7 +4,8 @@ use Rattle.std.specs.Prelude.{ℤ, option_map}
 use Rattle.std.specs.BTreeMap as tree
 use Rattle.std.specs.Cmp.{IsTotalOrder, int_cmp_total, nat_cmp_total}
 use Rattle.std.specs.FinMap as finmap
-use Rattle.std.specs.FinMap.{FinMap, IsAntisymmetric, entries, entries-from_sorted, from_sorted, get-from_sorted, int_cmp-IsAntisymmetric, nat_cmp-IsAntisymmetric, same_map}
+use Rattle.std.specs.FinMap.{FinMap, IsAntisymmetric, entries, entries-from_sorted, from_sorted, get-from_sorted}
+use Rattle.std.specs.FinMap.{int_cmp-IsAntisymmetric, nat_cmp-IsAntisymmetric, same_map}
 use Rattle.std.specs.FinMap.Entries.{below_all, find, is_sorted}
 use Rattle.std.specs.List.{AllByRecursion}
 use Rattle.std.specs.List.Sorted.{IsStrictlySortedBy}
@@ -37,7 +38,8 @@ module _ {K X Y : Type 0} (R : K → K → Ordering) (f : K × Y → X) where
   in_order (e ∷ es) h = both _ _ (all_below e.0 es (sorted_head R e.0 (keys_of es) h)) (in_order es (sorted_tail R e.0 (keys_of es) h))
 
 -- entries in order that are found as in a map are its entries
-entries-of : {K X : Type 0} {R : K → K → Ordering} → IsTotalOrder R → IsAntisymmetric R → (es : List (K × X)) → T (is_sorted R es) → (m : FinMap R X) → ((q : K) → find R q es ≡ finmap.get m q) → es ≡ entries m
+entries-of : {K X : Type 0} {R : K → K → Ordering} → IsTotalOrder R → IsAntisymmetric R → (es : List (K × X))
+    → T (is_sorted R es) → (m : FinMap R X) → ((q : K) → find R q es ≡ finmap.get m q) → es ≡ entries m
 entries-of {R = R} o exact es sorted m is =
     sym (entries-from_sorted R es sorted) ∙ ap entries (same_map o exact (from_sorted es) m (λ q. get-from_sorted R es q sorted ∙ is q))
 
@@ -48,12 +50,16 @@ module _ (a : Inside) (whole : IsIndexed a) where
   abbrev value : ℤ × ℕ → ℕ × ℕ
   value e = (e.1, bits_in (watch_of w e.1))
 
-  found : (es : List (ℤ × ℕ)) (q : ℤ) → find int_cmp q (map (λ e. (e.0, value e)) es) ≡ option_map (λ n. (n, bits_in (watch_of w n))) (lookup (tree.is_at (int_cmp q)) es)
+  found : (es : List (ℤ × ℕ)) (q : ℤ)
+      → find int_cmp q (map (λ e. (e.0, value e)) es)
+      ≡ option_map (λ n. (n, bits_in (watch_of w n))) (lookup (tree.is_at (int_cmp q)) es)
   found [] q = refl
   found (e ∷ es) q =
       ap (cond (is_eq (int_cmp q e.0)) (Some (value e))) (found es q) ∙ by (is_eq (int_cmp q e.0))
     where
-      by : (b : Bool) → cond b (Some (value e)) (option_map (λ n. (n, bits_in (watch_of w n))) (lookup (tree.is_at (int_cmp q)) es)) ≡ option_map (λ n. (n, bits_in (watch_of w n))) (cond b (Some e.1) (lookup (tree.is_at (int_cmp q)) es))
+      by : (b : Bool)
+          → cond b (Some (value e)) (option_map (λ n. (n, bits_in (watch_of w n))) (lookup (tree.is_at (int_cmp q)) es))
+          ≡ option_map (λ n. (n, bits_in (watch_of w n))) (cond b (Some e.1) (lookup (tree.is_at (int_cmp q)) es))
       by true = refl
       by false = refl
 
@@ -67,7 +73,9 @@ module _ (a : Inside) (whole : IsIndexed a) where
 
   got : (q : ℤ) (o : Option ℕ) → tree.get int_cmp a.by_wd q ≡ o → option_map (λ n. (n, bits_in (watch_of w n))) o ≡ finmap.get (by_wd w) q
   got q (Some n) is =
-      sym (turned-there nat_cmp_total nat_cmp-IsAntisymmetric int_cmp_total int_cmp-IsAntisymmetric w.watches apart q n (bits_in (watch_of w n)) (known (watch_of w n) q (whole.watched n q is)))
+      sym
+      (turned-there nat_cmp_total nat_cmp-IsAntisymmetric int_cmp_total int_cmp-IsAntisymmetric w.watches apart q n
+      (bits_in (watch_of w n)) (known (watch_of w n) q (whole.watched n q is)))
   got q None is = by (finmap.get (by_wd w) q) refl
     where
       by : (r : Option (ℕ × ℕ)) → finmap.get (by_wd w) q ≡ r → None ≡ r
@@ -81,5 +89,7 @@ module _ (a : Inside) (whole : IsIndexed a) where
   unfolding watch_rows
   rows-by_wd ordered =
       let es = map (λ e. (e.0, value e)) a.by_wd.entries in
-      let same : es ≡ entries (by_wd w) = entries-of int_cmp_total int_cmp-IsAntisymmetric es (in_order int_cmp value a.by_wd.entries ordered) (by_wd w) (λ q. found a.by_wd.entries q ∙ got q (tree.get int_cmp a.by_wd q) refl) in
+      let same : es ≡ entries (by_wd w) =
+      entries-of int_cmp_total int_cmp-IsAntisymmetric es (in_order int_cmp value a.by_wd.entries ordered) (by_wd w)
+      (λ q. found a.by_wd.entries q ∙ got q (tree.get int_cmp a.by_wd q) refl) in
       sym (map-map (λ e. (e.1.0, e.0, e.1.1)) (λ e. (e.0, value e)) a.by_wd.entries) ∙ ap (map (λ e. (e.1.0, e.0, e.1.1))) same

@@ -3,8 +3,12 @@ use Rattle.std.proofs.Common.{◌≡◌, ◌≢◌, ◌⊎◌, ℕ, Bool, true, 
 use Rattle.std.specs.Prelude.{ℤ, pos, ◌≤ℤ◌, ◌<ℤ◌, option_map}
 use Rattle.std.proofs.lemmas.Int.{ints}
 use Rattle.watch_table.specs.Masks.{stored}
-use Rattle.watch_table.specs.Watching.{HasEnded, IsSound, Watch, Watching, added, add_refusal, dropped, is_barred, is_full, next_bits, watched_by, removed, watch_of, wd_of, with_bits, with_new_watch, without}
-use Rattle.watch_table.proofs.Watched.{added-new, added-watched, dropped-IsSound, kept-IsSound, new-IsSound, watched_by-none, watched_by-some, watched_by-unwatched, refused_as_barred, refused_as_full, room_of, some_none, wd_of-dropped, wd_of-kept, wd_of-new}
+use Rattle.watch_table.specs.Watching.{HasEnded, IsSound, Watch, Watching, added, add_refusal, dropped, is_barred}
+use Rattle.watch_table.specs.Watching.{is_full, next_bits, watched_by, removed, watch_of, wd_of, with_bits}
+use Rattle.watch_table.specs.Watching.{with_new_watch, without}
+use Rattle.watch_table.proofs.Watched.{added-new, added-watched, dropped-IsSound, kept-IsSound, new-IsSound}
+use Rattle.watch_table.proofs.Watched.{watched_by-none, watched_by-some, watched_by-unwatched, refused_as_barred}
+use Rattle.watch_table.proofs.Watched.{refused_as_full, room_of, some_none, wd_of-dropped, wd_of-kept, wd_of-new}
 
 -- the watch of a file, or none
 watched_or_not : (o : Option Watch) → ((watch : Watch) × (o ≡ Some watch)) ⊎ (o ≡ None)
@@ -16,7 +20,7 @@ test true = inl refl
 test false = inr refl
 
 module _ (w : Watching) (number mask : ℕ) (is_directory : Bool) where
-  -- a new watch is not refused only where there is room
+  -- a new watch is accepted only if the table is not full
   room_accepted : add_refusal w number mask is_directory ≡ None → wd_of w number ≡ None → is_full w ≡ false
   room_accepted accepted none =
       elim (test (is_barred mask is_directory)) [
@@ -31,7 +35,8 @@ module _ (w : Watching) (number mask : ℕ) (is_directory : Bool) where
   added-IsSound sound accepted =
       elim (watched_or_not (watch_of w number)) [
         | inl found ↦
-            subst IsSound (sym (added-watched w number mask found.0 found.1)) (kept-IsSound w number found.0.0 (next_bits mask found.0.1) sound found.0 found.1 refl)
+            subst IsSound (sym (added-watched w number mask found.0 found.1))
+            (kept-IsSound w number found.0.0 (next_bits mask found.0.1) sound found.0 found.1 refl)
         | inr none ↦
             let unwatched : wd_of w number ≡ None = ap (option_map (λ (x : Watch). x.0)) none in
             let room = room_of w (room_accepted accepted unwatched) in

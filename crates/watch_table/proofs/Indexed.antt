@@ -14,7 +14,9 @@ use Rattle.watch_table.specs.declared.watches.Watches.TheInside.{Inside}
 use Rattle.watch_table.specs.Watching.{Watch, Watching, IsSound, dropped, watched_by, watch_of, wd_of, with_bits, with_new_watch}
 use Rattle.watch_table.specs.Index.{IsIndexed, watching_of}
 use Rattle.watch_table.proofs.Maps.{tie, from_map-insert, from_map-remove}
-use Rattle.watch_table.proofs.Watched.{no_watches-IsSound, watched_by-by, some_none, same_some, wd_of-dropped, wd_of-dropped_other, dropped-IsSound, kept-IsSound, wd_of-kept, new-IsSound, wd_of-new, new-apart, wd_of-put_here, wd_of-put_other}
+use Rattle.watch_table.proofs.Watched.{no_watches-IsSound, watched_by-by, some_none, same_some, wd_of-dropped}
+use Rattle.watch_table.proofs.Watched.{wd_of-dropped_other, dropped-IsSound, kept-IsSound, wd_of-kept, new-IsSound}
+use Rattle.watch_table.proofs.Watched.{wd_of-new, new-apart, wd_of-put_here, wd_of-put_other}
 
 pub no_watches-IsIndexed : (limits : Limits) (alloc : Global) (m : BTreeMap ℕ Watch) (n : BTreeMap ℤ ℕ) → tree.IsEmpty m → tree.IsEmpty n
     → IsIndexed (record { alloc = alloc; by_number = m; by_wd = n; next_wd = 1; most_watches = limits.watches; last_wd = limits.wds })
@@ -22,7 +24,10 @@ no_watches-IsIndexed limits alloc m n e f =
     let opened : map.FinMap nat_cmp Watch → Watching = λ x. record { watches = x; next_wd = 1; most_watches = limits.watches; last_wd = limits.wds } in
     let same : map.empty ≡ from_entries {R = nat_cmp} m.entries = ap (λ es. from_entries {R = nat_cmp} es) (sym e) in
     let sound : IsSound (opened (from_entries m.entries)) = subst (λ x. IsSound (opened x)) same (no_watches-IsSound limits) in
-    let unwatched : (number : ℕ) → wd_of (opened (from_entries m.entries)) number ≡ None = λ number. ap (λ x. wd_of (opened x) number) (sym same) ∙ ap (option_map (λ (watch : Watch). watch.0)) (map.get-empty nat_cmp number) in
+    let unwatched : (number : ℕ) → wd_of (opened (from_entries m.entries)) number ≡ None =
+    λ number.
+    ap (λ x. wd_of (opened x) number) (sym same)
+    ∙ ap (option_map (λ (watch : Watch). watch.0)) (map.get-empty nat_cmp number) in
     record {
       sound = sound;
       watched = λ number wd h. absurd (some_none (ap (lookup (λ k. is_eq (int_cmp wd k))) f) h);
@@ -50,15 +55,17 @@ module _ (a : Inside) (whole : IsIndexed a) where
         | Some number ↦ λ e. absurd (new-apart (watching_of a) whole.sound number (pos a.next_wd) (whole.watched number (pos a.next_wd) e) refl)
       ] refl
 
-  -- the map from descriptors tells the file of each
+  -- the map from descriptors has the file of each
   pub watched_by-got : (wd : ℤ) → watched_by (watching_of a) wd ≡ tree.get int_cmp a.by_wd wd
   watched_by-got wd = watched_by-by (watching_of a) wd (tree.get int_cmp a.by_wd wd) (λ n. whole.watched n wd) (λ n. whole.indexed n wd)
 
   -- maps with the same entries
-  pub IsIndexed-same : (m : BTreeMap ℕ Watch) (n : BTreeMap ℤ ℕ) → m.entries ≡ a.by_number.entries → ((wd : ℤ) → tree.get int_cmp n wd ≡ tree.get int_cmp a.by_wd wd)
+  pub IsIndexed-same : (m : BTreeMap ℕ Watch) (n : BTreeMap ℤ ℕ) → m.entries ≡ a.by_number.entries
+      → ((wd : ℤ) → tree.get int_cmp n wd ≡ tree.get int_cmp a.by_wd wd)
       → IsIndexed (record a { by_number = m; by_wd = n })
   IsIndexed-same m n e got =
-      let same : watching_of a ≡ watching_of (record a { by_number = m; by_wd = n }) = ap (λ es. record (watching_of a) { watches = from_entries es }) (sym e) in
+      let same : watching_of a ≡ watching_of (record a { by_number = m; by_wd = n }) =
+      ap (λ es. record (watching_of a) { watches = from_entries es }) (sym e) in
       record {
         sound = subst IsSound same whole.sound;
         watched = λ number wd h. subst (λ x. wd_of x number ≡ Some wd) same (whole.watched number wd (sym (got wd) ∙ h));
@@ -66,7 +73,8 @@ module _ (a : Inside) (whole : IsIndexed a) where
       }
 
   -- a descriptor that is put in and taken out again
-  pub put_back : (n k : BTreeMap ℤ ℕ) (number : ℕ) → tree.Updates int_cmp a.by_wd n (pos a.next_wd) (Some number) → tree.Updates int_cmp n k (pos a.next_wd) None
+  pub put_back : (n k : BTreeMap ℤ ℕ) (number : ℕ) → tree.Updates int_cmp a.by_wd n (pos a.next_wd) (Some number)
+      → tree.Updates int_cmp n k (pos a.next_wd) None
       → (wd : ℤ) → tree.get int_cmp k wd ≡ tree.get int_cmp a.by_wd wd
   put_back n k number put back wd =
       elim (same_wd wd (pos a.next_wd)) [
@@ -79,8 +87,11 @@ module _ (a : Inside) (whole : IsIndexed a) where
     abbrev with_new : Inside
     with_new = record a { by_number = m; by_wd = n; next_wd = a.next_wd + 1 }
 
-    pub watching_of-new : tree.Updates nat_cmp a.by_number m number (Some (pos a.next_wd, bits)) → watching_of with_new ≡ with_new_watch (watching_of a) number bits
-    watching_of-new put = ap (λ x. record (watching_of a) { watches = x; next_wd = a.next_wd + 1 }) (from_map-insert a.by_number m number (pos a.next_wd, bits) put)
+    pub watching_of-new : tree.Updates nat_cmp a.by_number m number (Some (pos a.next_wd, bits))
+        → watching_of with_new ≡ with_new_watch (watching_of a) number bits
+    watching_of-new put =
+        ap (λ x. record (watching_of a) { watches = x; next_wd = a.next_wd + 1 })
+        (from_map-insert a.by_number m number (pos a.next_wd, bits) put)
 
     pub IsIndexed-new : tree.Updates nat_cmp a.by_number m number (Some (pos a.next_wd, bits)) → tree.Updates int_cmp a.by_wd n (pos a.next_wd) (Some number)
         → watch_of (watching_of a) number ≡ None → map.len (watching_of a).watches < a.most_watches → a.next_wd ≤ a.last_wd → IsIndexed with_new
@@ -109,14 +120,18 @@ module _ (a : Inside) (whole : IsIndexed a) where
     abbrev with_other : Inside
     with_other = record a { by_number = m }
 
-    pub watching_of-bits : tree.Updates nat_cmp a.by_number m number (Some (watch.0, bits)) → watching_of with_other ≡ with_bits (watching_of a) number watch.0 bits
+    pub watching_of-bits : tree.Updates nat_cmp a.by_number m number (Some (watch.0, bits))
+        → watching_of with_other ≡ with_bits (watching_of a) number watch.0 bits
     watching_of-bits put = ap (λ x. record (watching_of a) { watches = x }) (from_map-insert a.by_number m number (watch.0, bits) put)
 
     pub IsIndexed-bits : tree.Updates nat_cmp a.by_number m number (Some (watch.0, bits)) → watch_of (watching_of a) number ≡ Some watch → IsIndexed with_other
     IsIndexed-bits put was =
         let w : Watching = watching_of a in
         let same = watching_of-bits put in
-        let stays : (q : ℕ) → wd_of (watching_of with_other) q ≡ wd_of w q = λ q. ap (λ x. wd_of x q) same ∙ wd_of-kept w number watch.0 bits (ap (option_map (λ (x : Watch). x.0)) was) q in
+        let stays : (q : ℕ) → wd_of (watching_of with_other) q ≡ wd_of w q =
+        λ q.
+        ap (λ x. wd_of x q) same
+        ∙ wd_of-kept w number watch.0 bits (ap (option_map (λ (x : Watch). x.0)) was) q in
         record {
           sound = subst IsSound (sym same) (kept-IsSound w number watch.0 bits whole.sound watch was refl);
           watched = λ q wd h. stays q ∙ whole.watched q wd h;
@@ -132,7 +147,8 @@ module _ (a : Inside) (whole : IsIndexed a) where
     unfolding dropped
     watching_of-dropped taken = ap (λ x. record (watching_of a) { watches = x }) (from_map-remove a.by_number m number taken)
 
-    pub IsIndexed-dropped : tree.Updates nat_cmp a.by_number m number None → tree.Updates int_cmp a.by_wd n wd None → wd_of (watching_of a) number ≡ Some wd → IsIndexed without_file
+    pub IsIndexed-dropped : tree.Updates nat_cmp a.by_number m number None → tree.Updates int_cmp a.by_wd n wd None
+        → wd_of (watching_of a) number ≡ Some wd → IsIndexed without_file
     IsIndexed-dropped taken taken_wd was =
         let w : Watching = watching_of a in
         let same = watching_of-dropped taken in
@@ -146,5 +162,7 @@ module _ (a : Inside) (whole : IsIndexed a) where
           ];
           indexed = λ q v h.
               let there = wd_of-dropped w number q v (sym (ap (λ x. wd_of x q) same) ∙ h) in
-              got_other a.by_wd n wd None taken_wd v (λ is. there.0 (whole.sound.apart q number v there.1 (was ∙ ap Some (sym is)))) ∙ whole.indexed q v there.1;
+              got_other a.by_wd n wd None taken_wd v (λ is.
+              there.0 (whole.sound.apart q number v there.1 (was ∙ ap Some (sym is))))
+              ∙ whole.indexed q v there.1;
         }

@@ -3,7 +3,9 @@ use Rattle.std.proofs.Common.{◌≡◌, ◌≢◌, ◌⊎◌, ℕ, Bool, true, 
 use Rattle.std.specs.BTreeMap as tree
 use Rattle.std.specs.BTreeMap.{BTreeMap}
 use Rattle.std.specs.FinMap as finmap
-use Rattle.std.specs.FinMap.{FinMap, IsAntisymmetric, find, is_sorted, entries, from_entries, from_sorted, get-from_entries, get-from_sorted, get-insert, get-remove, len-entries, entries-from_sorted, same_map, nat_cmp-IsAntisymmetric}
+use Rattle.std.specs.FinMap.{FinMap, IsAntisymmetric, find, is_sorted, entries, from_entries, from_sorted}
+use Rattle.std.specs.FinMap.{get-from_entries, get-from_sorted, get-insert, get-remove, len-entries}
+use Rattle.std.specs.FinMap.{entries-from_sorted, same_map, nat_cmp-IsAntisymmetric}
 use Rattle.std.specs.FinMap.Entries.{below_all}
 use Rattle.std.specs.Map.{lookup, keys_of}
 use Rattle.std.specs.List.{AllByRecursion}
@@ -61,13 +63,15 @@ module _ {X : Type 0} where
   pub get-from_map : (m : BTreeMap ℕ X) (q : ℕ) → finmap.get (from_entries {R = nat_cmp} m.entries) q ≡ tree.get nat_cmp m q
   get-from_map m q = get-from_entries nat_cmp_total m.entries q ∙ find-lookup m.entries q
 
-  pub from_map-insert : (m n : BTreeMap ℕ X) (k : ℕ) (v : X) → tree.Updates nat_cmp m n k (Some v) → from_entries {R = nat_cmp} n.entries ≡ finmap.insert (from_entries m.entries) k v
+  pub from_map-insert : (m n : BTreeMap ℕ X) (k : ℕ) (v : X) → tree.Updates nat_cmp m n k (Some v)
+      → from_entries {R = nat_cmp} n.entries ≡ finmap.insert (from_entries m.entries) k v
   from_map-insert m n k v h =
       same_map nat_cmp_total nat_cmp-IsAntisymmetric _ _ (λ q.
       get-from_map n q ∙ h.0 q ∙ ap (λ b. cond b (Some v) (tree.get nat_cmp m q)) ((eq_by_cmp_equiv nat_cmp_total).symm k q)
       ∙ ap (cond (eq_by_cmp nat_cmp q k) (Some v)) (sym (get-from_map m q)) ∙ sym (get-insert nat_cmp_total (from_entries m.entries) k v q))
 
-  pub from_map-remove : (m n : BTreeMap ℕ X) (k : ℕ) → tree.Updates nat_cmp m n k None → from_entries {R = nat_cmp} n.entries ≡ finmap.remove (from_entries m.entries) k
+  pub from_map-remove : (m n : BTreeMap ℕ X) (k : ℕ) → tree.Updates nat_cmp m n k None
+      → from_entries {R = nat_cmp} n.entries ≡ finmap.remove (from_entries m.entries) k
   from_map-remove m n k h =
       same_map nat_cmp_total nat_cmp-IsAntisymmetric _ _ (λ q.
       get-from_map n q ∙ h.0 q ∙ ap (λ b. cond b None (tree.get nat_cmp m q)) ((eq_by_cmp_equiv nat_cmp_total).symm k q)
@@ -83,7 +87,12 @@ module _ {X : Type 0} where
 
   pub entries-from_map : (m : BTreeMap ℕ X) → tree.IsOrdered nat_cmp m → entries (from_entries {R = nat_cmp} m.entries) ≡ m.entries
   entries-from_map m h =
-      let same : from_entries {R = nat_cmp} m.entries ≡ from_sorted m.entries = same_map nat_cmp_total nat_cmp-IsAntisymmetric _ _ (λ q. get-from_entries nat_cmp_total m.entries q ∙ sym (get-from_sorted nat_cmp m.entries q (in_order m.entries h))) in
+      let same : from_entries {R = nat_cmp} m.entries ≡ from_sorted m.entries =
+      same_map nat_cmp_total nat_cmp-IsAntisymmetric _ _
+      (λ q.
+      get-from_entries nat_cmp_total m.entries q
+      ∙ sym (get-from_sorted nat_cmp m.entries q (in_order m.entries h)))
+      in
       ap entries same ∙ entries-from_sorted nat_cmp m.entries (in_order m.entries h)
 
   pub len-from_map : (m : BTreeMap ℕ X) → tree.IsOrdered nat_cmp m → finmap.len (from_entries {R = nat_cmp} m.entries) ≡ tree.btree_map_len m

@@ -99,7 +99,8 @@ module _ {K X : Type 0} {R : K → K → Ordering} (o : IsTotalOrder R) (exact :
 pub some-pair : {A B : Type 0} (a c : A) (b d : B) → ◌≡◌ {A = Option (A × B)} (Some (a, b)) (Some (c, d)) → ◌≡◌ {A = A × B} (a, b) (c, d)
 some-pair a c b d e = cc
 
-module _ {K L X : Type 0} {R : K → K → Ordering} {S : L → L → Ordering} (o : IsTotalOrder R) (exact : IsAntisymmetric R) (p : IsTotalOrder S) (only : IsAntisymmetric S) where
+module _ {K L X : Type 0} {R : K → K → Ordering} {S : L → L → Ordering} (o : IsTotalOrder R) (exact : IsAntisymmetric R)
+    (p : IsTotalOrder S) (only : IsAntisymmetric S) where
   abbrev turned : FinMap R (L × X) → FinMap S (K × X)
   turned m = finmap.from_entries (map (λ e. (e.1.0, (e.0, e.1.1))) (finmap.entries m))
 
@@ -136,7 +137,8 @@ module _ {K L X : Type 0} {R : K → K → Ordering} {S : L → L → Ordering} 
           let values = some-pair l l y x (sym was ∙ ap (finmap.get m) same ∙ e) in
           λ i. Some (same i, (values i).1)
 
-module _ {K L X : Type 0} {R : K → K → Ordering} {S : L → L → Ordering} (o : IsTotalOrder R) (exact : IsAntisymmetric R) (p : IsTotalOrder S) (only : IsAntisymmetric S) where
+module _ {K L X : Type 0} {R : K → K → Ordering} {S : L → L → Ordering} (o : IsTotalOrder R) (exact : IsAntisymmetric R)
+    (p : IsTotalOrder S) (only : IsAntisymmetric S) where
   abbrev back : FinMap R (L × X) → FinMap R (L × X)
   back m = turned {R = S} {S = R} p only o exact (turned {R = R} {S = S} o exact p only m)
 

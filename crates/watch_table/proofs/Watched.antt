@@ -1,5 +1,6 @@
 -- The file of a descriptor, and what stays true of the watches of an instance.
-use Rattle.std.proofs.Common.{◌≡◌, ◌≢◌, ◌⊎◌, ℕ, ◌+◌, ◌-◌, ◌<◌, ◌≤◌, Bool, true, false, cond, List, [], ◌∷◌, ◌&&◌, ◌||◌, Option, Some, None, is_some, refl, sym, ap, ◌∙◌, subst, inl, inr, arith}
+use Rattle.std.proofs.Common.{◌≡◌, ◌≢◌, ◌⊎◌, ℕ, ◌+◌, ◌-◌, ◌<◌, ◌≤◌, Bool, true, false, cond, List, [], ◌∷◌, ◌&&◌, ◌||◌}
+use Rattle.std.proofs.Common.{Option, Some, None, is_some, refl, sym, ap, ◌∙◌, subst, inl, inr, arith}
 use Rattle.std.specs.Prelude.{ℤ, pos, ◌<ℤ◌, option_map, is_none, nat_le, nat_lt}
 use Rattle.std.specs.FinMap as map
 use Rattle.std.specs.FinMap.{get-empty, len-empty, len-insert, len-remove, contains_key-keys, nat_cmp-IsAntisymmetric}
@@ -14,7 +15,9 @@ use Rattle.tree_paths.specs.declared.refusal.Refusal.TheVariants.{Eexist, Enotdi
 use Rattle.watch_table.specs.Masks.{has_any, stored}
 use Rattle.record_codec.specs.declared.bits.TheConstants.{IN_MASK_CREATE}
 use Rattle.tree_paths.specs.Rows.{row, first_row}
-use Rattle.watch_table.specs.Watching.{Watch, Watching, IsSound, added, added_to, add_refusal, dropped, has_wd, is_barred, is_full, is_taken, next_bits, no_watches, watched_by, watch_of, wd_added, wd_of, wd_or, with_bits, with_new_watch}
+use Rattle.watch_table.specs.Watching.{Watch, Watching, IsSound, added, added_to, add_refusal, dropped, has_wd}
+use Rattle.watch_table.specs.Watching.{is_barred, is_full, is_taken, next_bits, no_watches, watched_by, watch_of}
+use Rattle.watch_table.specs.Watching.{wd_added, wd_of, wd_or, with_bits, with_new_watch}
 use Rattle.watch_table.proofs.Maps.{tie, get-insert_here, get-insert_other, get-remove_here, get-remove_other}
 
 pub some_none : {A : Type 0} {o : Option A} {x : A} → o ≡ None → o ≡ Some x → ⊥
@@ -64,7 +67,8 @@ watched_by-none w wd n e h =
     false≢true (sym (find-misses (λ number. has_wd wd (watch_of w number)) (map.keys w.watches) n e there) ∙ has.0)
 
 -- the file of a descriptor is the one that any look-up finds which has just the watches
-pub watched_by-by : (w : Watching) (wd : ℤ) (o : Option ℕ) → ((n : ℕ) → o ≡ Some n → wd_of w n ≡ Some wd) → ((n : ℕ) → wd_of w n ≡ Some wd → o ≡ Some n) → watched_by w wd ≡ o
+pub watched_by-by : (w : Watching) (wd : ℤ) (o : Option ℕ) → ((n : ℕ) → o ≡ Some n → wd_of w n ≡ Some wd)
+    → ((n : ℕ) → wd_of w n ≡ Some wd → o ≡ Some n) → watched_by w wd ≡ o
 watched_by-by w wd None watched indexed =
     elim (watched_by w wd) as (λ r. watched_by w wd ≡ r → r ≡ None) [
       | None ↦ λ e. refl
@@ -162,7 +166,12 @@ module _ (w : Watching) (number : ℕ) (wd : ℤ) (bits : ℕ) where
         first = sound.first;
         last = sound.last;
         small = sound.small;
-        held = subst (λ n. n ≤ w.most_watches) (sym (len-insert nat_cmp_total w.watches number (wd, bits) ∙ ap (λ o. cond (is_some o) (map.len w.watches) (map.len w.watches + 1)) was)) sound.held;
+        held =
+            subst (λ n. n ≤ w.most_watches)
+            (sym
+            (len-insert nat_cmp_total w.watches number (wd, bits)
+            ∙ ap (λ o. cond (is_some o) (map.len w.watches) (map.len w.watches + 1)) was))
+            sound.held;
       }
 
 -- the next descriptor was not given before
@@ -210,7 +219,12 @@ module _ (w : Watching) (number : ℕ) (bits : ℕ) where
         first = omega arith;
         last = omega arith;
         small = sound.small;
-        held = subst (λ n. n ≤ w.most_watches) (sym (len-insert nat_cmp_total w.watches number (pos w.next_wd, bits) ∙ ap (λ o. cond (is_some o) (map.len w.watches) (map.len w.watches + 1)) was)) (omega arith);
+        held =
+            subst (λ n. n ≤ w.most_watches)
+            (sym
+            (len-insert nat_cmp_total w.watches number (pos w.next_wd, bits)
+            ∙ ap (λ o. cond (is_some o) (map.len w.watches) (map.len w.watches + 1)) was))
+            (omega arith);
       }
 
 -- ---- what a call to watch a file is refused for
@@ -258,11 +272,14 @@ module _ (w : Watching) (number mask : ℕ) (is_directory : Bool) where
   pub refused_as_full : is_barred mask is_directory ≡ false → wd_of w number ≡ None → is_full w ≡ true → add_refusal w number mask is_directory ≡ Some Enospc
   refused_as_full may none full = by_tests false false true may (not_taken none) (ap (λ o. is_none o && is_full w) (no_watch (watch_of w number) none) ∙ full)
 
-  pub not_refused_watched : is_barred mask is_directory ≡ false → is_taken mask (watch_of w number) ≡ false → (wd : ℤ) → wd_of w number ≡ Some wd → add_refusal w number mask is_directory ≡ None
+  pub not_refused_watched : is_barred mask is_directory ≡ false → is_taken mask (watch_of w number) ≡ false → (wd : ℤ)
+      → wd_of w number ≡ Some wd → add_refusal w number mask is_directory ≡ None
   not_refused_watched may free wd there = by_tests false false false may free (ap (λ o. is_none o && is_full w) (a_watch (watch_of w number) wd there).1)
 
   pub not_refused_room : is_barred mask is_directory ≡ false → wd_of w number ≡ None → is_full w ≡ false → add_refusal w number mask is_directory ≡ None
-  not_refused_room may none room = by_tests false false false may (not_taken none) (ap (λ b. is_none (watch_of w number) && b) room ∙ none_and (is_none (watch_of w number)))
+  not_refused_room may none room =
+      by_tests false false false may (not_taken none)
+      (ap (λ b. is_none (watch_of w number) && b) room ∙ none_and (is_none (watch_of w number)))
 
 -- ---- what a call to watch a file makes
 

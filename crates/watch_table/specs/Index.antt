@@ -21,5 +21,7 @@ watching_of a = record {
 -- the map from descriptors has just those of the watches
 pub record IsIndexed (a : Inside) : Type 0 where
   pub sound : IsSound (watching_of a)
-  pub watched : (number : ℕ) (wd : ℤ) → tree.get int_cmp a.by_wd wd ≡ Some number → wd_of (watching_of a) number ≡ Some wd
-  pub indexed : (number : ℕ) (wd : ℤ) → wd_of (watching_of a) number ≡ Some wd → tree.get int_cmp a.by_wd wd ≡ Some number
+  pub watched : (number : ℕ) (wd : ℤ) → tree.get int_cmp a.by_wd wd ≡ Some number
+      → wd_of (watching_of a) number ≡ Some wd
+  pub indexed : (number : ℕ) (wd : ℤ) → wd_of (watching_of a) number ≡ Some wd
+      → tree.get int_cmp a.by_wd wd ≡ Some number

@@ -2,7 +2,11 @@
 use Rattle.std.specs.Prelude.{ℕ, Bool, not, ◌&&◌, ◌==◌, List, [], ◌∷◌, Option, bit_and, bit_or, codes}
 use Rattle.tree_paths.specs.declared.refusal.Refusal.{Refusal}
 use Rattle.tree_paths.specs.declared.refusal.Refusal.TheVariants.{Einval}
-use Rattle.record_codec.specs.declared.bits.TheConstants.{IN_ACCESS, IN_MODIFY, IN_ATTRIB, IN_CLOSE_WRITE, IN_CLOSE_NOWRITE, IN_OPEN, IN_MOVED_FROM, IN_MOVED_TO, IN_CREATE, IN_DELETE, IN_DELETE_SELF, IN_MOVE_SELF, IN_ALL_EVENTS, IN_ONLYDIR, IN_DONT_FOLLOW, IN_EXCL_UNLINK, IN_MASK_CREATE, IN_MASK_ADD, IN_ONESHOT}
+use Rattle.record_codec.specs.declared.bits.TheConstants.{IN_ACCESS, IN_MODIFY, IN_ATTRIB, IN_CLOSE_WRITE}
+use Rattle.record_codec.specs.declared.bits.TheConstants.{IN_CLOSE_NOWRITE, IN_OPEN, IN_MOVED_FROM, IN_MOVED_TO}
+use Rattle.record_codec.specs.declared.bits.TheConstants.{IN_CREATE, IN_DELETE, IN_DELETE_SELF, IN_MOVE_SELF}
+use Rattle.record_codec.specs.declared.bits.TheConstants.{IN_ALL_EVENTS, IN_ONLYDIR, IN_DONT_FOLLOW, IN_EXCL_UNLINK}
+use Rattle.record_codec.specs.declared.bits.TheConstants.{IN_MASK_CREATE, IN_MASK_ADD, IN_ONESHOT}
 use Rattle.tree_paths.specs.Rows.{row, first_row}
 
 -- whether a mask has one of these bits
@@ -16,7 +20,9 @@ joined (b ∷ bs) = bit_or b (joined bs)
 
 -- the bits that mean something to a watch call. All others are ignored
 abbrev pub known : ℕ → ℕ
-known bits = bit_and bits (joined (IN_ALL_EVENTS ∷ IN_ONLYDIR ∷ IN_DONT_FOLLOW ∷ IN_EXCL_UNLINK ∷ IN_MASK_CREATE ∷ IN_MASK_ADD ∷ IN_ONESHOT ∷ []))
+known bits =
+    bit_and bits (joined (IN_ALL_EVENTS ∷ IN_ONLYDIR ∷ IN_DONT_FOLLOW ∷ IN_EXCL_UNLINK ∷ IN_MASK_CREATE
+    ∷ IN_MASK_ADD ∷ IN_ONESHOT ∷ []))
 
 -- the bits of a call that the watch keeps. The others act on the call alone
 abbrev pub stored : ℕ → ℕ

@@ -1,5 +1,7 @@
 -- The watches of one instance: inotify_add_watch(2) and inotify_rm_watch(2).
-use Rattle.std.specs.Prelude.{◌≡◌, ℕ, ◌+◌, ◌^◌, ◌<◌, ◌≤◌, ℤ, pos, ◌≤ℤ◌, ◌<ℤ◌, Bool, false, not, ◌&&◌, ◌||◌, [], ◌∷◌, Option, Some, None, option_map, is_none, is_some, bit_or, nat_le, nat_lt, if◌then◌else◌, refl}
+use Rattle.std.specs.Prelude.{◌≡◌, ℕ, ◌+◌, ◌^◌, ◌<◌, ◌≤◌, ℤ, pos, ◌≤ℤ◌, ◌<ℤ◌, Bool, false, not, ◌&&◌, ◌||◌, [], ◌∷◌}
+use Rattle.std.specs.Prelude.{Option, Some, None, option_map, is_none, is_some, bit_or, nat_le, nat_lt, if◌then◌else◌}
+use Rattle.std.specs.Prelude.{refl}
 use Rattle.std.specs.Coded.{Coded, code_by, coded×, coded_ℕ, coded_ℤ}
 use Rattle.std.specs.FinMap as map
 use Rattle.std.specs.List.{find}
@@ -25,7 +27,8 @@ pub record Watching : Type 0 where
 
 abbrev pub watching_code : Coded Watching
 watching_code =
-    code_by (map.FinMap nat_cmp Watch × (ℕ × (ℕ × ℕ))) (coded× (map.code coded_ℕ (coded× coded_ℤ coded_ℕ)) (coded× coded_ℕ (coded× coded_ℕ coded_ℕ)))
+    code_by (map.FinMap nat_cmp Watch × (ℕ × (ℕ × ℕ)))
+    (coded× (map.code coded_ℕ (coded× coded_ℤ coded_ℕ)) (coded× coded_ℕ (coded× coded_ℕ coded_ℕ)))
     (λ w. (w.watches, (w.next_wd, (w.most_watches, w.last_wd))))
     (λ p. record { watches = p.0; next_wd = p.1.0; most_watches = p.1.1.0; last_wd = p.1.1.1 }) (λ _. refl)
 
@@ -55,7 +58,8 @@ next_bits mask bits = if has_any mask IN_MASK_ADD then bit_or bits (stored mask)
 
 -- the watches with a new one, which gets the next descriptor
 abbrev pub with_new_watch : Watching → ℕ → ℕ → Watching
-with_new_watch w number bits = record w { watches = map.insert w.watches number (pos w.next_wd, bits); next_wd = w.next_wd + 1 }
+with_new_watch w number bits =
+    record w { watches = map.insert w.watches number (pos w.next_wd, bits); next_wd = w.next_wd + 1 }
 
 -- the watches with other bits of a file's watch
 abbrev pub with_bits : Watching → ℕ → ℤ → ℕ → Watching

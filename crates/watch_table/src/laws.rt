@@ -1,7 +1,8 @@
 //! Laws of the definitions, over all watches.
 ghost use Rattle.std.specs.Prelude.{◌≡◌, ◌↔◌, ℕ, ℤ, Bool, Some, None};
 ghost use Rattle.tree_paths.specs.declared.limits.Limits.{Limits};
-ghost use Rattle.watch_table.specs.Watching.{HasEnded, IsSound, Watching, added, add_refusal, dropped, no_watches, watched_by, removed, wd_of};
+ghost use Rattle.watch_table.specs.Watching.{HasEnded, IsSound, Watching, added, add_refusal, dropped, no_watches};
+ghost use Rattle.watch_table.specs.Watching.{watched_by, removed, wd_of};
 
 /// The watches of an instance are sound, from none on, after each call.
 pub fn watches_stay_sound()

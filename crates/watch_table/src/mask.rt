@@ -6,7 +6,7 @@ use bitflags::{Flag, Flags, bitflag_items};
 use record_codec::bits;
 use tree_paths::Refusal;
 
-/// What a watch call asks for: the events to be told of, and how to watch for them.
+/// What a watch call asks for: the events to report, and how to watch for them.
 ///
 /// The bits are those of inotify(7).
 #[derive(Clone, Copy, PartialEq, Eq, Debug)]
@@ -44,7 +44,7 @@ bitflag_items! {
         const ONLYDIR = bits::IN_ONLYDIR;
         /// Follow no symbolic link. There are none, so it has no effect.
         const DONT_FOLLOW = bits::IN_DONT_FOLLOW;
-        /// Tell nothing of names that were removed. It has no effect.
+        /// Report no events of names that were removed. It has no effect.
         const EXCL_UNLINK = bits::IN_EXCL_UNLINK;
         /// Make a new watch or none: a file that is watched already is refused.
         const MASK_CREATE = bits::IN_MASK_CREATE;
@@ -92,7 +92,8 @@ impl Mask {
         self.0 & (bits::IN_ALL_EVENTS | bits::IN_ONESHOT)
     }
 
-    /// Why no watch call takes this mask. `EINVAL` where it has both MASK_CREATE and MASK_ADD, and where it has no event.
+    /// Why no watch call takes this mask. `EINVAL` where it has both MASK_CREATE and MASK_ADD, and where it has no
+    /// event.
     pub fn fault(self) -> Option<Refusal>
         ensures { result ≡ mask_fault self.0 }
     {

@@ -5,17 +5,18 @@ use std::fmt::Debug;
 use std::process::Abort;
 use tree_paths::{Limits, Refusal};
 
-/// What was got is what is wanted. Tests assert in these two functions: the macros in a long body take minutes to prove.
+// Asserts that two values are equal. Tests assert in these two functions, because the macros in a long body take
+// minutes to prove.
 fn equal<T: PartialEq + Debug + Drop>(rt: &impl Abort, got: T, wanted: T) {
     assert_eq!(rt; got, wanted);
 }
 
-/// It is so.
+// Asserts a condition.
 fn holds(rt: &impl Abort, what: &str, is_so: bool) {
     assert!(rt; is_so, "{what}");
 }
 
-/// Watches a file.
+// Watches a file.
 fn watch(
     watches: &mut Watches,
     number: u32,

@@ -1,5 +1,6 @@
 //! The watches of an instance.
-ghost use Rattle.std.specs.Prelude.{◌≡◌, ◌⊎◌, ℕ, pos, false, Some, None, Ok, Err, IfOk, IfErr, OnOk, OnErr, OnSome, IfNone, IsErr, IsNone, IsTrue, ◌↔◌};
+ghost use Rattle.std.specs.Prelude.{◌≡◌, ◌⊎◌, ℕ, pos, false, Some, None, Ok, Err, IfOk, IfErr, OnOk, OnErr, OnSome};
+ghost use Rattle.std.specs.Prelude.{IfNone, IsErr, IsNone, IsTrue, ◌↔◌};
 ghost use Rattle.std.specs.FinMap as map;
 ghost use Rattle.std.specs.Map.Iter.{ShowsInOrder, deref};
 ghost use Rattle.tree_paths.specs.declared.refusal.Refusal.{Refusal};
@@ -7,7 +8,9 @@ ghost use Rattle.tree_paths.specs.declared.refusal.Refusal.TheVariants.{Einval, 
 ghost use Rattle.watch_table.specs.Masks.{mask_fault};
 ghost use Rattle.watch_table.specs.Index.{bits_in};
 ghost use Rattle.watch_table.specs.Rows.{watch_rows};
-ghost use Rattle.watch_table.specs.Watching.{IsSound, added, add_refusal, dropped, is_barred, is_full, is_taken, next_bits, no_watches, watched_by, removed, watch_of, wd_added, wd_of, with_new_watch};
+ghost use Rattle.watch_table.specs.Watching.{IsSound, added, add_refusal, dropped, is_barred, is_full, is_taken};
+ghost use Rattle.watch_table.specs.Watching.{next_bits, no_watches, watched_by, removed, watch_of, wd_added, wd_of};
+ghost use Rattle.watch_table.specs.Watching.{with_new_watch};
 
 use crate::{Mask, WatchRows};
 use bitflags::Flags;
@@ -120,7 +123,7 @@ impl Watches {
         ensures rows { IfOk result (λ rows. rows ≡ watch_rows self.now) }
         ensures err { IfErr result (λ refusal. refusal ≡ Enomem) }
     {
-        let mut rows = Vec::new(self.alloc);
+        let mut rows = Vec::with_capacity(self.alloc, self.by_wd.len())?;
         for (wd, number) in &self.by_wd {
             rows.push((*number, *wd, self.bits(*number)))?;
         }
@@ -147,7 +150,8 @@ impl Watches {
         ensures watches { OnOk result (self.new ≡ added self.old number mask.0) }
 
         ensures refused { (r : Refusal) → add_refusal self.old number mask.0 is_directory ≡ Some r → result ≡ Err r }
-        ensures refusals { IfErr result (λ r. (add_refusal self.old number mask.0 is_directory ≡ Some r) ⊎ (r ≡ Enomem)) }
+        ensures refusals { IfErr result (λ r.
+            (add_refusal self.old number mask.0 is_directory ≡ Some r) ⊎ (r ≡ Enomem)) }
         ensures memory { result ≡ Err Enomem → watch_of self.old number ≡ None }
         ensures err { OnErr result (self.new ≡ self.old) }
     {

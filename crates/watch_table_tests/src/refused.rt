@@ -1,4 +1,4 @@
-//! Each growth refused in turn, and the calls that take no memory.
+//! Fault injection: each allocation fails in turn. Also the calls that do not allocate.
 
 use record_codec::bits;
 use refuser::{refuse, refuse_from, was_refused};
@@ -8,12 +8,12 @@ use std::test::Fail;
 use tree_paths::{Limits, Refusal};
 use watch_table::{Mask, Watches};
 
-/// It is so.
+// Asserts a condition.
 fn holds(rt: &impl Abort, what: &str, is_so: bool) {
     assert!(rt; is_so, "{what}");
 }
 
-/// More growths than a call has.
+/// More allocations than a call makes.
 const MOST: u32 = 50;
 
 /// Watches enough for two nodes of an ordered map.
@@ -42,7 +42,7 @@ fn watching(alloc: Global, count: u32, limits: &Limits) -> Result<Watches, Refus
     Ok(watches)
 }
 
-// Whether both tell the same of each file and each descriptor.
+// Whether both have the same watch for each file and each descriptor.
 fn are_alike(one: &Watches, other: &Watches) -> bool {
     for number in 0..50 {
         let wd = number as i32;
@@ -53,7 +53,7 @@ fn are_alike(one: &Watches, other: &Watches) -> bool {
     one.len() == other.len() && one.next_wd() == other.next_wd()
 }
 
-// How many growths the next watch has, each refused with all as it was. None where one was not.
+// How many allocations the next watch makes, if all stays as it was when each fails in turn. None if not.
 fn refused_in_turn(alloc: Global, count: u32) -> Result<Option<u32>, Refusal> {
     let twin = watching(alloc, count, &Limits::full())?;
     let next = watching(alloc, count.saturating_add(1), &Limits::full())?;
@@ -85,7 +85,7 @@ fn each_growth_of_each_watch(rt: HostRuntime) -> Result<(), Fail> {
     Ok(())
 }
 
-// How many growths the rows have, each refused. None where one was not.
+// How many allocations the rows make, if the answer is right when each fails in turn. None if not.
 fn rows_refused_in_turn(alloc: Global, watches: &Watches) -> Option<u32> {
     for k in 1..MOST {
         let _ = refuse(alloc, k);

@@ -1,9 +1,9 @@
 -- Bytes that are put over the front of others, one part after another.
 use Rattle.std.proofs.Common.{◌≡◌, ℕ, ◌+◌, ◌-◌, ◌^◌, ◌≤◌, ◌<◌, List, [], ◌∷◌, ◌++◌, length, take, drop, get_or, refl, sym, ap, ◌∙◌, inl, inr, arith, length-append, append_assoc}
-use Rattle.std.specs.Prelude.{◌==◌, false, min, pos}
+use Rattle.std.specs.Prelude.{min, pos}
 use Rattle.std.specs.List.{flat_map}
 use Rattle.std.proofs.Math.Seq.{take-append-add}
-use Rattle.std.proofs.lemmas.Bool.{cases_lt, true≢false}
+use Rattle.std.proofs.lemmas.Bool.{cases_lt}
 use Rattle.std.proofs.lemmas.List.{append-nil, drop-drop, drop_all, length-drop, length-take, take_all, take_at, drop_at, take_more, take-append-le}
 use Rattle.std.proofs.lemmas.Grind.{flat_map-append}
 use borrow.Rule.Slice.PartMut.{put_mid}
@@ -85,16 +85,44 @@ names_next names i x lt is =
 abbrev pub slashed : List ℕ → List ℕ
 slashed name = 47 ∷ name
 
--- the names before one behind slashes, and it
-pub slashed_next : (names : List (List ℕ)) (i : ℕ) (x : List ℕ) → i < length names → x ≡ get_or names i x
-    → flat_map slashed (take (i + 1) names) ≡ (flat_map slashed (take i names) ++ 47 ∷ []) ++ x
-slashed_next names i x lt is =
-    ap (flat_map slashed) (take_more names i x lt ∙ ap (λ (y : List ℕ). take i names ++ y ∷ []) (sym is)) ∙ flat_map-append slashed (take i names) (x ∷ [])
-    ∙ ap (λ (t : List ℕ). flat_map slashed (take i names) ++ t) (append-nil (slashed x)) ∙ sym (append_assoc (flat_map slashed (take i names)) (47 ∷ []) x)
+-- one name more
+pub slashed_behind : (front : List (List ℕ)) (x : List ℕ) → flat_map slashed (front ++ x ∷ []) ≡ (flat_map slashed front ++ 47 ∷ []) ++ x
+slashed_behind front x =
+    flat_map-append slashed front (x ∷ []) ∙ ap (λ (t : List ℕ). flat_map slashed front ++ t) (append-nil (slashed x))
+    ∙ sym (append_assoc (flat_map slashed front) (47 ∷ []) x)
+
+-- the names in front of those that are left were put at the front of what was there, as far as they fit
+pub record IsPut (all left : List (List ℕ)) (n : ℕ) (old out : List ℕ) : Type 0 where
+  pub front : List (List ℕ)
+  pub whole : front ++ left ≡ all
+  pub len : n ≡ min (length (flat_map slashed front)) (2 ^ 64 - 1)
+  pub bytes : out ≡ overlaid (flat_map slashed front) old
+
+-- a slash and one name more are put
+pub put_next : (all left after : List (List ℕ)) (name bytes : List ℕ) (n m k : ℕ) (old out one two : List ℕ)
+    → IsPut all left n old out → left ≡ name ∷ after → bytes ≡ name → m ≡ min (n + 1) (2 ^ 64 - 1)
+    → ((front was : List ℕ) → n ≡ min (length front) (2 ^ 64 - 1) → out ≡ overlaid front was → one ≡ overlaid (front ++ 47 ∷ []) was)
+    → k ≡ min (m + length bytes) (2 ^ 64 - 1)
+    → ((front was : List ℕ) → m ≡ min (length front) (2 ^ 64 - 1) → one ≡ overlaid front was → two ≡ overlaid (front ++ bytes) was)
+    → IsPut all after k old two
+put_next all left after name bytes n m k old out one two put is same slash_len slash name_len more =
+    let front = flat_map slashed put.front in
+    let one_len : m ≡ min (length (front ++ 47 ∷ [])) (2 ^ 64 - 1) =
+    omega (arith, slash_len, put.len, length-append front (47 ∷ [])) in
+    let both_len : k ≡ min (length ((front ++ 47 ∷ []) ++ bytes)) (2 ^ 64 - 1) =
+    omega (arith, name_len, one_len, length-append (front ++ 47 ∷ []) bytes) in
+    let both = more (front ++ 47 ∷ []) old one_len (slash front old put.len put.bytes) in
+    let next = slashed_behind put.front name ∙ ap (λ (t : List ℕ). (front ++ 47 ∷ []) ++ t) (sym same) in
+    record {
+      front = put.front ++ name ∷ [];
+      whole = append_assoc put.front (name ∷ []) after ∙ ap (λ (t : List (List ℕ)). put.front ++ t) (sym is) ∙ put.whole;
+      len = both_len ∙ ap (λ (t : List ℕ). min (length t) (2 ^ 64 - 1)) (sym next);
+      bytes = both ∙ ap (λ (t : List ℕ). overlaid t old) (sym next);
+    }
 
 -- the pathname of some names
-pub slashed_all : (names : List (List ℕ)) → (length names == 0) ≡ false → flat_map slashed names ≡ pathname_of names
-slashed_all [] some = absurd (true≢false some)
+pub slashed_all : (names : List (List ℕ)) → (names ≡ [] → ⊥) → flat_map slashed names ≡ pathname_of names
+slashed_all [] some = absurd (some refl)
 slashed_all (name ∷ names) some = refl
 
 -- a count that stops at the greatest number tells as much

@@ -13,11 +13,10 @@ ghost use Rattle.tree_core.specs.Tree.{reply_of};
 use crate::answers::{count_number, put, refused_number, reply_number};
 use crate::files::{Stat, put_more, put_names, stat_of};
 use crate::tree::Tree;
-use record_codec::Name;
 use std::alloc::Global;
 use tree_core::{Call, Reply, State};
 use tree_ops::FileCall;
-use tree_paths::{Path, Refusal};
+use tree_paths::{Path, PathNames, Refusal};
 
 /// How many bytes all records take that wait in an instance: what `ioctl` with `FIONREAD` gives of an inotify file descriptor
 /// (inotify(7)). No call is made for it.
@@ -196,20 +195,20 @@ fn put_path_of(state: &State, number: u64, out: &mut [u8]) -> i64
     }
 }
 
-// Puts the pathname of names at the front of `out`, as many bytes as it has room for. It answers how many bytes the pathname
-// has.
-fn put_pathname(out: &mut [u8], names: &[Name]) -> i64
-    ensures number { result ≡ count_number (length (pathname_of names.now)) }
-    ensures bytes { out.new ≡ overlaid (pathname_of names.now) out.old }
+// Puts the pathname of names at the front of `out`, as many of its bytes as fit. It answers how many bytes the pathname has.
+fn put_pathname(out: &mut [u8], names: PathNames) -> i64
+    ensures number { result ≡ count_number (length (pathname_of names.entry)) }
+    ensures bytes { out.new ≡ overlaid (pathname_of names.entry) out.old }
 {
     if names.is_empty() {
         put(out, b"/");
         return 1;
     }
+    let mut names = names;
     let mut len = 0;
-    for name in names {
+    while let Some(name) = names.next() {
         len = put_more(out, len, b"/");
-        len = put_more(out, len, name.bytes());
+        len = put_more(out, len, name.as_name().bytes());
     }
     count_number(len as u64)
 }

@@ -1,5 +1,6 @@
 -- What clap's answer says of what the words ask for.
-use Rattle.std.proofs.Common.{◌≡◌, ◌≢◌, ◌⊎◌, ◌∙◌, Bool, true, false, List, [], ◌∷◌, Option, None, Result, Err, drop, ap, refl, sym, subst, inl, inr, option_and_then, if◌then◌else◌}
+use Rattle.std.proofs.Common.{◌≡◌, ◌≢◌, ◌⊎◌, ◌∙◌, Bool, true, false, List, [], ◌∷◌, Option, None, Result, Err, drop, ap}
+use Rattle.std.proofs.Common.{refl, sym, subst, inl, inr, option_and_then, if◌then◌else◌}
 use Rattle.std.specs.List.{list_any}
 use Rattle.clap.specs.Words.{App, HasMatchesOf, IsAmong, Kinds, Text, fault_of, is_simple, is_simple_and_free, subcommand_of, subcommand_rows_of}
 use Rattle.clap.specs.declared.parser.matches.ArgMatches.{ArgMatches}
@@ -10,7 +11,7 @@ use Rattle.watchtree_command.specs.declared.command_line.Invocation.{Invocation}
 use Rattle.watchtree_command.specs.declared.fault.Fault.{Fault}
 use Rattle.watchtree_command.specs.declared.fault.Fault.TheVariants as fault
 
--- clap's definitions tell all of the program's command line
+-- clap's definitions cover the program's whole command line
 free : is_simple_and_free program ≡ true
 unfolding clap_on_literals
 free = refl
@@ -43,7 +44,8 @@ pub refused : (words : List Text) (a : App) (k oom : ErrorKind) (f : Fault) → 
 refused words a k oom f is faults memory other =
     go f memory other (faults (ap is_simple_and_free is ∙ free))
   where
-    go : (f : Fault) → (k ≡ oom → f ≡ fault.Memory) → (k ≢ oom → f ≡ fault.CommandLine) → (k ≡ oom) ⊎ IsAmong k (fault_of a words) → Invokes (invocation_of words) (Err f)
+    go : (f : Fault) → (k ≡ oom → f ≡ fault.Memory) → (k ≢ oom → f ≡ fault.CommandLine)
+        → (k ≡ oom) ⊎ IsAmong k (fault_of a words) → Invokes (invocation_of words) (Err f)
     go fault.Memory m o _ = tt
     go fault.CommandLine m o (inl e) = absurd (let is_memory = m e in cc)
     go fault.CommandLine m o (inr h) = no_more (list_any is_dashes (drop 1 words)) k (fault_of program words) _ (subst (λ a. IsAmong k (fault_of a words)) is h)

@@ -1,12 +1,14 @@
 -- What the words of the command line stand for.
-use Rattle.std.specs.Prelude.{◌≡◌, ◌≤◌, ⊤, ℕ, Bool, true, ◌&&◌, nat_lt, nat_le, List, [], length, Option, Some, None, codes}
+use Rattle.std.specs.Prelude.{◌≡◌, ◌≤◌, ⊤, ℕ, Bool, true, ◌&&◌, nat_lt, nat_le, List, [], length, Option, Some, None}
+use Rattle.std.specs.Prelude.{codes}
 use Rattle.std.specs.Prelude.{drop, option_map, option_and_then, Result, Ok, Err, if◌then◌else◌}
 use Rattle.std.specs.Char.{is_ascii_digit}
 use Rattle.std.specs.List.{list_all, list_any}
 use Rattle.std.specs.Str.{bytes_eq}
 use Rattle.std.specs.Str.Parse.{digits_value}
 use Rattle.clap.specs.Simple.{on_top}
-use Rattle.clap.specs.Words.{App, Kinds, Row, Shape, Text, fault_of, first_of, new_app, new_rule, subcommand_of, with_rule, with_subcommand}
+use Rattle.clap.specs.Words.{App, Kinds, Row, Shape, Text, fault_of, first_of, new_app, new_rule, subcommand_of}
+use Rattle.clap.specs.Words.{with_rule, with_subcommand}
 use Rattle.clap.specs.declared.builder.action.ArgAction.TheVariants.{Set}
 use Rattle.tree_paths.specs.Greatest.{most_queue}
 use Rattle.watchtree_command.specs.declared.fault.Fault.{Fault}
@@ -65,7 +67,8 @@ without_flags s = record s { disable_help_flag = true; disable_version_flag = tr
 -- and a subcommand with one option, which has a value
 abbrev pub with_option : Text → Text → Shape
 with_option name option =
-    (with_rule (on_top without_flags (new_app name)) (record (new_rule option) { long = Some option; action = Some Set })).top
+    (with_rule (on_top without_flags (new_app name))
+    (record (new_rule option) { long = Some option; action = Some Set })).top
 
 abbrev pub needs_subcommand : Shape → Shape
 needs_subcommand s = record (without_flags s) { disable_help_subcommand = true; subcommand_required = true }
@@ -79,8 +82,10 @@ program =
 -- what a subcommand asks for, with the values of its options: a limit of a queue, or a number of calls
 abbrev pub invocation_in : Text × List Row → Option Invocation
 invocation_in s =
-    if bytes_eq s.0 (codes "run") then option_map Run (number_or usual_queue least_queue most_queue (first_of (codes "queue") s.1))
-    else if bytes_eq s.0 (codes "storm") then option_map Storm (number_or usual_calls least_calls most_calls (first_of (codes "calls") s.1))
+    if bytes_eq s.0 (codes "run")
+    then option_map Run (number_or usual_queue least_queue most_queue (first_of (codes "queue") s.1))
+    else if bytes_eq s.0 (codes "storm")
+    then option_map Storm (number_or usual_calls least_calls most_calls (first_of (codes "calls") s.1))
     else None
 
 abbrev pub is_dashes : Text → Bool
@@ -97,7 +102,7 @@ invocation_of words =
     if list_any is_dashes (drop 1 words) then None
     else unless_fault (fault_of program words) (option_and_then invocation_in (subcommand_of program words))
 
--- what is answered: what the words ask for, that they ask for nothing, or want of memory
+-- the result: what the words ask for, a fault if they ask for nothing, or out of memory
 abbrev pub Invokes : Option Invocation → Result Invocation Fault → Type 0
 Invokes asked (Ok a) = asked ≡ Some a
 Invokes asked (Err fault.CommandLine) = asked ≡ None

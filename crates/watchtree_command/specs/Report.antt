@@ -23,7 +23,8 @@ cause_word cause.Memory = codes "memory"
 
 -- a listener: its number, why it ended, and how many records its sink took
 abbrev pub listener_line : ℕ × Cause × ℕ → List ℕ
-listener_line l = codes "listener " ++ decimal l.0 ++ codes " " ++ cause_word l.1 ++ codes " " ++ decimal l.2 ++ codes "\n"
+listener_line l =
+    codes "listener " ++ decimal l.0 ++ codes " " ++ cause_word l.1 ++ codes " " ++ decimal l.2 ++ codes "\n"
 
 -- that the book is settled, where it is
 abbrev pub settled_line : Result Settled SettleFault → List ℕ
@@ -31,10 +32,13 @@ settled_line (Ok s) = codes "settled\n"
 settled_line (Err fault) = []
 
 abbrev pub report_of : Stormed → List ℕ
-report_of s = codes "entries " ++ decimal s.entries ++ codes "\n" ++ flat_map listener_line s.listeners.items ++ settled_line s.settled
+report_of s =
+    codes "entries " ++ decimal s.entries ++ codes "\n" ++ flat_map listener_line s.listeners.items
+    ++ settled_line s.settled
 
--- what each fault at the end of a storm says of the book and of what was written: the book's own fault, or want of memory to
--- settle it, with all lines; a write that failed, with a front of them; want of memory for them, with none. There is no other
+-- what each fault at the end of a storm says about the book and the lines that were written: the book's own fault, or
+-- out of memory while settling it, all lines; a failed write, a prefix of them; out of memory for the lines, none.
+-- There is no other fault
 abbrev pub EndTells : Stormed → Fault → Option (List ℕ) → Option (List ℕ) → Type 0
 EndTells s (Settle fault) old new = (s.settled ≡ Err fault) × (fault ≢ settle.Memory) × Appends old new (report_of s)
 EndTells s (Run run.Write) old new = (n : ℕ) × Appends old new (take n (report_of s))

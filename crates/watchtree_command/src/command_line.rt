@@ -1,13 +1,15 @@
 //! The command line: `watchtree run [--queue N]`, `watchtree storm [--calls N]`.
 
-ghost use Rattle.std.specs.Prelude.{◌≡◌, ◌≢◌, ◌<◌, ◌≤◌, ◌^◌, IfErr, IfOk, IfSome, None, Some, drop, false, length, map, option_and_then, option_map, true};
+ghost use Rattle.std.specs.Prelude.{◌≡◌, ◌≢◌, ◌<◌, ◌≤◌, ◌^◌, IfErr, IfOk, IfSome, None, Some, drop, false, length, map};
+ghost use Rattle.std.specs.Prelude.{option_and_then, option_map, true};
 ghost use Rattle.std.specs.Char.{is_ascii_digit};
 ghost use Rattle.std.specs.List.{list_all, list_any};
 ghost use Rattle.std.specs.Option.{SomeIff};
 ghost use Rattle.std.specs.Str.Parse.{digits_value};
 ghost use Rattle.std.specs.String.{string_bytes};
 ghost use Rattle.clap.specs.Words.{app_of, first_of, found_of, rows_of, shape_of, subcommand_rows_of};
-ghost use Rattle.watchtree_command.specs.CommandLine.{Invokes, IsInvocation, invocation_in, invocation_of, is_dashes, number_within, number_or, program, with_option};
+ghost use Rattle.watchtree_command.specs.CommandLine.{Invokes, IsInvocation, invocation_in, invocation_of, is_dashes};
+ghost use Rattle.watchtree_command.specs.CommandLine.{number_within, number_or, program, with_option};
 
 use crate::fault::Fault;
 use clap::error::ErrorKind;
@@ -136,13 +138,17 @@ fn number_in(
     most: u32,
 ) -> Result<u32, Fault>
     requires { (least ≤ usual) × (usual ≤ most) }
-    ensures ok { IfOk result (λ n. number_or usual least most (first_of option.now (rows_of (found_of found.now))) ≡ Some n) }
-    ensures err { IfErr result (λ fault. (fault ≡ Fault.CommandLine) × (number_or usual least most (first_of option.now (rows_of (found_of found.now))) ≡ None)) }
+    ensures ok { IfOk result (λ n.
+        number_or usual least most (first_of option.now (rows_of (found_of found.now))) ≡ Some n) }
+    ensures err { IfErr result (λ fault.
+        (fault ≡ Fault.CommandLine)
+        × (number_or usual least most (first_of option.now (rows_of (found_of found.now))) ≡ None)) }
     ensures range { IfOk result (λ n. (least ≤ n) × (n ≤ most)) }
 {
     number_or(found.get_str(option), usual, least, most)
 }
 
+// The definition of the program's command line, for clap.
 fn command<'a>(alloc: Global) -> Result<Command<'a>, AllocError>
     ensures { IfOk result (λ c. app_of c ≡ program) }
 {
@@ -172,7 +178,8 @@ fn subcommand<'a>(alloc: Global, name: &'a str, option: &'a str) -> Result<Comma
 fn number_or(given: Option<&str>, usual: u32, least: u32, most: u32) -> Result<u32, Fault>
     requires { (least ≤ usual) × (usual ≤ most) }
     ensures ok { IfOk result (λ n. number_or usual least most (option_map (λ s. s.now) given.entry) ≡ Some n) }
-    ensures err { IfErr result (λ fault. (fault ≡ Fault.CommandLine) × (number_or usual least most (option_map (λ s. s.now) given.entry) ≡ None)) }
+    ensures err { IfErr result (λ fault.
+        (fault ≡ Fault.CommandLine) × (number_or usual least most (option_map (λ s. s.now) given.entry) ≡ None)) }
     ensures range { IfOk result (λ n. (least ≤ n) × (n ≤ most)) }
 {
     let Some(number) = given else {
@@ -184,7 +191,7 @@ fn number_or(given: Option<&str>, usual: u32, least: u32, most: u32) -> Result<u
     }
 }
 
-/// A number in a range, of 1 to 5 decimal digits.
+// A number in a range, of 1 to 5 decimal digits.
 #[tactic(auto, unfolding(crate::specs::CommandLine::number_within))]
 fn number_within(number: &str, least: u32, most: u32) -> Option<u32>
     ensures value { result ≡ number_within least most number.now }
@@ -199,16 +206,18 @@ fn number_within(number: &str, least: u32, most: u32) -> Option<u32>
     }
 }
 
+// Whether all characters are decimal digits.
 fn are_digits(number: &str) -> bool
     ensures { result ≡ list_all is_ascii_digit number.now }
 {
     number.bytes().all(|b| b.is_ascii_digit())
 }
 
-/// The number of digits, if there are any and it fits.
+// The number that digits spell, if there are any and it fits.
 fn value_of(digits: &str) -> Option<u32>
     requires { list_all is_ascii_digit digits.now ≡ true }
-    ensures { SomeIff result ((0 < length digits.now) × (digits_value 10 digits.now < 2 ^ 32)) (digits_value 10 digits.now) }
+    ensures { SomeIff result ((0 < length digits.now) × (digits_value 10 digits.now < 2 ^ 32))
+        (digits_value 10 digits.now) }
 {
     digits.parse::<u32>().ok()
 }

@@ -22,14 +22,14 @@ pub enum Fault {
     /// The run of a script ended early.
     #[error("{0}")]
     Run(RunFault),
-    /// The book of a storm was not settled. Want of memory to settle it is [`Fault::Memory`].
+    /// The book of a storm was not settled. Out of memory while settling it is [`Fault::Memory`].
     #[error("settle: {0}")]
     Settle(SettleFault),
 }
 
 impl Fault {
-    /// The exit status: 1 for a book that was not settled, 2 where the input is wrong, 3 for a failed read or write and for
-    /// want of memory.
+    /// The exit status: 1 for a book that was not settled, 2 for wrong input, 3 for a failed read or write and for out
+    /// of memory.
     pub fn status(self) -> u8
         ensures { result ≡ status_of self }
     {

@@ -15,8 +15,8 @@ use std::io::Write;
 use watchtree_script::RunFault;
 use watchtree_storm::Stormed;
 
-/// Writes the lines of a storm, as [`report`] has them, and says how the program ends: well only where they were written
-/// whole and the book is settled.
+/// Writes the lines of a storm, as [`report`] has them, and says how the program ends: well only where they were
+/// written whole and the book is settled.
 ///
 /// # Errors
 /// The first that holds: [`Fault::Memory`], where there is no memory for the lines, and none is written;
@@ -24,8 +24,10 @@ use watchtree_storm::Stormed;
 /// book, or [`Fault::Memory`], where there was no memory to settle it.
 pub fn tell<W: Write>(alloc: Global, stormed: &Stormed, output: &mut Port<W>) -> Result<(), Fault>
     ensures settled { OnOk result (IsOk stormed.now.settled) }
-    ensures lines { OnOk result (Appends (W.contents (inner_of output.old)) (W.contents (inner_of output.new)) (report_of stormed.now)) }
-    ensures err { IfErr result (λ fault. EndTells stormed.now fault (W.contents (inner_of output.old)) (W.contents (inner_of output.new))) }
+    ensures lines { OnOk result
+        (Appends (W.contents (inner_of output.old)) (W.contents (inner_of output.new)) (report_of stormed.now)) }
+    ensures err { IfErr result (λ fault.
+        EndTells stormed.now fault (W.contents (inner_of output.old)) (W.contents (inner_of output.new))) }
     ensures faults { faults_of output.new ≡ told_faults result (faults_of output.old) }
 {
     let text = report(alloc, stormed)?;

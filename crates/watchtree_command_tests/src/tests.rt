@@ -15,7 +15,8 @@ use watchtree_command::{Fault, Invocation, invocation_from, tell};
 use watchtree_script::{RunFault, ScriptFault};
 use watchtree_storm::{OpenGate, storm};
 
-/// What was got is what is wanted. Tests assert in this function: the macros in a long body take minutes to prove.
+// Asserts that two values are equal. Tests assert in this function, because the macros in a long body take minutes to
+// prove.
 fn equal<T: PartialEq + Debug + Drop>(rt: &impl Abort, got: T, wanted: T) {
     assert_eq!(rt; got, wanted);
 }
@@ -178,8 +179,8 @@ fn told<R: Threads + Wait + Sync>(rt: &R, alloc: Global, most: u64) -> Result<(V
     Ok((text, status))
 }
 
-/// A storm whose sinks are large enough is settled, and one whose sinks are full is not: its listeners did not end by the
-/// end batch.
+/// A storm whose sinks are large enough is settled, and one whose sinks are full is not: its listeners did not end by
+/// the end batch.
 #[test]
 fn storms_have_statuses(rt: HostRuntime) -> Result<(), Fail> {
     let (text, status) = told(&rt, rt.alloc(), 16)?;

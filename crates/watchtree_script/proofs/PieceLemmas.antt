@@ -1,13 +1,17 @@
 -- How bytes are cut into pieces.
-use Rattle.std.proofs.Common.{All, ◌≡◌, ◌==◌, ℕ, zero, suc, ◌+◌, ◌-◌, ◌≤◌, ◌<◌, Bool, true, false, cond, ltb, List, [], ◌∷◌, ◌++◌, Some, None, refl, sym, ap, ◌∙◌, length, take, drop, get_or, arith, length-drop}
-use Rattle.std.specs.List.{list_all, position, position_or_len}
+use Rattle.std.proofs.Common.{All, ◌≡◌, ◌==◌, ◌&&◌, ℕ, zero, suc, ◌+◌, ◌-◌, ◌≤◌, ◌<◌, Bool, true, false, cond, ltb}
+use Rattle.std.proofs.Common.{List, [], ◌∷◌, ◌++◌, Option, Some, None, is_some, refl, sym, ap, ◌∙◌, length, take, drop, get_or, arith, length-drop}
+use Rattle.std.proofs.Math.Seq.{take-add}
+use Rattle.std.specs.List.{list_all, list_any, position, position_or_len}
 use Rattle.std.proofs.lemmas.Bool.Decides.{nat_tests}
-use Rattle.std.proofs.lemmas.Bool.{and_parts, eqb-true}
+use Rattle.std.proofs.lemmas.Bool.{and_parts, eqb-true, false≢true}
 use Rattle.std.proofs.lemmas.List.{drop_more, take-append-drop, take_all}
 use Rattle.std.proofs.lemmas.List.Elements.{All-from_get_or}
+use Rattle.std.proofs.lemmas.List.Folds.{list_all-append, list_any_at, list_any_none}
 use Rattle.std.proofs.lemmas.List.Quantifiers.{position-Some}
 use Rattle.std.proofs.lemmas.List.Splits.{length-slice_split, slice_split_at, slice_split_first, slice_split_none}
 use Rattle.std.proofs.lemmas.List.Sums.{count_by-le-length, fails_before_first, position_or_len_is}
+use Rattle.memchr.specs.Find.{IsFirstByte, is_byte}
 use Rattle.tree_paths.specs.Pieces.{pieces}
 use Rattle.watchtree_script.specs.Lines.{is_line_byte}
 
@@ -38,7 +42,52 @@ pieces-none s bs h =
     let past = absent (ltb (position_or_len p bs) (length bs)) (position_or_len p bs) h in
     slice_split_none p bs (All-from_get_or (λ x. p x ≡ false) bs 0 (λ k below. fails_before_first p bs k 0 (grind (arith, nat_tests))))
 
+-- ---- the first byte that a search finds
+
+-- it is at the position of the first such byte
+pub first-position : (s : ℕ) (bs : List ℕ) (r : Option ℕ) → IsFirstByte (is_byte s) bs r → r ≡ position (λ b. b == s) bs
+first-position s bs None h = none (position p bs) refl
+  where
+    p : ℕ → Bool
+    p = λ b. b == s
+
+    none : (o : Option ℕ) → position p bs ≡ o → None ≡ o
+    none None e = refl
+    none (Some i) e = let found = position-Some p bs i 0 e in absurd (h i (omega arith) found.0 found.1)
+first-position s bs (Some k) h = some (position p bs) refl
+  where
+    p : ℕ → Bool
+    p = λ b. b == s
+
+    some : (o : Option ℕ) → position p bs ≡ o → Some k ≡ o
+    some None e =
+        let past = absent (ltb (position_or_len p bs) (length bs)) (position_or_len p bs) e in
+        let fails : p (get_or bs k 0) ≡ false = fails_before_first p bs k 0 (grind (arith, nat_tests)) in
+        absurd (false≢true (sym fails ∙ h.1))
+    some (Some i) e =
+        let found = position-Some p bs i 0 e in
+        let not_before : i < k → ⊥ = λ lt. h.0.before i (omega arith) lt found.1 in
+        let not_behind : k < i → ⊥ = λ lt. false≢true (sym (found.2 k lt) ∙ h.1) in
+        ap Some (omega (arith, not_before, not_behind))
+
+-- it tells whether there is one
+pub first-any : (s : ℕ) (bs : List ℕ) (r : Option ℕ) → IsFirstByte (is_byte s) bs r → is_some r ≡ list_any (λ b. b == s) bs
+first-any s bs None h =
+    let none = All-from_get_or (λ b. (b == s) ≡ false) bs 0 (λ k below. fails (get_or bs k 0 == s) (h k (omega arith) below)) in
+    sym (list_any_none (λ b. b == s) bs none)
+  where
+    fails : (t : Bool) → (t ≡ true → ⊥) → t ≡ false
+    fails true never = absurd (never refl)
+    fails false _ = refl
+first-any s bs (Some k) h = sym (list_any_at (λ b. b == s) bs k 0 h.0.high h.1)
+
 -- ---- a line of printable bytes
+
+-- a front of which all pass a test, and a front of the rest of which all do, are one such front
+pub longer-front : (p : ℕ → Bool) (bs : List ℕ) (a b : ℕ) → list_all p (take a bs) ≡ true → list_all p (take b (drop a bs)) ≡ true → list_all p (take (a + b) bs) ≡ true
+longer-front p bs a b front behind =
+    ap (list_all p) (take-add a b bs) ∙ list_all-append p (take a bs) (take b (drop a bs))
+    ∙ ap (λ (t : Bool). t && list_all p (take b (drop a bs))) front ∙ behind
 
 no_feed : (b : ℕ) → is_line_byte b ≡ true → (b == 10) ≡ false
 no_feed b h = not_feed (b == 10) refl

@@ -1,5 +1,6 @@
 -- The table of commands: what each line of a script asks for.
-use Rattle.std.specs.Prelude.{◌≡◌, ℕ, false, not, ◌==◌, List, [], ◌∷◌, length, codes, Option, Some, None, Result, Ok, Err, if◌then◌else◌}
+use Rattle.std.specs.Prelude.{ℕ, false, not, ◌==◌, List, [], ◌∷◌, length, codes, Option, Some, None, Result, Ok}
+use Rattle.std.specs.Prelude.{Err, if◌then◌else◌}
 use Rattle.std.specs.List.{list_all, slice_index_or}
 use Rattle.std.specs.Option.{option_or}
 use Rattle.std.specs.Str.{bytes_eq}
@@ -20,7 +21,7 @@ use Rattle.watchtree_script.specs.declared.line.LineError.TheVariants.{Fault, Re
 use Rattle.watchtree_script.specs.Lines.{words_of, is_silent, is_line_byte}
 use Rattle.watchtree_script.specs.Words.{path_word, mode_word, mask_word, u32_word, u64_word, i32_word, hex_word}
 
--- steps of which the first that has no value tells why the line asks for no call
+-- steps, of which the first without a value says why the line asks for no call
 infixl 10 ◌>>=◌
 abbrev pub ◌>>=◌ : {A B : Type 0} → Result A LineError → (A → Result B LineError) → Result B LineError
 (Ok x) >>= f = f x
@@ -80,7 +81,8 @@ nth words i = slice_index_or words i []
 abbrev pub one : {A : Type 0} → List (List ℕ) → (List ℕ → Result A LineError) → Result A LineError
 one words f = if length words == 1 then f (nth words 0) else Err (Fault WrongNumber)
 
-abbrev pub none_or_one : {A : Type 0} → List (List ℕ) → Result A LineError → (List ℕ → Result A LineError) → Result A LineError
+abbrev pub none_or_one : {A : Type 0} → List (List ℕ) → Result A LineError → (List ℕ → Result A LineError)
+    → Result A LineError
 none_or_one words none f = if length words == 0 then none else one words f
 
 abbrev pub two : {A : Type 0} → List (List ℕ) → (List ℕ → List ℕ → Result A LineError) → Result A LineError
@@ -89,7 +91,7 @@ two words f = if length words == 2 then f (nth words 0) (nth words 1) else Err (
 abbrev pub three : {A : Type 0} → List (List ℕ) → (List ℕ → List ℕ → List ℕ → Result A LineError) → Result A LineError
 three words f = if length words == 3 then f (nth words 0) (nth words 1) (nth words 2) else Err (Fault WrongNumber)
 
--- ---- the kinds of words behind a command. All words of a line are read before a path is parsed, and paths are parsed in order
+-- ---- the words after a command. All words of a line are read before a path is parsed, and paths are parsed in order
 
 -- PATH
 unfoldable pub a_path : List ℕ → Result (List (List ℕ)) LineError
@@ -188,20 +190,25 @@ asking how f (Err e) = Err e
 
 -- the rows of the table: a command with the words behind it. An init without a number takes the limit of the run
 abbrev pub line_asked : ℕ → Command → List (List ℕ) → Result Line LineError
-line_asked queue command.Mkdir words = asking format.Plain (λ w. call.File (file.Mkdir w.0 w.1)) (two words path_and_mode)
-line_asked queue command.Create words = asking format.Plain (λ w. call.File (file.Create w.0 w.1)) (two words path_and_mode)
+line_asked queue command.Mkdir words =
+    asking format.Plain (λ w. call.File (file.Mkdir w.0 w.1)) (two words path_and_mode)
+line_asked queue command.Create words =
+    asking format.Plain (λ w. call.File (file.Create w.0 w.1)) (two words path_and_mode)
 line_asked queue command.Write words = asking format.Plain (λ c. c) (three words write_call)
 line_asked queue command.Cat words = asking format.Plain (λ c. c) (three words cat_call)
 line_asked queue command.Truncate words = asking format.Plain (λ c. c) (two words truncate_call)
-line_asked queue command.Chmod words = asking format.Plain (λ w. call.File (file.Chmod w.0 w.1)) (two words path_and_mode)
+line_asked queue command.Chmod words =
+    asking format.Plain (λ w. call.File (file.Chmod w.0 w.1)) (two words path_and_mode)
 line_asked queue command.Link words = asking format.Plain (λ w. call.File (file.Link w.0 w.1)) (two words old_and_new)
 line_asked queue command.Unlink words = asking format.Plain (λ p. call.File (file.Unlink p)) (one words a_path)
 line_asked queue command.Rmdir words = asking format.Plain (λ p. call.File (file.Rmdir p)) (one words a_path)
-line_asked queue command.Rename words = asking format.Plain (λ w. call.File (file.Rename w.0 w.1)) (two words old_and_new)
+line_asked queue command.Rename words =
+    asking format.Plain (λ w. call.File (file.Rename w.0 w.1)) (two words old_and_new)
 line_asked queue command.Rename2 words = asking format.Plain (λ c. c) (three words rename2_call)
 line_asked queue command.Stat words = asking format.Plain (λ p. call.File (file.Stat p)) (one words a_path)
 line_asked queue command.List words = asking format.Plain (λ p. call.File (file.List p)) (one words a_path)
-line_asked queue command.Init words = asking format.Plain (λ n. call.Init n false) (none_or_one words (Ok queue) u32_word)
+line_asked queue command.Init words =
+    asking format.Plain (λ n. call.Init n false) (none_or_one words (Ok queue) u32_word)
 line_asked queue command.Watch words = asking format.Plain (λ c. c) (three words watch_call)
 line_asked queue command.Unwatch words = asking format.Plain (λ c. c) (two words unwatch_call)
 line_asked queue command.Read words = asking format.Records (λ w. call.Read w.0 w.1) (two words id_and_bytes)

@@ -23,7 +23,8 @@ ok_line value = codes "ok " ++ value ++ codes "\n"
 
 -- err, with the name and the number of a refusal
 abbrev pub refusal_text : Refusal → List ℕ
-refusal_text refusal = codes "err " ++ refusal_name refusal ++ codes " " ++ decimal (refusal_number refusal) ++ codes "\n"
+refusal_text refusal =
+    codes "err " ++ refusal_name refusal ++ codes " " ++ decimal (refusal_number refusal) ++ codes "\n"
 
 -- ok alone
 abbrev pub done_line : List ℕ
@@ -50,8 +51,8 @@ octal_digit n = 48 + n % 8
 abbrev pub mode_text : ℕ → List ℕ
 mode_text mode = octal_digit (mode / 512) ∷ octal_digit (mode / 64) ∷ octal_digit (mode / 8) ∷ octal_digit mode ∷ []
 
--- what an accepted call on files answers: a number, a count, the bytes that were read, the names in a directory in a line
--- each, or the number, kind, mode, links and size of a file
+-- what an accepted call on files answers: a number, a count, the bytes that were read, the names in a directory in a
+-- line each, or the number, kind, mode, links and size of a file
 abbrev pub answer_text : Answer → List ℕ
 answer_text answer.Done = done_line
 answer_text (answer.Number number) = ok_line (decimal number)
@@ -59,7 +60,8 @@ answer_text (answer.Count count) = ok_line (decimal count)
 answer_text (answer.Bytes bytes) = ok_line (hexadecimal bytes)
 answer_text (answer.Names names) = ok_line (decimal (length names)) ++ flat_map name_line names
 answer_text (answer.Stat number kind mode links size) =
-    ok_line (decimal number ++ codes " " ++ kind_letter kind ++ codes " " ++ mode_text mode ++ codes " " ++ decimal links ++ codes " " ++ decimal size)
+    ok_line (decimal number ++ codes " " ++ kind_letter kind ++ codes " " ++ mode_text mode
+    ++ codes " " ++ decimal links ++ codes " " ++ decimal size)
 
 -- a record behind two spaces
 abbrev pub event_line : Event → List ℕ
@@ -69,12 +71,15 @@ event_line e = codes "  " ++ record_line e ++ codes "\n"
 abbrev pub AreEventsIn : List ℕ → List Event → Type 0
 AreEventsIn bytes events = AreEvents events × (bytes ≡ spelling events)
 
--- the reply of a read: the number of bytes that were read, and behind it nothing more, a line for each record, or one line of the
--- bytes in hexadecimal
+-- the reply of a read: the number of bytes that were read, and behind it nothing more, a line for each record, or one
+-- line of the bytes in hexadecimal
 abbrev pub IsReadText : OutputFormat → List ℕ → List ℕ → Type 0
 IsReadText Plain bytes text = text ≡ ok_line (decimal (length bytes))
-IsReadText Records bytes text = (events : List Event) × AreEventsIn bytes events × (text ≡ ok_line (decimal (length bytes)) ++ flat_map event_line events)
-IsReadText Hexadecimal bytes text = text ≡ ok_line (decimal (length bytes)) ++ (codes "  " ++ encode_lower bytes ++ codes "\n")
+IsReadText Records bytes text =
+    (events : List Event) × AreEventsIn bytes events
+    × (text ≡ ok_line (decimal (length bytes)) ++ flat_map event_line events)
+IsReadText Hexadecimal bytes text =
+    text ≡ ok_line (decimal (length bytes)) ++ (codes "  " ++ encode_lower bytes ++ codes "\n")
 
 -- the text of a reply, as its command shows it
 abbrev pub IsReplyText : OutputFormat → Reply → List ℕ → Type 0

@@ -35,12 +35,14 @@ pub record IsFrontWritten (bytes : List ℕ) (old new : Option (List ℕ)) : Typ
 abbrev pub FailsToWrite : ℕ → Journaled → List ℕ → List ℕ → Option (List ℕ) → Option (List ℕ) → Type 0
 FailsToWrite queue journal line waiting old new =
     IsFrontWritten waiting old new
-    ⊎ ((printed : List ℕ) × (after : Journaled) × PrintsLine journal (line_of queue line) printed after × IsFrontWritten (waiting ++ printed) old new)
+    ⊎ ((printed : List ℕ) × (after : Journaled) × PrintsLine journal (line_of queue line) printed after
+    × IsFrontWritten (waiting ++ printed) old new)
 
--- why a line is not passed on whole, with what waited to be written, and what the writer held before and after. Where no write
--- failed, all that waited was written
+-- why a line is not passed on whole, with what waited to be written, and what the writer held before and after. Where
+-- no write failed, all that waited was written
 abbrev pub LineTells : ℕ → ℕ → Journaled → List ℕ → RunFault → List ℕ → Option (List ℕ) → Option (List ℕ) → Type 0
-LineTells queue number journal line (faults.Script n f) waiting old new = (n ≡ number) × (line_of queue line ≡ Err (Fault f)) × Appends old new waiting
+LineTells queue number journal line (faults.Script n f) waiting old new =
+    (n ≡ number) × (line_of queue line ≡ Err (Fault f)) × Appends old new waiting
 LineTells queue number journal line faults.TooLong waiting old new = ⊥
 LineTells queue number journal line faults.Read waiting old new = ⊥
 LineTells queue number journal line faults.Write waiting old new = FailsToWrite queue journal line waiting old new

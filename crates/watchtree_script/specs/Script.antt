@@ -1,5 +1,6 @@
 -- What a script prints.
-use Rattle.std.specs.Prelude.{◌≡◌, ◌<◌, ◌≤◌, ◌⊎◌, ⊤, ℕ, ◌+◌, List, [], ◌∷◌, ◌++◌, length, decimal, Option, Result, Ok, Err, IfSome}
+use Rattle.std.specs.Prelude.{◌≡◌, ◌<◌, ◌≤◌, ◌⊎◌, ⊤, ℕ, ◌+◌, List, [], ◌∷◌, ◌++◌, length, decimal, Option, Result, Ok}
+use Rattle.std.specs.Prelude.{Err, IfSome}
 use Rattle.std.specs.Io.KnownBytes.{Appends, Keeps}
 use Rattle.record_codec.specs.Ports.{one_more}
 use Rattle.tree_paths.specs.Bounds.{full}
@@ -31,7 +32,7 @@ pub record IsAnswered (old : Journaled) (call : Call) (reply : Reply) (new : Jou
   pub answer : reply ≡ reply_of (now old) call
   pub entry : new ≡ with_entry old (record { caller = caller; call = call; reply = reply })
 
--- want of memory leaves the journal as it is, and is answered only where the journal has room
+-- out of memory leaves the journal as it is, and is answered only if the journal is not full
 pub record IsOutOfMemory (old : Journaled) (reply : Reply) (new : Journaled) : Type 0 where
   pub room : ¬ IsSpent old
   pub answer : reply ≡ replies.Refused Enomem
@@ -61,7 +62,8 @@ HasPath (call.Read instance bytes) = ⊥
 HasPath (call.Pump instance bytes) = ⊥
 HasPath (call.Close instance) = ⊥
 
--- want of memory for a path of a call, which is read before it is known whether the journal has room, leaves the journal as it is
+-- out of memory for a path of a call, which is read before the journal is known not to be full, leaves the journal as
+-- it is
 pub record LacksPath (old : Journaled) (call : Call) (reply : Reply) (new : Journaled) : Type 0 where
   pub path : HasPath call
   pub answer : reply ≡ replies.Refused Enomem
@@ -80,10 +82,12 @@ abbrev pub Cuts : Journaled → List ℕ → Journaled → Type 0
 Cuts old text new = AmpleCuts old text new ⊎ ((text ≡ refusal_text Enomem) × (new ≡ old))
 
 -- what a line may print, from the old journal to the new one, where calls and cuts are replied to so
-abbrev pub PrintsLineBy : (Journaled → Call → Reply → Journaled → Type 0) → (Journaled → List ℕ → Journaled → Type 0) → Journaled → Result Line LineError → List ℕ → Journaled → Type 0
+abbrev pub PrintsLineBy : (Journaled → Call → Reply → Journaled → Type 0) → (Journaled → List ℕ → Journaled → Type 0)
+    → Journaled → Result Line LineError → List ℕ → Journaled → Type 0
 PrintsLineBy R C old (Ok Silent) text new = (text ≡ []) × (new ≡ old)
 PrintsLineBy R C old (Ok Cut) text new = C old text new
-PrintsLineBy R C old (Ok (Run call format)) text new = (reply : Reply) × R old call reply new × IsReplyText format reply text
+PrintsLineBy R C old (Ok (Run call format)) text new =
+    (reply : Reply) × R old call reply new × IsReplyText format reply text
 PrintsLineBy R C old (Err (Refused refusal)) text new = (text ≡ refusal_text refusal) × (new ≡ old)
 PrintsLineBy R C old (Err (Fault fault)) text new = ⊥
 PrintsLineBy R C old (Err PathMemory) text new = (text ≡ refusal_text Enomem) × (new ≡ old)
@@ -101,10 +105,12 @@ abbrev pub MayHaveRun : Journaled → Result Line LineError → Journaled → Ty
 MayHaveRun old line new = (new ≡ old) ⊎ HasRun old line new
 
 -- what lines may print, one after another
-abbrev pub PrintsBy : (Journaled → Call → Reply → Journaled → Type 0) → (Journaled → List ℕ → Journaled → Type 0) → ℕ → Journaled → List (List ℕ) → List ℕ → Journaled → Type 0
+abbrev pub PrintsBy : (Journaled → Call → Reply → Journaled → Type 0) → (Journaled → List ℕ → Journaled → Type 0) → ℕ
+    → Journaled → List (List ℕ) → List ℕ → Journaled → Type 0
 PrintsBy R C queue old [] text new = (text ≡ []) × (new ≡ old)
 PrintsBy R C queue old (line ∷ lines) text new =
-    (mid : Journaled) × (first rest : List ℕ) × PrintsLineBy R C old (line_of queue line) first mid × PrintsBy R C queue mid lines rest new
+    (mid : Journaled) × (first rest : List ℕ) × PrintsLineBy R C old (line_of queue line) first mid
+    × PrintsBy R C queue mid lines rest new
     × (text ≡ first ++ rest)
 
 abbrev pub PrintsLine : Journaled → Result Line LineError → List ℕ → Journaled → Type 0
@@ -194,7 +200,8 @@ PrintsNothing queue number line faults.Read = ⊥
 PrintsNothing queue number line faults.Write = ⊥
 PrintsNothing queue number line faults.Memory = ⊤
 
--- what a line that prints nothing leaves: a fault nothing, and want of memory nothing or all that the line asks for
+-- what a line that prints nothing leaves: after a fault nothing; after out of memory nothing, or all that the line asks
+-- for
 abbrev pub LeavesLine : RunFault → Journaled → Result Line LineError → Journaled → Type 0
 LeavesLine (faults.Script n f) old line new = new ≡ old
 LeavesLine faults.TooLong old line new = ⊥

@@ -1,5 +1,6 @@
 -- What the words behind a command stand for, by their kinds.
-use Rattle.std.specs.Prelude.{ℕ, ℤ, pos, neg_ℤ, ◌-◌, ◌^◌, ◌&&◌, ◌==◌, nat_lt, nat_le, List, [], ◌∷◌, length, take, drop, codes, Option, Some, None, option_map, option_and_then, Result, Ok, Err, if◌then◌else◌}
+use Rattle.std.specs.Prelude.{ℕ, ℤ, pos, neg_ℤ, ◌-◌, ◌^◌, ◌&&◌, ◌==◌, nat_lt, nat_le, List, [], ◌∷◌, length, take, drop}
+use Rattle.std.specs.Prelude.{codes, Option, Some, None, option_map, option_and_then, Result, Ok, Err, if◌then◌else◌}
 use Rattle.std.specs.List.{list_all}
 use Rattle.std.specs.Char.{is_digit}
 use Rattle.std.specs.Str.{byte, bytes_eq}
@@ -7,7 +8,8 @@ use Rattle.std.specs.Str.Parse.{digits_value}
 use Rattle.std.specs.Result.{result_ok}
 use Rattle.hex.specs.Hex.{decode_of}
 use Rattle.watchtree_script.specs.declared.fault.ScriptFault.{ScriptFault}
-use Rattle.watchtree_script.specs.declared.fault.ScriptFault.TheVariants.{BadEscape, BadMode, BadHex, BadMask, BadNumber}
+use Rattle.watchtree_script.specs.declared.fault.ScriptFault.TheVariants.{BadEscape, BadMode, BadHex, BadMask}
+use Rattle.watchtree_script.specs.declared.fault.ScriptFault.TheVariants.{BadNumber}
 use Rattle.watchtree_script.specs.declared.line.LineError.{LineError}
 use Rattle.watchtree_script.specs.declared.line.LineError.TheVariants.{Fault}
 
@@ -55,10 +57,12 @@ i32_max = 2 ^ 31 - 1
 abbrev pub i32_min_size : ℕ
 i32_min_size = 2 ^ 31
 
--- the number of one digit or more, but no more than most, where it is at most greatest. Digits above 9 are letters, in either case
+-- the number of one digit or more, but no more than most, where it is at most greatest. Digits above 9 are letters, in
+-- either case
 unfoldable pub number_spelled : ℕ → ℕ → ℕ → List ℕ → Option ℕ
 number_spelled radix most greatest digits =
-    if nat_lt 0 (length digits) && nat_le (length digits) most && list_all (λ c. is_digit c radix) digits && nat_le (digits_value radix digits) greatest
+    if nat_lt 0 (length digits) && nat_le (length digits) most && list_all (λ c. is_digit c radix) digits
+    && nat_le (digits_value radix digits) greatest
     then Some (digits_value radix digits) else None
 
 -- a byte at the front of bytes, where both are there
@@ -91,7 +95,8 @@ mode_word word = or_fault BadMode (number_spelled octal mode_digits u32_max word
 
 -- MASK: 0x, and 1 to 8 hexadecimal digits
 unfoldable pub mask_word : List ℕ → Result ℕ LineError
-mask_word word = or_fault BadMask (option_and_then (number_spelled hexadecimal mask_digits u32_max) (behind (codes "0x") word))
+mask_word word =
+    or_fault BadMask (option_and_then (number_spelled hexadecimal mask_digits u32_max) (behind (codes "0x") word))
 
 -- ID, COUNT, BYTES, LIMIT: 1 to 20 decimal digits that fit a u32
 unfoldable pub u32_word : List ℕ → Result ℕ LineError

@@ -13,6 +13,9 @@ use std::marker::Model;
 
 const LINE_FEED: u8 = b'\n';
 
+/// How many bytes are tested at once.
+const BLOCK: usize = 8;
+
 /// A line of a script.
 #[derive(Clone, Copy)]
 pub(crate) struct ScriptLine<'a> {
@@ -87,8 +90,33 @@ fn is_line_byte(byte: u8) -> bool
     byte == b' ' || byte.is_ascii_graphic()
 }
 
-/// How many bytes stand before the first that is not printable.
+/// How many bytes stand before one that is not printable, in whole blocks and then byte by byte.
 fn printable_len(bytes: &[u8]) -> usize
+    ensures within { result ≤ length bytes.now }
+    ensures front { list_all is_line_byte (take result bytes.now) ≡ true }
+{
+    let mut len = 0;
+    while let Some((block, _)) = bytes[len..].split_first_chunk::<BLOCK>()
+        && are_line_bytes(block)
+    {
+        len += BLOCK;
+    }
+    len + printable_front(&bytes[len..])
+}
+
+/// Whether all bytes of a block are printable. No test waits for another one, so that one instruction can do several.
+fn are_line_bytes(block: &[u8; BLOCK]) -> bool
+    ensures { result ≡ list_all is_line_byte block.now }
+{
+    let mut are = true;
+    for byte in block {
+        are &= is_line_byte(*byte);
+    }
+    are
+}
+
+/// How many bytes stand before the first that is not printable.
+fn printable_front(bytes: &[u8]) -> usize
     ensures within { result ≤ length bytes.now }
     ensures front { list_all is_line_byte (take result bytes.now) ≡ true }
 {

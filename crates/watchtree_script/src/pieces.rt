@@ -5,6 +5,7 @@ ghost use Rattle.std.specs.Option.{option_copied};
 ghost use Rattle.tree_paths.specs.Pieces.{pieces, runs};
 ghost use Rattle.watchtree_script.specs.Reading.{pieces_in};
 
+use memchr::memchr;
 use std::marker::Model;
 
 /// The pieces between separators that are left.
@@ -142,5 +143,5 @@ pub(crate) fn cut<'a>(separator: u8, bytes: &'a [u8]) -> (&'a [u8], Option<&'a [
 fn position_of(separator: u8, bytes: &[u8]) -> Option<usize>
     ensures { result ≡ position (λ b. b == separator) bytes.now }
 {
-    bytes.iter().position(|b| *b == separator)
+    memchr(separator, bytes)
 }

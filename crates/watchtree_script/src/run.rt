@@ -1,23 +1,26 @@
 //! Runs of scripts.
 
-ghost use Rattle.std.specs.Prelude.{◌≡◌, ◌<◌, [], ℕ, List, Some, IfOk, OnOk, OnErr, IfErr, IfSome, Ok, take};
-ghost use Rattle.std.specs.List.{list_all};
+ghost use Rattle.std.specs.Prelude.{◌≡◌, ◌<◌, [], ℕ, List, None, Some, IfOk, OnOk, OnErr, IfErr, IfSome, Ok, take};
+ghost use Rattle.std.specs.List.{last_or, list_all};
 ghost use Rattle.record_codec.specs.Ports.{inner_of, faults_of};
 ghost use Rattle.tree_core.specs.Calls.{IsSpelled};
+ghost use Rattle.tree_core.specs.declared.reply.Entry.{Entry};
+ghost use Rattle.tree_core.specs.declared.reply.Reply.{Reply};
 ghost use Rattle.watchtree_script.specs.Commands.{line_of};
 ghost use Rattle.watchtree_script.specs.Lines.{is_line_byte};
+ghost use Rattle.watchtree_script.specs.Replies.{IsReplyText};
 ghost use Rattle.watchtree_script.specs.Script.{PrintsLine, MayHaveRun, FaultTells, IsShort, Adds, IsText, Replies, write_faults, read_faults, PrintsNothing, LeavesLine};
 ghost use Rattle.watchtree_script.specs.Running.{LineTells, ReadTells, IsRunFault, Passes};
 
 use crate::fault::RunFault;
-use crate::line::{Line, LineError, read_line};
+use crate::line::{Line, LineError, OutputFormat, read_line};
 use crate::lines::{Lines, ScriptLine};
 use crate::page::Page;
 use crate::print::{push_ok, push_refusal, push_reply};
 use record_codec::Port;
 use std::alloc::{AllocError, Global};
 use std::io::{Read, Write};
-use tree_core::{Call, Reply, State};
+use tree_core::{Call, State};
 use tree_paths::{Limits, Refusal};
 
 /// The most bytes of a script.
@@ -187,20 +190,35 @@ fn push_line(text: &mut Vec<u8>, state: &mut State, line: Line) -> Result<(), Al
             Ok(place) => push_ok(text, place),
             Err(refusal) => push_refusal(text, refusal),
         },
-        Line::Run { call, format } => {
-            let reply = reply_to(state, call);
-            push_reply(text, format, &reply)
-        }
+        Line::Run { call, format } => push_call(text, state, call, format),
     }
 }
 
-/// A call's reply, which may be that memory or the journal is spent.
-fn reply_to(state: &mut State, call: Call) -> Reply
-    ensures reply { Replies state.old call result state.new }
-    ensures spelled { IsSpelled result }
+/// Makes a call, and adds its reply to an empty text. It may be that memory or the journal is spent.
+fn push_call(
+    text: &mut Vec<u8>,
+    state: &mut State,
+    call: Call,
+    format: OutputFormat,
+) -> Result<(), AllocError>
+    requires { text.old.items ≡ [] }
+    ensures ok { OnOk result ((reply : Reply) × Replies state.old call reply state.new × IsReplyText format reply text.new.items) }
+    ensures left { OnErr result (MayHaveRun state.old (Ok (Line.Run call format)) state.new) }
 {
-    match state.apply(CALLER, call) {
-        Ok(receipt) => receipt.reply,
-        Err(refusal) => Reply::Refused(refusal),
+    match state.record(CALLER, call) {
+        Ok(_) => push_last(text, state, format),
+        Err(refusal) => push_refusal(text, refusal),
     }
+}
+
+/// Adds the reply of the journal's last entry to an empty text.
+fn push_last(text: &mut Vec<u8>, state: &State, format: OutputFormat) -> Result<(), AllocError>
+    requires empty { text.old.items ≡ [] }
+    requires entry { (entry : Entry) × (last_or None state.now.entries ≡ Some entry) × IsSpelled entry.reply }
+    ensures { OnOk result (IfSome (last_or None state.now.entries) (λ entry. IsReplyText format entry.reply text.new.items)) }
+{
+    let Some(entry) = state.last_entry() else {
+        unreachable!()
+    };
+    push_reply(text, format, &entry.reply)
 }

@@ -11,6 +11,7 @@ use crate::fault::ScriptFault;
 use crate::line::LineError;
 use crate::numbers::number_spelled;
 use hex::FromHexError;
+use memchr::memchr;
 use record_codec::Bytes;
 use std::alloc::{AllocError, Global};
 use std::borrow::CowSlice;
@@ -81,7 +82,7 @@ fn unescape(alloc: Global, word: &[u8]) -> Result<Option<Vec<u8>>, AllocError>
 fn has_escape(word: &[u8]) -> bool
     ensures { result ≡ list_any (λ b. b == byte "%") word.now }
 {
-    word.iter().any(|b| *b == b'%')
+    memchr(b'%', word).is_some()
 }
 
 /// What the word of a path stands for.

@@ -9,4 +9,8 @@ held-at-first passes turn below = absurd (omega (arith, below))
 
 -- a turn more
 pub held-more : (passes : ℕ → Bool → Type 0) (n : ℕ) → IsHeldBack passes n → passes n false → IsHeldBack passes (n + 1)
-held-more passes n before now turn below = elim (cases_eq turn n) [ inl same ↦ subst (λ (k : ℕ). passes k false) (sym same) now | inr other ↦ before turn (omega (arith, below, other)) ]
+held-more passes n before now turn below =
+    elim (cases_eq turn n) [
+      | inl same ↦ subst (λ (k : ℕ). passes k false) (sym same) now
+      | inr other ↦ before turn (omega (arith, below, other))
+    ]

@@ -31,7 +31,8 @@ unfolding after_file
 file-by t f None = refl
 file-by t f (Some why) = refl
 
-watch-by : (t : Tree) (id : ℕ) (path : List (List ℕ)) (mask : ℕ) (r : Option Refusal) → (tree_by r t (accepted t (call.AddWatch id path mask))).next_id ≡ t.next_id
+watch-by : (t : Tree) (id : ℕ) (path : List (List ℕ)) (mask : ℕ) (r : Option Refusal)
+    → (tree_by r t (accepted t (call.AddWatch id path mask))).next_id ≡ t.next_id
 unfolding after_add_watch
 watch-by t id path mask None = refl
 watch-by t id path mask (Some why) = refl
@@ -49,16 +50,22 @@ after-call : (old new : Journaled) (seat left : Seated) (c : Call) (r : Receipt)
 after-call old new seat left c r joins = ap now joins.entry ∙ now-entry old (record { caller = seat.number; call = c; reply = r.reply })
 
 -- a call on files leaves it
-pub next-of-file : (old new : Journaled) (seat left : Seated) (f : FileCall) (r : Receipt) → JoinsJournal old seat (call.File f) new left r → next new ≡ next old
-next-of-file old new seat left f r joins = ap (λ (t : Tree). t.next_id) (after-call old new seat left (call.File f) r joins) ∙ file-by (now old) f (refusal_of (now old) (call.File f))
+pub next-of-file : (old new : Journaled) (seat left : Seated) (f : FileCall) (r : Receipt)
+    → JoinsJournal old seat (call.File f) new left r → next new ≡ next old
+next-of-file old new seat left f r joins =
+    ap (λ (t : Tree). t.next_id) (after-call old new seat left (call.File f) r joins)
+    ∙ file-by (now old) f (refusal_of (now old) (call.File f))
 
 -- and so does a watch
-pub next-of-watch : (old new : Journaled) (seat left : Seated) (id : ℕ) (path : List (List ℕ)) (mask : ℕ) (r : Receipt) → JoinsJournal old seat (call.AddWatch id path mask) new left r → next new ≡ next old
+pub next-of-watch : (old new : Journaled) (seat left : Seated) (id : ℕ) (path : List (List ℕ)) (mask : ℕ) (r : Receipt)
+    → JoinsJournal old seat (call.AddWatch id path mask) new left r → next new ≡ next old
 next-of-watch old new seat left id path mask r joins =
-    ap (λ (t : Tree). t.next_id) (after-call old new seat left (call.AddWatch id path mask) r joins) ∙ watch-by (now old) id path mask (refusal_of (now old) (call.AddWatch id path mask))
+    ap (λ (t : Tree). t.next_id) (after-call old new seat left (call.AddWatch id path mask) r joins)
+    ∙ watch-by (now old) id path mask (refusal_of (now old) (call.AddWatch id path mask))
 
 -- an instance that is made has it, and the one after it is next
-pub next-of-made : (old new : Journaled) (seat left : Seated) (limit : ℕ) (is_piped : Bool) (id : ℕ) (r : Receipt) → JoinsJournal old seat (call.Init limit is_piped) new left r → r.reply ≡ reply.Instance id
+pub next-of-made : (old new : Journaled) (seat left : Seated) (limit : ℕ) (is_piped : Bool) (id : ℕ) (r : Receipt)
+    → JoinsJournal old seat (call.Init limit is_piped) new left r → r.reply ≡ reply.Instance id
     → (id ≡ next old) × (next new ≡ next old + 1)
 next-of-made old new seat left limit is_piped id r joins is =
     let by = init-by (now old) limit is_piped id (refusal_of (now old) (call.Init limit is_piped)) (sym is ∙ joins.reply) in
@@ -66,7 +73,9 @@ next-of-made old new seat left limit is_piped id r joins is =
 
 -- the feed of an instance that was made is at its pipe
 feed-is : (r : Reply) (slots : ℕ) (f : Fed) → Some f ≡ feed_of r slots → (r ≡ reply.Instance f.instance) × (f ≡ fed f.instance [] slots)
-feed-is (reply.Instance id) slots f e = let is : f ≡ fed id [] slots = cc in (ap (λ (x : Fed). reply.Instance x.instance) (sym is), is ∙ ap (λ (x : Fed). fed x.instance [] slots) (sym is))
+feed-is (reply.Instance id) slots f e =
+    let is : f ≡ fed id [] slots = cc in
+    (ap (λ (x : Fed). reply.Instance x.instance) (sym is), is ∙ ap (λ (x : Fed). fed x.instance [] slots) (sym is))
 feed-is (reply.File answer) slots f e = absurd (cc)
 feed-is (reply.Wd wd) slots f e = absurd (cc)
 feed-is (reply.Records bytes) slots f e = absurd (cc)
@@ -75,7 +84,8 @@ feed-is (reply.Refused why) slots f e = absurd (cc)
 
 -- who made the next instance, and watches the directory by it, listens at its pipe
 pub listens : (old mid new : Journaled) (seat between left : Seated) (slots : ℕ) (made told : Receipt) (f : Fed) (path : List (List ℕ))
-    → JoinsJournal old seat (call.Init 16384 true) mid between made → Some f ≡ feed_of made.reply slots → IsDirectory path → JoinsJournal mid between (call.AddWatch f.instance path 4095) new left told
+    → JoinsJournal old seat (call.Init 16384 true) mid between made → Some f ≡ feed_of made.reply slots
+    → IsDirectory path → JoinsJournal mid between (call.AddWatch f.instance path 4095) new left told
     → (f ≡ fed (next old) [] slots) × (next new ≡ next old + 1) × IsListening (next old) seat left
 listens old mid new seat between left slots made told f path opens feed_is is_dir watches =
     let at = feed-is made.reply slots f feed_is in
@@ -92,10 +102,15 @@ listens old mid new seat between left slots made told f path opens feed_is is_di
         refl,
         at.0 ∙ ap reply.Instance is.0,
         ap (λ (n : ℕ). call.AddWatch n path 4095) is.0,
-        watches.kept ∙ ap (λ (s : Seated). seated s.number (s.kept ++ second ∷ [])) opens.kept ∙ ap (seated seat.number) (append_assoc seat.kept (first ∷ []) (second ∷ [])),
+        watches.kept ∙ ap (λ (s : Seated). seated s.number (s.kept ++ second ∷ [])) opens.kept
+            ∙ ap (seated seat.number) (append_assoc seat.kept (first ∷ []) (second ∷ [])),
       ),
     )
 
 -- the first instance is made after one call on files
-pub first-next : (held : TreeWithPipes) (limits : Limits) (new : Journaled) (seat left : Seated) (f : FileCall) (r : Receipt) → held ≡ tree_with_pipes (opened limits) [] [] 0 → JoinsJournal held.state seat (call.File f) new left r → next new ≡ 1
-first-next held limits new seat left f r is joins = next-of-file held.state new seat left f r joins ∙ ap (λ (h : TreeWithPipes). next h.state) is ∙ next-at-first limits
+pub first-next : (held : TreeWithPipes) (limits : Limits) (new : Journaled) (seat left : Seated) (f : FileCall)
+    (r : Receipt)
+    → held ≡ tree_with_pipes (opened limits) [] [] 0 → JoinsJournal held.state seat (call.File f) new left r
+    → next new ≡ 1
+first-next held limits new seat left f r is joins =
+    next-of-file held.state new seat left f r joins ∙ ap (λ (h : TreeWithPipes). next h.state) is ∙ next-at-first limits

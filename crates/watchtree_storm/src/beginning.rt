@@ -55,7 +55,8 @@ fn listen<L: Ledger, S: Sink>(
     ensures number { OnOk result (seat.new.number ≡ seat.old.number) }
     ensures next { OnOk result ((now held.new.state).next_id ≡ (now held.old.state).next_id + 1) }
     ensures kept { OnOk result (IsListening (now held.old.state).next_id seat.old seat.new) }
-    ensures begins { IfOk result (λ l. Begins S.record_list S.is_open number (now held.old.state).next_id slots sink l) }
+    ensures begins { IfOk result (λ l.
+        Begins S.record_list S.is_open number (now held.old.state).next_id slots sink l) }
     ensures sound { IfOk result (λ l. IsSoundListener (state_of_listener S.record_list S.is_open l)) }
 {
     let (_, feed) = held.open_piped(seat, QUEUE, slots)?;
@@ -74,8 +75,8 @@ fn listen<L: Ledger, S: Sink>(
     Ok(Listening::new(alloc, number, feed, sink))
 }
 
-/// Makes the tree, its seats 1 to 3, its directory, and instances 1 and 2, each with a pipe of `calls + 2` places and the
-/// listener of its number.
+/// Makes the tree, its seats 1 to 3, its directory, and instances 1 and 2, each with a pipe of `calls + 2` slots and
+/// the listener of its number.
 ///
 /// # Errors
 /// [`StormFault::Memory`]; both sinks are then closed.
@@ -93,8 +94,12 @@ pub fn begin<L: Ledger, S: Sink>(
     ensures shares { IfOk result (λ b. (b.pass.parts + 3 ≡ L.parts) × (b.pass.amount ≡ 0)) }
     ensures seats { IfOk result (λ b. (b.main.number ≡ 1) × (b.first ≡ seated 2 []) × (b.second ≡ seated 3 [])) }
     ensures begun { IfOk result (λ b. HasBegun b.main) }
-    ensures listeners { IfOk result (λ b. Begins S.record_list S.is_open 1 1 (calls + 2) one b.one × Begins S.record_list S.is_open 2 2 (calls + 2) other b.other) }
-    ensures sound { IfOk result (λ b. IsSoundListener (state_of_listener S.record_list S.is_open b.one) × IsSoundListener (state_of_listener S.record_list S.is_open b.other)) }
+    ensures listeners { IfOk result (λ b.
+        Begins S.record_list S.is_open 1 1 (calls + 2) one b.one
+        × Begins S.record_list S.is_open 2 2 (calls + 2) other b.other) }
+    ensures sound { IfOk result (λ b.
+        IsSoundListener (state_of_listener S.record_list S.is_open b.one)
+        × IsSoundListener (state_of_listener S.record_list S.is_open b.other)) }
 {
     let (mut held, mut pass) = Held::<L>::new(alloc, blank, Limits::full())?;
     let mut main = pass.seat()?;

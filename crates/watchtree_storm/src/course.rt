@@ -5,7 +5,8 @@ ghost use Rattle.std.specs.Prelude.{◌≡◌, ◌+◌, ◌≤◌, ◌∷◌, []
 ghost use Rattle.event_sinks.specs.Audited.{Settles, calls_of, outcome_of};
 ghost use Rattle.event_sinks.specs.Listeners.{IsSoundListener, state_of_ended, state_of_listener};
 ghost use Rattle.shared_tree.specs.Seats.{seated};
-ghost use Rattle.watchtree_storm.specs.Storm.{AreStormLogs, CountsAgree, HasBegun, HasRun, RunsAt, WritesHanded, beginning, told_of};
+ghost use Rattle.watchtree_storm.specs.Storm.{AreStormLogs, CountsAgree, HasBegun, HasRun, RunsAt, WritesHanded};
+ghost use Rattle.watchtree_storm.specs.Storm.{beginning, told_of};
 
 use crate::beginning::{ReadyStorm, begin};
 use crate::fault::StormFault;
@@ -44,12 +45,14 @@ impl<S: Sink> FinishedStorm<S> {
     /// Settles the book.
     ///
     /// # Errors
-    /// [`StormFault::Memory`], where there is none to tell of the listeners, whose sinks are closed.
+    /// [`StormFault::Memory`], if there is none for the report of the listeners, whose sinks are closed.
     pub fn settle(self, alloc: Global) -> Result<Stormed, StormFault>
         requires { self.book.entries ≡ calls_of self.logs.items }
         ensures entries { IfOk result (λ s. s.entries ≡ self.book.entries) }
-        ensures listeners { IfOk result (λ s. s.listeners.items ≡ told_of S.record_list self.ended.0 ∷ told_of S.record_list self.ended.1 ∷ []) }
-        ensures settled { IfOk result (λ s. Settles self.book self.logs.items (outcome_of self.ended.0 ∷ outcome_of self.ended.1 ∷ []) s.settled) }
+        ensures listeners { IfOk result (λ s.
+            s.listeners.items ≡ told_of S.record_list self.ended.0 ∷ told_of S.record_list self.ended.1 ∷ []) }
+        ensures settled { IfOk result (λ s.
+            Settles self.book self.logs.items (outcome_of self.ended.0 ∷ outcome_of self.ended.1 ∷ []) s.settled) }
         ensures counts { IfOk result (λ s. CountsAgree s.settled) }
     {
         let FinishedStorm {
@@ -72,7 +75,7 @@ impl<S: Sink> FinishedStorm<S> {
     }
 }
 
-// What is told of a listener: its number, why it ended, and how many records its sink took.
+// What is reported of a listener: its number, why it ended, and how many records its sink took.
 fn told_of<S: Sink>(ended: &Ended<S>) -> (u32, Cause, u64)
     ensures { result ≡ told_of S.record_list ended.now }
 {
@@ -80,9 +83,9 @@ fn told_of<S: Sink>(ended: &Ended<S>) -> (u32, Cause, u64)
 }
 
 impl<L: Ledger + Send + Sync, S: Sink> ReadyStorm<L, S> {
-    /// Two writers make so many calls each and pump after each, while two listeners take what comes, each in a thread of
-    /// its own. Once the writers have ended, both instances are pumped once more and closed. It waits for the listeners
-    /// too, which end at the last by the turns of the gate, and then the tree is dissolved.
+    /// Two writers make so many calls each and pump after each, while two listeners take what comes, each in a thread
+    /// of its own. Once the writers have ended, both instances are pumped once more and closed. It waits for the
+    /// listeners too, which end at the last by the turns of the gate, and then the tree is dissolved.
     ///
     /// # Errors
     /// [`StormFault::Memory`], where there is no memory or a thread cannot be started: none of the four has then begun,
@@ -97,11 +100,15 @@ impl<L: Ledger + Send + Sync, S: Sink> ReadyStorm<L, S> {
         requires shares { (self.pass.parts + 3 ≡ L.parts) × (self.pass.amount ≡ 0) }
         requires main { (self.main.number ≡ 1) × HasBegun self.main }
         requires writers { (self.first ≡ seated 2 []) × (self.second ≡ seated 3 []) }
-        requires sound { IsSoundListener (state_of_listener S.record_list S.is_open self.one) × IsSoundListener (state_of_listener S.record_list S.is_open self.other) }
+        requires sound { IsSoundListener (state_of_listener S.record_list S.is_open self.one)
+            × IsSoundListener (state_of_listener S.record_list S.is_open self.other) }
         ensures counts { IfOk result (λ r. r.book.entries ≡ calls_of r.logs.items) }
-        ensures logs { IfOk result (λ r. AreStormLogs (G.may_pass gate.now) (G.most_turns gate.now) calls r.logs.items) }
-        ensures one { IfOk result (λ r. HasRun S.record_list S.is_open S.page (G.may_pass gate.now) (G.most_turns gate.now) self.one r.ended.0) }
-        ensures other { IfOk result (λ r. HasRun S.record_list S.is_open S.page (G.may_pass gate.now) (G.most_turns gate.now) self.other r.ended.1) }
+        ensures logs { IfOk result (λ r.
+            AreStormLogs (G.may_pass gate.now) (G.most_turns gate.now) calls r.logs.items) }
+        ensures one { IfOk result (λ r.
+            HasRun S.record_list S.is_open S.page (G.may_pass gate.now) (G.most_turns gate.now) self.one r.ended.0) }
+        ensures other { IfOk result (λ r.
+            HasRun S.record_list S.is_open S.page (G.may_pass gate.now) (G.most_turns gate.now) self.other r.ended.1) }
     {
         let ReadyStorm {
             held,
@@ -154,18 +161,25 @@ pub fn run<L: Ledger + Send + Sync, S: Sink, G: Gate, R: Threads + Wait + Sync>(
     requires calls { calls ≤ 1000 }
     ensures counts { IfOk result (λ r. r.book.entries ≡ calls_of r.logs.items) }
     ensures logs { IfOk result (λ r. AreStormLogs (G.may_pass gate.now) (G.most_turns gate.now) calls r.logs.items) }
-    ensures sinks { IfOk result (λ r. IsSoundListener (state_of_ended S.record_list S.is_open r.ended.0) × IsSoundListener (state_of_ended S.record_list S.is_open r.ended.1)) }
-    ensures one { IfOk result (λ r. RunsAt (G.may_pass gate.now) (G.most_turns gate.now) (beginning 1 1 (calls + 2) (S.record_list one)) (state_of_ended S.record_list S.is_open r.ended.0)) }
-    ensures other { IfOk result (λ r. RunsAt (G.may_pass gate.now) (G.most_turns gate.now) (beginning 2 2 (calls + 2) (S.record_list other)) (state_of_ended S.record_list S.is_open r.ended.1)) }
-    ensures written { IfOk result (λ r. WritesHanded S.record_list S.page one r.ended.0 × WritesHanded S.record_list S.page other r.ended.1) }
+    ensures sinks { IfOk result (λ r.
+        IsSoundListener (state_of_ended S.record_list S.is_open r.ended.0)
+        × IsSoundListener (state_of_ended S.record_list S.is_open r.ended.1)) }
+    ensures one { IfOk result (λ r.
+        RunsAt (G.may_pass gate.now) (G.most_turns gate.now) (beginning 1 1 (calls + 2) (S.record_list one))
+        (state_of_ended S.record_list S.is_open r.ended.0)) }
+    ensures other { IfOk result (λ r.
+        RunsAt (G.may_pass gate.now) (G.most_turns gate.now) (beginning 2 2 (calls + 2) (S.record_list other))
+        (state_of_ended S.record_list S.is_open r.ended.1)) }
+    ensures written { IfOk result (λ r.
+        WritesHanded S.record_list S.page one r.ended.0 × WritesHanded S.record_list S.page other r.ended.1) }
 {
     let ready = begin::<L, S>(alloc, blank, calls, one, other)?;
     let finished = ready.run(rt, alloc, calls, gate)?;
     Ok(finished)
 }
 
-/// A storm of 1 to 1,000 calls of each writer, with two sinks that are open, and the settled book. The first sink is that
-/// of listener 1.
+/// A storm of 1 to 1,000 calls of each writer, with two sinks that are open, and the settled book. The first sink is
+/// that of listener 1.
 ///
 /// The count of entries can't differ from the count of kept calls. That writers and listeners run at once is shown by a
 /// test alone.

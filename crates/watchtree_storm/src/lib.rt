@@ -1,7 +1,7 @@
 //! Two writers and two listeners at once, on one tree, and the books settled at the end.
 //!
-//! [`storm`] is the whole. Its steps are functions of their own: [`begin`], [`ReadyStorm::run`] with [`Writer::write`] and
-//! [`close_both`], and [`FinishedStorm::settle`]; [`run`] is the first two.
+//! [`storm`] is the whole. Its steps are functions of their own: [`begin`], [`ReadyStorm::run`] with [`Writer::write`]
+//! and [`close_both`], and [`FinishedStorm::settle`]; [`run`] is the first two.
 #![tactic(auto)]
 
 mod beginning;

@@ -26,7 +26,8 @@ struct Listens<S, G> {
 }
 
 impl<S: Sink, G: Gate> Promise<Option<Ended<S>>> for Listens<S, G> {
-    ghost kept_by = { λ p r. IfSome r (HasRun S.record_list S.is_open S.page (G.may_pass p.gate.value) (G.most_turns p.gate.value) p.listener.value) };
+    ghost kept_by = { λ p r. IfSome r (HasRun S.record_list S.is_open S.page (G.may_pass p.gate.value)
+        (G.most_turns p.gate.value) p.listener.value) };
 }
 
 /// The promise of a writer's thread: what it gives back is this seat, after this writer wrote at this gate.
@@ -39,7 +40,8 @@ struct Writes<L: Ledger, G> {
 }
 
 impl<L: Ledger, G: Gate> Promise<Option<Seat<L>>> for Writes<L, G> {
-    ghost kept_by = { λ p r. IfSome r (IsWriting (G.may_pass p.gate.value) (G.most_turns p.gate.value) (part_of p.writer) p.calls p.seat.value) };
+    ghost kept_by = { λ p r. IfSome r (IsWriting (G.may_pass p.gate.value) (G.most_turns p.gate.value)
+        (part_of p.writer) p.calls p.seat.value) };
 }
 
 // The thread of a listener. Where the four do not begin, the listener is dropped, which closes its sink.
@@ -50,7 +52,8 @@ fn listen<S: Sink, G: Gate>(
     listener: Listening<S>,
 ) -> Option<Ended<S>>
     requires { IsSoundListener (state_of_listener S.record_list S.is_open listener) }
-    ensures { IfSome result (HasRun S.record_list S.is_open S.page (G.may_pass gate.now) (G.most_turns gate.now) listener) }
+    ensures { IfSome result
+        (HasRun S.record_list S.is_open S.page (G.may_pass gate.now) (G.most_turns gate.now) listener) }
 {
     if *start.wait(rt) {
         Some(listener.run(gate, gate.turns()))
@@ -82,9 +85,9 @@ fn write<L: Ledger, G: Gate>(
 /// The listeners that ended, and the seats: the main one, and those of the writers.
 pub(crate) type Left<L, S> = ((Ended<S>, Ended<S>), (Seat<L>, Seat<L>, Seat<L>));
 
-/// Both listeners and both writers, each in a thread of its own. Once the writers have ended, both instances are pumped
-/// once more and closed. None begins before all four threads were started; where one cannot be started, none begins and
-/// both sinks are closed.
+// Runs both listeners and both writers, each in a thread of its own. Once the writers have ended, both instances are
+// pumped once more and closed. None begins before all four threads have started; if one cannot be started, none begins,
+// and both sinks are closed.
 pub(crate) fn run_four<L: Ledger + Send + Sync, S: Sink, G: Gate, R: Threads + Wait + Sync>(
     rt: &R,
     alloc: Global,
@@ -94,14 +97,19 @@ pub(crate) fn run_four<L: Ledger + Send + Sync, S: Sink, G: Gate, R: Threads + W
     listeners: (Listening<S>, Listening<S>),
     seats: (Seat<L>, Seat<L>, Seat<L>),
 ) -> Option<Left<L, S>>
-    requires sound { IsSoundListener (state_of_listener S.record_list S.is_open listeners.0) × IsSoundListener (state_of_listener S.record_list S.is_open listeners.1) }
+    requires sound { IsSoundListener (state_of_listener S.record_list S.is_open listeners.0)
+        × IsSoundListener (state_of_listener S.record_list S.is_open listeners.1) }
     requires main { (seats.0.number ≡ 1) × HasBegun seats.0 }
     requires writers { (seats.1 ≡ seated 2 []) × (seats.2 ≡ seated 3 []) }
-    ensures one { IfSome result (λ r. HasRun S.record_list S.is_open S.page (G.may_pass gate.now) (G.most_turns gate.now) listeners.0 r.0.0) }
-    ensures other { IfSome result (λ r. HasRun S.record_list S.is_open S.page (G.may_pass gate.now) (G.most_turns gate.now) listeners.1 r.0.1) }
+    ensures one { IfSome result (λ r.
+        HasRun S.record_list S.is_open S.page (G.may_pass gate.now) (G.most_turns gate.now) listeners.0 r.0.0) }
+    ensures other { IfSome result (λ r.
+        HasRun S.record_list S.is_open S.page (G.may_pass gate.now) (G.most_turns gate.now) listeners.1 r.0.1) }
     ensures main { IfSome result (λ r. (r.1.0.number ≡ 1) × IsWhole r.1.0) }
-    ensures first { IfSome result (λ r. IsWriting (G.may_pass gate.now) (G.most_turns gate.now) first_part calls (seated 2 []) r.1.1) }
-    ensures second { IfSome result (λ r. IsWriting (G.may_pass gate.now) (G.most_turns gate.now) second_part calls (seated 3 []) r.1.2) }
+    ensures first { IfSome result (λ r.
+        IsWriting (G.may_pass gate.now) (G.most_turns gate.now) first_part calls (seated 2 []) r.1.1) }
+    ensures second { IfSome result (λ r.
+        IsWriting (G.may_pass gate.now) (G.most_turns gate.now) second_part calls (seated 3 []) r.1.2) }
 {
     let start = OnceLock::new();
     let begins: &Start = &start;
@@ -111,14 +119,23 @@ pub(crate) fn run_four<L: Ledger + Send + Sync, S: Sink, G: Gate, R: Threads + W
         thread::scope_env(),
         rt,
         move |scope| -> Option<Left<L, S>>
-            requires sound { IsSoundListener (state_of_listener S.record_list S.is_open one) × IsSoundListener (state_of_listener S.record_list S.is_open other) }
+            requires sound { IsSoundListener (state_of_listener S.record_list S.is_open one)
+                × IsSoundListener (state_of_listener S.record_list S.is_open other) }
             requires main { (main.number ≡ 1) × HasBegun main }
             requires writers { (first ≡ seated 2 []) × (second ≡ seated 3 []) }
-            ensures one { IfSome result (λ r. HasRun S.record_list S.is_open S.page (G.may_pass gate.entry.now) (G.most_turns gate.entry.now) one r.0.0) }
-            ensures other { IfSome result (λ r. HasRun S.record_list S.is_open S.page (G.may_pass gate.entry.now) (G.most_turns gate.entry.now) other r.0.1) }
+            ensures one { IfSome result (λ r.
+                HasRun S.record_list S.is_open S.page (G.may_pass gate.entry.now) (G.most_turns gate.entry.now) one
+                r.0.0) }
+            ensures other { IfSome result (λ r.
+                HasRun S.record_list S.is_open S.page (G.may_pass gate.entry.now) (G.most_turns gate.entry.now) other
+                r.0.1) }
             ensures main { IfSome result (λ r. (r.1.0.number ≡ 1) × IsWhole r.1.0) }
-            ensures first { IfSome result (λ r. IsWriting (G.may_pass gate.entry.now) (G.most_turns gate.entry.now) first_part calls (seated 2 []) r.1.1) }
-            ensures second { IfSome result (λ r. IsWriting (G.may_pass gate.entry.now) (G.most_turns gate.entry.now) second_part calls (seated 3 []) r.1.2) }
+            ensures first { IfSome result (λ r.
+                IsWriting (G.may_pass gate.entry.now) (G.most_turns gate.entry.now) first_part calls (seated 2 [])
+                r.1.1) }
+            ensures second { IfSome result (λ r.
+                IsWriting (G.may_pass gate.entry.now) (G.most_turns gate.entry.now) second_part calls (seated 3 [])
+                r.1.2) }
         {
             let promise = Listens {
                 listener: Snapshot::of(&one),

@@ -4,7 +4,8 @@ ghost use Rattle.std.specs.Prelude.{◌≡◌, ℕ, IfOk, IsTrue, OnSome};
 ghost use Rattle.std.specs.Bool.{OnFalse, OnTrue};
 ghost use Rattle.tree_core.specs.Calls.{is_plain};
 ghost use Rattle.tree_core.specs.declared.call.Call.TheVariants.{Close};
-ghost use Rattle.watchtree_storm.specs.Storm.{IsCallAt, IsClosing, IsHeldBack, IsLetThrough, IsTurn, IsWriting, KeepsOrNot, KeepsTurn, first_part, part_of, pump_all, second_part};
+ghost use Rattle.watchtree_storm.specs.Storm.{IsCallAt, IsClosing, IsHeldBack, IsLetThrough, IsTurn, IsWriting};
+ghost use Rattle.watchtree_storm.specs.Storm.{KeepsOrNot, KeepsTurn, first_part, part_of, pump_all, second_part};
 
 use event_sinks::Gate;
 use record_codec::Bytes;
@@ -16,7 +17,7 @@ use tree_core::Call;
 use tree_ops::FileCall;
 use tree_paths::{Path, Refusal};
 
-/// Room for all that waits, in bytes.
+/// The size in bytes of a buffer for all that waits.
 pub(crate) const ALL: u32 = 1_048_576;
 
 /// How often a close is tried that wants memory.
@@ -60,8 +61,8 @@ impl Writer {
         }
     }
 
-    /// A call of the writer, by its number from 0 on: it makes its file, writes a byte, moves the file, and takes it away,
-    /// in turn.
+    /// A call of the writer, by its number from 0 on: it makes its file, writes a byte, moves the file, and takes it
+    /// away, in turn.
     ///
     /// # Errors
     /// `ENOMEM`, where there is no memory for it.
@@ -159,7 +160,8 @@ fn is_let_through<G: Gate>(gate: &G, who: u32) -> bool
     false
 }
 
-/// Pumps both instances once more, and closes them. What wants memory is passed over, but a close is tried up to 16 times.
+/// Pumps both instances once more, and closes them. What wants memory is passed over, but a close is tried up to 16
+/// times.
 pub fn close_both<L: Ledger>(rt: &impl Wait, tree: &Tree<L>, seat: Seat<L>) -> Seat<L>
     ensures { IsClosing seat result }
 {

@@ -26,12 +26,13 @@ use tree_ops::FileCall;
 use tree_paths::{Path, Refusal};
 use watchtree_storm::*;
 
-/// What was got is what is wanted. Tests assert in these two functions: the macros in a long body take minutes to prove.
+// Asserts that two values are equal. Tests assert in these two functions, because the macros in a long body take
+// minutes to prove.
 fn equal<T: PartialEq + Debug + Drop>(rt: &impl Abort, got: T, wanted: T) {
     assert_eq!(rt; got, wanted);
 }
 
-/// It is so.
+// Asserts a condition.
 fn holds(rt: &impl Abort, what: &str, is_so: bool) {
     assert!(rt; is_so, "{what}");
 }
@@ -44,6 +45,7 @@ struct Four {
 }
 
 impl Four {
+    // A gate that nobody has asked yet, of so many turns.
     fn closed(turns: u64) -> Four {
         Four {
             turns,
@@ -105,6 +107,7 @@ fn are_last(listeners: &[(u32, Cause, u64)], taken: u64) -> bool {
         && listeners[1] == (2, Cause::Last, taken)
 }
 
+// Whether the book was settled with so many entries, and each listener took so many records.
 fn is_settled(stormed: &Stormed, entries: u64, taken: u64) -> bool {
     stormed.entries == entries
         && stormed.settled
@@ -247,6 +250,7 @@ fn quiet<L: Ledger>(
     Ok(FinishedStorm { book, logs, ended })
 }
 
+// The same with the ledger of a brand.
 fn quiet_storm(
     rt: &impl Wait,
     alloc: Global,
@@ -261,12 +265,13 @@ fn quiet_storm(
 /// Who makes a call, and the call.
 type Made = (u32, Call);
 
+// A pump of an instance, made by a seat.
 fn pump(seat: u32, instance: u32) -> Made {
     let bytes = 1_048_576;
     (seat, Call::Pump { instance, bytes })
 }
 
-// What the first seat does before the writers begin: a directory, and two instances that are told of all in it.
+// What the first seat does before the writers begin: a directory, and two instances that are notified of all in it.
 fn beginning(alloc: Global, made: &mut Vec<Made>) -> Result<(), Refusal> {
     let path = Path::parse(alloc, b"/s")?;
     made.push((1, Call::File(FileCall::Mkdir { path, mode: 0o755 })))?;
@@ -446,6 +451,7 @@ fn cut_before_it<L: Ledger + Send + Sync, R: Threads + Wait + Sync>(
     Ok(ready.run(rt, alloc, calls, &OpenGate)?.settle(alloc)?)
 }
 
+// The same with the ledger of a brand.
 fn cut_storm<R: Threads + Wait + Sync>(rt: &R, alloc: Global, calls: u32) -> Result<Stormed, Fail>
     requires { calls ≤ 1000 }
 {
@@ -469,8 +475,8 @@ enum Order {
     Writers,
 }
 
-// A double that runs the four one after the other, at a gate that waits for all of them. Whether it would pass for a storm
-// of four calls each: both listeners ended by the end batch, and each writer kept its calls.
+// A double that runs the four one after the other, at a gate that waits for all of them. Whether it would pass for a
+// storm of four calls each: both listeners ended by the end batch, and each writer kept its calls.
 fn one_after_the_other<L: Ledger>(
     rt: &impl Wait,
     alloc: Global,
@@ -513,6 +519,7 @@ fn one_after_the_other<L: Ledger>(
     Ok(is_whole(&one, &other, &pass.join(first), &pass.join(second)))
 }
 
+// Whether both listeners ended by the end batch, and both seats kept eight calls.
 fn is_whole(
     one: &Ended<CountSink>,
     other: &Ended<CountSink>,
@@ -525,6 +532,7 @@ fn is_whole(
         && second.kept.as_slice().len() == 8
 }
 
+// The same with the ledger of a brand.
 fn passes_for_a_storm(rt: &impl Wait, alloc: Global, order: Order) -> Result<bool, Fail> {
     one_after_the_other::<Brand>(rt, alloc, Blank::new(65537), order)
 }

@@ -5,17 +5,18 @@ use std::fmt::Debug;
 use std::process::Abort;
 use tree_paths::Limits;
 
-/// What was got is what is wanted. Tests assert in these two functions: the macros in a long body take minutes to prove.
+// Asserts that two values are equal. Tests assert in these two functions, because the macros in a long body take
+// minutes to prove.
 fn equal<T: PartialEq + Debug + Drop>(rt: &impl Abort, got: T, wanted: T) {
     assert_eq!(rt; got, wanted);
 }
 
-/// It is so.
+// Asserts a condition.
 fn holds(rt: &impl Abort, what: &str, is_so: bool) {
     assert!(rt; is_so, "{what}");
 }
 
-/// A file of this name was made in the directory of watch 1.
+// The event of a new file of this name in the directory of watch 1.
 fn made(alloc: Global, name: &[u8]) -> Result<Event, AllocError> {
     Ok(Event {
         wd: 1,
@@ -71,7 +72,7 @@ fn limit_two(rt: HostRuntime) -> Result<(), Refusal> {
     Ok(())
 }
 
-/// An event of watch 1 that has no name. It takes no memory.
+// An event of watch 1 that has no name, and so does not allocate.
 fn touched(cookie: u32) -> Event {
     Event {
         wd: 1,

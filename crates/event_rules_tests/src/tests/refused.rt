@@ -73,14 +73,14 @@ fn call_of(calls: &Calls, which: u32) -> Result<FileCall, Refusal> {
 
 // What a call would tell.
 fn noticed(calls: &Calls, call: &FileCall) -> Result<Notices, Refusal> {
-    let paths = Paths::of(&calls.table, call);
-    let ready = check(&calls.table, call, &paths, &calls.counts, &Limits::full())?;
+    let paths = Paths::resolve(&calls.table, call);
+    let ready = check(paths, &calls.counts, &Limits::full())?;
     let next_cookie = calls.counts.next_cookie;
     if next_cookie.checked_add(ready.cookies()).is_none() {
         return Err(Refusal::CookiesSpent);
     }
     let mut told = Notices::new(calls.alloc);
-    notices(&calls.table, &ready, next_cookie, &mut told)?;
+    notices(&ready, next_cookie, &mut told)?;
     Ok(told)
 }
 

@@ -55,7 +55,7 @@ fn settles(
     answered(settle(alloc, book, given, ended))
 }
 
-// An answer, unless it is want of memory, which ends a test.
+// An answer, unless it is out of memory, which ends a test.
 pub(super) fn answered(answer: Answer) -> Result<Answer, Fail> {
     match answer {
         Err(SettleFault::Memory) => Err(Fail::from(SettleFault::Memory)),
@@ -63,7 +63,7 @@ pub(super) fn answered(answer: Answer) -> Result<Answer, Fail> {
     }
 }
 
-// A listener that has ended, unless it did for want of memory, which ends a test.
+// A listener that has ended, unless it ran out of memory, which ends a test.
 pub(super) fn ended(end: End) -> Result<End, Refusal> {
     match end.cause() {
         Cause::Memory | Cause::Sink(SinkFault::Memory) => Err(Refusal::Enomem),
@@ -71,6 +71,7 @@ pub(super) fn ended(end: End) -> Result<End, Refusal> {
     }
 }
 
+// The call that makes a directory.
 pub(super) fn mkdir(alloc: Global, path: &[u8]) -> Result<Call, Refusal>
     ensures { IfOk result (λ call. IsTrue (is_plain call)) }
 {
@@ -98,6 +99,7 @@ fn two_seats<L: Ledger>(
     Ok((held.dissolve(pass), first, second))
 }
 
+// The same with the ledger of a brand.
 fn two(alloc: Global, one: &str, other: &str) -> Result<(Book, SeatLog, SeatLog), Refusal> {
     two_seats::<Brand>(alloc, Blank::new(65537), one.as_bytes(), other.as_bytes())
 }
@@ -132,7 +134,7 @@ fn books_of_two_seats(rt: HostRuntime) -> Result<(), Fail> {
     Ok(())
 }
 
-// The book of a tree in which a story was told, the log of its seat, and the feed of its instance.
+// The book of a tree after the calls of a story, the log of its seat, and the feed of its instance.
 fn story_told<L: Ledger>(
     alloc: Global,
     blank: Blank,
@@ -309,8 +311,8 @@ fn books_that_were_cut(rt: HostRuntime) -> Result<(), Fail> {
     Ok(())
 }
 
-// The answer for a book of four calls that was cut behind the second, where a seat's call at this index is told to be at this
-// place.
+// The answer for a book of four calls that was cut after the second, if a seat's call at this index is given this
+// sequence number.
 fn misplaced(alloc: Global, index: usize, place: u64) -> Result<Answer, Fail> {
     let (book, log, end) = heard_out(alloc, "|!.", 2)?;
     let SeatLog { number, kept } = log;
@@ -360,7 +362,7 @@ fn crowds<L: Ledger>(
     Ok(full)
 }
 
-// The book of a tree whose pipe has one place, the log, the listener, and how many pumps found the pipe full.
+// The book of a tree whose pipe has one slot, the log, the listener, and how many pumps found the pipe full.
 fn crowded<L: Ledger>(alloc: Global, blank: Blank) -> Result<(Book, SeatLog, End, u32), Refusal>
     requires name { blank.name ≡ L.name }
     requires parts { (blank.parts ≡ L.parts) × (blank.parts ≡ 65537) }
@@ -411,16 +413,18 @@ fn sizes(end: &End) -> Option<(usize, usize, usize)> {
     }
 }
 
-// Steps of a listener whose sink takes one record of three, at a pipe of two places. Whether it takes no batch then, so that one
-// place is free, and no second one.
+// Steps of a listener whose sink takes one record of three, at a pipe of two slots. Whether it takes no batch then, so
+// that one slot is free, and no second one.
 fn keeps_the_next<L: Ledger>(
     alloc: Global,
     held: &mut Held<L>,
     seat: &mut Seat<L>,
     listener: &mut Listening<CountSink>,
 ) -> Result<bool, Refusal>
-    requires { IsSoundListener (state_of_listener ⟦<CountSink as Sink>⟧.record_list ⟦<CountSink as Sink>⟧.is_open listener.old) }
-    ensures { IsSoundListener (state_of_listener ⟦<CountSink as Sink>⟧.record_list ⟦<CountSink as Sink>⟧.is_open listener.new) }
+    requires { IsSoundListener
+        (state_of_listener ⟦<CountSink as Sink>⟧.record_list ⟦<CountSink as Sink>⟧.is_open listener.old) }
+    ensures { IsSoundListener
+        (state_of_listener ⟦<CountSink as Sink>⟧.record_list ⟦<CountSink as Sink>⟧.is_open listener.new) }
 {
     tells(alloc, held, seat, b"fgh!i!")?;
     let as_wanted = steps(listener, &[Step::Took, Step::Over, Step::Over]);
@@ -471,7 +475,7 @@ fn size_of_first(end: &Ended<CountSink>) -> Option<usize> {
 /// How many batches a large book hands over before the end batch.
 const BATCHES: u64 = 5_000;
 
-// A file is made, looked at and taken away, and what was told of it is pumped.
+// A file is made, looked at and removed, and the events that this raised are pumped.
 fn turns<L: Ledger>(alloc: Global, held: &mut Held<L>, seat: &mut Seat<L>) -> Result<(), Refusal> {
     held.call(seat, create(alloc)?)?;
     let path = Path::parse(alloc, b"/f")?;
@@ -482,6 +486,7 @@ fn turns<L: Ledger>(alloc: Global, held: &mut Held<L>, seat: &mut Seat<L>) -> Re
     Ok(())
 }
 
+// The call that makes a file.
 pub(super) fn create(alloc: Global) -> Result<Call, Refusal>
     ensures { IfOk result (λ call. IsTrue (is_plain call)) }
 {

@@ -33,7 +33,8 @@ fn watched<L: Ledger>(
     feed.ok_or(Refusal::Ebadf)
 }
 
-// The book of a tree with three pipes, each of which was handed a record and then the end batch; the log, and the feeds.
+// The book of a tree with three pipes, each of which was handed a record and then the end batch; the log, and the
+// feeds.
 fn three_pipes<L: Ledger>(
     alloc: Global,
     blank: Blank,
@@ -96,7 +97,8 @@ fn a_book_of_three_pipes(rt: HostRuntime) -> Result<(), Fail> {
 /// How many calls each of two writers makes.
 const CALLS: u32 = 100;
 
-// A call of the writer of this name, by its number: it makes its file, writes a byte, moves the file, and takes it away, in turn.
+// A call of the writer of this name, by its number: it makes its file, writes a byte, moves the file, and takes it
+// away, in turn.
 fn call_of(alloc: Global, name: u8, number: u32) -> Result<Call, Refusal>
     ensures { IfOk result (λ call. IsTrue (is_plain call)) }
 {
@@ -137,8 +139,8 @@ fn writes_all<L: Ledger>(
     seat
 }
 
-// The book of a tree on which two threads made calls, with no pump and no gate, and the logs. Its law is called through a
-// guard.
+// The book of a tree on which two threads made calls, with no pump and no gate, and the logs. Its law is called through
+// a guard.
 fn written<L: Ledger + Send + Sync, R: Threads + Wait + Sync>(
     rt: &R,
     alloc: Global,
@@ -167,6 +169,7 @@ fn written<L: Ledger + Send + Sync, R: Threads + Wait + Sync>(
     Ok((tree.into_inner().dissolve(pass), logs))
 }
 
+// The same with the ledger of a brand.
 fn both_written<R: Threads + Wait + Sync>(
     rt: &R,
     alloc: Global,

@@ -1,4 +1,5 @@
-//! Each growth of a listener, and of settling, refused in turn. Where nobody refuses growths each goes its way once.
+//! Fault injection: each allocation of a listener, and of settling, fails in turn. Without the shim each runs once,
+//! without failures.
 
 ghost use Rattle.std.specs.Prelude.{◌≡◌, true};
 
@@ -9,10 +10,10 @@ use super::*;
 use refuser::{refuse, was_refused};
 use shared_tree::Feed;
 
-/// More growths than a listener here has.
+/// More allocations than a listener here makes.
 const MOST: u32 = 100;
 
-// What is told of a listener of which growth `k` is refused, and whether one was.
+// What is known of a listener whose allocation `k` fails, and whether one failed.
 fn refused_at<S: Sink>(alloc: Global, feed: Feed, sink: S, k: u32) -> (Told, bool)
     requires { S.is_open sink ≡ true }
 {
@@ -34,7 +35,7 @@ fn listens(alloc: Global, which: u32, k: u32) -> Result<(Told, bool), Fail> {
     })
 }
 
-// Whether this may be told of a listener at five batches of a record each and the end batch, with memory or without.
+// Whether a listener may end so after five batches of a record each and the end batch, out of memory or not.
 fn may_be_told(told: Told) -> bool {
     let (cause, handed, taken, is_open) = told;
     let as_caused = match cause {
@@ -46,8 +47,8 @@ fn may_be_told(told: Told) -> bool {
     as_caused && !is_open
 }
 
-// How many growths a listener has, each refused with all well: it ends by want of memory, its sink closed. None where one
-// was not.
+// How many allocations a listener makes, if all is well when each fails in turn: it ends out of memory, its sink
+// closed. None if one was not well.
 fn refused_in_turn(alloc: Global, which: u32) -> Result<Option<u32>, Fail> {
     for k in 1..MOST {
         let (told, is_refused) = listens(alloc, which, k)?;
@@ -61,7 +62,7 @@ fn refused_in_turn(alloc: Global, which: u32) -> Result<Option<u32>, Fail> {
     Ok(None)
 }
 
-// Whether growths can be refused.
+// Whether allocations can be made to fail.
 fn has_refuser(alloc: Global) -> bool {
     let has = refuse(alloc, MOST);
     let _ = was_refused(alloc);
@@ -80,7 +81,7 @@ fn each_growth_of_a_listener(rt: HostRuntime) -> Result<(), Fail> {
     Ok(())
 }
 
-// Settles a book with growth `k` refused. Whether all is well, and whether it was refused.
+// Settles a book while allocation `k` fails. Whether all is well, and whether one failed.
 fn settled_at(alloc: Global, k: u32) -> Result<(bool, bool), Fail> {
     let (book, log, end) = heard_out(alloc, "f!.", 2)?;
     let mut logs = Vec::with_capacity(alloc, 1)?;
@@ -107,11 +108,11 @@ fn each_growth_of_settling(rt: HostRuntime) -> Result<(), Fail> {
     let has_refuser = has_refuser(alloc);
     for k in 1..MOST {
         let (is_well, is_refused) = settled_at(alloc, k)?;
-        assert!(rt; is_well, "growth {k}");
+        assert!(rt; is_well, "allocation {k}");
         if !is_refused {
             assert_eq!(rt; k > 1, has_refuser);
             return Ok(());
         }
     }
-    Err(Fail::new("settling has more growths"))
+    Err(Fail::new("settling makes more allocations"))
 }

@@ -40,7 +40,8 @@ impl Table {
         ensures memory { IfErr result (λ refusal. refusal ≡ Refusal.Enomem) }
     {
         self.rows_law();
-        let (_, name) = path.parent_and_name();
+        let last = path.last_name();
+        let name = last.as_name();
         let copy = name.copy()?;
         let directory = self.directory_at(path);
         let content = Content::empty(self.alloc, kind);
@@ -64,7 +65,8 @@ impl Table {
         ensures memory { IfErr result (λ refusal. refusal ≡ Refusal.Enomem) }
     {
         self.rows_law();
-        let (_, name) = new.parent_and_name();
+        let last = new.last_name();
+        let name = last.as_name();
         let copy = name.copy()?;
         let key = self.key_at(old);
         let directory = self.directory_at(new);
@@ -122,8 +124,10 @@ impl Table {
         ensures room { self.new.room ≡ self.old.room }
     {
         self.rows_law();
-        let (_, name) = one.parent_and_name();
-        let (_, other_name) = other.parent_and_name();
+        let last = one.last_name();
+        let name = last.as_name();
+        let other_last = other.last_name();
+        let other_name = other_last.as_name();
         let directory = self.directory_at(one);
         let other_directory = self.directory_at(other);
         self.swap_names_at(directory, name, other_directory, other_name);
@@ -169,8 +173,10 @@ impl Table {
         ensures memory { IfErr result (λ refusal. refusal ≡ Refusal.Enomem) }
     {
         self.rows_law();
-        let (_, name) = old.parent_and_name();
-        let (_, other_name) = new.parent_and_name();
+        let last = old.last_name();
+        let name = last.as_name();
+        let other_last = new.last_name();
+        let other_name = other_last.as_name();
         let copy = other_name.copy()?;
         let replaced = self.key_if(new);
         let directory = self.directory_at(old);
@@ -191,7 +197,8 @@ impl Table {
         ensures room { self.new.room ≡ self.old.room }
     {
         self.rows_law();
-        let (_, name) = path.parent_and_name();
+        let last = path.last_name();
+        let name = last.as_name();
         let directory = self.directory_at(path);
         self.drop_name_at(directory, name)
     }

@@ -2,9 +2,10 @@
 
 ghost use Rattle.std.specs.Prelude.{◌≡◌, map, IfOk, IfErr};
 ghost use Rattle.std.specs.FinMap as finmap;
-ghost use Rattle.inode_table.specs.Kept.{row_of, rows_of, IsTable};
+ghost use Rattle.slab.specs.Slab.{entries};
+ghost use Rattle.inode_table.specs.Kept.{row_of};
 ghost use Rattle.inode_table.specs.Rows.{shown};
-ghost use Rattle.inode_table.specs.Listing.{AreListed, row_shown};
+ghost use Rattle.inode_table.specs.Listing.{row_shown};
 ghost use Rattle.inode_table.specs.Files.{file_row};
 
 use super::Table;
@@ -13,7 +14,6 @@ use crate::rows::FileRow;
 use record_codec::Bytes;
 use slab::Slab;
 use std::alloc::{AllocError, Global};
-use std::collections::BTreeMap;
 use tree_paths::Refusal;
 
 impl Table {
@@ -25,25 +25,19 @@ impl Table {
         ensures memory { IfErr result (λ refusal. refusal ≡ Refusal.Enomem) }
     {
         self.rows_law();
-        let files = all_files(self.alloc, &self.nodes)?;
-        let mut rows = Vec::new(self.alloc);
-        for entry in files {
-            rows.push(entry.1)?;
-        }
+        let mut rows = all_files(self.alloc, &self.nodes)?;
+        rows.sort_unstable_by_key(|row| row.number);
         Ok(rows)
     }
 }
 
-// The file of each number.
-fn all_files(alloc: Global, nodes: &Slab<Node>) -> Result<BTreeMap<u32, FileRow>, AllocError>
-    requires { IsTable (rows_of nodes.now) }
-    ensures { IfOk result (AreListed (rows_of nodes.now)) }
+// The file of each node, in the order of the keys. A new node mostly has the greatest number and the greatest key.
+fn all_files(alloc: Global, nodes: &Slab<Node>) -> Result<Vec<FileRow>, AllocError>
+    ensures { IfOk result (λ files. files.items ≡ map (λ e. row_shown (shown (row_of e.1))) (entries nodes.now)) }
 {
-    let mut files = BTreeMap::new(alloc);
-    for key in 0..nodes.capacity() {
-        if let Some(node) = nodes.get(key) {
-            files.insert(node.number, file(alloc, node)?)?;
-        }
+    let mut files = Vec::with_capacity(alloc, nodes.len())?;
+    for (_, node) in nodes.iter() {
+        files.push(file(alloc, node)?)?;
     }
     Ok(files)
 }
@@ -52,12 +46,10 @@ fn all_files(alloc: Global, nodes: &Slab<Node>) -> Result<BTreeMap<u32, FileRow>
 fn file(alloc: Global, node: &Node) -> Result<FileRow, AllocError>
     ensures { IfOk result (λ row. row ≡ row_shown (shown (row_of node.now))) }
 {
-    let mut bytes = Vec::new(alloc);
-    bytes.extend_from_slice(node.content.bytes())?;
     Ok(FileRow {
         number: node.number,
         kind: node.content.kind(),
         mode: node.mode,
-        bytes: Bytes::from_vec(bytes),
+        bytes: Bytes::from_vec(Vec::from_slice(alloc, node.content.bytes())?),
     })
 }

@@ -1,13 +1,13 @@
 //! All paths of a table.
 
-ghost use Rattle.std.specs.Prelude.{◌≡◌, ◌++◌, ◌∷◌, [], List, IfOk, IfErr, OnOk};
+ghost use Rattle.std.specs.Prelude.{◌≡◌, ◌++◌, All, IfOk, IfErr, OnOk, IsSome, Some, reverse};
 ghost use Rattle.std.specs.BTreeMap as tree;
+ghost use Rattle.std.specs.Cmp.Lexicographic.{slice_cmp};
 ghost use Rattle.std.specs.FinMap as finmap;
-ghost use Rattle.inode_table.specs.Paths.{path_cmp};
-ghost use Rattle.inode_table.specs.Rows.{Label};
-ghost use Rattle.inode_table.specs.Kept.{rows_of};
-ghost use Rattle.inode_table.specs.Listing.{Visits};
-ghost use Rattle.inode_table.specs.Flat.{number_under};
+ghost use Rattle.std.specs.Ordering.{nat_cmp};
+ghost use Rattle.inode_table.specs.Rows.{row_under};
+ghost use Rattle.inode_table.specs.Kept.{rows_of, IsTable};
+ghost use Rattle.inode_table.specs.Listing.{ArePaths, Visits, longer};
 
 use super::{ROOT, Table};
 use crate::content::Content;
@@ -27,63 +27,59 @@ impl Table {
         ensures memory { IfErr result (λ refusal. refusal ≡ Refusal.Enomem) }
     {
         self.rows_law();
-        let found = all_paths(self.alloc, &self.nodes)?;
-        let mut rows = Vec::new(self.alloc);
-        for row in found {
-            rows.push(row)?;
-        }
-        Ok(rows)
+        Ok(all_paths(self.alloc, &self.nodes)?)
     }
 }
 
-// The number under each path.
-fn all_paths(alloc: Global, nodes: &Slab<Node>) -> Result<BTreeMap<Path, u32>, AllocError>
-    ensures { IfOk result (λ found. (p : List Label) → tree.get path_cmp found p ≡ number_under (rows_of nodes.now) p) }
+// The number under each path, in the order of the paths. The stack has the paths that are still to be visited, the next one at the end.
+fn all_paths(alloc: Global, nodes: &Slab<Node>) -> Result<Vec<(Path, u32)>, AllocError>
+    requires { IsTable (rows_of nodes.now) }
+    ensures { IfOk result (λ found. ArePaths (rows_of nodes.now) found.items) }
 {
-    let mut found = BTreeMap::new(alloc);
+    let mut found = Vec::with_capacity(alloc, nodes.len())?;
     let mut pending = Vec::new(alloc);
-    pending.push((Path::from_names(Vec::new(alloc)), ROOT))?;
+    pending.push((Path::root(), ROOT))?;
     while let Some((path, key)) = pending.pop() {
-        visit(alloc, nodes, path, key, &mut found, &mut pending)?;
+        let number = visit(alloc, nodes, &path, key, &mut pending)?;
+        found.push((path, number))?;
     }
     Ok(found)
 }
 
-// Adds a path with its number, and puts off those one name longer. One that is there already, or leads nowhere, is left out.
+// The number of a node. The paths one name longer go onto the stack, the first one at the end.
 fn visit(
     alloc: Global,
     nodes: &Slab<Node>,
-    path: Path,
+    path: &Path,
     key: usize,
-    found: &mut BTreeMap<Path, u32>,
     pending: &mut Vec<(Path, usize)>,
-) -> Result<(), AllocError>
-    ensures { OnOk result (Visits (rows_of nodes.now) path key found.old pending.old.items found.new pending.new.items) }
+) -> Result<u32, AllocError>
+    requires { IsSome (row_under (rows_of nodes.now) key) }
+    ensures { IfOk result (Visits (rows_of nodes.now) path.now key pending.old.items pending.new.items) }
 {
-    if found.contains_key(&path) {
-        return Ok(());
-    }
     let Some(node) = nodes.get(key) else {
-        return Ok(());
+        unreachable!()
     };
     if let Content::Directory(names) = &node.content {
-        for (name, child) in names {
-            pending.push((longer(alloc, &path, name)?, *child))?;
-        }
+        put_off(alloc, path, names, pending)?;
     }
-    found.insert(path, node.number)?;
-    let _ = found.len();
-    Ok(())
+    Ok(node.number)
 }
 
-// The path with one more name.
-fn longer(alloc: Global, path: &Path, name: &Name) -> Result<Path, AllocError>
-    ensures { IfOk result (λ longer. longer ≡ path.now ++ name.now ∷ []) }
+// Puts the paths of the names in a directory onto the stack, the first one at the end.
+fn put_off(
+    alloc: Global,
+    path: &Path,
+    names: &BTreeMap<Name, usize>,
+    pending: &mut Vec<(Path, usize)>,
+) -> Result<(), AllocError>
+    ensures put { OnOk result (pending.new.items ≡ pending.old.items ++ reverse (longer path.now names.now.entries)) }
+    ensures ordered { OnOk result (tree.IsOrdered (slice_cmp nat_cmp) names.now) }
+    ensures found { OnOk result (All (λ e. tree.get (slice_cmp nat_cmp) names.now e.0 ≡ Some e.1) names.now.entries) }
 {
-    let mut names = Vec::new(alloc);
-    for name in path.names() {
-        names.push(name.copy()?)?;
+    pending.reserve(names.len())?;
+    for (name, child) in names.iter().rev() {
+        pending.push((path.child(alloc, name)?, *child))?;
     }
-    names.push(name.copy()?)?;
-    Ok(Path::from_names(names))
+    Ok(())
 }

@@ -11,7 +11,7 @@ use crate::node::child;
 use crate::resolved::Resolved;
 use crate::seen::Seen;
 use record_codec::Name;
-use tree_paths::{Path, Refusal};
+use tree_paths::{Path, PathName, PathNames, Refusal};
 
 impl Table {
     ghost use Rattle.inode_table.specs.World.{look};
@@ -27,25 +27,49 @@ impl Table {
         ensures resolved { IsResolved self.now result }
     {
         self.rows_law();
-        let Some((parent, name)) = path.parent_and_name() else {
+        let mut names = path.names();
+        let Some(first) = names.next() else {
             return Resolved {
                 path,
                 directory: Ok(Key::of(ROOT)),
                 here: Ok(Key::of(ROOT)),
             };
         };
-        match self.walk(parent) {
-            Ok(directory) => Resolved {
-                path,
-                directory: Ok(Key::of(directory)),
-                here: self.resolve_in(directory, name),
-            },
-            Err(refusal) => Resolved {
-                path,
-                directory: Err(refusal),
-                here: Err(refusal),
-            },
+        let (directory, here) = self.walk(first, names);
+        Resolved {
+            path,
+            directory,
+            here,
         }
+    }
+
+    // The keys of the directory of the last name and of what stands under that, or why there are none.
+    fn walk<'a>(
+        &self,
+        first: PathName<'a>,
+        behind: PathNames<'a>,
+    ) -> (Result<Key, Refusal>, Result<Key, Refusal>)
+        ensures directory { IsFound self.now (parent_of (first.entry ∷ behind.entry)) result.0 }
+        ensures here { IsFound self.now (first.entry ∷ behind.entry) result.1 }
+    {
+        self.rows_law();
+        let mut name = first;
+        let mut names = behind;
+        let mut directory = ROOT;
+        while let Some(next) = names.next() {
+            match child(&self.nodes, directory, name.as_name()) {
+                Some(key) => directory = key,
+                None => {
+                    let refusal = refusal_at(&self.nodes, directory);
+                    return (Err(refusal), Err(refusal));
+                }
+            }
+            name = next;
+        }
+        (
+            Ok(Key::of(directory)),
+            self.resolve_in(directory, name.as_name()),
+        )
     }
 
     /// What stands at a resolved path, or why nothing does: `ENOENT` below a directory, `ENOTDIR` below a file.

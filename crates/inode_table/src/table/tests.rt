@@ -70,10 +70,7 @@ fn has_parent(table: &Table, path: &Resolved) -> bool
     ensures named { IsTrue result → path.now.names ≢ [] }
     ensures directory { IsTrue result → is_directory_seen (look (world_of table.now) (parent_of path.now.names)) ≡ true }
 {
-    match path.as_path().parent_and_name() {
-        Some(_) => is_in_directory(table, path),
-        None => false,
-    }
+    !path.as_path().is_root() && is_in_directory(table, path)
 }
 
 // Whether a new name can stand at the path.
@@ -183,7 +180,7 @@ impl Calls {
         let path = self.path(path)?;
         let path = self.table.resolve(&path);
         let seen = self.table.look(&path)?;
-        if seen.has_names || path.as_path().names().is_empty() {
+        if seen.has_names || path.as_path().is_root() {
             return Ok(false);
         }
         self.table.drop_name(&path);
@@ -192,7 +189,7 @@ impl Calls {
 
     fn rename(&mut self, old: &str, new: &str) -> Result<bool, Refusal> {
         let (old, new) = (self.path(old)?, self.path(new)?);
-        if old.names().is_empty() || !is_outside(&new, &old) {
+        if old.is_root() || !is_outside(&new, &old) {
             return Ok(false);
         }
         let (old, new) = (self.table.resolve(&old), self.table.resolve(&new));

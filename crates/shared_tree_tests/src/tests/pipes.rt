@@ -1,4 +1,4 @@
-//! Pipes with few places, and feeds.
+//! Pipes with few slots, and feeds.
 
 use super::*;
 
@@ -67,7 +67,7 @@ fn a_full_pipe_is_found_where_nothing_waits(rt: HostRuntime) {
     goes_well(&rt, rt.alloc(), Limits::full(), &steps);
 }
 
-// The record that waits takes 32 bytes. Where the pipe has a place, a pump of fewer is an entry, and reads nothing.
+// The record that waits takes 32 bytes. If the pipe has a free slot, a pump of fewer is an entry, and reads nothing.
 #[test]
 fn a_full_pipe_is_found_where_no_record_fits(rt: HostRuntime) {
     let steps = [

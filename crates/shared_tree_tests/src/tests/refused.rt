@@ -1,5 +1,5 @@
-//! Each growth of each step of a story refused in turn: the seat keeps nothing, no feed is given anything, and the same step
-//! then goes as if nothing had happened. Where nobody refuses growths each step is made once.
+//! Fault injection: each allocation of each step of a story fails in turn. The seat keeps nothing, no feed is given
+//! anything, and the same step then succeeds as if nothing had happened. Without the shim each step runs once.
 
 ghost use Rattle.std.specs.Prelude.{◌≡◌};
 
@@ -8,10 +8,10 @@ use refuser::{refuse, refuse_from, was_refused};
 use std::test::Fail;
 use tree_core::Kept;
 
-/// More growths than a step has.
+/// More allocations than a step makes.
 const MOST: u32 = 100;
 
-/// A step of each kind, so that each vector grows from its first room on.
+/// A step of each kind, so that each vector outgrows its first capacity.
 const STORY: [Step; 22] = [
     Step::Opens(16, 4, Says::Instance(1)),
     Step::Watches(1, Says::Wd(1)),
@@ -37,7 +37,7 @@ const STORY: [Step; 22] = [
     Step::Creates("/d", Says::File),
 ];
 
-/// What is to be refused a growth.
+/// Where an allocation fails.
 #[derive(Clone, Copy)]
 enum Does {
     Step(Step),
@@ -48,13 +48,13 @@ enum Does {
 #[derive(Clone, Copy, PartialEq, Eq)]
 enum Came {
     Refused,
-    /// There are not so many growths, and it was done.
+    /// There are fewer allocations, and it was done.
     Done,
     Wrong,
 }
 
-/// What is seen of a tree at its end: what the seat kept, what the feeds of the first two instances gave, the place of the
-/// last entry, and how many entries there are and how many records wait.
+/// What is seen of a tree at its end: what the seat kept, what the feeds of the first two instances gave, the sequence
+/// number of the last entry, and how many entries there are and how many records wait.
 #[derive(Debug, Drop, PartialEq, Eq)]
 struct Seen {
     kept: Vec<Kept>,
@@ -102,7 +102,7 @@ impl<L: Ledger> Stage<L> {
         }
     }
 
-    // What comes of a step of which growth `k` is refused.
+    // The outcome of a step whose allocation `k` fails.
     fn refused_at(&mut self, does: Does, k: u32) -> Came {
         let _ = refuse(self.alloc, k);
         let tried = match does {
@@ -121,7 +121,7 @@ fn cut_short(told: &Result<u64, Refusal>) -> (bool, bool) {
     }
 }
 
-// What came of it, where a growth was refused or not.
+// The outcome, whether or not an allocation failed.
 fn came_of(is_refused: bool, (lacked, is_done): (bool, bool)) -> Came {
     match is_refused {
         true if lacked => Came::Refused,
@@ -130,7 +130,7 @@ fn came_of(is_refused: bool, (lacked, is_done): (bool, bool)) -> Came {
     }
 }
 
-// What is seen of a tree after the first steps, a step of which a growth is refused, if any, and the rest.
+// What is seen of a tree after the first steps, the step in which an allocation fails, if any, and the rest.
 fn seen_after<L: Ledger>(
     alloc: Global,
     blank: Blank,
@@ -157,6 +157,7 @@ fn seen_after<L: Ledger>(
     Ok((came, stage.seen()?))
 }
 
+// What is seen of a tree after these steps, with the ledger of a brand.
 fn told(
     alloc: Global,
     first: &[Step],
@@ -166,7 +167,7 @@ fn told(
     seen_after::<Brand>(alloc, Blank::new(65537), first, refused, rest)
 }
 
-// How many growths a step after the first ones has, each refused with all well. None where one was not.
+// How many allocations a step after the first ones makes, if all is well when each fails in turn. None if not.
 fn refused_in_turn(alloc: Global, at: usize, does: Does) -> Result<Option<u32>, Refusal> {
     let (first, rest) = STORY.split_at(at.min(STORY.len()));
     let (_, before) = told(alloc, first, None, &[])?;
@@ -184,7 +185,7 @@ fn refused_in_turn(alloc: Global, at: usize, does: Does) -> Result<Option<u32>, 
     Ok(None)
 }
 
-// Whether growths can be refused.
+// Whether allocations can be made to fail.
 fn has_refuser(alloc: Global) -> bool {
     let has = refuse(alloc, MOST);
     let _ = was_refused(alloc);

@@ -44,6 +44,7 @@ fn takes(feed: Feed, step: &AtomicU64) -> bool {
     is_batch(&batch, 1, 4, 1)
 }
 
+// One thread holds the lock while another takes a batch. Whether both did.
 fn holds_and_takes<L: Ledger + Send + Sync, R: Threads + Wait + Sync>(
     rt: &R,
     tree: &Tree<L>,
@@ -83,6 +84,7 @@ fn takes_beside<L: Ledger + Send + Sync, R: Threads + Wait + Sync>(
     Ok(holds_and_takes(rt, &tree, feed, &step))
 }
 
+// The same with the ledger of a brand.
 fn takes_branded<R: Threads + Wait + Sync>(rt: &R, alloc: Global) -> Result<bool, Refusal> {
     takes_beside::<Brand, R>(rt, alloc, Blank::new(65537))
 }
@@ -101,6 +103,7 @@ fn chmod(alloc: Global, mode: u32) -> Result<Call, Refusal>
     Ok(Call::File(FileCall::Chmod { path, mode }))
 }
 
+// Makes one call: a change of mode.
 fn writes_once<L: Ledger>(
     held: &mut Held<L>,
     seat: &mut Seat<L>,
@@ -127,6 +130,7 @@ fn writes<L: Ledger>(
     seat
 }
 
+// Two threads make calls, each under a seat of its own.
 fn both_write<L: Ledger + Send + Sync, R: Threads + Wait + Sync>(
     rt: &R,
     tree: &Tree<L>,
@@ -141,7 +145,7 @@ fn both_write<L: Ledger + Send + Sync, R: Threads + Wait + Sync>(
     )
 }
 
-// Whether what was kept of a call is the entry at its place, under the seat's number.
+// Whether what was kept of a call is the entry of its sequence number, under the seat's number.
 fn is_entry(book: &Book, caller: u32, kept: &Kept) -> bool {
     if kept.place == 0 {
         return false;
@@ -202,10 +206,12 @@ fn writes_beside<L: Ledger + Send + Sync, R: Threads + Wait + Sync>(
     Ok(is_book(&book) && is_log(&book, first, 1, 103) && is_log(&book, second, 2, 50))
 }
 
+// Whether the book has the entries and the pipes of this test.
 fn is_book(book: &Book) -> bool {
     book.entries() == 153 && book.journal().len() == 153 && book.pipes() == [1, 3].as_slice()
 }
 
+// The same with the ledger of a brand.
 fn writes_branded<R: Threads + Wait + Sync>(rt: &R, alloc: Global) -> Result<bool, Refusal> {
     writes_beside::<Brand, R>(rt, alloc, Blank::new(65537))
 }

@@ -75,6 +75,53 @@ fn calls_are_kept(rt: HostRuntime) -> Result<(), Fail> {
     Ok(())
 }
 
+// Whether the journal's last entry has this reply at this place.
+fn is_entry(state: &State, wanted: &Receipt) -> bool {
+    match state.last_entry() {
+        Some(entry) => entry.reply == wanted.reply && wanted.place == state.last_place(),
+        None => false,
+    }
+}
+
+// Whether the call, which is recorded, gives this receipt, and is the last entry.
+fn records_it(state: &mut State, call: &Call, wanted: &Receipt) -> Result<bool, Refusal> {
+    let place = state.record(CALLER, call.copy()?)?;
+    Ok(place == wanted.place && is_entry(state, wanted) && is_last(state, call, &wanted.reply))
+}
+
+// Whether the call gives the same in both trees, and is recorded so.
+fn is_recorded(trees: &mut (State, State), call: &Call) -> Result<bool, Refusal> {
+    let receipt = made(&mut trees.0, call)?;
+    records_it(&mut trees.1, call, &receipt)
+}
+
+// The call gives the same in both trees, is recorded so, and as many records wait.
+fn records_alike(rt: &impl Abort, trees: &mut (State, State), call: Result<Call, Refusal>) {
+    let call = call.expect(rt, "a call");
+    equal(rt, is_recorded(trees, &call), Ok(true));
+    equal(rt, trees.0.waiting(1), trees.1.waiting(1));
+}
+
+#[test]
+fn calls_are_recorded(rt: HostRuntime) -> Result<(), Fail> {
+    let alloc = rt.alloc();
+    let trees = &mut pair(alloc)?;
+    holds(&rt, "no entry", trees.1.last_entry().is_none());
+    records_alike(&rt, trees, init(10));
+    records_alike(&rt, trees, init_piped(10));
+    records_alike(&rt, trees, watch(alloc, 1, "/", 0xfff));
+    records_alike(&rt, trees, create(alloc, "/f"));
+    records_alike(&rt, trees, write(alloc, "/f", 0, b"abc"));
+    records_alike(&rt, trees, read_file(alloc, "/f", 1, 9));
+    records_alike(&rt, trees, list(alloc, "/"));
+    records_alike(&rt, trees, create(alloc, "/f"));
+    records_alike(&rt, trees, read(1, ALL));
+    records_alike(&rt, trees, pump(2, 64));
+    records_alike(&rt, trees, unwatch(1, 1));
+    records_alike(&rt, trees, close(1));
+    Ok(())
+}
+
 // The reply that spells these events.
 fn spelled_by(alloc: Global, events: &Events) -> Result<Reply, Refusal> {
     let bytes = encode(alloc, events.as_slice())?;

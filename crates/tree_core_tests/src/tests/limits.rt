@@ -220,6 +220,12 @@ fn has_no_entry_to_keep(tree: &mut State, call: Call) -> bool {
     matches!(kept, Err(Refusal::JournalFull))
 }
 
+// Whether there is no entry left for the call, whose reply the journal would have alone.
+fn has_no_entry_to_record(tree: &mut State, call: Call) -> bool {
+    let recorded = tree.record(CALLER, call);
+    matches!(recorded, Err(Refusal::JournalFull))
+}
+
 // Whether there is no entry left for a pump of the instance.
 fn has_no_entry_to_pump(tree: &mut State, instance: u32) -> bool {
     let pumped = tree.pump(CALLER, instance, ALL);
@@ -238,6 +244,11 @@ fn has_no_entry(rt: &impl Abort, tree: &mut State, alloc: Global) {
         rt,
         "has_no_entry_to_keep(tree, Call::Close  instance: 1 )",
         has_no_entry_to_keep(tree, Call::Close { instance: 1 }),
+    );
+    holds(
+        rt,
+        "has_no_entry_to_record(tree, Call::Close  instance: 1 )",
+        has_no_entry_to_record(tree, Call::Close { instance: 1 }),
     );
     holds(
         rt,

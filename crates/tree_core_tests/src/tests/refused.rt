@@ -158,25 +158,53 @@ enum Came {
     Wrong,
 }
 
-/// Which of the three ways a call goes: `apply`, or `keep` and, of a pump, `pump`.
+/// Which of the ways a call goes: `apply`, `record`, or `keep` and, of a pump, `pump`.
 #[derive(Clone, Copy, Debug, PartialEq, Eq)]
 enum Way {
     Apply,
+    Record,
     Keep,
 }
 
-/// Both ways.
-const WAYS: [Way; 2] = [Way::Apply, Way::Keep];
+/// All ways.
+const WAYS: [Way; 3] = [Way::Apply, Way::Record, Way::Keep];
 
-// Makes a call in this way.
-fn made_so(tree: &mut State, call: Call, way: Way) -> Result<Receipt, Refusal> {
-    if way == Way::Apply {
-        return tree.apply(CALLER, call);
-    }
+// Makes a call in this way, and then lets each allocation succeed. Gives the receipt, and whether an allocation failed.
+fn made_so(
+    alloc: Global,
+    tree: &mut State,
+    call: Call,
+    way: Way,
+) -> (Result<Receipt, Refusal>, bool) {
+    let made = match way {
+        Way::Apply => tree.apply(CALLER, call),
+        Way::Record => return recorded(alloc, tree, call),
+        Way::Keep => kept_so(tree, call),
+    };
+    (made, was_refused(alloc))
+}
+
+// Makes a call of which a copy is kept.
+fn kept_so(tree: &mut State, call: Call) -> Result<Receipt, Refusal> {
     match call {
         Call::Pump { instance, bytes } => Ok(tree.pump(CALLER, instance, bytes)?.0),
         call => Ok(tree.keep(CALLER, call)?.0),
     }
+}
+
+// Records a call. The receipt is made of its entry, once each allocation succeeds.
+fn recorded(alloc: Global, tree: &mut State, call: Call) -> (Result<Receipt, Refusal>, bool) {
+    let place = tree.record(CALLER, call);
+    let was_refused = was_refused(alloc);
+    (receipt_at(tree, place), was_refused)
+}
+
+// The receipt of the last entry.
+fn receipt_at(tree: &State, place: Result<u64, Refusal>) -> Result<Receipt, Refusal> {
+    let place = place?;
+    let entry = tree.last_entry().ok_or(Refusal::Einval)?;
+    let reply = entry.reply.copy()?;
+    Ok(Receipt { place, reply })
 }
 
 // Whether a call was carried out.
@@ -197,8 +225,8 @@ fn refused_at(
 ) -> Result<Came, Refusal> {
     let copy = call.copy()?;
     let _ = refuse(alloc, k);
-    let told = made_so(tree, copy, way);
-    if !was_refused(alloc) {
+    let (told, was_refused) = made_so(alloc, tree, copy, way);
+    if !was_refused {
         let is_done = is_carried_out(&told) && told == twin.apply(CALLER, call.copy()?);
         return Ok(if is_done { Came::Done } else { Came::Wrong });
     }
@@ -268,11 +296,7 @@ fn each_growth_of_each_call(rt: HostRuntime) -> Result<(), Fail> {
 fn each_growth_of_each_step(rt: HostRuntime) -> Result<(), Fail> {
     let alloc = rt.alloc();
     for steps in 0..STEPS {
-        let way = if steps % 2 == 0 {
-            Way::Apply
-        } else {
-            Way::Keep
-        };
+        let way = WAYS[steps as usize % 3];
         let count = refused_in_turn(alloc, steps, &step_of(alloc, steps)?, way)?;
         assert!(rt; count.is_some(), "step {steps}");
     }

@@ -26,7 +26,7 @@ fn prepared(alloc: Global) -> Result<Calls, Refusal> {
         "/d/j",
         "/d/k",
         "/d/l",
-        "/d/another-name-that-is-not-in-place",
+        "/d/another-name-that-is-not-stored-in-place",
     ] {
         calls.create(text, 0o644)?;
     }
@@ -45,7 +45,7 @@ fn mkdir(calls: &mut Calls, text: &str) -> Result<Answer, Refusal> {
 // A call of each kind, none of which is refused there. The last seven take no memory.
 fn call_of(calls: &Calls, which: u32) -> Result<FileCall, Refusal> {
     let path = calls.path("/g")?;
-    let new = calls.path("/d/a-name-that-is-not-in-place")?;
+    let new = calls.path("/d/a-name-that-is-not-stored-in-place")?;
     Ok(match which {
         0 => FileCall::Create {
             path: new,
@@ -191,8 +191,8 @@ fn each_growth_of_the_rows(rt: HostRuntime) -> Result<(), Fail> {
 
 // Whether the call is let through, or refused as it should be.
 fn is_checked(calls: &Calls, call: &FileCall, wanted: Option<Refusal>) -> bool {
-    let paths = Paths::of(&calls.table, call);
-    check(&calls.table, call, &paths, &calls.counts, &calls.limits).err() == wanted
+    let paths = Paths::resolve(&calls.table, call);
+    check(paths, &calls.counts, &calls.limits).err() == wanted
 }
 
 #[test]

@@ -10,6 +10,16 @@ const MOST: u32 = 50;
 /// A path of twelve short names.
 const DEEP: &[u8] = b"/a/b/c//d/e/f/g/h/i/j/k/a_name_of_just_23_bytes";
 
+/// A path whose text is longer than what a path has in place.
+const THREE: &[u8] = b"/a_name_of_no_less_than_27_byte/b/c";
+
+const THREE_FIRST: &[u8] = b"a_name_of_no_less_than_27_byte";
+
+/// A path whose text is not the shortest one.
+const DOUBLED: &[u8] = b"/a/bb///ccc/d/e/a_name_of_just_23_bytes";
+
+const SQUEEZED: &[u8] = b"/a/bb/ccc/d/e/a_name_of_just_23_bytes";
+
 // Two short names.
 fn names_of(alloc: Global) -> Result<Vec<Name>, Refusal> {
     let mut names = Vec::with_capacity(alloc, 2)?;
@@ -24,10 +34,10 @@ fn names_of(alloc: Global) -> Result<Vec<Name>, Refusal> {
 // Makes a call. Whether its answer is right.
 fn is_right(alloc: Global, which: u32, path: &Path) -> Result<bool, Refusal> {
     Ok(match which {
-        0 => are(Path::parse(alloc, b"/a/b/c")?.names(), &[b"a", b"b", b"c"]),
-        1 => Path::parse(alloc, b"/a/bb///ccc/d/e")? == Path::parse(alloc, b"/a/bb/ccc/d/e")?,
+        0 => has_names(&Path::parse(alloc, THREE)?, &[THREE_FIRST, b"b", b"c"]),
+        1 => Path::parse(alloc, DOUBLED)? == Path::parse(alloc, SQUEEZED)?,
         2 => path.copy()? == *path,
-        3 => Path::parse(alloc, DEEP)?.names().len() == 12,
+        3 => count_of_names(&Path::parse(alloc, DEEP)?) == 12,
         _ => {
             let names = Names::from_vec(names_of(alloc)?);
             names.copy()? == names
@@ -54,8 +64,8 @@ fn each_growth_of_each_call(rt: HostRuntime) -> Result<(), Fail> {
     let alloc = rt.alloc();
     let has_refuser = refuse(alloc, MOST);
     let _ = was_refused(alloc);
-    let path = Path::parse(alloc, b"/a/b")?;
-    // A path of short names takes one growth, however many they are.
+    let path = Path::parse(alloc, SQUEEZED)?;
+    // A path of short names takes one allocation, however many they are.
     for (which, growths) in [(0, 1), (1, 2), (2, 1), (3, 1), (4, 2)] {
         let wanted = if has_refuser { growths } else { 0 };
         let count = refused_in_turn(alloc, which, &path);
@@ -74,11 +84,11 @@ fn are_refused(alloc: Global, long: &[u8]) -> bool {
 
 // Whether the calls of two paths that take no memory answer as they should.
 fn are_told(above: &Path, below: &Path) -> bool {
-    let parent = match below.parent_and_name() {
-        Some((parent, name)) => parent == above.names() && name.bytes() == b"c".as_slice(),
+    let is_last = match below.last_name() {
+        Some(name) => name.as_name().bytes() == b"c".as_slice(),
         None => false,
     };
-    parent && below.is_below(above) && !above.is_below(below) && above < below
+    is_last && below.is_below(above) && !above.is_below(below) && above < below
 }
 
 #[test]
@@ -97,11 +107,11 @@ fn some_calls_take_no_memory(rt: HostRuntime) -> Result<(), Fail> {
 // Whether a path of these names is made and copied. `Err` is want of memory.
 fn is_made_and_copied(alloc: Global, text: &[u8], names: &[&[u8]]) -> Result<bool, Refusal> {
     let path = Path::parse(alloc, text)?;
-    Ok(are(path.names(), names) && path.copy()? == path)
+    Ok(has_names(&path, names) && path.copy()? == path)
 }
 
 #[test]
-fn a_path_of_one_short_name_takes_no_memory(rt: HostRuntime) -> Result<(), Fail> {
+fn a_path_of_a_short_text_takes_no_memory(rt: HostRuntime) -> Result<(), Fail> {
     let alloc = rt.alloc();
     let has_refuser = refuse_from(alloc, 1);
     let root = is_made_and_copied(alloc, b"/", &[]);
@@ -110,24 +120,26 @@ fn a_path_of_one_short_name_takes_no_memory(rt: HostRuntime) -> Result<(), Fail>
         b"/a_name_of_just_23_bytes",
         &[b"a_name_of_just_23_bytes"],
     );
+    let two = is_made_and_copied(alloc, b"/a/b", &[b"a", b"b"]);
     let with_slashes = is_made_and_copied(alloc, b"///a", &[b"a"]);
     let is_refused = was_refused(alloc);
     let are_made = matches!(root, Ok(true))
         && matches!(one, Ok(true))
+        && matches!(two, Ok(true))
         && matches!(with_slashes, Ok(true));
     holds(&rt, "are_made && !is_refused", are_made && !is_refused);
     let _ = refuse_from(alloc, 1);
-    let two = is_made_and_copied(alloc, b"/a/b", &[b"a", b"b"]);
+    let three = is_made_and_copied(alloc, THREE, &[THREE_FIRST, b"b", b"c"]);
     let is_refused = was_refused(alloc);
     holds(
         &rt,
-        "two.is_err() == has_refuser && is_refused == has_refuser",
-        two.is_err() == has_refuser && is_refused == has_refuser,
+        "three.is_err() == has_refuser && is_refused == has_refuser",
+        three.is_err() == has_refuser && is_refused == has_refuser,
     );
     holds(
         &rt,
-        "two",
-        is_made_and_copied(alloc, b"/a/b", &[b"a", b"b"])?,
+        "three",
+        is_made_and_copied(alloc, THREE, &[THREE_FIRST, b"b", b"c"])?,
     );
     Ok(())
 }

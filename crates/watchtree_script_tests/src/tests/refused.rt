@@ -24,8 +24,8 @@ fn prepared(alloc: Global) -> Result<(State, Vec<u8>), Refusal> {
     Ok((state, text))
 }
 
-// Runs a line whose allocation `k` fails. Whether one failed, and whether all is well: the line is answered `ENOMEM`, and is no
-// entry, or it is answered what is wanted, and is one.
+// Runs a line whose allocation `k` fails. Whether one failed, and whether all is well: the line is answered `ENOMEM`,
+// and is no entry, or it is answered what is wanted, and is one.
 fn refused_at(alloc: Global, line: &str, wanted: &str, k: u32) -> Result<(bool, bool), Refusal> {
     let (mut state, mut text) = prepared(alloc)?;
     let _ = refuse(alloc, k);

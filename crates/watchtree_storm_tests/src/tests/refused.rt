@@ -1,5 +1,5 @@
-//! Fault injection: each allocation of a storm, and the start of each of its threads, fails in turn, with both sinks closed each
-//! time; and how often a close is tried. Without the shim each of these tests makes one storm.
+//! Fault injection: each allocation of a storm, and the start of each of its threads, fails in turn, with both sinks
+//! closed each time; and how often a close is tried. Without the shim each of these tests makes one storm.
 
 ghost use Rattle.std.specs.Prelude.{◌≡◌};
 
@@ -41,8 +41,8 @@ fn refused_at<R: Threads + Wait + Sync>(
     Ok((met, stormed, count.load(Ordering::SeqCst) == 2))
 }
 
-// What a storm may come to where it runs out of memory: a fault, a listener that did not end by the end batch, a book that is
-// not settled, or a settled book with fewer entries.
+// What a storm may come to where it runs out of memory: a fault, a listener that did not end by the end batch, a book
+// that is not settled, or a settled book with fewer entries.
 fn is_short_of_memory(stormed: &Result<Stormed, StormFault>, most: u64) -> bool {
     match stormed {
         Err(StormFault::Memory) => true,
@@ -54,6 +54,7 @@ fn is_short_of_memory(stormed: &Result<Stormed, StormFault>, most: u64) -> bool 
     }
 }
 
+// Whether the storm was settled, with all of its entries and records.
 fn is_whole_storm(stormed: &Result<Stormed, StormFault>) -> bool {
     match stormed {
         Ok(whole) => is_settled(whole, 25, 18),
@@ -66,12 +67,12 @@ fn each_growth_of_a_storm(rt: HostRuntime) -> Result<(), Fail> {
     for k in 1..GROWTHS {
         let (met, stormed, are_closed) = refused_at(&rt, rt.alloc(), Asking::Growth(k))?;
         let is_well = is_whole_storm(&stormed) || met && is_short_of_memory(&stormed, 25);
-        assert!(rt; is_well && are_closed, "growth {k}");
+        assert!(rt; is_well && are_closed, "allocation {k}");
         if !met {
             return Ok(());
         }
     }
-    Err(Fail::from("a storm has more growths"))
+    Err(Fail::from("a storm makes more allocations"))
 }
 
 /// A storm has four threads, and without one of them it is out of memory.
@@ -128,12 +129,13 @@ fn closed_with<L: Ledger>(
     Ok((one, other))
 }
 
+// The same with the ledger of a brand.
 fn closed_at(rt: &impl Wait, alloc: Global, refused: u32) -> Result<(bool, bool), Fail> {
     closed_with::<Brand>(rt, alloc, Blank::new(65537), refused)
 }
 
-/// While more and more allocations fail the first close fails first. Sixteen allocations later the second fails too: each
-/// allocation that fails is a try.
+/// While more and more allocations fail the first close fails first. Sixteen allocations later the second fails too:
+/// each allocation that fails is a try.
 #[test]
 fn a_close_is_tried_16_times(rt: HostRuntime) -> Result<(), Fail> {
     let alloc = rt.alloc();

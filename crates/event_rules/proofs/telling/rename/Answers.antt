@@ -1,11 +1,13 @@
+use Rattle.std.proofs.Common.{ap}
+use Rattle.inode_table.specs.Tree.{Tree}
 use Rattle.inode_table.specs.TableWorld.{world_of}
 use Rattle.inode_table.specs.World.{look}
-use Rattle.event_rules.proofs.Lines.{rename_told-lines}
+use Rattle.event_rules.proofs.Lines.{move_told-lines}
 use Rattle.event_rules.proofs.telling.rename.Goals as goal
 
 pub returns : goal.returns
 returns c =
-    rename_told-lines (look (world_of c.args.table.now)) c.args.old.now.names c.args.new.now.names c.args.cookie c.seen-moved.result c.seen-replaced.result c.kind_seen-kind.result c.are_same.result
+    move_told-lines (look (world_of c.args.old.now.tree)) (look (world_of c.args.new.now.tree)) c.args.old.now.path.names c.args.new.now.path.names c.args.cookie c.object-moved.result c.object.result c.kind_seen-kind.result
     c.args.told.now c.tell_dir.new.self c.tell_dir-2.new.self c.tell_path_lost.new.self c.tell_self.new.self
-    c.seen-moved.ensures c.seen-replaced.ensures c.kind_seen-kind.ensures c.are_same.ensures c.if-are_same.false
+    (ap (λ (t : Tree). look (world_of t)) c.requires.same) c.object-moved.ensures c.object.ensures c.kind_seen-kind.ensures
     c.requires.empty c.in_ok-tell_dir.ensures c.in_ok-tell_dir-2.ensures c.in_ok-tell_path_lost.ensures c.in_ok-tell_self.ensures

@@ -16,9 +16,12 @@ returns-in_err-write_all-2-clause-err g c =
     let a = g.W.Write.contents (inner_of c.args.port.now) in
     let b = g.W.Write.contents (inner_of c.write_all.new.self) in
     let d = g.W.Write.contents (inner_of c.write_all-2.new.self) in
-    let front = subst (λ (t : List ℕ). (n : ℕ) × Appends b d (take n t)) (c.as_bytes.ensures.value ∙ c.format.ensures.text) c.in_err-write_all-2.ensures.front in
+    let front =
+    subst (λ (t : List ℕ). (n : ℕ) × Appends b d (take n t)) (c.as_bytes.ensures.value ∙ c.format.ensures.text)
+    c.in_err-write_all-2.ensures.front in
     rw p.1 (
-      front_of_next a b d (codes "closed ") (decimal c.args.taken ++ codes "\n") c.in_ok-write_all.ensures.bytes (front_of_first b d (decimal c.args.taken) (codes "\n") front),
+      front_of_next a b d (codes "closed ") (decimal c.args.taken ++ codes "\n") c.in_ok-write_all.ensures.bytes
+          (front_of_first b d (decimal c.args.taken) (codes "\n") front),
       c.in_err-write_all-2.ensures.err ∙ ap one_more c.in_ok-write_all.ensures.ok,
     )
 
@@ -30,6 +33,7 @@ returns-clause-err g c =
     let e = g.W.Write.contents (inner_of c.write_all-3.new.self) in
     let digits = subst (λ (t : List ℕ). Appends b d t) (c.as_bytes.ensures.value ∙ c.format.ensures.text) c.in_ok-write_all-2.ensures.bytes in
     on_err_both c.write_all-3.result _ _ _ (λ front faults. (
-      front_of_next a b e (codes "closed ") (decimal c.args.taken ++ codes "\n") c.in_ok-write_all.ensures.bytes (front_of_next b d e (decimal c.args.taken) (codes "\n") digits front),
+      front_of_next a b e (codes "closed ") (decimal c.args.taken ++ codes "\n") c.in_ok-write_all.ensures.bytes
+          (front_of_next b d e (decimal c.args.taken) (codes "\n") digits front),
       faults ∙ ap one_more (c.in_ok-write_all-2.ensures.ok ∙ c.in_ok-write_all.ensures.ok),
     )) c.write_all-3.ensures.front c.write_all-3.ensures.err

@@ -18,7 +18,9 @@ returns-in-Err-clause-answers g c =
       drop (i + 1) items,
       sym c.as_slice-event-items.ensures ∙ parted items i event c.loop-event-test.true c.event-item.is,
       c.in-Err.ensures.err ∙ c.loop-event.invariant.so_far,
-      subst (λ (l : List Event). g.S.Sink.may_answer c.args.sink.now l event (Err c.in-Err.fault)) (append-nil (take i items)) (c.loop-event.invariant.foretold [] event (Err c.in-Err.fault) c.in-Err.ensures.answer),
+      subst (λ (l : List Event). g.S.Sink.may_answer c.args.sink.now l event (Err c.in-Err.fault))
+          (append-nil (take i items))
+          (c.loop-event.invariant.foretold [] event (Err c.in-Err.fault) c.in-Err.ensures.answer),
     )
 
 pub returns-in-Err-clause-writes : goal.returns-in-Err-clause-writes
@@ -43,7 +45,12 @@ returns-clause-writes g c =
     let old = c.args.sink.now in
     let new = c.loop-event.sink in
     let records = c.args.batch.now.records in
-    let whole : take c.loop-event.event-index c.as_slice-event-items.result.now ≡ records = take_all c.loop-event.event-index c.as_slice-event-items.result.now c.loop-event-test.false ∙ c.as_slice-event-items.ensures in
+    let whole : take c.loop-event.event-index c.as_slice-event-items.result.now ≡ records =
+    take_all c.loop-event.event-index c.as_slice-event-items.result.now c.loop-event-test.false
+    ∙ c.as_slice-event-items.ensures in
     let taken : list new ≡ list old ++ records = c.loop-event.invariant.so_far ∙ ap (λ (r : List Event). list old ++ r) whole in
-    let gained : Gains (page old) (flat_map (page old).line records) (page new) = subst (λ (r : List Event). Gains (page old) (flat_map (page old).line r) (page new)) whole c.loop-event.invariant.gained in
-    subst (λ (o : Option Cause). WritesRecords list page old records new o) (sym c.then_some.ensures) (all_put list page old new records c.is_last.result (taken, gained))
+    let gained : Gains (page old) (flat_map (page old).line records) (page new) =
+    subst (λ (r : List Event). Gains (page old) (flat_map (page old).line r) (page new)) whole
+    c.loop-event.invariant.gained in
+    subst (λ (o : Option Cause). WritesRecords list page old records new o) (sym c.then_some.ensures)
+    (all_put list page old new records c.is_last.result (taken, gained))

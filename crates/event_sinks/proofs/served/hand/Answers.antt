@@ -13,8 +13,13 @@ returns-in-Some g c = λ b s.
     let was : track_at m c.args.number ≡ Some t = sym c.in-Some.ensures.value in
     let new = record t { progress = p } in
     let put = (c.get_mut.follows.holds new).3 (subst (λ o. IsSome o) (sym was) refl) in
-    hands_some c.args.cut (outcomes c.args.ended.now) b c.args.number s.instance_is m (c.get_mut.follows.lender new) t p was (subst (λ (bs : List Batch). Follows c.args.cut bs (b ∷ []) t.progress p) c.handed_at-handed.ensures (c.after-track.ensures b s)) put
+    hands_some c.args.cut (outcomes c.args.ended.now) b c.args.number s.instance_is m (c.get_mut.follows.lender new) t p
+    was
+    (subst (λ (bs : List Batch). Follows c.args.cut bs (b ∷ []) t.progress p) c.handed_at-handed.ensures
+    (c.after-track.ensures b s))
+    put
 
 pub returns-in_default : goal.returns-in_default
 returns-in_default g c = λ b s.
-    hands_none c.args.cut (outcomes c.args.ended.now) b c.args.number s.instance_is c.args.tracks.now c.get_mut.follows.lender-at-none (sym c.in_default.ensures.value) c.get_mut.follows.holds-at-none
+    hands_none c.args.cut (outcomes c.args.ended.now) b c.args.number s.instance_is c.args.tracks.now
+    c.get_mut.follows.lender-at-none (sym c.in_default.ensures.value) c.get_mut.follows.holds-at-none

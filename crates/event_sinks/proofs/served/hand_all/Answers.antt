@@ -9,7 +9,11 @@ use Rattle.event_sinks.proofs.served.hand_all.Goals as goal
 pub loop-at-init : goal.loop-at-init
 loop-at-init g c = (
   c.args.book.now.state.start,
-  subst (λ p. IsPassed c.args.book.now (outcomes c.args.ended.now) c.args.book.now.state.start p c.args.book.now.state.entries (track_at c.args.tracks.now)) (omega arith)
+  subst
+      (λ p.
+      IsPassed c.args.book.now (outcomes c.args.ended.now) c.args.book.now.state.start p
+      c.args.book.now.state.entries (track_at c.args.tracks.now))
+      (omega arith)
       (passed_none c.args.book.now (outcomes c.args.ended.now) (track_at c.args.tracks.now) c.law.ensures.lawful c.law.ensures.events c.requires),
 )
 
@@ -23,6 +27,10 @@ loop-at-preserved g c =
     let within : c.loop-at.at < length b.state.entries = subst (λ (es : List Entry). c.loop-at.at < length es) same (omega arith) in
     let is : e ≡ get_or b.state.entries c.loop-at.at e = c.index-journal-at.is ∙ ap (λ (es : List Entry). get_or es c.loop-at.at e) same in (
       after t e.call,
-      passed_more c.batches_are_answered.ensures b (outcomes c.args.ended.now) t (b.state.place + c.loop-at.at) e (track_at c.loop-at.tracks) (track_at c.hand_entry.new.tracks) b.state.entries c.loop-at.at (b.state.place + (c.loop-at.at + 1)) within is (omega arith) c.loop-at.invariant.1
-          (λ o over. subst (λ k. HandsOn k (outcomes c.args.ended.now) o c.loop-at.tracks c.hand_entry.new.tracks) cut (c.hand_entry.ensures o (subst (λ p. HandsOver e p o) (omega arith) over))),
+      passed_more c.batches_are_answered.ensures b (outcomes c.args.ended.now) t (b.state.place + c.loop-at.at) e
+          (track_at c.loop-at.tracks) (track_at c.hand_entry.new.tracks) b.state.entries c.loop-at.at
+          (b.state.place + (c.loop-at.at + 1)) within is (omega arith) c.loop-at.invariant.1
+          (λ o over.
+          subst (λ k. HandsOn k (outcomes c.args.ended.now) o c.loop-at.tracks c.hand_entry.new.tracks) cut
+          (c.hand_entry.ensures o (subst (λ p. HandsOver e p o) (omega arith) over))),
     )

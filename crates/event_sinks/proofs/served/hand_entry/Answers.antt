@@ -5,7 +5,8 @@ use Rattle.event_sinks.proofs.served.hand_entry.Goals as goal
 
 pub returns-in-Some : goal.returns-in-Some
 returns-in-Some g c =
-    entry_some c.args.cut (outcomes c.args.ended.now) c.args.entry.now c.args.place c.args.tracks.now c.hand.new.tracks c.in-Some.number c.in-Some.bytes.now (sym c.in-Some.ensures) c.hand.ensures
+    entry_some c.args.cut (outcomes c.args.ended.now) c.args.entry.now c.args.place c.args.tracks.now c.hand.new.tracks
+    c.in-Some.number c.in-Some.bytes.now (sym c.in-Some.ensures) c.hand.ensures
 
 pub returns-in_default : goal.returns-in_default
 returns-in_default g c =

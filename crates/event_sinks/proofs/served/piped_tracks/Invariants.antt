@@ -6,4 +6,7 @@ use Rattle.event_sinks.specs.Tracks.{blank, track_at}
 use Rattle.event_sinks.proofs.served.piped_tracks.Given as goal
 
 abbrev pub invariant-loop-number : goal.invariant-loop-number
-invariant-loop-number l = (n : ℕ) → MatchOption (track_at l.tracks n) (Lacks (take l.number-index l.pipes) n) (λ t. IsIn (take l.number-index l.pipes) n × (t ≡ blank true))
+invariant-loop-number l =
+    (n : ℕ)
+    → MatchOption (track_at l.tracks n) (Lacks (take l.number-index l.pipes) n) (λ t.
+    IsIn (take l.number-index l.pipes) n × (t ≡ blank true))

@@ -27,5 +27,9 @@ loop-log-preserved c =
     let len : length new ≡ length c.loop-log.seen.items = ap length set ∙ (length-marked old (places log) ∙ ap length c.deref_mut.ensures.value) in
     record {
       kept = kept_upto c.args.cut journal logs i log c.loop-log-test.true c.log-item.is c.loop-log.invariant.kept next;
-      marks = written_over new c.loop-log.seen.items c.loop-log.seen.len c.loop-log.seen.ok.0 len ∙ (set ∙ (ap (λ (s : List Bool). marked s (places log)) marks ∙ marks_upto c.args.cut journal logs i log c.loop-log-test.true c.log-item.is));
+      marks =
+          written_over new c.loop-log.seen.items c.loop-log.seen.len c.loop-log.seen.ok.0 len
+          ∙ (set
+          ∙ (ap (λ (s : List Bool). marked s (places log)) marks
+          ∙ marks_upto c.args.cut journal logs i log c.loop-log-test.true c.log-item.is));
     }

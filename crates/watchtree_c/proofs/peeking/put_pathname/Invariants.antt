@@ -1,12 +1,9 @@
-use Rattle.std.proofs.Common.{◌≡◌, ◌-◌, ◌^◌, length, take}
-use Rattle.std.specs.Prelude.{min}
-use Rattle.std.specs.List.{flat_map}
-use Rattle.watchtree_c.specs.Answers.{overlaid}
-use Rattle.watchtree_c.proofs.Listing.{slashed}
+use Rattle.std.proofs.Common.{length}
+use Rattle.watchtree_c.proofs.Listing.{IsPut}
 use Rattle.watchtree_c.proofs.peeking.put_pathname.Given as goal
 
 abbrev pub invariant-loop-name : goal.invariant-loop-name
-invariant-loop-name l = record {
-  len : l.len ≡ min (length (flat_map slashed (take l.name-index l.names))) (2 ^ 64 - 1);
-  bytes : l.out ≡ overlaid (flat_map slashed (take l.name-index l.names)) l.fn.out;
-}
+invariant-loop-name l = IsPut l.fn.names l.names l.len l.fn.out l.out
+
+abbrev pub decreases-loop-name : goal.decreases-loop-name
+decreases-loop-name l = length l.names

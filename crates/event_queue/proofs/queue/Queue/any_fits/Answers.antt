@@ -12,4 +12,6 @@ returns c =
     ∙ ap (λ (b : Backlog). nat_lt 0 (fitting c.args.bytes b.waiting)) c.self.view_is
 
 pub returns-in_default : goal.returns-in_default
-returns-in_default c = none_fits c.args.bytes c.self.inside.records.items c.in_default.ensures ∙ ap (λ (b : Backlog). nat_lt 0 (fitting c.args.bytes b.waiting)) c.self.view_is
+returns-in_default c =
+    none_fits c.args.bytes c.self.inside.records.items c.in_default.ensures
+    ∙ ap (λ (b : Backlog). nat_lt 0 (fitting c.args.bytes b.waiting)) c.self.view_is

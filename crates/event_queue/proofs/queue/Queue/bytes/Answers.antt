@@ -18,4 +18,7 @@ loop-index-preserved c =
 
 pub returns : goal.returns
 returns c =
-    c.loop-index.invariant.len ∙ ap (λ es. length (spelling es)) (take_all c.loop-index.index c.args.self.now.waiting (omega (arith, c.loop-index-test.false, c.len-index-end.ensures.len)))
+    c.loop-index.invariant.len
+    ∙ ap (λ es. length (spelling es))
+    (take_all c.loop-index.index c.args.self.now.waiting
+    (omega (arith, c.loop-index-test.false, c.len-index-end.ensures.len)))

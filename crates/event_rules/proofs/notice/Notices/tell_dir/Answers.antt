@@ -1,4 +1,4 @@
-use Rattle.std.proofs.Common.{sym, ap, ◌∙◌}
+use Rattle.std.proofs.Common.{◌≡◌, ◌++◌, ◌∷◌, [], refl, sym, subst, ◌∙◌}
 use Rattle.inode_table.specs.Refusals.{parent_of}
 use Rattle.inode_table.specs.TableWorld.{world_of}
 use Rattle.inode_table.specs.World.{look}
@@ -7,7 +7,10 @@ use Rattle.event_rules.proofs.notice.Notices.tell_dir.Goals as goal
 
 pub returns : goal.returns
 returns c =
-    let parent = c.in-Some.ensures.parent ∙ ap parent_of c.as_path.ensures in
-    let there = to_dir-there (look (world_of c.args.table.now)) c.args.path.now.names _ c.in-Some.name.now c.in-Ok.directory c.args.kind c.args.event c.args.cookie
-    (sym c.as_path.ensures ∙ c.in-Some.ensures.parts) parent (ap (look (world_of c.args.table.now)) parent ∙ c.in-Ok.ensures.seen) in
-    rw (there, ← c.about.ensures, ← c.in_ok-copy.ensures.same) c.push.ensures
+    let p = c.args.at.now.path.names in
+    let seen_at = look (world_of c.args.at.now.tree) in
+    let name = c.in-Some.name in
+    let parts : p ≡ parent_of p ++ name ∷ [] = subst (λ q. q ≡ parent_of q ++ name ∷ []) c.as_path.ensures c.in-Some.ensures.parts in
+    let there = to_dir-there seen_at p (parent_of p) name c.in-Some-directory.directory c.args.kind c.args.event c.args.cookie
+    parts refl (sym c.directory.ensures ∙ c.in-Some-directory.is) in
+    rw (there, ← c.about.ensures, ← (c.in_ok-copy.ensures.same ∙ c.as_name.ensures)) c.push.ensures

@@ -18,5 +18,13 @@ returns g c is none =
     let same = c.new-2.ensures.sink in
     let writes = c.run.ensures.writes (ap (λ (h : ListenerState). h.cause) heard) in
     let all : new.handed.items ≡ writes.0 = writes.1 ∙ ap (λ (h : ListenerState). h.handed ++ writes.0) heard in
-    let begun = subst (λ (bs : List Batch). Writes records_of (page_of contents) old.sink (batches.records_of bs) new.sink (Some c.run.result.cause)) (sym all) writes.2 in
-    whole contents c.unfailing_texts_are_whole.ensures old.sink new.sink new.handed.items c.args.writer c.run.result.cause (ap (λ (s : LineSink g.row.W.Denot). inner_of (port_of s)) same ∙ c.new.ensures.writer) (ap (λ (s : LineSink g.row.W.Denot). records_of s) same ∙ c.new.ensures.list) (ap (λ (s : LineSink g.row.W.Denot). faults_of (port_of s)) same ∙ c.new.ensures.faults) begun is none
+    let begun =
+    subst
+    (λ (bs : List Batch).
+    Writes records_of (page_of contents) old.sink (batches.records_of bs) new.sink
+    (Some c.run.result.cause))
+    (sym all) writes.2 in
+    whole contents c.unfailing_texts_are_whole.ensures old.sink new.sink new.handed.items c.args.writer
+    c.run.result.cause (ap (λ (s : LineSink g.row.W.Denot). inner_of (port_of s)) same ∙ c.new.ensures.writer)
+    (ap (λ (s : LineSink g.row.W.Denot). records_of s) same ∙ c.new.ensures.list)
+    (ap (λ (s : LineSink g.row.W.Denot). faults_of (port_of s)) same ∙ c.new.ensures.faults) begun is none

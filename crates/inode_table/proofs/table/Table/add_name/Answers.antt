@@ -1,5 +1,5 @@
 use Rattle.std.proofs.Common.{◌++◌, ◌∷◌, [], ◌∙◌, sym, ap, subst}
-use Rattle.inode_table.specs.Tree.{what_at, at}
+use Rattle.inode_table.specs.Tree.{what_at}
 use Rattle.inode_table.specs.World.{linked, with_path}
 use Rattle.inode_table.specs.Stands.{Stands, look_in}
 use Rattle.inode_table.proofs.FindLemmas.{live-there}
@@ -7,12 +7,14 @@ use Rattle.inode_table.proofs.SeenLemmas.{is_value, free-child}
 use Rattle.inode_table.proofs.StandsLemmas.{number-at}
 use Rattle.inode_table.specs.TableWorld.{world_of}
 use Rattle.inode_table.proofs.TableWorldLemmas.{world_of-is}
+use Rattle.inode_table.specs.Refusals.{parent_of}
+use Rattle.inode_table.proofs.CallLemmas.{named}
 use Rattle.inode_table.proofs.table.Table.add_name.Goals as goal
 
 pub add_name_at-requires-clause-free : goal.add_name_at-requires-clause-free
 add_name_at-requires-clause-free c =
-    free-child c.args.self.now c.rows_law.ensures.table c.parent_and_name.result.0.now c.in_ok-copy.copy c.directory_at-directory.result (ap (at c.args.self.now) c.parent_and_name.ensures.parent ∙ c.directory_at-directory.ensures)
-    (ap (look_in c.args.self.now) ((λ i. c.parent_and_name.result.0.now ++ c.in_ok-copy.ensures.same i ∷ []) ∙ sym c.parent_and_name.ensures.parts) ∙ (ap (λ l. l c.args.new.now.names) (sym c.rows_law.ensures.looks) ∙ c.requires.free))
+    free-child c.args.self.now c.rows_law.ensures.table (parent_of c.args.new.now.names) c.in_ok-copy.copy c.directory_at-directory.result c.directory_at-directory.ensures
+    (ap (look_in c.args.self.now) ((λ i. (parent_of c.args.new.now.names) ++ c.in_ok-copy.ensures.same i ∷ []) ∙ sym (named c.args.new.now.names c.last_name-last.result c.as_name-name.result.now c.last_name-last.ensures c.as_name-name.ensures)) ∙ (ap (λ l. l c.args.new.now.names) (sym c.rows_law.ensures.looks) ∙ c.requires.free))
 
 pub returns-clause-world : goal.returns-clause-world
 returns-clause-world c =
@@ -24,6 +26,6 @@ returns-clause-world c =
     let found = c.key_at-key.ensures in
     let v = is_value (what_at t c.key_at-key.result) (live-there t c.rows_law.ensures.table c.args.old.now.names c.key_at-key.result found) in
     subst (λ o. Stands c.add_name_at.new.self (linked w c.args.new.now.names o)) (sym (number-at stands c.args.old.now.names c.key_at-key.result v.0 found v.1))
-    (subst (λ p. Stands c.add_name_at.new.self (with_path w p v.0.number)) ((λ i. c.parent_and_name.result.0.now ++ c.in_ok-copy.ensures.same i ∷ []) ∙ sym c.parent_and_name.ensures.parts)
-    (c.in_ok-add_name_at.ensures.world w c.parent_and_name.result.0.now v.0 stands (ap (at c.args.self.now) c.parent_and_name.ensures.parent ∙ c.directory_at-directory.ensures) v.1))
+    (subst (λ p. Stands c.add_name_at.new.self (with_path w p v.0.number)) ((λ i. (parent_of c.args.new.now.names) ++ c.in_ok-copy.ensures.same i ∷ []) ∙ sym (named c.args.new.now.names c.last_name-last.result c.as_name-name.result.now c.last_name-last.ensures c.as_name-name.ensures))
+    (c.in_ok-add_name_at.ensures.world w (parent_of c.args.new.now.names) v.0 stands c.directory_at-directory.ensures v.1))
     )

@@ -11,42 +11,44 @@ use Rattle.inode_table.proofs.FindLemmas.{live-there}
 use Rattle.inode_table.proofs.SeenLemmas.{open-directory, avoids-seen, avoids-any, empty-below}
 use Rattle.inode_table.proofs.StandsLemmas.{SameFiles-loses, numbers-same}
 use Rattle.inode_table.proofs.CallLemmas.{parent-there, parent-open, child-some, kept-there, if-some}
+use Rattle.inode_table.specs.Refusals.{parent_of}
+use Rattle.inode_table.proofs.CallLemmas.{named}
 use Rattle.inode_table.proofs.table.Table.put_name.Goals as goal
-use Rattle.inode_table.proofs.table.Table.put_name.Goals.{In_ok-replace_name_at}
+use Rattle.inode_table.proofs.table.Table.put_name.Goals.{Joined-last-3}
 
 pub directory_at-directory-requires-clause-there : goal.directory_at-directory-requires-clause-there
 directory_at-directory-requires-clause-there c =
-    subst (λ q. IsSome (look_in c.args.self.now q)) c.parent_and_name.ensures.parent (parent-there c.args.self.now c.rows_law.ensures.table c.args.old.now.names c.parent_and_name.result.0.now c.parent_and_name.result.1.now c.parent_and_name.ensures.parts c.requires.source)
+    (parent-there c.args.self.now c.rows_law.ensures.table c.args.old.now.names (parent_of c.args.old.now.names) c.as_name-name.result.now (named c.args.old.now.names c.last_name-last.result c.as_name-name.result.now c.last_name-last.ensures c.as_name-name.ensures) c.requires.source)
 
 pub replace_name_at-requires-clause-directory : goal.replace_name_at-requires-clause-directory
 replace_name_at-requires-clause-directory c =
-    parent-open c.args.self.now c.rows_law.ensures.table c.args.old.now.names c.parent_and_name.result.0.now c.parent_and_name.result.1.now c.parent_and_name.ensures.parts c.requires.source c.directory_at-directory.result (ap (at c.args.self.now) c.parent_and_name.ensures.parent ∙ c.directory_at-directory.ensures)
+    parent-open c.args.self.now c.rows_law.ensures.table c.args.old.now.names (parent_of c.args.old.now.names) c.as_name-name.result.now (named c.args.old.now.names c.last_name-last.result c.as_name-name.result.now c.last_name-last.ensures c.as_name-name.ensures) c.requires.source c.directory_at-directory.result c.directory_at-directory.ensures
 
 pub replace_name_at-requires-clause-there : goal.replace_name_at-requires-clause-there
 replace_name_at-requires-clause-there c =
-    child-some c.args.self.now c.rows_law.ensures.table c.args.old.now.names c.parent_and_name.result.0.now c.parent_and_name.result.1.now c.parent_and_name.ensures.parts c.requires.source c.directory_at-directory.result (ap (at c.args.self.now) c.parent_and_name.ensures.parent ∙ c.directory_at-directory.ensures)
+    child-some c.args.self.now c.rows_law.ensures.table c.args.old.now.names (parent_of c.args.old.now.names) c.as_name-name.result.now (named c.args.old.now.names c.last_name-last.result c.as_name-name.result.now c.last_name-last.ensures c.as_name-name.ensures) c.requires.source c.directory_at-directory.result c.directory_at-directory.ensures
 
 pub replace_name_at-requires-clause-apart : goal.replace_name_at-requires-clause-apart
 replace_name_at-requires-clause-apart c p q to_p to_q =
     let t = c.args.self.now in
     let table = c.rows_law.ensures.table in
-    let other_parent = c.parent_and_name-2.result.0.now in
-    let other_name = c.parent_and_name-2.result.1.now in
-    let from = parent-open t table c.args.old.now.names c.parent_and_name.result.0.now c.parent_and_name.result.1.now c.parent_and_name.ensures.parts c.requires.source c.directory_at-directory.result (ap (at c.args.self.now) c.parent_and_name.ensures.parent ∙ c.directory_at-directory.ensures) in
-    let directory : is_directory_seen (look_in t other_parent) ≡ true = ap (λ x. is_directory_seen (look_in t x)) c.parent_and_name-2.ensures.parent ∙ c.requires.directory in
-    let to = open-directory t table other_parent c.directory_at-other_directory.result (ap (at c.args.self.now) c.parent_and_name-2.ensures.parent ∙ c.directory_at-other_directory.ensures) directory in
-    let off = avoids-seen t table c.args.old.now.names c.args.new.now.names other_parent other_name c.parent_and_name-2.ensures.parts c.requires.source directory c.requires.other c.requires.below in
-    avoids-any t table c.directory_at-directory.result c.directory_at-other_directory.result c.parent_and_name.result.0.now other_parent p q c.parent_and_name.result.1.now c.in_ok-copy.copy
-    (ap (at c.args.self.now) c.parent_and_name.ensures.parent ∙ c.directory_at-directory.ensures) (ap (at c.args.self.now) c.parent_and_name-2.ensures.parent ∙ c.directory_at-other_directory.ensures) from.kind to.kind to_p to_q
-    (subst (λ x. Avoids x (other_parent ++ c.in_ok-copy.copy ∷ [])) c.parent_and_name.ensures.parts
-    (subst (Avoids c.args.old.now.names) (c.parent_and_name-2.ensures.parts ∙ (λ i. other_parent ++ sym c.in_ok-copy.ensures.same i ∷ [])) off))
+    let other_parent = parent_of c.args.new.now.names in
+    let other_name = c.as_name-other_name.result.now in
+    let from = parent-open t table c.args.old.now.names (parent_of c.args.old.now.names) c.as_name-name.result.now (named c.args.old.now.names c.last_name-last.result c.as_name-name.result.now c.last_name-last.ensures c.as_name-name.ensures) c.requires.source c.directory_at-directory.result c.directory_at-directory.ensures in
+    let directory : is_directory_seen (look_in t other_parent) ≡ true = c.requires.directory in
+    let to = open-directory t table other_parent c.directory_at-other_directory.result c.directory_at-other_directory.ensures directory in
+    let off = avoids-seen t table c.args.old.now.names c.args.new.now.names other_parent other_name (named c.args.new.now.names c.last_name-other_last.result c.as_name-other_name.result.now c.last_name-other_last.ensures c.as_name-other_name.ensures) c.requires.source directory c.requires.other c.requires.below in
+    avoids-any t table c.directory_at-directory.result c.directory_at-other_directory.result (parent_of c.args.old.now.names) other_parent p q c.as_name-name.result.now c.in_ok-copy.copy
+    c.directory_at-directory.ensures c.directory_at-other_directory.ensures from.kind to.kind to_p to_q
+    (subst (λ x. Avoids x (other_parent ++ c.in_ok-copy.copy ∷ [])) (named c.args.old.now.names c.last_name-last.result c.as_name-name.result.now c.last_name-last.ensures c.as_name-name.ensures)
+    (subst (Avoids c.args.old.now.names) ((named c.args.new.now.names c.last_name-other_last.result c.as_name-other_name.result.now c.last_name-other_last.ensures c.as_name-other_name.ensures) ∙ (λ i. other_parent ++ sym c.in_ok-copy.ensures.same i ∷ [])) off))
 
 pub replace_name_at-requires-clause-empty : goal.replace_name_at-requires-clause-empty
 replace_name_at-requires-clause-empty c =
     let t = c.args.self.now in
-    let other_parent = c.parent_and_name-2.result.0.now in
-    empty-below t c.rows_law.ensures.table other_parent c.in_ok-copy.copy c.directory_at-other_directory.result (ap (at c.args.self.now) c.parent_and_name-2.ensures.parent ∙ c.directory_at-other_directory.ensures)
-    (subst (λ x. IfSome (look_in t x) (λ (s : Seen). s.has_names ≡ false)) (c.parent_and_name-2.ensures.parts ∙ (λ i. other_parent ++ sym c.in_ok-copy.ensures.same i ∷ [])) c.requires.empty)
+    let other_parent = parent_of c.args.new.now.names in
+    empty-below t c.rows_law.ensures.table other_parent c.in_ok-copy.copy c.directory_at-other_directory.result c.directory_at-other_directory.ensures
+    (subst (λ x. IfSome (look_in t x) (λ (s : Seen). s.has_names ≡ false)) ((named c.args.new.now.names c.last_name-other_last.result c.as_name-other_name.result.now c.last_name-other_last.ensures c.as_name-other_name.ensures) ∙ (λ i. other_parent ++ sym c.in_ok-copy.ensures.same i ∷ [])) c.requires.empty)
 
 -- the move is that of the whole paths
 after-move : (mid : Tree) (w : World) (parent other_parent old new : List Label) (name other_name copy : Label) → old ≡ parent ++ name ∷ [] → new ≡ other_parent ++ other_name ∷ [] → copy ≡ other_name → Stands mid (with_move w (parent ++ name ∷ []) (other_parent ++ copy ∷ [])) → Stands mid (with_move w old new)
@@ -55,11 +57,11 @@ after-move mid w parent other_parent old new name other_name copy e f g h =
 
 pub returns-clause-world : goal.returns-clause-world
 returns-clause-world c w stands =
-    after-move c.replace_name_at.new.self w c.parent_and_name.result.0.now c.parent_and_name-2.result.0.now c.args.old.now.names c.args.new.now.names c.parent_and_name.result.1.now c.parent_and_name-2.result.1.now c.in_ok-copy.copy
-    c.parent_and_name.ensures.parts c.parent_and_name-2.ensures.parts c.in_ok-copy.ensures.same
-    (c.in_ok-replace_name_at.ensures.world w c.parent_and_name.result.0.now c.parent_and_name-2.result.0.now stands (ap (at c.args.self.now) c.parent_and_name.ensures.parent ∙ c.directory_at-directory.ensures) (ap (at c.args.self.now) c.parent_and_name-2.ensures.parent ∙ c.directory_at-other_directory.ensures))
+    after-move c.replace_name_at.new.self w (parent_of c.args.old.now.names) (parent_of c.args.new.now.names) c.args.old.now.names c.args.new.now.names c.as_name-name.result.now c.as_name-other_name.result.now c.in_ok-copy.copy
+    (named c.args.old.now.names c.last_name-last.result c.as_name-name.result.now c.last_name-last.ensures c.as_name-name.ensures) (named c.args.new.now.names c.last_name-other_last.result c.as_name-other_name.result.now c.last_name-other_last.ensures c.as_name-other_name.ensures) c.in_ok-copy.ensures.same
+    (c.in_ok-replace_name_at.ensures.world w (parent_of c.args.old.now.names) (parent_of c.args.new.now.names) stands c.directory_at-directory.ensures c.directory_at-other_directory.ensures)
 
-led : (c : In_ok-replace_name_at) → c.key_if-replaced.result ≡ at c.args.self.now c.args.new.now.names
+led : (c : Joined-last-3) → c.key_if-replaced.result ≡ at c.args.self.now c.args.new.now.names
 led c = c.key_if-replaced.ensures
 
 pub returns-clause-replaced : goal.returns-clause-replaced

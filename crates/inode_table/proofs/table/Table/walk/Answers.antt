@@ -1,38 +1,58 @@
-use Rattle.std.proofs.Common.{◌≡◌, sym, ap, subst, ◌∙◌, Some}
-use Rattle.inode_table.specs.Walk.{walk}
-use Rattle.inode_table.specs.Kept.{rows_of, IsTable}
+use Rattle.std.proofs.Common.{◌∷◌, Err, cond, sym, ap, subst, ◌∙◌}
+use Rattle.tree_paths.specs.declared.refusal.Refusal.TheVariants.{Enoent, Enotdir}
+use Rattle.inode_table.specs.Kept.{rows_of, is_directory}
+use Rattle.inode_table.specs.Refusals.{parent_of}
+use Rattle.inode_table.specs.Resolution.{IsFound}
 use Rattle.inode_table.specs.Rows.{child}
-use Rattle.inode_table.specs.Tree.{at}
-use Rattle.inode_table.proofs.TableLemmas.{StopsAt, walk_step, StopsAt-walk}
-use Rattle.inode_table.proofs.FindLemmas.{take-whole, live-there, found-none, stops-missing, stops-absent, absent-seen}
+use Rattle.inode_table.specs.Tree.{Tree}
+use Rattle.inode_table.proofs.FindLemmas.{live-there}
+use Rattle.inode_table.proofs.ResolutionLemmas.{WalksTo, walk-here, walk-parent, walk-stops, walks-on}
 use Rattle.inode_table.proofs.table.Table.walk.Goals as goal
-use Rattle.inode_table.proofs.table.Table.walk.Goals.{After-refusal_at, After-loop-name}
+use Rattle.inode_table.proofs.table.Table.walk.Goals.{Joined-name}
 
-pub loop-name-preserved : goal.loop-name-preserved
-loop-name-preserved c =
-    walk_step (child (rows_of c.self.inside.nodes)) c.args.path.now c.loop-name.name-index c.name-item.result c.loop-name.key c.loop-name-test.true c.name-item.is c.loop-name.invariant ∙ sym c.in-Some.ensures
+pub loop-next-preserved : goal.loop-next-preserved
+loop-next-preserved c =
+    let rows = rows_of c.self.inside.nodes in
+    walks-on (child rows) (c.args.first ∷ c.args.behind) c.loop-next.name c.in-Some.next c.loop-next.names c.next.new.self c.loop-next.directory c.in-Some-child.key
+    c.loop-next.invariant c.in-Some.ensures (ap (child rows c.loop-next.directory) (sym c.as_name.ensures) ∙ sym c.in-Some-child.ensures)
 
-stops : (c : After-refusal_at) → StopsAt c.args.self.now c.args.path.now c.refusal_at.result
+stops : (c : Joined-name) → IsFound c.args.self.now (c.args.first ∷ c.args.behind) (Err c.refusal_at-refusal.result) × IsFound c.args.self.now (parent_of (c.args.first ∷ c.args.behind)) (Err c.refusal_at-refusal.result)
 stops c =
-    subst (λ t. StopsAt t c.args.path.now c.refusal_at.result) c.self.view_is
-    (StopsAt-walk _ c.args.path.now c.loop-name.name-index c.name-item.result c.loop-name.key c.refusal_at.result c.loop-name-test.true c.name-item.is c.loop-name.invariant (sym c.in-None.ensures) c.refusal_at.ensures)
+    let t = c.args.self.now in
+    let whole = c.args.first ∷ c.args.behind in
+    let key = c.loop-next.directory in
+    let name = c.loop-next.name in
+    let walks : WalksTo (child t.rows) whole name c.loop-next.names key = subst (λ (s : Tree). WalksTo (child s.rows) whole name c.loop-next.names key) c.self.view_is c.loop-next.invariant in
+    walk-stops t c.rows_law.ensures.table whole name c.in-Some.next c.loop-next.names c.next.new.self key c.refusal_at-refusal.result walks c.in-Some.ensures
+    (ap (λ (s : Tree). child s.rows key name) (sym c.self.view_is) ∙ ap (child (rows_of c.self.inside.nodes) key) (sym c.as_name.ensures) ∙ sym c.in-None.ensures)
+    (c.refusal_at-refusal.ensures ∙ ap (λ (s : Tree). cond (is_directory s.rows key) Enoent Enotdir) c.self.view_is)
 
-pub returns-in-None-clause-missing : goal.returns-in-None-clause-missing
-returns-in-None-clause-missing c = stops-missing c.args.self.now (subst (λ t. IsTable t.rows) c.self.view_is c.self.invariant) c.args.path.now c.refusal_at.result (stops c)
+pub returns-in-None-clause-directory : goal.returns-in-None-clause-directory
+returns-in-None-clause-directory c = (stops c).1
 
-pub returns-in-None-clause-absent : goal.returns-in-None-clause-absent
-returns-in-None-clause-absent c =
-    let table = subst (λ t. IsTable t.rows) c.self.view_is c.self.invariant in
-    absent-seen c.args.self.now table c.args.path.now (stops-absent c.args.self.now table c.args.path.now c.refusal_at.result (stops c))
+pub returns-in-None-clause-here : goal.returns-in-None-clause-here
+returns-in-None-clause-here c = (stops c).0
 
-pub returns-clause-there : goal.returns-clause-there
-returns-clause-there c =
-    let past = c.loop-name-test.false in
-    let there : at c.args.self.now c.args.path.now ≡ Some c.loop-name.key = subst (λ t. at t c.args.path.now ≡ Some c.loop-name.key) c.self.view_is (ap (walk (child (rows_of c.self.inside.nodes)) 0) (sym (take-whole c.args.path.now c.loop-name.name-index past)) ∙ c.loop-name.invariant) in
-    live-there c.args.self.now (subst (λ t. IsTable t.rows) c.self.view_is c.self.invariant) c.args.path.now c.loop-name.key there
+pub resolve_in-requires : goal.resolve_in-requires
+resolve_in-requires c =
+    let t = c.args.self.now in
+    let whole = c.args.first ∷ c.args.behind in
+    let walks : WalksTo (child t.rows) whole c.loop-next.name c.loop-next.names c.loop-next.directory =
+    subst (λ (s : Tree). WalksTo (child s.rows) whole c.loop-next.name c.loop-next.names c.loop-next.directory) c.self.view_is c.loop-next.invariant in
+    record { there = live-there t c.rows_law.ensures.table walks.front c.loop-next.directory walks.there }
 
-pub returns-clause-none : goal.returns-clause-none
-returns-clause-none c =
-    let past = c.loop-name-test.false in
-    let there : at c.args.self.now c.args.path.now ≡ Some c.loop-name.key = subst (λ t. at t c.args.path.now ≡ Some c.loop-name.key) c.self.view_is (ap (walk (child (rows_of c.self.inside.nodes)) 0) (sym (take-whole c.args.path.now c.loop-name.name-index past)) ∙ c.loop-name.invariant) in
-    found-none c.args.self.now (subst (λ t. IsTable t.rows) c.self.view_is c.self.invariant) c.args.path.now c.loop-name.key there
+pub returns-clause-directory : goal.returns-clause-directory
+returns-clause-directory c =
+    let t = c.args.self.now in
+    let whole = c.args.first ∷ c.args.behind in
+    let walks : WalksTo (child t.rows) whole c.loop-next.name c.loop-next.names c.loop-next.directory =
+    subst (λ (s : Tree). WalksTo (child s.rows) whole c.loop-next.name c.loop-next.names c.loop-next.directory) c.self.view_is c.loop-next.invariant in
+    walk-parent t c.rows_law.ensures.table whole c.loop-next.name c.loop-next.names c.loop-next.directory c.of.result walks c.in_default.ensures.0 c.of.ensures
+
+pub returns-clause-here : goal.returns-clause-here
+returns-clause-here c =
+    let t = c.args.self.now in
+    let whole = c.args.first ∷ c.args.behind in
+    let walks : WalksTo (child t.rows) whole c.loop-next.name c.loop-next.names c.loop-next.directory =
+    subst (λ (s : Tree). WalksTo (child s.rows) whole c.loop-next.name c.loop-next.names c.loop-next.directory) c.self.view_is c.loop-next.invariant in
+    walk-here t c.rows_law.ensures.table whole c.loop-next.name c.as_name-2.result.now c.loop-next.names c.loop-next.directory c.resolve_in.result walks c.in_default.ensures.0 c.as_name-2.ensures c.resolve_in.ensures

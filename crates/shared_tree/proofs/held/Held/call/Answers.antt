@@ -15,8 +15,11 @@ use Rattle.shared_tree.proofs.held.Held.call.Goals as goal
 pub invariant_of-self-2 : goal.invariant_of-self-2
 invariant_of-self-2 g c =
     rw (c.hand_over.ensures.sent, c.hand_over.ensures.numbers, c.in_ok-at.ensures.sent, c.in_ok-at.ensures.numbers)
-    (held-call c.replies_tell.ensures c.self.inside.core c.enter.new.core c.args.seat.now c.enter.new.seat c.in_ok-receipt.receipt c.self.inside.pipes.numbers (sents c.self.inside.pipes.ends) c.self.inside.book.total c.enter.new.book.total c.self.invariant
-    c.args.call c.closed_by-closed.result c.end_batch-batch.result c.in_ok-receipt.ensures.ok c.requires.plain c.in_ok-receipt.ensures.total c.closed_by-closed.ensures c.end_batch-batch.ensures)
+    (held-call c.replies_tell.ensures c.self.inside.core c.enter.new.core c.args.seat.now c.enter.new.seat
+    c.in_ok-receipt.receipt c.self.inside.pipes.numbers (sents c.self.inside.pipes.ends) c.self.inside.book.total
+    c.enter.new.book.total c.self.invariant
+    c.args.call c.closed_by-closed.result c.end_batch-batch.result c.in_ok-receipt.ensures.ok c.requires.plain
+    c.in_ok-receipt.ensures.total c.closed_by-closed.ensures c.end_batch-batch.ensures)
 
 pub returns-clause-hands : goal.returns-clause-hands
 returns-clause-hands g c =
@@ -24,8 +27,13 @@ returns-clause-hands g c =
     let old : TreeWithPipes = tree_with_pipes a.core a.pipes.numbers (sents a.pipes.ends) a.book.total in
     let new : TreeWithPipes = tree_with_pipes c.enter.new.core c.hand_over.new.self.numbers (sents c.hand_over.new.self.ends) c.enter.new.book.total in
     subst (λ (h : TreeWithPipes). HandsOver h c.args.call c.in_ok-receipt.receipt new) c.self.view_is
-    (hands-call old new c.args.seat.now c.enter.new.seat c.args.call c.in_ok-receipt.receipt c.closed_by-closed.result c.end_batch-batch.result c.in_ok-receipt.ensures.ok c.requires.plain c.closed_by-closed.ensures c.end_batch-batch.ensures
-    (c.hand_over.ensures.numbers ∙ c.in_ok-at.ensures.numbers) (c.hand_over.ensures.sent ∙ (λ i. deliver c.end_batch-batch.result (c.in_ok-at.ensures.numbers i) (c.in_ok-at.ensures.sent i))) c.in_ok-receipt.ensures.total)
+    (hands-call old new c.args.seat.now c.enter.new.seat c.args.call c.in_ok-receipt.receipt c.closed_by-closed.result
+    c.end_batch-batch.result c.in_ok-receipt.ensures.ok c.requires.plain c.closed_by-closed.ensures
+    c.end_batch-batch.ensures
+    (c.hand_over.ensures.numbers ∙ c.in_ok-at.ensures.numbers)
+    (c.hand_over.ensures.sent
+    ∙ (λ i. deliver c.end_batch-batch.result (c.in_ok-at.ensures.numbers i) (c.in_ok-at.ensures.sent i)))
+    c.in_ok-receipt.ensures.total)
 
 pub returns-in_err-at-clause-errors : goal.returns-in_err-at-clause-errors
 returns-in_err-at-clause-errors g c =
@@ -34,7 +42,8 @@ returns-in_err-at-clause-errors g c =
     subst (λ (h : TreeWithPipes). IfErr c.from_residual.result (λ e. IsWhyNot h.state c.args.call e)) c.self.view_is
     (subst (λ (x : Result Receipt Refusal). IfErr x (λ e. IsWhyNot a.core c.args.call e)) (sym p.1)
     (subst (λ (e : Refusal). IsWhyNot a.core c.args.call e) (sym p.2)
-    (close-why a.core a.pipes.numbers (sents a.pipes.ends) a.book.total c.args.call c.closed_by-closed.result c.in_err-at.field-0.0 c.self.invariant c.closed_by-closed.ensures c.in_err-at.ensures.err)))
+    (close-why a.core a.pipes.numbers (sents a.pipes.ends) a.book.total c.args.call c.closed_by-closed.result
+    c.in_err-at.field-0.0 c.self.invariant c.closed_by-closed.ensures c.in_err-at.ensures.err)))
 
 pub returns-in_err-receipt-clause-errors : goal.returns-in_err-receipt-clause-errors
 returns-in_err-receipt-clause-errors g c =

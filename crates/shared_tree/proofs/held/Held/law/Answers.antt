@@ -16,7 +16,9 @@ use Rattle.shared_tree.proofs.held.Held.law.Goals as goal
 pub returns-clause-sound : goal.returns-clause-sound
 returns-clause-sound g c =
     let a = c.self.inside in
-    subst (λ (h : TreeWithPipes). IsSoundTree h.state.start) c.self.view_is (c.pasts_make_whole.ensures a.core c.self.invariant.past c.self.invariant.is_past c.journal.ensures.lawful).sound
+    subst (λ (h : TreeWithPipes). IsSoundTree h.state.start) c.self.view_is
+    (c.pasts_make_whole.ensures a.core c.self.invariant.past c.self.invariant.is_past
+    c.journal.ensures.lawful).sound
 
 pub returns-clause-told : goal.returns-clause-told
 unfolding now
@@ -43,10 +45,17 @@ pub returns-clause-ends : goal.returns-clause-ends
 returns-clause-ends g c =
     let a = c.self.inside in
     let sound = (c.pasts_make_whole.ensures a.core c.self.invariant.past c.self.invariant.is_past c.journal.ensures.lawful).sound in
-    subst (λ (h : TreeWithPipes). (id : ℕ) → EndsOnce (waiting_of (instance_of h.state.start.instances id)) (raised_in h.state.start h.state.entries id)) c.self.view_is (λ id. c.watches_end_once.ensures.ends a.core.start a.core.entries id sound)
+    subst
+    (λ (h : TreeWithPipes).
+    (id : ℕ)
+    → EndsOnce (waiting_of (instance_of h.state.start.instances id))
+    (raised_in h.state.start h.state.entries id))
+    c.self.view_is (λ id. c.watches_end_once.ensures.ends a.core.start a.core.entries id sound)
 
 pub returns-clause-refused : goal.returns-clause-refused
-returns-clause-refused g c = at_each RefusedAddsNothing (λ t d refusal. (c.replies_tell.ensures t d).refused refusal) c.args.self.now.state.start c.args.self.now.state.entries
+returns-clause-refused g c =
+    at_each RefusedAddsNothing (λ t d refusal. (c.replies_tell.ensures t d).refused refusal) c.args.self.now.state.start
+    c.args.self.now.state.entries
 
 pub returns-clause-with_pipe : goal.returns-clause-with_pipe
 returns-clause-with_pipe g c =
@@ -56,9 +65,11 @@ returns-clause-with_pipe g c =
 pub returns-clause-sent : goal.returns-clause-sent
 returns-clause-sent g c =
     let a = c.self.inside in
-    subst (λ (h : TreeWithPipes). IsSent h.state h.pipes h.sent) c.self.view_is (held-sends a.core a.pipes.numbers a.book.total (sents a.pipes.ends) c.self.invariant)
+    subst (λ (h : TreeWithPipes). IsSent h.state h.pipes h.sent) c.self.view_is
+    (held-sends a.core a.pipes.numbers a.book.total (sents a.pipes.ends) c.self.invariant)
 
 pub returns-clause-events : goal.returns-clause-events
 returns-clause-events g c =
     let a = c.self.inside in
-    subst (λ (h : TreeWithPipes). (id : ℕ) → AreOfEvents (handed_since h.state id)) c.self.view_is (λ id. held-events a.core a.pipes.numbers (sents a.pipes.ends) a.book.total id c.self.invariant)
+    subst (λ (h : TreeWithPipes). (id : ℕ) → AreOfEvents (handed_since h.state id)) c.self.view_is
+    (λ id. held-events a.core a.pipes.numbers (sents a.pipes.ends) a.book.total id c.self.invariant)

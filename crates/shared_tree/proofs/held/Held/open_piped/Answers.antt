@@ -17,13 +17,17 @@ use Rattle.shared_tree.proofs.held.Held.open_piped.Goals as goal
 pub invariant_of-self-2 : goal.invariant_of-self-2
 invariant_of-self-2 g c =
     rw (c.add-feed.ensures.numbers c.args.limit, c.add-feed.ensures.sent c.args.limit, c.in_ok-pipe.ensures.numbers, c.in_ok-pipe.ensures.ends)
-    (held-open c.replies_tell.ensures c.self.inside.core c.enter.new.core c.args.seat.now c.enter.new.seat c.in_ok-receipt.receipt c.self.inside.pipes.numbers (sents c.self.inside.pipes.ends) c.self.inside.book.total c.enter.new.book.total
+    (held-open c.replies_tell.ensures c.self.inside.core c.enter.new.core c.args.seat.now c.enter.new.seat
+    c.in_ok-receipt.receipt c.self.inside.pipes.numbers (sents c.self.inside.pipes.ends) c.self.inside.book.total
+    c.enter.new.book.total
     c.self.invariant c.args.limit c.in_ok-receipt.ensures.ok c.in_ok-receipt.ensures.total)
 
 pub add-feed-requires-clause-next : goal.add-feed-requires-clause-next
 add-feed-requires-clause-next g c = λ id is.
     rw c.in_ok-pipe.ensures.numbers
-    (held-next c.replies_tell.ensures c.self.inside.core c.enter.new.core c.args.seat.now c.enter.new.seat c.in_ok-receipt.receipt c.self.inside.pipes.numbers (sents c.self.inside.pipes.ends) c.self.inside.book.total c.args.limit id c.self.invariant c.in_ok-receipt.ensures.ok is)
+    (held-next c.replies_tell.ensures c.self.inside.core c.enter.new.core c.args.seat.now c.enter.new.seat
+    c.in_ok-receipt.receipt c.self.inside.pipes.numbers (sents c.self.inside.pipes.ends) c.self.inside.book.total
+    c.args.limit id c.self.invariant c.in_ok-receipt.ensures.ok is)
 
 pub returns-clause-hands : goal.returns-clause-hands
 returns-clause-hands g c =
@@ -32,8 +36,14 @@ returns-clause-hands g c =
     let new : TreeWithPipes = tree_with_pipes c.enter.new.core c.add-feed.new.self.numbers (sents c.add-feed.new.self.ends) c.enter.new.book.total in
     subst (λ (h : TreeWithPipes). HandsOver h (call.Init c.args.limit true) c.in_ok-receipt.receipt new) c.self.view_is
     (hands-open old new c.args.limit c.in_ok-receipt.receipt (held-lengths a.core a.pipes.numbers (sents a.pipes.ends) a.book.total c.self.invariant)
-    (c.add-feed.ensures.numbers c.args.limit ∙ ap (λ (ns : List ℕ). ns ++ piped_by (call.Init c.args.limit true) c.in_ok-receipt.receipt.reply) c.in_ok-pipe.ensures.numbers)
-    (c.add-feed.ensures.sent c.args.limit ∙ ap (λ (ps : List Piped). sents ps ++ map (λ (id : ℕ). []) (piped_by (call.Init c.args.limit true) c.in_ok-receipt.receipt.reply)) c.in_ok-pipe.ensures.ends)
+    (c.add-feed.ensures.numbers c.args.limit
+    ∙ ap (λ (ns : List ℕ). ns ++ piped_by (call.Init c.args.limit true) c.in_ok-receipt.receipt.reply)
+    c.in_ok-pipe.ensures.numbers)
+    (c.add-feed.ensures.sent c.args.limit
+    ∙ ap
+    (λ (ps : List Piped).
+    sents ps ++ map (λ (id : ℕ). []) (piped_by (call.Init c.args.limit true) c.in_ok-receipt.receipt.reply))
+    c.in_ok-pipe.ensures.ends)
     c.in_ok-receipt.ensures.total)
 
 pub returns-in_err-pipe-clause-errors : goal.returns-in_err-pipe-clause-errors

@@ -16,17 +16,27 @@ use Rattle.shared_tree.proofs.held.Held.pump.Goals as goal
 pub invariant_of-self-2 : goal.invariant_of-self-2
 invariant_of-self-2 g c =
     rw (c.hand_over.ensures.sent, c.hand_over.ensures.numbers, c.in_ok-at.ensures.sent, c.in_ok-at.ensures.numbers)
-    (held-pump c.replies_tell.ensures c.self.inside.core c.enter_pump.new.core c.args.seat.now c.enter_pump.new.seat c.in_ok-receipt.receipt c.self.inside.pipes.numbers (sents c.self.inside.pipes.ends) c.self.inside.book.total c.enter_pump.new.book.total
-    c.self.invariant c.args.instance c.args.bytes c.in_ok-receipt.records c.pumped_batch-batch.result c.in_ok-receipt.ensures.ok c.in_ok-receipt.ensures.total c.in_ok-receipt.ensures.records c.in_ok-receipt.ensures.events c.pumped_batch-batch.ensures)
+    (held-pump c.replies_tell.ensures c.self.inside.core c.enter_pump.new.core c.args.seat.now c.enter_pump.new.seat
+    c.in_ok-receipt.receipt c.self.inside.pipes.numbers (sents c.self.inside.pipes.ends) c.self.inside.book.total
+    c.enter_pump.new.book.total
+    c.self.invariant c.args.instance c.args.bytes c.in_ok-receipt.records c.pumped_batch-batch.result
+    c.in_ok-receipt.ensures.ok c.in_ok-receipt.ensures.total c.in_ok-receipt.ensures.records
+    c.in_ok-receipt.ensures.events c.pumped_batch-batch.ensures)
 
 pub returns-clause-hands : goal.returns-clause-hands
 returns-clause-hands g c =
     let a = c.self.inside in
     let old : TreeWithPipes = tree_with_pipes a.core a.pipes.numbers (sents a.pipes.ends) a.book.total in
-    let new : TreeWithPipes = tree_with_pipes c.enter_pump.new.core c.hand_over.new.self.numbers (sents c.hand_over.new.self.ends) c.enter_pump.new.book.total in
+    let new : TreeWithPipes =
+    tree_with_pipes c.enter_pump.new.core c.hand_over.new.self.numbers (sents c.hand_over.new.self.ends)
+    c.enter_pump.new.book.total in
     subst (λ (h : TreeWithPipes). HandsOver h (call.Pump c.args.instance c.args.bytes) c.in_ok-receipt.receipt new) c.self.view_is
-    (hands-pump old new c.args.instance c.args.bytes c.in_ok-receipt.receipt c.in_ok-receipt.records c.pumped_batch-batch.result c.in_ok-receipt.ensures.records c.pumped_batch-batch.ensures
-    (c.hand_over.ensures.numbers ∙ c.in_ok-at.ensures.numbers) (c.hand_over.ensures.sent ∙ (λ i. deliver c.pumped_batch-batch.result (c.in_ok-at.ensures.numbers i) (c.in_ok-at.ensures.sent i))) c.in_ok-receipt.ensures.total)
+    (hands-pump old new c.args.instance c.args.bytes c.in_ok-receipt.receipt c.in_ok-receipt.records
+    c.pumped_batch-batch.result c.in_ok-receipt.ensures.records c.pumped_batch-batch.ensures
+    (c.hand_over.ensures.numbers ∙ c.in_ok-at.ensures.numbers)
+    (c.hand_over.ensures.sent
+    ∙ (λ i. deliver c.pumped_batch-batch.result (c.in_ok-at.ensures.numbers i) (c.in_ok-at.ensures.sent i)))
+    c.in_ok-receipt.ensures.total)
 
 pub returns-in_err-at-clause-errors : goal.returns-in_err-at-clause-errors
 returns-in_err-at-clause-errors g c =
@@ -35,7 +45,8 @@ returns-in_err-at-clause-errors g c =
     subst (λ (h : TreeWithPipes). IfErr c.from_residual.result (λ e. IsWhyNot h.state (call.Pump c.args.instance c.args.bytes) e)) c.self.view_is
     (subst (λ (x : Result Receipt Refusal). IfErr x (λ e. IsWhyNot a.core (call.Pump c.args.instance c.args.bytes) e)) (sym p.1)
     (subst (λ (e : Refusal). IsWhyNot a.core (call.Pump c.args.instance c.args.bytes) e) (sym p.2)
-    (pump-why a.core a.pipes.numbers (sents a.pipes.ends) a.book.total c.args.instance c.args.bytes c.in_err-at.field-0.0 c.self.invariant c.in_err-at.ensures.err)))
+    (pump-why a.core a.pipes.numbers (sents a.pipes.ends) a.book.total c.args.instance c.args.bytes
+    c.in_err-at.field-0.0 c.self.invariant c.in_err-at.ensures.err)))
 
 pub returns-in_err-receipt-clause-errors : goal.returns-in_err-receipt-clause-errors
 returns-in_err-receipt-clause-errors g c =

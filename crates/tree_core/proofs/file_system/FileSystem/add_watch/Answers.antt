@@ -1,4 +1,4 @@
-use Rattle.std.proofs.Common.{rules, arith, w32, SFits, to_z, of_z, ap, subst, refl, sym, ◌∙◌, not, None, Some, Ok}
+use Rattle.std.proofs.Common.{rules, w32, SFits, to_z, of_z, ap, subst, refl, inl, sym, ◌∙◌, not, None, Some, Err}
 use Rattle.std.proofs.lemmas.Int.{to_z-of_z}
 use Rattle.std.specs.Prelude.{◌≡◌, ◌⊎◌}
 use Rattle.tree_paths.specs.declared.refusal.Refusal.TheVariants.{Ebadf, Enomem}
@@ -14,10 +14,10 @@ use Rattle.instance_table.specs.Instances.{Instances, instance_of, watching}
 use Rattle.tree_core.specs.declared.call.Call.TheVariants as call
 use Rattle.tree_core.specs.declared.file_system.FileSystem.{FileSystem}
 use Rattle.tree_core.specs.declared.reply.Reply.TheVariants as reply
-use Rattle.tree_core.specs.FileSystems.{Executes, tree_in}
-use Rattle.tree_core.specs.Tree.{after_add_watch, number_seen}
-use Rattle.tree_core.proofs.Serving.{refused-serves, answered-serves}
-use Rattle.tree_core.proofs.Instances.{copied-none, copied-some, at-instance, first-of-two, add-bad-there, add-mask-there, add-path-there, add-seen-there, answer-there, watching-there, IsNumbered-changed}
+use Rattle.tree_core.specs.FileSystems.{tree_in}
+use Rattle.tree_core.specs.Tree.{after_add_watch, number_seen, refusal_of}
+use Rattle.tree_core.proofs.Serving.{failed-attempts, complete-attempts}
+use Rattle.tree_core.proofs.Instances.{copied-none, copied-some, at-instance, either-of, add-bad-there, add-mask-there, add-path-there, add-seen-there, answer-there, watching-there, IsNumbered-changed}
 use Rattle.tree_core.proofs.file_system.FileSystem.add_watch.Goals as goal
 
 -- the derived test of what a file is tells a directory
@@ -29,60 +29,60 @@ pub returns-then-is_none : goal.returns-then-is_none
 returns-then-is_none c =
     let m = c.args.self.now in
     let none = copied-none c.find.result (instance_of m.instances c.args.id) c.find.ensures (c.is_none.ensures ∙ ap not c.if-is_none.true) in
-    refused-serves m (call.AddWatch c.args.id c.args.path.now c.args.mask) c.args.keeps c.requires Ebadf c.refused.result c.refused.ensures
-    (add-bad-there (world_of m.table) m.instances c.args.id c.args.path.now c.args.mask none)
+    failed-attempts m m (call.AddWatch c.args.id c.args.path.now c.args.mask) (Err Ebadf) Ebadf refl (inl (add-bad-there (world_of m.table) m.instances c.args.id c.args.path.now c.args.mask none)) refl
 
 pub returns-in-Some : goal.returns-in-Some
 returns-in-Some c =
     let m = c.args.self.now in
     let found = copied-some c.find.result (instance_of m.instances c.args.id) c.find.ensures (c.is_none.ensures ∙ ap not c.if-is_none.false) in
-    refused-serves m (call.AddWatch c.args.id c.args.path.now c.args.mask) c.args.keeps c.requires c.in-Some.refusal c.refused-in-Some.result c.refused-in-Some.ensures
-    (add-mask-there (world_of m.table) m.instances c.args.id found.0 c.args.path.now c.args.mask c.of-mask.result.0 found.1 c.of-mask.ensures c.in-Some.refusal c.in-Some.ensures)
+    failed-attempts m m (call.AddWatch c.args.id c.args.path.now c.args.mask) (Err c.in-Some.refusal) c.in-Some.refusal refl
+    (inl (add-mask-there (world_of m.table) m.instances c.args.id found.0 c.args.path.now c.args.mask c.of-mask.result.0 found.1 c.of-mask.ensures c.in-Some.refusal c.in-Some.ensures)) refl
 
-pub returns-in-Err : goal.returns-in-Err
-returns-in-Err c =
+pub returns-in_err-seen : goal.returns-in_err-seen
+returns-in_err-seen c =
     let m = c.args.self.now in
     let found = copied-some c.find.result (instance_of m.instances c.args.id) c.find.ensures (c.is_none.ensures ∙ ap not c.if-is_none.false) in
-    let missing = subst (λ p. find (look (world_of m.table)) p ≡ Some c.in-Err.refusal) c.resolve.ensures.names c.in-Err.ensures.missing in
-    refused-serves m (call.AddWatch c.args.id c.args.path.now c.args.mask) c.args.keeps c.requires c.in-Err.refusal c.refused-in-Err.result c.refused-in-Err.ensures
-    (add-path-there (world_of m.table) m.instances c.args.id found.0 c.args.path.now c.args.mask c.of-mask.result.0 found.1 c.of-mask.ensures c.in-Err.refusal c.in_default.ensures missing)
+    let r = c.in_err-seen.field-0.0 in
+    let missing = subst (λ p. find (look (world_of m.table)) p ≡ Some r) c.resolve.ensures.names c.in_err-seen.ensures.missing in
+    failed-attempts m m (call.AddWatch c.args.id c.args.path.now c.args.mask) c.from_residual.result r c.from_residual.ensures.1
+    (inl (add-path-there (world_of m.table) m.instances c.args.id found.0 c.args.path.now c.args.mask c.of-mask.result.0 found.1 c.of-mask.ensures r c.in_default.ensures missing)) refl
 
-pub returns-in-Ok-watch : goal.returns-in-Ok-watch
+pub returns : goal.returns
 unfolding after_add_watch
-returns-in-Ok-watch c =
+returns c =
     let m = c.args.self.now in
     let found = copied-some c.find.result (instance_of m.instances c.args.id) c.find.ensures (c.is_none.ensures ∙ ap not c.if-is_none.false) in
     let i = found.0 in
     let n = c.of-mask.result.0 in
-    let seen = c.in-Ok.seen in
-    let there = subst (λ p. find (look (world_of m.table)) p ≡ None) c.resolve.ensures.names c.in-Ok.ensures.none in
-    let at = subst (λ p. look (world_of m.table) p ≡ Some seen) c.resolve.ensures.names c.in-Ok.ensures.seen in
-    let free = at-instance (λ i. add_refusal i.watches seen.number n c.eq-is_directory.result ≡ None) (instance_of m.instances c.args.id) i found.1 c.in-Ok-watch.ensures.accepted in
-    let wd = at-instance (λ i. c.in-Ok-watch.wd ≡ wd_added i.watches seen.number) (instance_of m.instances c.args.id) i found.1 c.in-Ok-watch.ensures.wd in
-    let fits : SFits w32 c.in-Ok-watch.wd = search rules in
-    let same = to_z-of_z w32 c.in-Ok-watch.wd fits in
-    answered-serves m (call.AddWatch c.args.id c.args.path.now c.args.mask) c.args.keeps c.requires c.of.result _ (reply.Wd (to_z w32 (of_z w32 c.in-Ok-watch.wd)))
+    let seen = c.in_ok-seen.seen in
+    let there = subst (λ p. find (look (world_of m.table)) p ≡ None) c.resolve.ensures.names c.in_ok-seen.ensures.none in
+    let at = subst (λ p. look (world_of m.table) p ≡ Some seen) c.resolve.ensures.names c.in_ok-seen.ensures.seen in
+    let free = at-instance (λ i. add_refusal i.watches seen.number n c.eq-is_directory.result ≡ None) (instance_of m.instances c.args.id) i found.1 c.in_ok-wd.ensures.accepted in
+    let wd = at-instance (λ i. c.in_ok-wd.wd ≡ wd_added i.watches seen.number) (instance_of m.instances c.args.id) i found.1 c.in_ok-wd.ensures.wd in
+    let fits : SFits w32 c.in_ok-wd.wd = search rules in
+    let same = to_z-of_z w32 c.in_ok-wd.wd fits in
+    complete-attempts m _ (call.AddWatch c.args.id c.args.path.now c.args.mask) c.complete.result (reply.Wd (to_z w32 (of_z w32 c.in_ok-wd.wd))) c.complete.ensures
     (add-seen-there (world_of m.table) m.instances c.args.id i c.args.path.now c.args.mask n found.1 c.of-mask.ensures seen None c.in_default.ensures there at
     (ap (λ d. add_refusal i.watches seen.number n d) (sym (c.eq-is_directory.ensures ∙ tells-directory seen.kind)) ∙ free))
     (ap reply.Wd (same ∙ wd) ∙ answer-there (world_of m.table) m.instances c.args.id i c.args.path.now c.args.mask n found.1 c.of-mask.ensures seen at)
-    (ap (λ (x : Instances). record (tree_in m) { instances = x }) (watching-there (world_of m.table) m.instances c.args.id i c.args.path.now c.args.mask n found.1 c.of-mask.ensures seen c.watch.new.self at c.in-Ok-watch.ensures.ok))
+    (ap (λ (x : Instances). record (tree_in m) { instances = x }) (watching-there (world_of m.table) m.instances c.args.id i c.args.path.now c.args.mask n found.1 c.of-mask.ensures seen c.watch.new.self at c.in_ok-wd.ensures.ok))
     (IsNumbered-changed (tree_in m) c.requires c.args.id (watching (number_seen (look (world_of m.table) c.args.path.now)) (known c.args.mask)))
-    c.of.ensures.ok c.of.ensures.memory
+    refl
 
-pub returns-in-Err-watch : goal.returns-in-Err-watch
-returns-in-Err-watch c =
+pub returns-in_err-wd : goal.returns-in_err-wd
+returns-in_err-wd c =
     let m : FileSystem = c.args.self.now in
     let found = copied-some c.find.result (instance_of m.instances c.args.id) c.find.ensures (c.is_none.ensures ∙ ap not c.if-is_none.false) in
     let i = found.0 in
     let n = c.of-mask.result.0 in
-    let seen = c.in-Ok.seen in
-    let r = c.in-Err-watch.refusal in
-    let there = subst (λ p. find (look (world_of m.table)) p ≡ None) c.resolve.ensures.names c.in-Ok.ensures.none in
-    let at = subst (λ p. look (world_of m.table) p ≡ Some seen) c.resolve.ensures.names c.in-Ok.ensures.seen in
-    let either = at-instance (λ i. (add_refusal i.watches seen.number n c.eq-is_directory.result ≡ Some r) ⊎ (r ≡ Enomem)) (instance_of m.instances c.args.id) i found.1 c.in-Err-watch.ensures.refusals in
-    let apart : r ≡ Enomem → ⊥ = first_of (search rules, grind arith) in
-    let why = first-of-two (add_refusal i.watches seen.number n c.eq-is_directory.result ≡ Some r) r apart either in
-    subst (λ (x : Instances). Executes m (call.AddWatch c.args.id c.args.path.now c.args.mask) c.args.keeps (Ok c.refused-in-Err-watch.result) (record m { instances = x })) (sym c.in-Err-watch.ensures.err)
-    (refused-serves m (call.AddWatch c.args.id c.args.path.now c.args.mask) c.args.keeps c.requires r c.refused-in-Err-watch.result c.refused-in-Err-watch.ensures
-    (add-seen-there (world_of m.table) m.instances c.args.id i c.args.path.now c.args.mask n found.1 c.of-mask.ensures seen (Some r) c.in_default.ensures there at
-    (ap (λ d. add_refusal i.watches seen.number n d) (sym (c.eq-is_directory.ensures ∙ tells-directory seen.kind)) ∙ why)))
+    let seen = c.in_ok-seen.seen in
+    let r = c.in_err-wd.field-0.0 in
+    let there = subst (λ p. find (look (world_of m.table)) p ≡ None) c.resolve.ensures.names c.in_ok-seen.ensures.none in
+    let at = subst (λ p. look (world_of m.table) p ≡ Some seen) c.resolve.ensures.names c.in_ok-seen.ensures.seen in
+    let either = at-instance (λ i. (add_refusal i.watches seen.number n c.eq-is_directory.result ≡ Some r) ⊎ (r ≡ Enomem)) (instance_of m.instances c.args.id) i found.1 c.in_err-wd.ensures.refusals in
+    let why : add_refusal i.watches seen.number n c.eq-is_directory.result ≡ Some r → refusal_of (tree_in m) (call.AddWatch c.args.id c.args.path.now c.args.mask) ≡ Some r =
+    λ why. add-seen-there (world_of m.table) m.instances c.args.id i c.args.path.now c.args.mask n found.1 c.of-mask.ensures seen (Some r) c.in_default.ensures there at
+    (ap (λ d. add_refusal i.watches seen.number n d) (sym (c.eq-is_directory.ensures ∙ tells-directory seen.kind)) ∙ why) in
+    failed-attempts m _ (call.AddWatch c.args.id c.args.path.now c.args.mask) c.from_residual-in_err-wd.result r c.from_residual-in_err-wd.ensures.1
+    (either-of why either)
+    (ap (λ (x : Instances). record (tree_in m) { instances = x }) c.in_err-wd.ensures.err)

@@ -4,14 +4,14 @@ use Rattle.tree_core.specs.declared.reply.Reply.TheVariants as reply
 use Rattle.instance_table.specs.Instances.{new_instance}
 use Rattle.tree_core.specs.FileSystems.{tree_in}
 use Rattle.tree_core.specs.Tree.{after_init}
-use Rattle.tree_core.proofs.Serving.{accepted-serves}
+use Rattle.tree_core.proofs.Serving.{complete-attempts}
 use Rattle.tree_core.proofs.Instances.{init-passes, IsNumbered-opened}
 use Rattle.tree_core.proofs.file_system.FileSystem.init.Goals as goal
 
 pub open-requires-clause-limit : goal.open-requires-clause-limit
 open-requires-clause-limit c =
     let m = c.args.self.now in
-    let passes = init-passes m.limits m.instances m.next_id c.args.limit c.in_default.ensures in
+    let passes = init-passes m.limits m.instances m.next_id c.args.limit (sym c.in_ok-check_init.ensures.passes) in
     let most = m.limits.queue_in.1 in
     (passes.0, omega arith)
 
@@ -19,8 +19,9 @@ pub returns : goal.returns
 unfolding after_init
 returns c =
     let m = c.args.self.now in
-    accepted-serves m (call.Init c.args.limit c.args.piped) c.args.keeps c.requires c.in_ok-replies.replies _ (reply.Instance m.next_id) c.in_ok-replies.ensures.ok
-    (sym c.in_default.ensures)
+    complete-attempts m _ (call.Init c.args.limit c.args.piped) c.complete.result (reply.Instance m.next_id) c.complete.ensures
+    c.in_ok-check_init.ensures.passes
     refl
     (λ i. record (tree_in m) { next_id = m.next_id + 1; instances = c.in_ok-open.ensures.ok i })
-    (IsNumbered-opened (tree_in m) c.requires (new_instance m.limits c.args.limit c.args.piped) (init-passes m.limits m.instances m.next_id c.args.limit c.in_default.ensures).2)
+    (IsNumbered-opened (tree_in m) c.requires (new_instance m.limits c.args.limit c.args.piped) (init-passes m.limits m.instances m.next_id c.args.limit (sym c.in_ok-check_init.ensures.passes)).2)
+    refl

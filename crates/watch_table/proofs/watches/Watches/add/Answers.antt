@@ -3,7 +3,9 @@ use Rattle.std.specs.Prelude.{pos}
 use Rattle.std.proofs.lemmas.Int.{to_z-of_z}
 use mir.Val.{SFits}
 use Rattle.watch_table.specs.Watching.{is_full, wd_of, with_new_watch}
-use Rattle.watch_table.proofs.Watched.{added-new, refused_as_barred, refused_as_full, refused_as_taken, not_refused_watched, not_refused_room, some_none, same_some, wd_added-new, wd_added-watched}
+use Rattle.watch_table.proofs.Watched.{added-new, refused_as_barred, refused_as_full, refused_as_taken}
+use Rattle.watch_table.proofs.Watched.{not_refused_watched, not_refused_room, some_none, same_some, wd_added-new}
+use Rattle.watch_table.proofs.Watched.{wd_added-watched}
 use Rattle.watch_table.proofs.watches.Watches.add.Goals as goal
 
 pub returns-then-is_barred-clause-refused : goal.returns-then-is_barred-clause-refused
@@ -17,12 +19,16 @@ returns-then-is_barred-clause-refusals c =
 
 pub returns-then-is_taken-clause-refused : goal.returns-then-is_taken-clause-refused
 returns-then-is_taken-clause-refused c =
-    let e = refused_as_taken c.args.self.now c.args.number c.args.mask.0 c.args.is_directory (sym c.is_barred.ensures ∙ c.if-is_barred.false) (sym c.is_taken.ensures ∙ c.if-is_taken.true) in
+    let e =
+    refused_as_taken c.args.self.now c.args.number c.args.mask.0 c.args.is_directory
+    (sym c.is_barred.ensures ∙ c.if-is_barred.false) (sym c.is_taken.ensures ∙ c.if-is_taken.true) in
     λ r is. ap (λ x. Err x) (same_some (sym e ∙ is))
 
 pub returns-then-is_taken-clause-refusals : goal.returns-then-is_taken-clause-refusals
 returns-then-is_taken-clause-refusals c =
-    inl (refused_as_taken c.args.self.now c.args.number c.args.mask.0 c.args.is_directory (sym c.is_barred.ensures ∙ c.if-is_barred.false) (sym c.is_taken.ensures ∙ c.if-is_taken.true))
+    inl
+    (refused_as_taken c.args.self.now c.args.number c.args.mask.0 c.args.is_directory
+    (sym c.is_barred.ensures ∙ c.if-is_barred.false) (sym c.is_taken.ensures ∙ c.if-is_taken.true))
 
 pub returns-in-Some-clause-wd : goal.returns-in-Some-clause-wd
 returns-in-Some-clause-wd c =
@@ -31,7 +37,10 @@ returns-in-Some-clause-wd c =
 
 pub returns-in-Some-clause-refused : goal.returns-in-Some-clause-refused
 returns-in-Some-clause-refused c =
-    let e = not_refused_watched c.args.self.now c.args.number c.args.mask.0 c.args.is_directory (sym c.is_barred.ensures ∙ c.if-is_barred.false) (sym c.is_taken.ensures ∙ c.if-is_taken.false) c.in-Some.wd (sym c.in-Some.ensures.wd) in
+    let e =
+    not_refused_watched c.args.self.now c.args.number c.args.mask.0 c.args.is_directory
+    (sym c.is_barred.ensures ∙ c.if-is_barred.false) (sym c.is_taken.ensures ∙ c.if-is_taken.false) c.in-Some.wd
+    (sym c.in-Some.ensures.wd) in
     λ r is. absurd (some_none e is)
 
 pub returns-then-is_full-clause-refused : goal.returns-then-is_full-clause-refused
@@ -59,7 +68,8 @@ returns-clause-wd c =
     let none : wd_of c.args.self.now c.args.number ≡ None = sym c.in_default.ensures.wd in
     let wd = c.in_ok-insert.field-0 in
     let fits : SFits w32 wd = search rules in
-    to_z-of_z w32 wd fits ∙ c.in_ok-insert.ensures.wd ∙ ap (λ w. pos w.next_wd) c.in_default.ensures.none ∙ sym (wd_added-new c.args.self.now c.args.number none)
+    to_z-of_z w32 wd fits ∙ c.in_ok-insert.ensures.wd ∙ ap (λ w. pos w.next_wd) c.in_default.ensures.none
+    ∙ sym (wd_added-new c.args.self.now c.args.number none)
 
 pub returns-clause-watches : goal.returns-clause-watches
 returns-clause-watches c =

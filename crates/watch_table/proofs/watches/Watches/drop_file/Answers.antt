@@ -22,14 +22,18 @@ returns-in_err-wd-clause-wd c =
 pub returns-in_err-wd-clause-watches : goal.returns-in_err-wd-clause-watches
 returns-in_err-wd-clause-watches c =
     let a = c.self.inside in
-    watching_of-dropped a c.self.invariant c.remove.new.self a.by_wd c.args.number (pos 0) c.remove.ensures.updates ∙ ap (λ w. dropped w c.args.number) c.self.view_is
+    watching_of-dropped a c.self.invariant c.remove.new.self a.by_wd c.args.number (pos 0) c.remove.ensures.updates
+    ∙ ap (λ w. dropped w c.args.number) c.self.view_is
 
 pub invariant_of-self-2 : goal.invariant_of-self-2
 invariant_of-self-2 c =
     let a = c.self.inside in
     let fits : SFits w32 c.in_ok-wd.wd = search rules in
-    let taken_wd : tree.Updates int_cmp a.by_wd c.remove-2.new.self c.in_ok-wd.wd None = subst (λ k. tree.Updates int_cmp a.by_wd c.remove-2.new.self k None) (to_z-of_z w32 c.in_ok-wd.wd fits) c.remove-2.ensures.updates in
-    let was : wd_of (watching_of a) c.args.number ≡ Some c.in_ok-wd.wd = ap (option_map (λ (x : Watch). x.0)) (get-from_map a.by_number c.args.number ∙ sym c.in_ok-wd.ensures.value) in
+    let taken_wd : tree.Updates int_cmp a.by_wd c.remove-2.new.self c.in_ok-wd.wd None =
+    subst (λ k. tree.Updates int_cmp a.by_wd c.remove-2.new.self k None) (to_z-of_z w32 c.in_ok-wd.wd fits)
+    c.remove-2.ensures.updates in
+    let was : wd_of (watching_of a) c.args.number ≡ Some c.in_ok-wd.wd =
+    ap (option_map (λ (x : Watch). x.0)) (get-from_map a.by_number c.args.number ∙ sym c.in_ok-wd.ensures.value) in
     IsIndexed-dropped a c.self.invariant c.remove.new.self c.remove-2.new.self c.args.number c.in_ok-wd.wd c.remove.ensures.updates taken_wd was
 
 pub returns-clause-wd : goal.returns-clause-wd
@@ -42,4 +46,6 @@ returns-clause-wd c =
 pub returns-clause-watches : goal.returns-clause-watches
 returns-clause-watches c =
     let a = c.self.inside in
-    watching_of-dropped a c.self.invariant c.remove.new.self c.remove-2.new.self c.args.number c.in_ok-wd.wd c.remove.ensures.updates ∙ ap (λ w. dropped w c.args.number) c.self.view_is
+    watching_of-dropped a c.self.invariant c.remove.new.self c.remove-2.new.self c.args.number c.in_ok-wd.wd
+    c.remove.ensures.updates
+    ∙ ap (λ w. dropped w c.args.number) c.self.view_is

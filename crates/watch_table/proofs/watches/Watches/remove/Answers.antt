@@ -14,9 +14,11 @@ invariant_of-self c =
     let a = c.self.inside in
     let wd = c.args.wd in
     let same = to_z-of_z w32 wd c.ranges.wd in
-    let taken_wd : tree.Updates int_cmp a.by_wd c.remove.new.self wd None = subst (λ k. tree.Updates int_cmp a.by_wd c.remove.new.self k None) same c.remove.ensures.updates in
+    let taken_wd : tree.Updates int_cmp a.by_wd c.remove.new.self wd None =
+    subst (λ k. tree.Updates int_cmp a.by_wd c.remove.new.self k None) same c.remove.ensures.updates in
     let got : tree.get int_cmp a.by_wd wd ≡ Some c.in-Some.number = ap (tree.get int_cmp a.by_wd) (sym same) ∙ sym c.in-Some.ensures.value in
-    IsIndexed-dropped a c.self.invariant c.remove-in-Some.new.self c.remove.new.self c.in-Some.number wd c.remove-in-Some.ensures.updates taken_wd (c.self.invariant.watched c.in-Some.number wd got)
+    IsIndexed-dropped a c.self.invariant c.remove-in-Some.new.self c.remove.new.self c.in-Some.number wd
+    c.remove-in-Some.ensures.updates taken_wd (c.self.invariant.watched c.in-Some.number wd got)
 
 pub invariant_of-self-in-None : goal.invariant_of-self-in-None
 invariant_of-self-in-None c =
@@ -27,7 +29,8 @@ pub returns-in-Some-clause-watches : goal.returns-in-Some-clause-watches
 returns-in-Some-clause-watches c =
     let a = c.self.inside in
     let wd = c.args.wd in
-    let got : tree.get int_cmp a.by_wd wd ≡ Some c.in-Some.number = ap (tree.get int_cmp a.by_wd) (sym (to_z-of_z w32 wd c.ranges.wd)) ∙ sym c.in-Some.ensures.value in
+    let got : tree.get int_cmp a.by_wd wd ≡ Some c.in-Some.number =
+    ap (tree.get int_cmp a.by_wd) (sym (to_z-of_z w32 wd c.ranges.wd)) ∙ sym c.in-Some.ensures.value in
     watching_of-dropped a c.self.invariant c.remove-in-Some.new.self c.remove.new.self c.in-Some.number wd c.remove-in-Some.ensures.updates
     ∙ ap (without (watching_of a)) (sym (watched_by-got a c.self.invariant wd ∙ got))
     ∙ ap (λ w. removed w wd) c.self.view_is
@@ -36,8 +39,10 @@ pub returns-in-Some-clause-refused : goal.returns-in-Some-clause-refused
 returns-in-Some-clause-refused c =
     let a = c.self.inside in
     let wd = c.args.wd in
-    let got : tree.get int_cmp a.by_wd wd ≡ Some c.in-Some.number = ap (tree.get int_cmp a.by_wd) (sym (to_z-of_z w32 wd c.ranges.wd)) ∙ sym c.in-Some.ensures.value in
-    let found : watched_by c.args.self.now wd ≡ Some c.in-Some.number = ap (λ w. watched_by w wd) (sym c.self.view_is) ∙ watched_by-got a c.self.invariant wd ∙ got in
+    let got : tree.get int_cmp a.by_wd wd ≡ Some c.in-Some.number =
+    ap (tree.get int_cmp a.by_wd) (sym (to_z-of_z w32 wd c.ranges.wd)) ∙ sym c.in-Some.ensures.value in
+    let found : watched_by c.args.self.now wd ≡ Some c.in-Some.number =
+    ap (λ w. watched_by w wd) (sym c.self.view_is) ∙ watched_by-got a c.self.invariant wd ∙ got in
     (λ e. absurd (false≢true e), λ none. sym none ∙ ap is_some found)
 
 pub returns-in-None-clause-watches : goal.returns-in-None-clause-watches

@@ -14,6 +14,8 @@ returns-clause-logs g c =
       search rules,
       c.join.ensures.log.0 ∙ c.in-Some.ensures.main.0,
       whole-of-log c.join.result c.in-Some.ended-1-given.0.0.1.0 c.join.ensures.log c.in-Some.ensures.main.1,
-      writing-of-log passes turns first_part c.args.calls (seated 2 []) c.join-2.result c.in-Some.ended-1-given.0.0.1.1 c.join-2.ensures.log c.in-Some.ensures.first,
-      writing-of-log passes turns second_part c.args.calls (seated 3 []) c.join-3.result c.in-Some.ended-1-given.0.0.1.2 c.join-3.ensures.log c.in-Some.ensures.second,
+      writing-of-log passes turns first_part c.args.calls (seated 2 []) c.join-2.result c.in-Some.ended-1-given.0.0.1.1
+          c.join-2.ensures.log c.in-Some.ensures.first,
+      writing-of-log passes turns second_part c.args.calls (seated 3 []) c.join-3.result c.in-Some.ended-1-given.0.0.1.2
+          c.join-3.ensures.log c.in-Some.ensures.second,
     )

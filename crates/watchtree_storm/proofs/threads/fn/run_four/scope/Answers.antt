@@ -52,9 +52,21 @@ returns g c =
     let given = c.in-Ok-Ok-Ok-Ok in
     let closing = c.close_both-main.ensures in
     record {
-      one = ran-as list g.S.Sink.is_open g.S.Sink.page passes turns given.one.promise.gate.value gate given.one.promise.listener.value c.captures.one c.in_ok-one.field-0 (gate-1 g c) (listener-1 g c) c.in_ok-one.ensures;
-      other = ran-as list g.S.Sink.is_open g.S.Sink.page passes turns given.other.promise.gate.value gate given.other.promise.listener.value c.captures.other c.in_ok-other.field-0 (gate-2 g c) (listener-2 g c) c.in_ok-other.ensures;
+      one =
+          ran-as list g.S.Sink.is_open g.S.Sink.page passes turns given.one.promise.gate.value gate
+          given.one.promise.listener.value c.captures.one c.in_ok-one.field-0 (gate-1 g c) (listener-1 g c)
+          c.in_ok-one.ensures;
+      other =
+          ran-as list g.S.Sink.is_open g.S.Sink.page passes turns given.other.promise.gate.value gate
+          given.other.promise.listener.value c.captures.other c.in_ok-other.field-0 (gate-2 g c) (listener-2 g c)
+          c.in_ok-other.ensures;
       main = (number-closed c.captures.main c.close_both-main.result closing ∙ c.requires.main.0, (c.captures.main, c.requires.main.1, closing));
-      first = wrote-as passes turns given.first.promise.gate.value gate (part_of given.first.promise.writer) first_part given.first.promise.calls calls given.first.promise.seat.value (seated 2 []) c.in_ok-first.field-0 (gate-3 g c) (part-3 g c) (calls-3 g c) (seat-3 g c) c.in_ok-first.ensures;
-      second = wrote-as passes turns given.second.promise.gate.value gate (part_of given.second.promise.writer) second_part given.second.promise.calls calls given.second.promise.seat.value (seated 3 []) c.in_ok-second.field-0 (gate-4 g c) (part-4 g c) (calls-4 g c) (seat-4 g c) c.in_ok-second.ensures;
+      first =
+          wrote-as passes turns given.first.promise.gate.value gate (part_of given.first.promise.writer) first_part
+          given.first.promise.calls calls given.first.promise.seat.value (seated 2 []) c.in_ok-first.field-0
+          (gate-3 g c) (part-3 g c) (calls-3 g c) (seat-3 g c) c.in_ok-first.ensures;
+      second =
+          wrote-as passes turns given.second.promise.gate.value gate (part_of given.second.promise.writer) second_part
+          given.second.promise.calls calls given.second.promise.seat.value (seated 3 []) c.in_ok-second.field-0
+          (gate-4 g c) (part-4 g c) (calls-4 g c) (seat-4 g c) c.in_ok-second.ensures;
     }
