@@ -13,7 +13,9 @@ use Rattle.tree_ops.specs.declared.call.TheConstants.{RENAME_EXCHANGE}
 use Rattle.tree_ops.specs.declared.call.FileCall.{FileCall}
 use Rattle.tree_ops.specs.declared.call.FileCall.TheVariants.{Create, Write, ReadFile, Truncate, Chmod, Mkdir, Link, Unlink, Rmdir, Rename, Rename2, Stat, List as Listed}
 use Rattle.tree_ops.specs.After.{answer_of}
-use Rattle.tree_ops.specs.Refused.{are_same_seen, cookies_of}
+use Rattle.tree_ops.specs.declared.moves.Moves.TheVariants.{Nothing, Move, Exchange}
+use Rattle.tree_ops.specs.Moves.{cookies_for, cookies_of}
+use Rattle.tree_ops.specs.Refused.{are_same_seen}
 use Rattle.event_rules.specs.declared.notice.TheConstants.{NO_COOKIE}
 use Rattle.event_rules.specs.declared.notice.Notice.{Notice}
 use Rattle.event_rules.specs.declared.notice.Notice.TheVariants.{Told, Gone}
@@ -183,17 +185,17 @@ swap-tied at old new cookie =
     (self-tied (at new))
 
 rename-tied : (b : Bool) (at : Look) (old new : List (List ℕ)) (cookie : ℕ)
-    → AreTied (moves_with (cookies_from cookie (if b then 0 else 1))) (marks_told (if b then [] else move_told at old new cookie))
+    → AreTied (moves_with (cookies_from cookie (cookies_for (if b then Nothing else Move)))) (marks_told (if b then [] else move_told at old new cookie))
 rename-tied true at old new cookie = tied-none
 rename-tied false at old new cookie = move-tied at old new cookie
 
 exchange-tied : (b : Bool) (at : Look) (old new : List (List ℕ)) (cookie : ℕ)
-    → AreTied (moves_with (cookies_from cookie (if b then 0 else 2))) (marks_told (if b then [] else swap_told at old new cookie))
+    → AreTied (moves_with (cookies_from cookie (cookies_for (if b then Nothing else Exchange)))) (marks_told (if b then [] else swap_told at old new cookie))
 exchange-tied true at old new cookie = tied-none
 exchange-tied false at old new cookie = swap-tied at old new cookie
 
 rename2-tied : (exchanges : Bool) (at : Look) (old new : List (List ℕ)) (cookie : ℕ)
-    → AreTied (moves_with (cookies_from cookie (if are_same_seen (at old) (at new) then 0 else (if exchanges then 2 else 1))))
+    → AreTied (moves_with (cookies_from cookie (cookies_for (if are_same_seen (at old) (at new) then Nothing else (if exchanges then Exchange else Move)))))
     (marks_told (if exchanges then exchange_told at old new cookie else rename_told at old new cookie))
 unfolding rename_told exchange_told
 rename2-tied true at old new cookie = exchange-tied (are_same_seen (at old) (at new)) at old new cookie

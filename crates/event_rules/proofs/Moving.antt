@@ -6,9 +6,9 @@ use Rattle.tree_ops.specs.declared.call.FileCall.{FileCall}
 use Rattle.tree_ops.specs.declared.call.FileCall.TheVariants.{Link, Rename, Rename2}
 use Rattle.tree_ops.specs.declared.moves.Moves.TheVariants.{Nothing, Move, Exchange}
 use Rattle.tree_ops.specs.CallPaths.{path_of, other_path_of}
-use Rattle.tree_ops.specs.Moves.{moves_of}
-use Rattle.tree_ops.specs.Refused.{are_same_seen, cookies_of}
-use Rattle.tree_ops.proofs.Moving.{moved, exchanged, stays, cookies_by, cookies-by}
+use Rattle.tree_ops.specs.Moves.{moves_of, cookies_of, cookies_for}
+use Rattle.tree_ops.specs.Refused.{are_same_seen}
+use Rattle.tree_ops.proofs.Moving.{moved, exchanged, stays}
 use Rattle.event_rules.specs.Table.{link_told, notices_of, rename_told, exchange_told, move_told, swap_told, to_dir, to_self}
 use Rattle.inode_table.specs.declared.seen.Kind.TheVariants.{Regular}
 use Rattle.record_codec.specs.declared.bits.TheConstants.{IN_ATTRIB, IN_CREATE}
@@ -52,7 +52,7 @@ swaps-tell w _ cookie e = absurd (cc)
 -- an exchange leaves its second cookie in range
 pub next-fits : (w : World) (call : FileCall) (cookie : ℕ) → moves_of w call ≡ Exchange → cookie + cookies_of w call ≤ 2 ^ 32 → cookie + 1 < 2 ^ 32
 next-fits w call cookie e most =
-    let two : cookies_of w call ≡ 2 = cookies-by (look w) call ∙ ap cookies_by e in
+    let two : cookies_of w call ≡ 2 = ap cookies_for e in
     omega arith
 
 -- what a link tells, by the paths of the call

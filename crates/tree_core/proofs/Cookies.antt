@@ -6,7 +6,8 @@ use Rattle.record_codec.specs.declared.event.Event.{Event}
 use Rattle.tree_paths.specs.declared.refusal.Refusal.{Refusal}
 use Rattle.inode_table.specs.World.{World}
 use Rattle.tree_ops.specs.declared.call.FileCall.{FileCall}
-use Rattle.tree_ops.specs.Refused.{refused, cookies_of}
+use Rattle.tree_ops.specs.Moves.{cookies_of}
+use Rattle.tree_ops.specs.Refused.{refused}
 use Rattle.watch_table.specs.Watching.{Watching}
 use Rattle.event_queue.specs.Backlogs.{Backlog, after_offer}
 use Rattle.event_rules.specs.declared.notice.TheConstants.{NO_COOKIE}

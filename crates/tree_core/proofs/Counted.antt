@@ -17,7 +17,10 @@ use Rattle.tree_ops.specs.declared.call.Counts.{Counts}
 use Rattle.tree_ops.specs.declared.call.TheConstants.{RENAME_EXCHANGE, RENAME_NOREPLACE}
 use Rattle.tree_ops.specs.declared.call.FileCall.{FileCall}
 use Rattle.tree_ops.specs.declared.call.FileCall.TheVariants.{Create, Write, ReadFile, Truncate, Chmod, Mkdir, Link, Unlink, Rmdir, Rename, Rename2, Stat as Status, List as Listed}
-use Rattle.tree_ops.specs.Refused.{refused, refusal_seen, cookies_of, cookies_row, two_cookies_row, are_same_seen, moves_by, make_rows, rename_rows, move_rows, noreplace_rows, swap_rows, exchange_rows, rename2_rows}
+use Rattle.tree_ops.specs.declared.moves.Moves.{Moves}
+use Rattle.tree_ops.specs.declared.moves.Moves.TheVariants.{Nothing, Move, Exchange}
+use Rattle.tree_ops.specs.Moves.{cookies_for, cookies_of, moves_for}
+use Rattle.tree_ops.specs.Refused.{refused, refusal_seen, cookies_row, two_cookies_row, are_same_seen, make_rows, rename_rows, move_rows, noreplace_rows, swap_rows, exchange_rows, rename2_rows}
 use Rattle.tree_ops.specs.After.{numbers_of}
 use Rattle.event_rules.specs.Table.{notices_of}
 use Rattle.instance_table.specs.declared.instance.Instance.{Instance}
@@ -101,28 +104,28 @@ swap-left limits counts old new one other each = each.1.0
 
 module _ (at : Look) (limits : Limits) (counts : Counts) (next : ℕ) (now : counts.next_cookie ≡ cookie_now next) (old new : List (List ℕ)) where
   -- where both paths are of one file no cookie is used
-  room-else : (b : Bool) (used : ℕ) → (b ≡ false → HasRoom limits next used) → HasRoom limits next (if b then 0 else used)
-  room-else true used h = inl refl
-  room-else false used h = h refl
+  room-else : (b : Bool) (made : Moves) → (b ≡ false → HasRoom limits next (cookies_for made)) → HasRoom limits next (cookies_for (if b then Nothing else made))
+  room-else true made h = inl refl
+  room-else false made h = h refl
 
-  rename-room : first_row (rename_rows at limits counts old new) ≡ None → HasRoom limits next (if are_same_seen (at old) (at new) then 0 else 1)
+  rename-room : first_row (rename_rows at limits counts old new) ≡ None → HasRoom limits next (cookies_for (if are_same_seen (at old) (at new) then Nothing else Move))
   unfolding rename_rows
   rename-room none = by (are_same_seen (at old) (at new)) (each-passes (rename_rows at limits counts old new) none).1.1.1.1
     where
-      by : (b : Bool) → Each (if b then [] else move_rows limits counts (at old) (at new)) → HasRoom limits next (if b then 0 else 1)
+      by : (b : Bool) → Each (if b then [] else move_rows limits counts (at old) (at new)) → HasRoom limits next (cookies_for (if b then Nothing else Move))
       by true each = inl refl
       by false each = one-room limits counts next now (move-left limits counts (at old) (at new) each)
 
-  noreplace-room : first_row (noreplace_rows at limits counts old new) ≡ None → HasRoom limits next (if are_same_seen (at old) (at new) then 0 else 1)
+  noreplace-room : first_row (noreplace_rows at limits counts old new) ≡ None → HasRoom limits next (cookies_for (if are_same_seen (at old) (at new) then Nothing else Move))
   unfolding noreplace_rows
   noreplace-room none =
-      room-else (are_same_seen (at old) (at new)) 1 (λ _. one-room limits counts next now (each-passes (noreplace_rows at limits counts old new) none).1.1.1.1.1.0)
+      room-else (are_same_seen (at old) (at new)) Move (λ _. one-room limits counts next now (each-passes (noreplace_rows at limits counts old new) none).1.1.1.1.1.0)
 
-  exchange-room : first_row (exchange_rows at limits counts old new) ≡ None → HasRoom limits next (if are_same_seen (at old) (at new) then 0 else 2)
+  exchange-room : first_row (exchange_rows at limits counts old new) ≡ None → HasRoom limits next (cookies_for (if are_same_seen (at old) (at new) then Nothing else Exchange))
   unfolding exchange_rows
   exchange-room none = by (are_same_seen (at old) (at new)) (each-passes (exchange_rows at limits counts old new) none).1.1.1
     where
-      by : (b : Bool) → Each (if b then [] else swap_rows limits counts old new (at old) (at new)) → HasRoom limits next (if b then 0 else 2)
+      by : (b : Bool) → Each (if b then [] else swap_rows limits counts old new (at old) (at new)) → HasRoom limits next (cookies_for (if b then Nothing else Exchange))
       by true each = inl refl
       by false each = two-room limits counts next now (swap-left limits counts old new (at old) (at new) each)
 
@@ -134,15 +137,15 @@ module _ (at : Look) (limits : Limits) (counts : Counts) (next : ℕ) (now : cou
       else if exchange then exchange_rows at limits counts old new
       else Some Einval ∷ []
 
-  no-exchange : (plain noreplace : Bool) → first_row (rows_if plain noreplace false) ≡ None → HasRoom limits next (if are_same_seen (at old) (at new) then 0 else 1)
+  no-exchange : (plain noreplace : Bool) → first_row (rows_if plain noreplace false) ≡ None → HasRoom limits next (cookies_for (if are_same_seen (at old) (at new) then Nothing else Move))
   no-exchange true noreplace none = rename-room none
   no-exchange false true none = noreplace-room none
   no-exchange false false none = absurd (cc)
 
-  rename2-room : (flags : ℕ) → first_row (rename2_rows at limits counts old new flags) ≡ None → HasRoom limits next (if are_same_seen (at old) (at new) then 0 else moves_by flags)
+  rename2-room : (flags : ℕ) → first_row (rename2_rows at limits counts old new flags) ≡ None → HasRoom limits next (cookies_for (if are_same_seen (at old) (at new) then Nothing else moves_for flags))
   unfolding rename2_rows
   rename2-room flags none =
-      elim (flags == RENAME_EXCHANGE) as (λ b. (flags == RENAME_EXCHANGE) ≡ b → HasRoom limits next (if are_same_seen (at old) (at new) then 0 else (if b then 2 else 1))) [
+      elim (flags == RENAME_EXCHANGE) as (λ b. (flags == RENAME_EXCHANGE) ≡ b → HasRoom limits next (cookies_for (if are_same_seen (at old) (at new) then Nothing else (if b then Exchange else Move)))) [
         | true ↦ λ e.
             let two : flags ≡ RENAME_EXCHANGE = eqb-true flags RENAME_EXCHANGE e in
             exchange-room (sym (ap (λ (n : ℕ). first_row (rows_if (n == 0) (n == RENAME_NOREPLACE) (n == RENAME_EXCHANGE))) two) ∙ none)

@@ -9,7 +9,8 @@ use Rattle.tree_ops.specs.declared.call.FileCall.{FileCall}
 use Rattle.tree_ops.specs.declared.call.FileCall.TheVariants.{Create, Write, ReadFile, Truncate, Chmod, Mkdir, Link, Unlink, Rmdir, Rename, Rename2, Stat as Status, List as Listed}
 use Rattle.tree_ops.specs.declared.answer.Answer.{Answer}
 use Rattle.tree_ops.specs.ReadyCall.{PlanValue}
-use Rattle.tree_ops.specs.Refused.{refused, cookies_of}
+use Rattle.tree_ops.specs.Moves.{cookies_of}
+use Rattle.tree_ops.specs.Refused.{refused}
 use Rattle.tree_ops.specs.After as ops
 use Rattle.event_rules.specs.Table.{notices_of}
 use Rattle.instance_table.specs.Instances.{Instances, all_changed, told}

@@ -12,7 +12,7 @@ use Rattle.tree_core.specs.declared.reply.Reply.{Reply}
 use Rattle.tree_core.specs.declared.reply.Reply.TheVariants as reply
 use Rattle.tree_core.specs.Calls.{takes_memory}
 use Rattle.tree_core.specs.Tree.{Tree, refusal_of, accepted_reply, accepted, reply_by, tree_by, reply_of, after}
-use Rattle.tree_core.specs.FileSystems.{tree_in, Attempts, Begins, Executes, IsNumbered, finished}
+use Rattle.tree_core.specs.FileSystems.{tree_in, Attempts, Begins, IsNumbered, finished}
 
 pub reply_of-refused : (t : Tree) (c : Call) (r : Refusal) → refusal_of t c ≡ Some r → reply_of t c ≡ reply.Refused r
 reply_of-refused t c r e = ap (λ o. reply_by o (accepted_reply t c)) e
@@ -100,13 +100,15 @@ module _ (old new : FileSystem) (c : Call) (numbered : IsNumbered (tree_in old))
 
 -- ---- a call that was begun is carried out
 
-module _ (old begun : FileSystem) (c : Call) (b : Begun) (h : Begins old c (Ok b) begun) where
-  -- once its rest is done
-  pub finished-executes : (new : FileSystem) → tree_in new ≡ finished begun b.rest → Executes old c (Ok b.reply) new
-  finished-executes new done = record {
-    reply = h.reply;
-    tree = done ∙ h.tree;
-    err = tt;
-    numbered = subst IsNumbered (sym (done ∙ h.tree)) h.numbered;
-    memory = tt;
-  }
+-- a call that was begun, and whose rest was done, is replied to as in the tree, and leads to the tree after it
+pub record Executes (old : FileSystem) (c : Call) (given : Reply) (new : FileSystem) : Type 0 where
+  pub reply : given ≡ reply_of (tree_in old) c
+  pub tree : tree_in new ≡ after (tree_in old) c
+  pub numbered : IsNumbered (tree_in new)
+
+pub finished-executes : (old begun : FileSystem) (c : Call) (b : Begun) → Begins old c (Ok b) begun → (new : FileSystem) → tree_in new ≡ finished begun b.rest → Executes old c b.reply new
+finished-executes old begun c b h new done = record {
+  reply = h.reply;
+  tree = done ∙ h.tree;
+  numbered = subst IsNumbered (sym (done ∙ h.tree)) h.numbered;
+}

@@ -81,12 +81,3 @@ pub record Begins (old : FileSystem) (c : Call) (result : Result Begun Refusal) 
   pub numbered : OnOk result (IsNumbered (after (tree_in old) c))
   pub err : OnErr result (tree_in new ≡ tree_in old)
   pub memory : IfErr result (λ refusal. refusal ≡ Enomem)
-
--- a call that was begun, whose reply was copied, and whose rest was done is replied to as in the tree, and leads to the
--- tree after it. An error is out of memory, and leaves the tree as it was
-pub record Executes (old : FileSystem) (c : Call) (result : Result Reply Refusal) (new : FileSystem) : Type 0 where
-  pub reply : IfOk result (λ r. r ≡ reply_of (tree_in old) c)
-  pub tree : OnOk result (tree_in new ≡ after (tree_in old) c)
-  pub err : OnErr result (tree_in new ≡ tree_in old)
-  pub numbered : IsNumbered (tree_in new)
-  pub memory : IfErr result (λ refusal. refusal ≡ Enomem)

@@ -13,6 +13,7 @@ use Rattle.inode_table.specs.World.{World, opening_world, root_number, look}
 use Rattle.inode_table.specs.Refusals.{Look, find, is_directory_kind}
 use Rattle.tree_ops.specs.declared.call.Counts.{Counts}
 use Rattle.tree_ops.specs.declared.call.FileCall.{FileCall}
+use Rattle.tree_ops.specs.Moves.{cookies_of}
 use Rattle.tree_ops.specs.Refused as ops
 use Rattle.tree_ops.specs.After as ops_after
 use Rattle.watch_table.specs.Masks.{known, mask_fault}
@@ -117,7 +118,7 @@ after_file t f =
     record t {
       world = ops_after.after t.world (counts_of t) f;
       next_number = t.next_number + ops_after.numbers_of f;
-      next_cookie = t.next_cookie + ops.cookies_of t.world f;
+      next_cookie = t.next_cookie + cookies_of t.world f;
       instances = all_changed t.instances (told (notices_of t.world f (cookie_now t.next_cookie)));
     }
 

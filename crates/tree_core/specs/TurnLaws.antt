@@ -7,7 +7,7 @@ use Rattle.tree_paths.specs.declared.limits.Limits.{Limits}
 use Rattle.tree_paths.specs.declared.refusal.Refusal.{Refusal}
 use Rattle.tree_paths.specs.declared.refusal.Refusal.TheVariants.{Enomem, JournalFull, PipeFull}
 use Rattle.tree_ops.specs.declared.answer.Answer.TheVariants.{Number}
-use Rattle.tree_ops.specs.Refused.{cookies_of}
+use Rattle.tree_ops.specs.Moves.{cookies_of}
 use Rattle.watch_table.specs.Watching.{HasEnded}
 use Rattle.event_rules.specs.Laws.{AreTied, TellsNothing, cookies_from, marks_of, moves_with}
 use Rattle.instance_table.specs.declared.instance.Instance.{Instance}

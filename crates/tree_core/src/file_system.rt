@@ -6,7 +6,7 @@ ghost use Rattle.record_codec.specs.Records.{AreEvents, spelling};
 ghost use Rattle.tree_paths.specs.Rows.{first_row};
 ghost use Rattle.tree_paths.specs.declared.refusal.Refusal.TheVariants.{Enomem};
 ghost use Rattle.inode_table.specs.TableWorld.{world_of};
-ghost use Rattle.tree_ops.specs.Refused.{cookies_of};
+ghost use Rattle.tree_ops.specs.Moves.{cookies_of};
 ghost use Rattle.event_rules.specs.Table.{notices_of};
 ghost use Rattle.instance_table.specs.Instances.{all_changed, instance_of, told};
 ghost use Rattle.tree_core.specs.Histories.{oldest, pumped};

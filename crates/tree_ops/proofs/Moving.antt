@@ -13,30 +13,10 @@ use Rattle.tree_ops.specs.declared.moves.Moves.{Moves}
 use Rattle.tree_ops.specs.declared.moves.Moves.TheVariants.{Nothing, Move, Exchange}
 use Rattle.tree_ops.specs.CallPaths.{path_of, other_path_of}
 use Rattle.tree_ops.specs.Moves.{moves_seen, moves_of}
-use Rattle.tree_ops.specs.Refused.{are_same_seen, cookies_seen, rows_of}
+use Rattle.tree_ops.specs.Refused.{are_same_seen, rows_of}
 use Rattle.tree_ops.specs.After.{after, after_rename, after_exchange}
 use Rattle.tree_ops.proofs.Changed.{renamed-nothing, renamed-moved, exchanged-nothing, exchanged-swapped}
 use Rattle.tree_ops.proofs.Rows.{rename-known, move-known, exchange-known, RenameKnown, ExchangeKnown}
-
--- how many cookies the moves use
-abbrev pub cookies_by : Moves → ℕ
-cookies_by Nothing = 0
-cookies_by Move = 1
-cookies_by Exchange = 2
-
-pub cookies-by : (at : Look) (call : FileCall) → cookies_seen at call ≡ cookies_by (moves_seen at call)
-cookies-by at (Rename old new) = by (are_same_seen (at old) (at new))
-  where
-    by : (b : Bool) → (if b then 0 else 1) ≡ cookies_by (if b then Nothing else Move)
-    by true = refl
-    by false = refl
-cookies-by at (Rename2 old new flags) = by (are_same_seen (at old) (at new)) (flags == RENAME_EXCHANGE)
-  where
-    by : (b f : Bool) → (if b then 0 else (if f then 2 else 1)) ≡ cookies_by (if b then Nothing else (if f then Exchange else Move))
-    by true f = refl
-    by false true = refl
-    by false false = refl
-cookies-by at _ = refl
 
 -- ---- what moves nothing
 

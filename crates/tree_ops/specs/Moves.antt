@@ -26,3 +26,13 @@ moves_seen seen_at _ = Nothing
 -- what an accepted call moves in a world
 abbrev pub moves_of : World → FileCall → Moves
 moves_of w call = moves_seen (look w) call
+
+-- one cookie for each file that gets another path
+abbrev pub cookies_for : Moves → ℕ
+cookies_for Nothing = 0
+cookies_for Move = 1
+cookies_for Exchange = 2
+
+-- how many cookies an accepted call uses
+abbrev pub cookies_of : World → FileCall → ℕ
+cookies_of w call = cookies_for (moves_of w call)

@@ -1,7 +1,7 @@
 -- Why a call on files is refused: the first row that holds. POSIX.1-2017 says when each error comes (`open`, `mkdir`, `write`,
 -- `read`, `truncate`, `chmod`, `link`, `unlink`, `rmdir`, `rename`, `stat`, `opendir`), renameat2(2) does for its flags, and both
 -- leave open which comes first; here it is the order of the rows.
-use Rattle.std.specs.Prelude.{ℕ, ◌+◌, Bool, false, not, ◌&&◌, ◌||◌, ◌==◌, List, [], ◌∷◌, Option, Some, None, is_some, length, nat_lt, if◌then◌else◌}
+use Rattle.std.specs.Prelude.{ℕ, ◌+◌, Bool, false, not, ◌&&◌, ◌||◌, ◌==◌, List, [], ◌∷◌, ◌++◌, Option, Some, None, is_some, length, nat_lt, if◌then◌else◌}
 use Rattle.tree_paths.specs.declared.refusal.Refusal.{Refusal}
 use Rattle.tree_paths.specs.declared.refusal.Refusal.TheVariants.{Eperm, Ebusy, Eexist, Enotdir, Eisdir, Einval, Efbig, Emlink, Enotempty, CookiesSpent, NumbersSpent}
 use Rattle.tree_paths.specs.declared.limits.Limits.{Limits}
@@ -70,43 +70,29 @@ source_rows seen_at old new =
     ∷ []
 
 unfoldable pub make_rows : Look → Limits → Counts → List (List ℕ) → ℕ → List (Option Refusal)
-make_rows seen_at limits counts p mode =
-    mode_row mode
-    ∷ row (is_root p) Eexist
-    ∷ parent seen_at p
-    ∷ row (is_some (seen_at p)) Eexist
-    ∷ numbers_row limits counts
-    ∷ []
+make_rows seen_at limits counts p mode = mode_row mode ∷ (name_rows seen_at p ++ numbers_row limits counts ∷ [])
 
 unfoldable pub write_rows : Look → Limits → List (List ℕ) → ℕ → ℕ → List (Option Refusal)
 write_rows seen_at limits p offset count =
-    find seen_at p
-    ∷ row (is_directory_seen (seen_at p)) Eisdir
-    ∷ row (nat_lt 0 count && nat_lt limits.file_bytes (offset + count)) Efbig
-    ∷ []
+    file_rows seen_at p Eisdir ++ row (nat_lt 0 count && nat_lt limits.file_bytes (offset + count)) Efbig ∷ []
 
 unfoldable pub read_rows : Look → List (List ℕ) → List (Option Refusal)
-read_rows seen_at p = find seen_at p ∷ row (is_directory_seen (seen_at p)) Eisdir ∷ []
+read_rows seen_at p = file_rows seen_at p Eisdir
 
 unfoldable pub truncate_rows : Look → Limits → List (List ℕ) → ℕ → List (Option Refusal)
-truncate_rows seen_at limits p len =
-    find seen_at p ∷ row (is_directory_seen (seen_at p)) Eisdir ∷ row (nat_lt limits.file_bytes len) Efbig ∷ []
+truncate_rows seen_at limits p len = file_rows seen_at p Eisdir ++ row (nat_lt limits.file_bytes len) Efbig ∷ []
 
 unfoldable pub chmod_rows : Look → List (List ℕ) → ℕ → List (Option Refusal)
 chmod_rows seen_at p mode = mode_row mode ∷ find seen_at p ∷ []
 
 unfoldable pub link_rows : Look → Limits → List (List ℕ) → List (List ℕ) → List (Option Refusal)
 link_rows seen_at limits old new =
-    find seen_at old
-    ∷ row (is_directory_seen (seen_at old)) Eperm
-    ∷ row (is_root new) Eexist
-    ∷ parent seen_at new
-    ∷ row (is_some (seen_at new)) Eexist
-    ∷ row (not (nat_lt (links_seen (seen_at old)) limits.links)) Emlink
-    ∷ []
+    file_rows seen_at old Eperm
+    ++ name_rows seen_at new
+    ++ row (not (nat_lt (links_seen (seen_at old)) limits.links)) Emlink ∷ []
 
 unfoldable pub unlink_rows : Look → List (List ℕ) → List (Option Refusal)
-unlink_rows seen_at p = find seen_at p ∷ row (is_directory_seen (seen_at p)) Eperm ∷ []
+unlink_rows seen_at p = file_rows seen_at p Eperm
 
 unfoldable pub rmdir_rows : Look → List (List ℕ) → List (Option Refusal)
 rmdir_rows seen_at p =
@@ -128,22 +114,13 @@ move_rows limits counts old new =
 -- a rename between two paths of one file is accepted before these last rows
 unfoldable pub rename_rows : Look → Limits → Counts → List (List ℕ) → List (List ℕ) → List (Option Refusal)
 rename_rows seen_at limits counts old new =
-    row (is_root old || is_root new) Ebusy
-    ∷ find seen_at old
-    ∷ row (is_directory_seen (seen_at old) && is_below new old) Einval
-    ∷ parent seen_at new
-    ∷ (if are_same_seen (seen_at old) (seen_at new) then [] else move_rows limits counts (seen_at old) (seen_at new))
+    source_rows seen_at old new
+    ++ (if are_same_seen (seen_at old) (seen_at new) then [] else move_rows limits counts (seen_at old) (seen_at new))
 
 -- RENAME_NOREPLACE: nothing stands at the new path
 unfoldable pub noreplace_rows : Look → Limits → Counts → List (List ℕ) → List (List ℕ) → List (Option Refusal)
 noreplace_rows seen_at limits counts old new =
-    row (is_root old || is_root new) Ebusy
-    ∷ find seen_at old
-    ∷ row (is_directory_seen (seen_at old) && is_below new old) Einval
-    ∷ parent seen_at new
-    ∷ row (is_some (seen_at new)) Eexist
-    ∷ cookies_row limits counts
-    ∷ []
+    source_rows seen_at old new ++ row (is_some (seen_at new)) Eexist ∷ cookies_row limits counts ∷ []
 
 -- neither of two directories can be put below itself, and each of the two moves has its cookie
 unfoldable pub swap_rows : Limits → Counts → List (List ℕ) → List (List ℕ) → Option Seen → Option Seen → List (Option Refusal)
@@ -194,22 +171,8 @@ rows_of seen_at limits counts (Listed p) = list_rows seen_at p
 unfoldable pub refusal_seen : Look → Limits → Counts → FileCall → Option Refusal
 refusal_seen seen_at limits counts call = first_row (rows_of seen_at limits counts call)
 
--- how many moves a rename by flags makes, where the paths are not of one file
-abbrev pub moves_by : ℕ → ℕ
-moves_by flags = if flags == RENAME_EXCHANGE then 2 else 1
-
--- a rename that moves something uses one cookie, an exchange of two files uses two, and no other call uses any
-abbrev pub cookies_seen : Look → FileCall → ℕ
-cookies_seen seen_at (Rename old new) = if are_same_seen (seen_at old) (seen_at new) then 0 else 1
-cookies_seen seen_at (Rename2 old new flags) = if are_same_seen (seen_at old) (seen_at new) then 0 else moves_by flags
-cookies_seen seen_at _ = 0
-
 -- ---- in a world
 
 -- why a call is refused, if it is
 abbrev pub refused : World → Limits → Counts → FileCall → Option Refusal
 refused w limits counts call = refusal_seen (look w) limits counts call
-
--- how many cookies an accepted call uses
-abbrev pub cookies_of : World → FileCall → ℕ
-cookies_of w call = cookies_seen (look w) call

@@ -3,9 +3,8 @@
 ghost use Rattle.std.specs.Prelude.{◌≡◌};
 ghost use Rattle.inode_table.specs.TableWorld.{world_of};
 ghost use Rattle.tree_ops.specs.CallPaths.{path_of, other_path_of};
-ghost use Rattle.tree_ops.specs.Moves.{moves_of};
+ghost use Rattle.tree_ops.specs.Moves.{cookies_of, moves_of};
 ghost use Rattle.tree_ops.specs.ReadyCall.{IsReady};
-ghost use Rattle.tree_ops.specs.Refused.{cookies_of};
 ghost use Rattle.tree_ops.specs.After.{numbers_of};
 
 use crate::call::{Counts, FileCall};

@@ -1,6 +1,6 @@
 -- Where a path keeps its names. No public clause cites this module.
 use Rattle.std.specs.Prelude.{◌≡◌, ℕ, ◌<◌, ◌≤◌, ◌-◌, ◌==◌, Bool, true, not, nat_le, List, ◌∷◌, length, take, drop, slice_index, IsTrue}
-use Rattle.std.specs.List.{flat_map, list_all}
+use Rattle.std.specs.List.{list_all}
 use Rattle.record_codec.specs.declared.name.TheConstants.{NAME_IN_PLACE}
 use Rattle.record_codec.specs.Names.{is_name}
 use Rattle.tree_paths.specs.declared.kept.Kept.{Kept}
@@ -11,11 +11,7 @@ use Rattle.tree_paths.specs.declared.left.Left.TheVariants.{InText, InList}
 use Rattle.tree_paths.specs.declared.parse.Shape.{Shape}
 use Rattle.tree_paths.specs.declared.path_name.Found.{Found}
 use Rattle.tree_paths.specs.declared.path_name.Found.TheVariants.{InPlace, Lent}
-use Rattle.tree_paths.specs.Paths.{names_of, slash}
-
--- names as a text: a slash before each
-abbrev pub slashed : List (List ℕ) → List ℕ
-slashed names = flat_map (λ n. slash ∷ n) names
+use Rattle.tree_paths.specs.Paths.{names_of, slash, slashed}
 
 -- a name that needs no allocation
 abbrev pub is_in_place : List ℕ → Bool

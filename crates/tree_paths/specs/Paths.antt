@@ -44,10 +44,14 @@ parsed text =
     else if list_any is_long (names_of text) then Err Enametoolong
     else Ok (names_of text)
 
--- the pathname of names: a slash before each, and for the root a slash alone
+-- names with a slash before each
+abbrev pub slashed : List (List ℕ) → List ℕ
+slashed names = flat_map (λ n. slash ∷ n) names
+
+-- the pathname of names, which for the root is a slash alone
 abbrev pub pathname_of : List (List ℕ) → List ℕ
 pathname_of [] = slash ∷ []
-pathname_of (name ∷ names) = flat_map (λ n. slash ∷ n) (name ∷ names)
+pathname_of (name ∷ names) = slashed (name ∷ names)
 
 -- above is a proper prefix of path
 abbrev pub IsBelow : List (List ℕ) → List (List ℕ) → Type 0

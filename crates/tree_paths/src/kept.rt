@@ -3,8 +3,8 @@
 ghost use Rattle.std.specs.Prelude.{◌≡◌, ◌++◌, ◌∷◌, [], IfOk, IfSome, IsTrue, MatchOption, ◌≤◌, ◌<◌, ◌-◌, length, take, Ok};
 ghost use Rattle.record_codec.specs.declared.name.TheConstants.{NAME_IN_PLACE};
 ghost use Rattle.record_codec.specs.Names.{is_name};
-ghost use Rattle.tree_paths.specs.Kept.{kept_names, left_names, slashed, shape_of, IsKept, IsLeft, IsSlashed, IsLastStart};
-ghost use Rattle.tree_paths.specs.Paths.{names_of, parsed};
+ghost use Rattle.tree_paths.specs.Kept.{kept_names, left_names, shape_of, IsKept, IsLeft, IsSlashed, IsLastStart};
+ghost use Rattle.tree_paths.specs.Paths.{names_of, parsed, slashed};
 
 use crate::left::{Left, PathNames};
 use crate::parse::{SEPARATOR, Shape, names_in, put_name, squeeze};

@@ -4,9 +4,9 @@ ghost use Rattle.std.specs.Prelude.{◌≡◌, ◌+◌, ◌++◌, ◌∷◌, [],
 ghost use Rattle.std.specs.List.{list_any, list_all};
 ghost use Rattle.record_codec.specs.Names.{is_name_byte};
 ghost use Rattle.tree_paths.specs.declared.refusal.Refusal.TheVariants.{Einval, Enametoolong};
-ghost use Rattle.tree_paths.specs.Kept.{shape_of, slashed};
+ghost use Rattle.tree_paths.specs.Kept.{shape_of};
 ghost use Rattle.tree_paths.specs.Pieces.{is_nonempty};
-ghost use Rattle.tree_paths.specs.Paths.{parsed, names_of, is_null, is_dots, is_long, slash};
+ghost use Rattle.tree_paths.specs.Paths.{parsed, names_of, is_null, is_dots, is_long, slash, slashed};
 
 use crate::Refusal;
 use record_codec::{NAME_IN_PLACE, NAME_MAX, Name};

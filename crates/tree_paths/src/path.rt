@@ -4,9 +4,7 @@ ghost use Rattle.std.specs.Prelude.{◌≡◌, ◌⊎◌, ◌∷◌, ◌++◌, [
 ghost use Rattle.std.specs.Prelude.{nat_eq};
 ghost use Rattle.std.proofs.Common.{rules};
 ghost use Rattle.std.specs.Cmp.Rules.{comparing};
-ghost use Rattle.std.specs.Cmp.{partial_order_from_own_ties};
-ghost use Rattle.std.specs.Cmp.Lexicographic.{pointwise, slice_cmp, lists_ties};
-ghost use Rattle.std.specs.Ordering.{as_partial_cmp, nat_cmp};
+ghost use Rattle.std.specs.Cmp.Lexicographic.{pointwise};
 ghost use Rattle.tree_paths.specs.Kept.{IsSlashed};
 ghost use Rattle.tree_paths.specs.Paths.{is_below, names_of};
 
@@ -17,7 +15,6 @@ use crate::parse::{SEPARATOR, shape_of_text};
 use crate::path_name::PathName;
 use record_codec::Name;
 use std::alloc::{AllocError, Global};
-use std::cmp::Ordering;
 use std::marker::Model;
 
 /// A path from the root: its names. A short one takes no allocation, and a longer one takes one, unless it has long names.
@@ -61,30 +58,6 @@ impl PartialEq for Path {
 
 impl Eq for Path {
     ghost laws = { Prim.search (comparing, rules) };
-}
-
-impl Ord for Path {
-    ghost cmp = { slice_cmp (slice_cmp nat_cmp) };
-
-    ghost total = { Prim.search (comparing, rules) };
-
-    ghost matches_partial_cmp = { Prim.search (comparing, rules) };
-
-    ghost matches_eq = { lists_ties (slice_cmp nat_cmp) (lists_ties nat_cmp (λ x y. Prim.search (comparing, rules))) };
-
-    fn cmp(&self, other: &Path) -> Ordering {
-        order(self.names(), other.names())
-    }
-}
-
-impl PartialOrd for Path {
-    ghost partial_cmp = { as_partial_cmp (slice_cmp (slice_cmp nat_cmp)) };
-
-    ghost laws = { partial_order_from_own_ties (Prim.search (comparing, rules)) (lists_ties (slice_cmp nat_cmp) (lists_ties nat_cmp (λ x y. Prim.search (comparing, rules)))) };
-
-    fn partial_cmp(&self, other: &Path) -> Option<Ordering> {
-        Some(self.cmp(other))
-    }
 }
 
 impl Path {
@@ -180,30 +153,6 @@ fn are_same(names: PathNames, other: PathNames) -> bool
         match other.next() {
             Some(other) if name.as_name() == other.as_name() => {}
             _ => return false,
-        }
-    }
-}
-
-// The order of names, one by one.
-fn order(names: PathNames, other: PathNames) -> Ordering
-    ensures { result ≡ slice_cmp (slice_cmp nat_cmp) names.entry other.entry }
-{
-    let mut names = names;
-    let mut other = other;
-    loop {
-        let Some(name) = names.next() else {
-            return if other.is_empty() {
-                Ordering::Equal
-            } else {
-                Ordering::Less
-            };
-        };
-        let Some(other_name) = other.next() else {
-            return Ordering::Greater;
-        };
-        match name.as_name().cmp(other_name.as_name()) {
-            Ordering::Equal => {}
-            unequal => return unequal,
         }
     }
 }

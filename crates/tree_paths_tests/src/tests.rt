@@ -231,11 +231,6 @@ fn parts_of_paths(rt: HostRuntime) -> Result<(), Fail> {
         "below.copy()? == below && root.copy()? == root && below != above",
         below.copy()? == below && root.copy()? == root && below != above,
     );
-    holds(
-        &rt,
-        "root < above && above < below",
-        root < above && above < below,
-    );
     Ok(())
 }
 

@@ -7,7 +7,7 @@ use Rattle.std.proofs.lemmas.Bool.{cases_lt}
 use Rattle.std.proofs.lemmas.List.{append-nil, drop-drop, drop_all, length-drop, length-take, take_all, take_at, drop_at, take_more, take-append-le}
 use Rattle.std.proofs.lemmas.Grind.{flat_map-append}
 use borrow.Rule.Slice.PartMut.{put_mid}
-use Rattle.tree_paths.specs.Paths.{pathname_of}
+use Rattle.tree_paths.specs.Paths.{pathname_of, slashed}
 use Rattle.watchtree_c.specs.Answers.{count_number, overlaid}
 use Rattle.watchtree_c.specs.Listings.{ended}
 
@@ -81,22 +81,18 @@ names_next names i x lt is =
     ap (flat_map ended) (take_more names i x lt ∙ ap (λ (y : List ℕ). take i names ++ y ∷ []) (sym is)) ∙ flat_map-append ended (take i names) (x ∷ [])
     ∙ ap (λ (t : List ℕ). flat_map ended (take i names) ++ t) (append-nil (ended x)) ∙ sym (append_assoc (flat_map ended (take i names)) x (0 ∷ []))
 
--- a name behind a slash
-abbrev pub slashed : List ℕ → List ℕ
-slashed name = 47 ∷ name
-
 -- one name more
-pub slashed_behind : (front : List (List ℕ)) (x : List ℕ) → flat_map slashed (front ++ x ∷ []) ≡ (flat_map slashed front ++ 47 ∷ []) ++ x
+pub slashed_behind : (front : List (List ℕ)) (x : List ℕ) → slashed (front ++ x ∷ []) ≡ (slashed front ++ 47 ∷ []) ++ x
 slashed_behind front x =
-    flat_map-append slashed front (x ∷ []) ∙ ap (λ (t : List ℕ). flat_map slashed front ++ t) (append-nil (slashed x))
-    ∙ sym (append_assoc (flat_map slashed front) (47 ∷ []) x)
+    flat_map-append (λ n. 47 ∷ n) front (x ∷ []) ∙ ap (λ (t : List ℕ). slashed front ++ t) (append-nil (47 ∷ x))
+    ∙ sym (append_assoc (slashed front) (47 ∷ []) x)
 
 -- the names in front of those that are left were put at the front of what was there, as far as they fit
 pub record IsPut (all left : List (List ℕ)) (n : ℕ) (old out : List ℕ) : Type 0 where
   pub front : List (List ℕ)
   pub whole : front ++ left ≡ all
-  pub len : n ≡ min (length (flat_map slashed front)) (2 ^ 64 - 1)
-  pub bytes : out ≡ overlaid (flat_map slashed front) old
+  pub len : n ≡ min (length (slashed front)) (2 ^ 64 - 1)
+  pub bytes : out ≡ overlaid (slashed front) old
 
 -- a slash and one name more are put
 pub put_next : (all left after : List (List ℕ)) (name bytes : List ℕ) (n m k : ℕ) (old out one two : List ℕ)
@@ -106,7 +102,7 @@ pub put_next : (all left after : List (List ℕ)) (name bytes : List ℕ) (n m k
     → ((front was : List ℕ) → m ≡ min (length front) (2 ^ 64 - 1) → one ≡ overlaid front was → two ≡ overlaid (front ++ bytes) was)
     → IsPut all after k old two
 put_next all left after name bytes n m k old out one two put is same slash_len slash name_len more =
-    let front = flat_map slashed put.front in
+    let front = slashed put.front in
     let one_len : m ≡ min (length (front ++ 47 ∷ [])) (2 ^ 64 - 1) =
     omega (arith, slash_len, put.len, length-append front (47 ∷ [])) in
     let both_len : k ≡ min (length ((front ++ 47 ∷ []) ++ bytes)) (2 ^ 64 - 1) =
@@ -121,7 +117,7 @@ put_next all left after name bytes n m k old out one two put is same slash_len s
     }
 
 -- the pathname of some names
-pub slashed_all : (names : List (List ℕ)) → (names ≡ [] → ⊥) → flat_map slashed names ≡ pathname_of names
+pub slashed_all : (names : List (List ℕ)) → (names ≡ [] → ⊥) → slashed names ≡ pathname_of names
 slashed_all [] some = absurd (some refl)
 slashed_all (name ∷ names) some = refl
 

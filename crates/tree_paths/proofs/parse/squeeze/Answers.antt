@@ -1,8 +1,7 @@
 use Rattle.std.proofs.Common.{◌≡◌, ◌≤◌, ◌+◌, ◌-◌, ◌++◌, ◌∷◌, [], List, ℕ, length, ltb, take, drop, refl, sym, ap, ◌∙◌, append_assoc, arith, length-append, take_all}
 use Rattle.std.specs.List.{list_any}
 use Rattle.std.specs.Prelude.{filter}
-use Rattle.tree_paths.specs.Kept.{slashed}
-use Rattle.tree_paths.specs.Paths.{names_of, is_null}
+use Rattle.tree_paths.specs.Paths.{names_of, is_null, slashed}
 use Rattle.tree_paths.specs.Pieces.{pieces, is_nonempty}
 use Rattle.tree_paths.proofs.FrontLemmas.{IsFront, behind_front, front_by, is_path, behind_slash, is_cut, names_step, null_step, names_end}
 use Rattle.tree_paths.proofs.SlashedLemmas.{slashed-front}

@@ -1,7 +1,6 @@
 use Rattle.std.proofs.Common.{◌≡◌, ◌+◌, ◌++◌, false, take, length}
 use Rattle.std.specs.List.{list_any}
-use Rattle.tree_paths.specs.Kept.{slashed}
-use Rattle.tree_paths.specs.Paths.{names_of, is_null}
+use Rattle.tree_paths.specs.Paths.{names_of, is_null, slashed}
 use Rattle.tree_paths.proofs.parse.squeeze.Given as goal
 
 abbrev pub invariant-loop-rest : goal.invariant-loop-rest

@@ -1,10 +1,9 @@
 use Rattle.std.proofs.Common.{rules, ◌≡◌, ◌++◌, length, sym, ◌∙◌, ap, List, ℕ, refl, [], w64, to_z, of_z}
 use Rattle.std.proofs.lemmas.Int.{to_z-of_z}
 use Rattle.std.proofs.lemmas.List.{append-nil}
-use Rattle.std.specs.List.{flat_map}
-use Rattle.tree_paths.specs.Paths.{pathname_of}
+use Rattle.tree_paths.specs.Paths.{pathname_of, slashed}
 use Rattle.watchtree_c.specs.Answers.{overlaid, count_number}
-use Rattle.watchtree_c.proofs.Listing.{overlaid-none, put_next, slashed, slashed_all, count_same}
+use Rattle.watchtree_c.proofs.Listing.{overlaid-none, put_next, slashed_all, count_same}
 use Rattle.watchtree_c.proofs.peeking.put_pathname.Goals as goal
 
 pub loop-name-init : goal.loop-name-init
@@ -26,10 +25,10 @@ pub returns : goal.returns
 returns c =
     let inv = c.loop-name.invariant in
     let all : inv.front ≡ c.args.names = sym (append-nil inv.front) ∙ ap (λ (t : List (List ℕ)). inv.front ++ t) (sym c.in_default.ensures.0) ∙ inv.whole in
-    let whole : flat_map slashed inv.front ≡ pathname_of c.args.names = ap (flat_map slashed) all ∙ slashed_all c.args.names (search rules) in
+    let whole : slashed inv.front ≡ pathname_of c.args.names = ap slashed all ∙ slashed_all c.args.names (search rules) in
     let same : to_z w64 (of_z w64 c.count_number.result) ≡ c.count_number.result = to_z-of_z w64 c.count_number.result (record { sfits = c.count_number.type_inv }) in
     record {
       number = same ∙ c.count_number.ensures ∙ ap count_number inv.len
-          ∙ count_same (length (flat_map slashed inv.front)) ∙ ap (λ (t : List ℕ). count_number (length t)) whole;
+          ∙ count_same (length (slashed inv.front)) ∙ ap (λ (t : List ℕ). count_number (length t)) whole;
       bytes = inv.bytes ∙ ap (λ (t : List ℕ). overlaid t c.args.out.now) whole;
     }

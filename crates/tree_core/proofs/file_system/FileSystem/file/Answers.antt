@@ -7,7 +7,8 @@ use Rattle.tree_ops.specs.CallPaths.{PathsValue}
 use Rattle.tree_ops.specs.ReadyCall.{PlanValue}
 use Rattle.tree_ops.specs.declared.call.Counts.{Counts}
 use Rattle.tree_ops.specs.declared.call.FileCall.{FileCall}
-use Rattle.tree_ops.specs.Refused.{refused, cookies_of}
+use Rattle.tree_ops.specs.Moves.{cookies_of}
+use Rattle.tree_ops.specs.Refused.{refused}
 use Rattle.tree_ops.specs.After.{numbers_of}
 use Rattle.event_rules.specs.Table.{notices_of}
 use Rattle.event_rules.specs.declared.notice.Notice.{Notice}

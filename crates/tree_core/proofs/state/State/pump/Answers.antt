@@ -5,9 +5,9 @@ use Rattle.tree_core.specs.declared.reply.Receipt.{Receipt}
 use Rattle.tree_core.specs.Journal.{now, with_entry}
 use Rattle.tree_core.specs.Kept.{tree_of}
 use Rattle.tree_core.specs.Tree.{Tree, reply_of}
-use Rattle.tree_core.specs.FileSystems.{Executes, tree_in}
+use Rattle.tree_core.specs.FileSystems.{tree_in}
 use Rattle.tree_core.specs.Histories.{pumped}
-use Rattle.tree_core.proofs.Serving.{finished-executes}
+use Rattle.tree_core.proofs.Serving.{Executes, finished-executes}
 use Rattle.tree_core.proofs.Pumping.{records-spelled}
 use Rattle.tree_core.proofs.Lawful.{limits-executed}
 use Rattle.tree_core.proofs.Keeping.{IsKept-more}
@@ -16,7 +16,7 @@ use Rattle.tree_core.proofs.state.State.pump.Goals as goal
 pub invariant_of-self-2 : goal.invariant_of-self-2
 invariant_of-self-2 c =
     let a = c.self.inside in
-    let served : Executes a.file_system (call.Pump c.args.instance c.args.bytes) (Ok c.in_ok-reply.field-0.reply) c.finish_pump.new.self = finished-executes a.file_system a.file_system (call.Pump c.args.instance c.args.bytes) c.in_ok-reply.field-0 c.in_ok-reply.ensures.begun c.finish_pump.new.self c.in_ok-records.ensures.tree in
+    let served : Executes a.file_system (call.Pump c.args.instance c.args.bytes) c.in_ok-reply.field-0.reply c.finish_pump.new.self = finished-executes a.file_system a.file_system (call.Pump c.args.instance c.args.bytes) c.in_ok-reply.field-0 c.in_ok-reply.ensures.begun c.finish_pump.new.self c.in_ok-records.ensures.tree in
     let entry : Entry = record { caller = c.args.caller; call = (call.Pump c.args.instance c.args.bytes); reply = c.in_ok-reply.field-0.reply } in
     IsKept-more a (record { file_system = c.finish_pump.new.self; snapshot = a.snapshot; journal = c.push_reserved.new.self }) c.self.invariant refl (limits-executed a.file_system c.finish_pump.new.self (call.Pump c.args.instance c.args.bytes) served.tree) entry
     (c.push_reserved.ensures.items ∙ ap (λ es. es ++ entry ∷ []) c.make_room.ensures.items) c.in_ok-make_room.ensures.free c.in_ok-make_room.ensures.small
@@ -26,7 +26,7 @@ pub returns-clause-applied : goal.returns-clause-applied
 returns-clause-applied c = record {
   entry =
       let a = c.self.inside in
-      let served : Executes a.file_system (call.Pump c.args.instance c.args.bytes) (Ok c.in_ok-reply.field-0.reply) c.finish_pump.new.self = finished-executes a.file_system a.file_system (call.Pump c.args.instance c.args.bytes) c.in_ok-reply.field-0 c.in_ok-reply.ensures.begun c.finish_pump.new.self c.in_ok-records.ensures.tree in
+      let served : Executes a.file_system (call.Pump c.args.instance c.args.bytes) c.in_ok-reply.field-0.reply c.finish_pump.new.self = finished-executes a.file_system a.file_system (call.Pump c.args.instance c.args.bytes) c.in_ok-reply.field-0 c.in_ok-reply.ensures.begun c.finish_pump.new.self c.in_ok-records.ensures.tree in
       let entry : Entry = record { caller = c.args.caller; call = (call.Pump c.args.instance c.args.bytes); reply = c.in_ok-reply.field-0.reply } in
       let items : c.push_reserved.new.self.items ≡ a.journal.items ++ entry ∷ [] = c.push_reserved.ensures.items ∙ ap (λ es. es ++ entry ∷ []) c.make_room.ensures.items in
       (λ i. record { start = tree_of (limits-executed a.file_system c.finish_pump.new.self (call.Pump c.args.instance c.args.bytes) served.tree i) a.snapshot; place = a.snapshot.place; entries = items i })
