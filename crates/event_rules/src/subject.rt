@@ -46,6 +46,7 @@ impl<'a> Subject<'a> {
     }
 
     // That of the path of the call, or of the old one.
+    #[inline(always)]
     pub(crate) fn at_path(ready: &'a Ready) -> Subject<'a>
         ensures tree { result.tree ≡ ready.now.tree }
         ensures names { result.path.names ≡ path_of ready.now.plan.call }
@@ -54,6 +55,7 @@ impl<'a> Subject<'a> {
     }
 
     // That of the new path.
+    #[inline(always)]
     pub(crate) fn at_other_path(ready: &'a Ready) -> Subject<'a>
         ensures tree { result.tree ≡ ready.now.tree }
         ensures names { result.path.names ≡ other_path_of ready.now.plan.call }

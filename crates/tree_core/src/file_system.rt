@@ -148,6 +148,7 @@ impl FileSystem {
     }
 
     /// Does the rest of a call that was begun. It takes no memory.
+    #[inline(always)]
     pub fn finish(&mut self, rest: Rest)
         requires { CanFinish self.old rest }
         ensures { tree_in self.new ≡ finished self.old rest }

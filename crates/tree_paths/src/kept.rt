@@ -133,6 +133,7 @@ impl Kept {
     }
 
     /// The last name.
+    #[inline(always)]
     pub(crate) fn last(&self) -> Option<PathName<'_>>
         requires { IsKept self.now }
         ensures { MatchOption result (kept_names self.now ≡ []) (λ name. kept_names self.now ≡ take (length (kept_names self.now) - 1) (kept_names self.now) ++ name ∷ []) }
@@ -205,6 +206,7 @@ impl Kept {
 }
 
 /// The last name of a text.
+#[inline(always)]
 fn last_in(text: &[u8]) -> Option<PathName<'_>>
     requires { IsSlashed text.now }
     ensures { MatchOption result (names_of text.now ≡ []) (λ name. names_of text.now ≡ take (length (names_of text.now) - 1) (names_of text.now) ++ name ∷ []) }

@@ -42,6 +42,7 @@ impl<'a> PathNames<'a> {
     }
 
     /// The next name. It takes no memory.
+    #[inline(always)]
     pub fn next(&mut self) -> Option<PathName<'a>>
         ensures { MatchOption result ((self.old ≡ []) × (self.new ≡ [])) (λ name. self.old ≡ name ∷ self.new) }
     {

@@ -93,6 +93,7 @@ impl Path {
     }
 
     /// The last name. `None` for the root.
+    #[inline(always)]
     pub fn last_name(&self) -> Option<PathName<'_>>
         ensures parts { MatchOption result (self.now ≡ []) (λ name. self.now ≡ take (length self.now - 1) self.now ++ name ∷ []) }
         ensures some { IsSome result ↔ (0 < length self.now) }

@@ -44,6 +44,7 @@ impl Table {
     }
 
     // The keys of the directory of the last name and of what stands under that, or why there are none.
+    #[inline(always)]
     fn walk<'a>(
         &self,
         first: PathName<'a>,
