@@ -8,6 +8,9 @@ ghost use Rattle.watchtree_script.specs.Reading.{pieces_in};
 use memchr::memchr;
 use std::marker::Model;
 
+/// A byte is found among at most so many by a look at each, which takes fewer instructions than a call of memchr.
+pub(crate) const FEW: usize = 16;
+
 /// The pieces between separators that are left.
 #[derive(Drop)]
 pub(crate) struct Pieces<'a> {
@@ -108,6 +111,7 @@ impl<'a> Runs<'a> {
     }
 
     /// The only two that are left.
+    #[inline(always)]
     pub fn two(mut self) -> Option<(&'a [u8], &'a [u8])>
         ensures { MatchOption result ((length self.entry == 2) ≡ false) (λ runs. self.entry ≡ runs.0.now ∷ runs.1.now ∷ []) }
     {
@@ -143,5 +147,8 @@ pub(crate) fn cut<'a>(separator: u8, bytes: &'a [u8]) -> (&'a [u8], Option<&'a [
 fn position_of(separator: u8, bytes: &[u8]) -> Option<usize>
     ensures { result ≡ position (λ b. b == separator) bytes.now }
 {
+    if bytes.len() <= FEW {
+        return bytes.iter().position(|b| *b == separator);
+    }
     memchr(separator, bytes)
 }

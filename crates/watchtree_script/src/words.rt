@@ -10,6 +10,7 @@ ghost use Rattle.watchtree_script.specs.Reading.{Gives};
 use crate::fault::ScriptFault;
 use crate::line::LineError;
 use crate::numbers::number_spelled;
+use crate::pieces::FEW;
 use hex::FromHexError;
 use memchr::memchr;
 use record_codec::Bytes;
@@ -82,6 +83,9 @@ fn unescape(alloc: Global, word: &[u8]) -> Result<Option<Vec<u8>>, AllocError>
 fn has_escape(word: &[u8]) -> bool
     ensures { result ≡ list_any (λ b. b == byte "%") word.now }
 {
+    if word.len() <= FEW {
+        return word.iter().any(|b| *b == b'%');
+    }
     memchr(b'%', word).is_some()
 }
 

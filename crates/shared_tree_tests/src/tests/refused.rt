@@ -27,7 +27,7 @@ const STORY: [Step; 22] = [
     Step::Opens(16, 4, Says::Instance(5)),
     Step::Inits(Says::Instance(6)),
     Step::Watches(6, Says::Wd(1)),
-    Step::Creates("/a-name-that-is-not-in-place", Says::File),
+    Step::Creates("/a-name-that-is-not-stored-in-place", Says::File),
     Step::Reads(6, Says::Records),
     Step::Closes(6, Says::Done),
     Step::Closes(1, Says::Done),

@@ -18,13 +18,13 @@ const PROBES: u32 = 16;
 // A call of each kind, none of which is refused in a prepared tree.
 fn call_of(alloc: Global, which: u32) -> Result<Call, Refusal> {
     match which {
-        0 => create(alloc, "/d/a-name-that-is-not-in-place"),
-        1 => mkdir(alloc, "/d/a-name-that-is-not-in-place"),
+        0 => create(alloc, "/d/a-name-that-is-not-stored-in-place"),
+        1 => mkdir(alloc, "/d/a-name-that-is-not-stored-in-place"),
         2 => write(alloc, "/g", 5, b"xyz"),
         3 => read_file(alloc, "/g", 0, 99),
         4 => truncate(alloc, "/g", 99),
         5 => chmod(alloc, "/d", 0o700),
-        6 => link(alloc, "/g", "/e/a-name-that-is-not-in-place"),
+        6 => link(alloc, "/g", "/e/a-name-that-is-not-stored-in-place"),
         7 => unlink(alloc, "/h"),
         8 => rmdir(alloc, "/e"),
         9 => rename(alloc, "/g", "/h"),
@@ -49,9 +49,9 @@ fn probe_of(alloc: Global, which: u32) -> Result<Call, Refusal> {
         3 => stat(alloc, "/"),
         4 => stat(alloc, "/d"),
         5 => stat(alloc, "/d/f"),
-        6 => stat(alloc, "/d/a-name-that-is-not-in-place"),
+        6 => stat(alloc, "/d/a-name-that-is-not-stored-in-place"),
         7 => stat(alloc, "/e"),
-        8 => stat(alloc, "/e/a-name-that-is-not-in-place"),
+        8 => stat(alloc, "/e/a-name-that-is-not-stored-in-place"),
         9 => stat(alloc, "/g"),
         10 => stat(alloc, "/h"),
         11 => read_file(alloc, "/g", 0, 999),
@@ -413,7 +413,7 @@ fn what_a_tree_says_of_itself_takes_no_memory(rt: HostRuntime) -> Result<(), Fai
 }
 
 /// What the names of a thousand files begin with, so that each takes memory of its own.
-const LONG: &[u8] = b"/a-name-that-is-not-in-place-";
+const LONG: &[u8] = b"/a-name-that-is-not-stored-in-place-";
 
 // The path of a file in a tree of a thousand, or of the first directories on its way.
 fn path_of(alloc: Global, number: u32, names: u32) -> Result<Path, Refusal> {
@@ -469,17 +469,17 @@ fn in_large(alloc: Global, which: u32) -> Result<Call, Refusal> {
     match which {
         0 => create(alloc, "/d9/e/new"),
         1 => mkdir(alloc, "/d9/e/dir"),
-        2 => write(alloc, "/d9/e/a-name-that-is-not-in-place-00", 5, b"xyz"),
-        3 => read_file(alloc, "/d9/e/a-name-that-is-not-in-place-00", 0, 99),
-        4 => truncate(alloc, "/d9/e/a-name-that-is-not-in-place-00", 99),
+        2 => write(alloc, "/d9/e/a-name-that-is-not-stored-in-place-00", 5, b"xyz"),
+        3 => read_file(alloc, "/d9/e/a-name-that-is-not-stored-in-place-00", 0, 99),
+        4 => truncate(alloc, "/d9/e/a-name-that-is-not-stored-in-place-00", 99),
         5 => chmod(alloc, "/d9/e", 0o700),
-        6 => link(alloc, "/d9/e/a-name-that-is-not-in-place-00", "/d8/e/new"),
-        7 => unlink(alloc, "/d9/e/a-name-that-is-not-in-place-01"),
+        6 => link(alloc, "/d9/e/a-name-that-is-not-stored-in-place-00", "/d8/e/new"),
+        7 => unlink(alloc, "/d9/e/a-name-that-is-not-stored-in-place-01"),
         8 => rmdir(alloc, "/d9/e/dir"),
         9 => rename(alloc, "/d9/e", "/d8/f"),
-        10 => stat(alloc, "/d8/f/a-name-that-is-not-in-place-00"),
+        10 => stat(alloc, "/d8/f/a-name-that-is-not-stored-in-place-00"),
         11 => init(10),
-        12 => watch(alloc, 1, "/d8/f/a-name-that-is-not-in-place-02", 0xfff),
+        12 => watch(alloc, 1, "/d8/f/a-name-that-is-not-stored-in-place-02", 0xfff),
         13 => unwatch(1, 2),
         14 => exchange(alloc, "/d8/f", "/d7/e"),
         _ => close(1),
