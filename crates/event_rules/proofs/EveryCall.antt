@@ -22,7 +22,7 @@ use Rattle.event_rules.specs.Table.{about, answers_byte, chmod_told, create_told
 use Rattle.event_rules.specs.Raised.{event_bit}
 use Rattle.event_rules.specs.Laws.{HasOneEvent}
 
--- what is true of the event, of whom and of what kind of object it tells
+-- it is true of each notice of the event, whatever the file, the kind of object and the name
 abbrev pub Holds : (Notice → Type 0) → ℕ → ℕ → Type 0
 Holds P cookie event = (kind : Kind) (number : ℕ) (name : Option (List ℕ)) → P (Told number (about kind event) cookie name)
 

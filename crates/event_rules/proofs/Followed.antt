@@ -64,7 +64,7 @@ says_ended-wds w (n ∷ ns) =
     ∙ (λ i. said-one w n i ++ says_ended-wds (left w n) ns i)
     ∙ sym (map-append ignored (ended w n) (wds_ended (left w n) ns))
 
--- ---- nothing is told of a watch that has ended
+-- ---- no event is raised for a watch that has ended
 
 pub HasEnded-left : Ending → (w : Watching) (n : Notice) (wd : ℤ) → HasEnded w wd → HasEnded (left w n) wd
 HasEnded-left ending w n wd h = left-either (λ x. HasEnded x wd) w n h (ending.stays w wd (told_number n) h)

@@ -1,4 +1,4 @@
--- A file that goes with a call is told so, and no watch of it is left.
+-- A file that a call deletes is notified that it is gone, and no watch of it is left.
 use Rattle.std.proofs.Common.{◌≡◌, inl, inr, ℕ, ◌==◌, if◌then◌else◌, List, [], ◌∷◌, ◌++◌, Some, None, refl, sym, ap, ◌∙◌, subst, lit<, arith}
 use Rattle.std.specs.Prelude.{Contains}
 use Rattle.std.proofs.lemmas.List.Elements.{Contains-append_left, Contains-append_right, Contains-append_cases, Contains-push_cases}
@@ -21,7 +21,7 @@ use Rattle.event_rules.specs.Raised.{left, left_by, watches_after}
 use Rattle.event_rules.proofs.Removals.{dropped-here, some_none}
 use Rattle.event_rules.proofs.Others.{part-after}
 
--- ---- what is told
+-- ---- the notices
 
 lost-told : (kind : Kind) (number count : ℕ) → count ≡ 1 → Contains (lost_told kind number count) (Gone number)
 lost-told Regular number count e =

@@ -1,4 +1,4 @@
--- The cookies of what calls tell.
+-- The cookies of the notices of calls.
 use Rattle.std.proofs.Common.{◌≡◌, inl, inr, ℕ, ◌+◌, Bool, true, false, ◌==◌, if◌then◌else◌, List, [], ◌∷◌, ◌++◌, Option, Some, None, refl, sym, ap, ◌∙◌, subst}
 use Rattle.std.specs.Prelude.{All}
 use Rattle.std.specs.List.{last_or}
@@ -80,7 +80,7 @@ tied-both xs ys ms ns h k = subst (AreTied (xs ++ ys)) (sym (marks_told-append m
 tied-none : AreTied [] []
 tied-none = record { among = tt; others = All-nil IsTied }
 
--- ---- what tells of no move
+-- ---- notices that are of no move
 
 abbrev IsStill : Notice → Type 0
 IsStill (Told number bits cookie name) = (is_move (bits, cookie) ≡ false) × (cookie ≡ NO_COOKIE)
@@ -122,7 +122,7 @@ self-tied s = tied-still (to_self s IN_MOVE_SELF) (every.self IsStill still_line
 lost-tied : (s : Option Seen) → AreTied [] (marks_told (path_lost s))
 lost-tied s = tied-still (path_lost s) (every.lost IsStill still_lines s)
 
--- ---- what tells of a move
+-- ---- notices that are of a move
 
 -- one event of a move
 from-one : (kind : Kind) (cookie : ℕ) → AreTied ((IN_MOVED_FROM, cookie) ∷ []) ((about kind IN_MOVED_FROM, cookie) ∷ [])
@@ -133,7 +133,7 @@ to-one : (kind : Kind) (cookie : ℕ) → AreTied ((IN_MOVED_TO, cookie) ∷ [])
 to-one Regular cookie = record { among = inl (refl, tt); others = All-cons IsTied (IN_MOVED_TO, cookie) [] (λ e. absurd (cc)) (All-nil IsTied) }
 to-one Directory cookie = record { among = inl (refl, tt); others = All-cons IsTied (about Directory IN_MOVED_TO, cookie) [] (λ e. absurd (cc)) (All-nil IsTied) }
 
--- it is told where its directory is there
+-- its directory is notified of it, if there is one
 dir-tied : (at : Look) (p : List (List ℕ)) (kind : Kind) (event cookie : ℕ) (moves : List Mark) → AreTied moves ((about kind event, cookie) ∷ []) → AreTied moves (marks_told (to_dir at p kind event cookie))
 unfolding to_dir
 dir-tied at p kind event cookie moves h = by (at (parent_of p)) (last_or None p)

@@ -1,4 +1,4 @@
--- What a call tells, by what it moves.
+-- The notices of a call, by what it moves.
 use Rattle.std.proofs.Common.{◌≡◌, ◌==◌, ◌≤◌, ◌<◌, ◌+◌, ◌^◌, ◌++◌, ℕ, List, [], Bool, true, false, refl, subst, sym, ap, ◌∙◌, if◌then◌else◌, arith}
 use Rattle.inode_table.specs.World.{World, look}
 use Rattle.tree_ops.specs.declared.call.TheConstants.{RENAME_EXCHANGE}
@@ -55,7 +55,7 @@ next-fits w call cookie e most =
     let two : cookies_of w call ≡ 2 = ap cookies_for e in
     omega arith
 
--- what a link tells, by the paths of the call
+-- the notices of a link, by the paths of the call
 pub link-tells : (w : World) (call : FileCall) (cookie : ℕ) (old new : List (List ℕ)) → call ≡ Link old new
     → notices_of w call cookie ≡ to_self (look w (path_of call)) IN_ATTRIB ++ to_dir (look w) (other_path_of call) Regular IN_CREATE NO_COOKIE
 unfolding link_told

@@ -13,7 +13,7 @@ use Rattle.event_rules.specs.Raised.{event_bit}
 
 -- ---- of notices
 
--- a notice tells of one event
+-- a notice is of one event
 abbrev pub HasOneEvent : Notice → Type 0
 HasOneEvent (Told number bits cookie name) = Contains event_bits (event_bit bits)
 HasOneEvent (Gone number) = Unit {0}

@@ -26,7 +26,7 @@ asks_for watch bits = has_any watch.1 (event_bit bits)
 abbrev pub is_oneshot : Watch → Bool
 is_oneshot watch = has_any watch.1 IN_ONESHOT
 
--- whether a notice ends the watch of its file: one that lost its last path, and one that was told the only event it asked for
+-- whether a notice ends the watch of its file: the file lost its last path, or a one-shot watch gets its event
 abbrev pub ends_watch : Notice → Watch → Bool
 ends_watch (Told number bits cookie name) watch = asks_for watch bits && is_oneshot watch
 ends_watch (Gone number) watch = true

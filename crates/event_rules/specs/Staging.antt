@@ -4,7 +4,7 @@ use Rattle.record_codec.specs.declared.event.Event.{Event}
 use Rattle.event_rules.specs.declared.staging.StagedEvent.{StagedEvent}
 use Rattle.event_rules.specs.declared.staging.StagedEnd.{StagedEnd}
 
--- an event that an instance hears
+-- an event that an instance gets
 abbrev pub staged_event : ℕ → Event → StagedEvent
 staged_event id e = record { id = id; event = e }
 

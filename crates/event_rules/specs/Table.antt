@@ -1,5 +1,5 @@
--- What an accepted call tells the watches: inotify(7), "inotify events". That page leaves open in which order one call tells of
--- several events, and where IN_ISDIR stands; here it is as the lines of the table say.
+-- The notices of an accepted call: inotify(7), "inotify events". That page does not say in which order one call raises
+-- several events, nor which of them have IN_ISDIR; here the lines of the table say so.
 use Rattle.std.specs.Prelude.{ℕ, ◌+◌, Bool, true, false, List, [], ◌∷◌, ◌++◌, Option, Some, None, bit_or, ◌==◌, if◌then◌else◌}
 use Rattle.std.specs.List.{last_or}
 use Rattle.record_codec.specs.declared.bits.TheConstants.{IN_ACCESS, IN_MODIFY, IN_ATTRIB, IN_CLOSE_WRITE, IN_CLOSE_NOWRITE, IN_OPEN, IN_MOVED_FROM, IN_MOVED_TO, IN_CREATE, IN_DELETE, IN_DELETE_SELF, IN_MOVE_SELF, IN_ISDIR}
@@ -33,37 +33,38 @@ abbrev pub kind_seen : Option Seen → Kind
 kind_seen None = Regular
 kind_seen (Some s) = s.kind
 
--- ---- who is told
+-- ---- who is notified
 
--- a directory is told of the object with this name in it
+-- a directory is notified of the object with this name in it
 abbrev pub told_in : Option Seen → Option Label → ℕ → ℕ → List Notice
 told_in (Some directory) (Some name) bits cookie = Told directory.number bits cookie (Some name) ∷ []
 told_in (Some directory) None bits cookie = []
 told_in None name bits cookie = []
 
--- the directory that holds a path's last name is told of an object of this kind there. The root is in no directory
+-- the directory that holds a path's last name is notified of an object of this kind there. The root is in no directory
 unfoldable pub to_dir : Look → List Label → Kind → ℕ → ℕ → List Notice
 to_dir seen_at p kind event cookie = told_in (seen_at (parent_of p)) (last_or None p) (about kind event) cookie
 
--- the object itself is told
+-- the object itself is notified
 abbrev pub to_self : Option Seen → ℕ → List Notice
 to_self None bits = []
 to_self (Some s) bits = Told s.number bits NO_COOKIE None ∷ []
 
--- both are told, and to both it says whether the object is a directory
+-- both are notified, and both notices say whether the object is a directory
 unfoldable pub to_both : Look → List Label → ℕ → List Notice
 to_both seen_at p event = to_dir seen_at p (kind_seen (seen_at p)) event NO_COOKIE ++ to_self (seen_at p) (about (kind_seen (seen_at p)) event)
 
--- it is told that it is deleted, and is gone
+-- it is notified that it is deleted, and is gone
 abbrev pub deleted_told : ℕ → List Notice
 deleted_told number = Told number IN_DELETE_SELF NO_COOKIE None ∷ Gone number ∷ []
 
--- a regular file that loses a path is told that its links changed, and is deleted with its last one. A directory has one path
+-- a regular file that loses a path is notified that its links changed, and is deleted with its last path.
+-- A directory has one path
 abbrev pub lost_told : Kind → ℕ → ℕ → List Notice
 lost_told Regular number links = Told number IN_ATTRIB NO_COOKIE None ∷ (if links == 1 then deleted_told number else [])
 lost_told Directory number links = deleted_told number
 
--- the object itself is told that it loses a path
+-- the object itself is notified that it loses a path
 unfoldable pub path_lost : Option Seen → List Notice
 path_lost None = []
 path_lost (Some s) = lost_told s.kind s.number s.links
@@ -101,7 +102,7 @@ unlink_told seen_at p = path_lost (seen_at p) ++ to_dir seen_at p Regular IN_DEL
 unfoldable pub rmdir_told : Look → List Label → List Notice
 rmdir_told seen_at p = path_lost (seen_at p) ++ to_dir seen_at p Directory IN_DELETE NO_COOKIE
 
--- the name that was replaced is told of no deletion, though the object that had it is
+-- the name that was replaced raises no IN_DELETE, though the object that had it may raise IN_DELETE_SELF
 unfoldable pub move_told : Look → List Label → List Label → ℕ → List Notice
 move_told seen_at old new cookie =
     to_dir seen_at old (kind_seen (seen_at old)) IN_MOVED_FROM cookie
@@ -113,8 +114,8 @@ move_told seen_at old new cookie =
 unfoldable pub rename_told : Look → List Label → List Label → ℕ → List Notice
 rename_told seen_at old new cookie = if are_same_seen (seen_at old) (seen_at new) then [] else move_told seen_at old new cookie
 
--- the object that was at the old path moves to the new one, with a cookie, and then the other one moves back, with the next
--- cookie; each is told where it goes from, where it goes to, and then itself
+-- the object that was at the old path moves to the new one, with a cookie, and then the other one moves back, with the
+-- next cookie. Each move notifies the directory that the object leaves, then the one it enters, then the object itself
 unfoldable pub swap_told : Look → List Label → List Label → ℕ → List Notice
 swap_told seen_at old new cookie =
     to_dir seen_at old (kind_seen (seen_at old)) IN_MOVED_FROM cookie
@@ -140,7 +141,8 @@ answers_byte _ = false
 abbrev pub no_counts : Counts
 no_counts = record { next_number = 0; next_cookie = 0 }
 
--- what an accepted call tells, in the world before it. A rename that moves something has the cookie, and an exchange the next one too
+-- the notices of an accepted call, in the world before it. A rename that moves something has the cookie, and an
+-- exchange the next one too
 abbrev pub notices_of : World → FileCall → ℕ → List Notice
 notices_of w (Create p mode) cookie = create_told (look w) p
 notices_of w (Mkdir p mode) cookie = mkdir_told (look w) p

@@ -19,19 +19,19 @@ ghost use Rattle.event_rules.specs.Laws.{AreTied, HasOneEvent, HasWatch, IsPartO
 
 use watch_table::{descriptors_end_for_good, descriptors_tell_files, watches_stay_sound};
 
-/// A law: each notice of a call tells of one event, so that it raises one at most, and `IN_IGNORED`.
+/// A law: each notice of a call is of one event, so that it raises at most that one, and `IN_IGNORED`.
 pub fn notices_tell_one_event()
     ensures { (w : World) (call : FileCall) (cookie : ℕ) → All HasOneEvent (notices_of w call cookie) }
 {}
 
-/// A law: the i-th pair of `IN_MOVED_FROM` and `IN_MOVED_TO` that a call tells has the i-th of the cookies that it uses, and all other
-/// events have none. What notices raise for an instance is tied as they are.
+/// A law: the i-th pair of `IN_MOVED_FROM` and `IN_MOVED_TO` in the notices of a call has the i-th of the cookies that
+/// it uses, and all other events have none. The events that notices raise for an instance are tied as the notices are.
 pub fn cookies_tie_moves()
     ensures told { (w : World) (call : FileCall) (cookie : ℕ) → AreTied (moves_with (cookies_from cookie (cookies_of w call))) (marks_told (notices_of w call cookie)) }
     ensures raised { (w : Watching) (ns : List Notice) (moves : List Mark) → AreTied moves (marks_told ns) → AreTied moves (marks_of (events_of w ns)) }
 {}
 
-/// A law: an instance that watches none of the files is told nothing, and its watches stay.
+/// A law: an instance that watches none of the files gets no events, and its watches stay.
 pub fn unwatched_files_raise_nothing()
     ensures events { (w : Watching) (ns : List Notice) → All (λ n. watch_of w (told_number n) ≡ None) ns → events_of w ns ≡ [] }
     ensures ended { (w : Watching) (ns : List Notice) → All (λ n. watch_of w (told_number n) ≡ None) ns → wds_ended w ns ≡ [] }
@@ -57,7 +57,7 @@ pub fn nothing_follows_ignored()
     watches_stay_sound();
 }
 
-/// A law: a file that an accepted call leaves with no path is told that it is gone, and then no watch of it is left.
+/// A law: a file that an accepted call leaves with no path is notified that it is gone. Then no watch of it is left.
 pub fn lost_files_are_gone()
     ensures told { (w : World) (limits : Limits) (counts : Counts) (call : FileCall) (cookie number : ℕ) → IsWorld w
         → refused w limits counts call ≡ None → IsSome (finmap.get w.files number) → finmap.get (after w counts call).files number ≡ None

@@ -1,4 +1,4 @@
-//! Who is told what of a call on files, and the events that this raises for the watches of an instance of inotify(7).
+//! The notices of a call on files, and the events that they raise for the watches of an instance of inotify(7).
 #![tactic(auto)]
 
 mod laws;

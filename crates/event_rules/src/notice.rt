@@ -1,4 +1,4 @@
-//! What files are told.
+//! The notices that files get.
 
 ghost use Rattle.std.specs.Prelude.{◌≡◌, ◌∷◌, ◌++◌, [], OnOk};
 
@@ -9,7 +9,7 @@ use std::marker::Model;
 /// The cookie of all events but the two of a move.
 pub const NO_COOKIE: u32 = 0;
 
-/// What the watches of a file are told.
+/// What the watches of a file are notified of.
 #[derive(Debug, Drop, PartialEq, Eq)]
 pub enum Notice {
     /// An event, of the file or of an object in the directory.
@@ -33,7 +33,7 @@ pub enum Notice {
 impl Notice {
     ghost use Rattle.event_rules.specs.Raised.{told_number};
 
-    /// The number of the file whose watches are told.
+    /// The number of the file whose watches are notified.
     pub fn number(&self) -> u32
         ensures { result ≡ told_number self.now }
     {
@@ -44,7 +44,7 @@ impl Notice {
     }
 }
 
-/// Notices, of which contracts see the list. Its room stays when it is emptied, so that it is used again.
+/// Notices, which contracts see as a list. `clear` keeps the capacity for reuse.
 pub struct Notices {
     notices: Vec<Notice>,
 }

@@ -17,7 +17,7 @@ use std::collections::VecDeque;
 use tree_paths::Refusal;
 use watch_table::Watches;
 
-/// An event that an instance hears.
+/// An event that an instance gets.
 #[derive(Debug, Drop, PartialEq, Eq)]
 pub struct StagedEvent {
     /// The number of the instance.
@@ -35,7 +35,7 @@ pub struct StagedEnd {
     pub wd: i32,
 }
 
-/// What notices raise for instances. Its room stays when it is emptied, so that it is used again.
+/// What notices raise for instances. `clear` keeps the capacity for reuse.
 #[derive(Drop)]
 pub struct Staged {
     /// The events, for each instance in order.

@@ -1,4 +1,4 @@
-//! What calls on files tell.
+//! The notices of calls on files.
 
 ghost use Rattle.std.specs.Prelude.{◌≡◌, ◌++◌, ◌+◌, ◌≤◌, ◌<◌, ◌^◌, [], IfErr, OnOk};
 ghost use Rattle.inode_table.specs.World.{look};
@@ -37,7 +37,7 @@ fn about(kind: Kind, event: u32) -> u32
 }
 
 impl Notices {
-    // Tells the directory of a path's last name of an object of this kind there.
+    // Notifies the directory of a path's last name of an object of this kind there.
     #[tactic(auto, unfolding(crate::specs::Table::to_dir))]
     fn tell_dir(
         &mut self,
@@ -63,7 +63,7 @@ impl Notices {
         })
     }
 
-    // Tells an object itself.
+    // Notifies an object itself.
     fn tell_self(&mut self, seen: Option<Seen>, bits: u32) -> Result<(), AllocError>
         ensures { OnOk result (self.new ≡ self.old ++ to_self seen bits) }
     {
@@ -78,7 +78,7 @@ impl Notices {
         }
     }
 
-    // Tells both.
+    // Notifies both.
     #[tactic(auto, unfolding(crate::specs::Table::to_both))]
     fn tell_both(&mut self, at: &Subject, event: u32) -> Result<(), AllocError>
         ensures { OnOk result (self.new ≡ self.old ++ to_both (look (world_of at.now.tree)) at.now.path.names event) }
@@ -89,7 +89,7 @@ impl Notices {
         self.tell_self(seen, about(kind, event))
     }
 
-    // Tells an object that it loses a path.
+    // Notifies an object that it loses a path.
     #[tactic(auto, unfolding(crate::specs::Table::path_lost))]
     fn tell_path_lost(&mut self, seen: Option<Seen>) -> Result<(), AllocError>
         ensures { OnOk result (self.new ≡ self.old ++ path_lost seen) }
@@ -254,7 +254,7 @@ fn exchange(told: &mut Notices, old: &Subject, new: &Subject, cookie: u32) -> Re
     Ok(())
 }
 
-// What a call tells that moves nothing.
+// The notices of a call that moves nothing.
 fn tell_still(told: &mut Notices, ready: &Ready, cookie: u32) -> Result<(), AllocError>
     requires empty { told.old ≡ [] }
     requires still { moves_of (world_of ready.now.tree) ready.now.plan.call ≡ Moves.Nothing }
@@ -280,7 +280,7 @@ fn tell_still(told: &mut Notices, ready: &Ready, cookie: u32) -> Result<(), Allo
     }
 }
 
-// What a call tells.
+// The notices of a call.
 fn tell_call(told: &mut Notices, ready: &Ready, cookie: u32) -> Result<(), AllocError>
     requires empty { told.old ≡ [] }
     requires cookies { cookie + cookies_of (world_of ready.now.tree) ready.now.plan.call ≤ 2 ^ 32 }

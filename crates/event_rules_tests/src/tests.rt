@@ -84,7 +84,7 @@ impl Calls {
         })
     }
 
-    /// What the call tells.
+    /// The notices of the call.
     fn told(&mut self, call: &FileCall) -> Result<Notices, Refusal> {
         let paths = Paths::resolve(&self.table, call);
         let ready = check(paths, &self.counts, &Limits::full())?;
@@ -179,7 +179,7 @@ impl Calls {
     }
 }
 
-/// The call has told just this.
+/// The call has just these notices.
 fn tells(rt: &impl Abort, told: Result<Notices, Refusal>, lines: &[Line]) {
     match told {
         Ok(notices) => holds(

@@ -45,7 +45,7 @@ In-names (Names es) l i e = In-lookup l es i e
 
 -- ---- the order of paths
 
--- the path comes before the other, with all that is below it
+-- the path and all its descendants come before the other
 abbrev pub Clears : List Label → List Label → Type 0
 Clears p q = (s : List Label) → path_cmp (p ++ s) q ≡ Less
 
@@ -71,7 +71,7 @@ clears-next p l m up s =
 abbrev pub Entries : Type 0
 Entries = List (List Label × ℕ)
 
--- each path comes before the next ones, with all that is below it
+-- each path and all its descendants come before the next ones
 abbrev pub AreApart : Entries → Type 0
 AreApart [] = Unit {0}
 AreApart (e ∷ es) = ((f : List Label × ℕ) → In es f → Clears e.0 f.0) × AreApart es

@@ -127,7 +127,7 @@ impl Content {
         }
     }
 
-    /// Makes room for a file of `len` bytes.
+    /// Reserves capacity for a file of `len` bytes.
     pub(crate) fn reserve(&mut self, len: usize) -> Result<(), AllocError>
         requires { is_none (bytes_in (body_of self.old)) ≡ false }
         ensures bytes { bytes_in (body_of self.new) ≡ bytes_in (body_of self.old) }
@@ -144,7 +144,7 @@ impl Content {
         }
     }
 
-    /// Writes over the bytes from `offset` on, and fills a gap with zero bytes. There is room for them.
+    /// Writes over the bytes from `offset` on, and fills a gap with zero bytes. The capacity is already reserved.
     pub(crate) fn write(&mut self, offset: usize, new: &[u8])
         requires regular { is_none (bytes_in (body_of self.old)) ≡ false }
         requires reserved { 0 < length new.now → offset + length new.now ≤ reserved_in (body_of self.old) }
@@ -157,7 +157,7 @@ impl Content {
         }
     }
 
-    /// Cuts the file, or fills it up with zero bytes. There is room for `len` bytes.
+    /// Cuts the file, or fills it up with zero bytes. Capacity for `len` bytes is already reserved.
     pub(crate) fn set_len(&mut self, len: usize)
         requires regular { is_none (bytes_in (body_of self.old)) ≡ false }
         requires reserved { len ≤ reserved_in (body_of self.old) }
@@ -175,7 +175,7 @@ impl Content {
     }
 }
 
-// Writes over the bytes from `offset` on, and fills a gap with zero bytes. There is room for them.
+// Writes over the bytes from `offset` on, and fills a gap with zero bytes. The capacity is already reserved.
 fn write_at(bytes: &mut Vec<u8>, offset: usize, new: &[u8])
     requires { 0 < length new.now → offset + length new.now ≤ vec_capacity bytes.old }
     ensures { bytes.new.items ≡ written offset new.now bytes.old.items }
@@ -187,7 +187,7 @@ fn write_at(bytes: &mut Vec<u8>, offset: usize, new: &[u8])
     overwrite(bytes.as_mut_slice(), offset, new);
 }
 
-// Fills up with zero bytes to `end` bytes, for which there is room. A longer file stays.
+// Fills up with zero bytes to `end` bytes, for which capacity is already reserved. A longer file stays as it is.
 fn fill_up(bytes: &mut Vec<u8>, end: usize)
     requires { end ≤ vec_capacity bytes.old }
     ensures { bytes.new.items ≡ bytes.old.items ++ replicate (end - length bytes.old.items) 0 }

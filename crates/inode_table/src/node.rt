@@ -130,7 +130,7 @@ pub(crate) fn set_bytes(nodes: &mut Slab<Node>, key: usize, bytes: Vec<u8>)
     nodes[key].content = Content::Regular(bytes);
 }
 
-/// Makes room for `len` bytes in a file.
+/// Reserves capacity for `len` bytes in a file.
 pub(crate) fn reserve_bytes(
     nodes: &mut Slab<Node>,
     key: usize,
@@ -149,7 +149,7 @@ pub(crate) fn reserve_bytes(
     nodes[key].content.reserve(len)
 }
 
-/// Writes over the bytes of a file from `offset` on. There is room for them.
+/// Writes over the bytes of a file from `offset` on. The capacity is already reserved.
 pub(crate) fn write_bytes(nodes: &mut Slab<Node>, key: usize, offset: usize, bytes: &[u8])
     requires live { is_live (rows_of nodes.old) key ≡ true }
     requires regular { is_directory (rows_of nodes.old) key ≡ false }
@@ -161,7 +161,7 @@ pub(crate) fn write_bytes(nodes: &mut Slab<Node>, key: usize, offset: usize, byt
     nodes[key].content.write(offset, bytes);
 }
 
-/// Cuts a file, or fills it up with zero bytes. There is room for `len` bytes.
+/// Cuts a file, or fills it up with zero bytes. Capacity for `len` bytes is already reserved.
 pub(crate) fn set_len(nodes: &mut Slab<Node>, key: usize, len: usize)
     requires live { is_live (rows_of nodes.old) key ≡ true }
     requires regular { is_directory (rows_of nodes.old) key ≡ false }

@@ -32,8 +32,8 @@ const ROOT_MODE: u32 = 0o755;
 
 /// A tree of directories and files, which contracts see as the map from paths to what stands there.
 ///
-/// [`Table::resolve`] walks along a path, and the calls take what it found. A changing call that grows the table makes its growths
-/// before its first change, so that after an `Err`, which is `Refusal::Enomem` alone, the table is as it was.
+/// [`Table::resolve`] walks along a path, and the calls take what it found. A call that grows the table makes all its
+/// allocations before its first change. So after an `Err`, which is always `Refusal::Enomem`, the table is as it was.
 pub struct Table {
     nodes: Slab<Node>,
     alloc: Global,
@@ -83,7 +83,7 @@ impl Table {
         Ok(Table { nodes, alloc })
     }
 
-    /// Makes room for one node.
+    /// Reserves capacity for one node.
     pub fn reserve_node(&mut self) -> Result<(), Refusal>
         ensures rows { self.new.rows ≡ self.old.rows }
         ensures resolved { (p : ResolvedPath) → IsResolved self.old p → IsResolved self.new p }

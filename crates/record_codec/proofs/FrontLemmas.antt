@@ -99,7 +99,7 @@ alike (suc n) (x ∷ xs) (y ∷ ys) bx by nx ny lx ly h =
       | inr (inr above) ↦ let off = apart y x (256 ^ n) (big_from 0 n ys) (big_from 0 n xs) above (big_from-lt 0 n ys (tail-bytes y ys by)) in absurd (omega (arith, h, front, other, off))
     ]
 
--- bytes that are alike at each place have one number
+-- bytes that are the same at each index have the same number
 pub same-front : (n i : ℕ) (xs ys : List ℕ) → ((k : ℕ) → slice_index xs k ≡ slice_index ys k) → big_from i n xs ≡ big_from i n ys
 same-front zero i xs ys same = refl
 same-front (suc n) i xs ys same = (λ k. same i k * 256 ^ n + same-front n (suc i) xs ys same k)

@@ -15,7 +15,7 @@ kept_bytes (Long bytes) = bytes.value.items
 abbrev pub front_of : List ℕ → ℕ
 front_of bytes = big_number 8 bytes
 
--- memory is for what the value has no room for, and zero bytes stand behind those of a name
+-- only bytes that do not fit in the value itself are allocated, and zero bytes follow those of a short name
 abbrev pub IsKept : Kept → Type 0
 IsKept (Full bytes) = Unit {0}
 IsKept (Short len bytes) = (len < NAME_IN_PLACE) × ((i : ℕ) → len ≤ i → slice_index bytes i ≡ 0)

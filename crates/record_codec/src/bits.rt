@@ -1,7 +1,7 @@
 //! The bits of a mask, with the names and values that inotify(7) gives them under "inotify events".
 //!
-//! A mask of an event has the bits of what happened; a mask of a watch has those of what it is told, and may have
-//! bits that say how the watch is made.
+//! The mask of an event has the bits of what happened. The mask of a watch has the bits of the events that it asks for,
+//! and may have bits that say how the watch is made.
 
 /// A file was read, or executed.
 pub const IN_ACCESS: u32 = 0x1;
@@ -41,7 +41,7 @@ pub const IN_ISDIR: u32 = 0x4000_0000;
 pub const IN_ONLYDIR: u32 = 0x0100_0000;
 /// Do not follow a symbolic link.
 pub const IN_DONT_FOLLOW: u32 = 0x0200_0000;
-/// Tell nothing of files that no longer lie in the watched directory.
+/// Raise no events for files that are no longer in the watched directory.
 pub const IN_EXCL_UNLINK: u32 = 0x0400_0000;
 /// Watch it only if it is not watched yet.
 pub const IN_MASK_CREATE: u32 = 0x1000_0000;

@@ -11,12 +11,12 @@ use std::alloc::{AllocError, Global};
 /// How many bytes [`Kept::front`] looks at.
 pub(crate) const FRONT_LEN: usize = 8;
 
-/// The bytes of a name: in the value itself where it has room for them, and else in memory.
+/// The bytes of a name: in the value itself if they fit there, and else in memory.
 ///
-/// The byte that tells which it is stands before the others, so that with 31 bytes of a name the value takes 32, and
-/// an `Option` of it 40.
+/// The byte that says which variant it is comes before the others, so that with 31 bytes of a name the value takes 32,
+/// and an `Option` of it 40.
 pub(crate) enum Kept {
-    /// As many bytes as there is room for.
+    /// As many bytes as fit in the value.
     Full([u8; NAME_IN_PLACE]),
     /// Fewer: the first `len`.
     Short {

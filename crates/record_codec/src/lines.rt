@@ -22,7 +22,7 @@ const NUMBERS_LEN: usize = 11 + 1 + 8 + 1 + 10;
 /// upper-case hexadecimal digits.
 ///
 /// # Errors
-/// `AllocError`, where there is no room and no memory for more. The bytes of `out` are then as they were.
+/// `AllocError` if the capacity of `out` is too small and allocating more fails. Its bytes are then as they were.
 pub fn append_name(name: &Name, out: &mut Vec<u8>) -> Result<(), AllocError>
     ensures ok { OnOk result (out.new.items ≡ out.old.items ++ printed_name name.now) }
     ensures err { OnErr result (out.new.items ≡ out.old.items) }
@@ -38,7 +38,7 @@ pub fn append_name(name: &Name, out: &mut Vec<u8>) -> Result<(), AllocError>
 /// between each two of them.
 ///
 /// # Errors
-/// `AllocError`, where there is no room and no memory for more. The bytes of `out` are then as they were.
+/// `AllocError` if the capacity of `out` is too small and allocating more fails. Its bytes are then as they were.
 pub fn append_record_line(event: &Event, out: &mut Vec<u8>) -> Result<(), AllocError>
     ensures ok { OnOk result (out.new.items ≡ out.old.items ++ record_line event.now) }
     ensures err { OnErr result (out.new.items ≡ out.old.items) }
@@ -49,7 +49,7 @@ pub fn append_record_line(event: &Event, out: &mut Vec<u8>) -> Result<(), AllocE
 /// Adds a record as a line at the end, as `append_record_line` does.
 ///
 /// # Errors
-/// `AllocError`, where there is no room and no memory for more. The bytes of `out` are then as they were.
+/// `AllocError` if the capacity of `out` is too small and allocating more fails. Its bytes are then as they were.
 pub fn append_view_line(view: &RecordView<'_>, out: &mut Vec<u8>) -> Result<(), AllocError>
     ensures ok { OnOk result (out.new.items ≡ out.old.items ++ record_line (event_seen view.now)) }
     ensures err { OnErr result (out.new.items ≡ out.old.items) }

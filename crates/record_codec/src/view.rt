@@ -7,7 +7,7 @@ ghost use Rattle.record_codec.specs.Names.{is_name};
 /// A record whose name stays where it lies, in an event or in bytes.
 #[derive(Clone, Copy)]
 pub struct RecordView<'a> {
-    /// The watch that is told, as in `Event`.
+    /// The descriptor of the watch that gets the event, as in `Event`.
     pub wd: i32,
     /// What happened, as in `Event`.
     pub mask: u32,

@@ -73,7 +73,7 @@ exchanged true f e = absurd (cc)
 exchanged false true e = (refl, refl)
 exchanged false false e = absurd (cc)
 
--- what is known of two paths that change places
+-- what is known of two paths that are exchanged
 pub record SwapKnown (at : Look) (old new : List (List ℕ)) : Type 0 where
   pub apart : are_same_seen (at old) (at new) ≡ false
   pub known : ExchangeKnown at old new

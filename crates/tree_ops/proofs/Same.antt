@@ -1,4 +1,4 @@
--- The derived tests tell whether two calls, or two answers, are the same.
+-- The derived tests decide whether two calls, or two answers, are the same.
 use Rattle.std.proofs.Common.{rules, ◌≡◌, ◌↔◌, IsTrue}
 use Rattle.record_codec.proofs.Equal.{names_eq_decides}
 use Rattle.tree_ops.specs.declared.answer.Answer.{Answer}

@@ -1,4 +1,4 @@
--- What a world tells of a file, from what is known of each part.
+-- What `stat` answers for a file of a world, from what is known of each part.
 use Rattle.std.proofs.Common.{◌≡◌, ℕ, List, length, Option, Some, None, sym, ap, ◌∙◌}
 use Rattle.std.specs.Option.{IsSomeAnd}
 use Rattle.std.specs.FinMap as finmap

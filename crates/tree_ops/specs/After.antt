@@ -74,7 +74,7 @@ abbrev pub stat_by : World → Option ℕ → Option File → Answer
 stat_by w (Some n) (Some f) = Stat n f.kind f.mode (links w n) (length f.bytes)
 stat_by w _ _ = Done
 
--- what is told of the file at a path
+-- what `stat` answers for the file at a path
 unfoldable pub stat_of : World → List (List ℕ) → Answer
 stat_of w p = stat_by w (finmap.get w.paths p) (file_at w p)
 

@@ -32,7 +32,7 @@ pub enum Answer {
 impl Answer {
     ghost use Rattle.tree_paths.specs.declared.refusal.Refusal.TheVariants.{Enomem};
 
-    /// The same answer once more. `Err` is want of memory.
+    /// A copy of the answer. `Err` means out of memory.
     pub fn copy(&self) -> Result<Answer, Refusal>
         ensures ok { IfOk result (λ answer. answer ≡ self.now) }
         ensures err { IfErr result (λ refusal. refusal ≡ Enomem) }

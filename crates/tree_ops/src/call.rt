@@ -13,7 +13,7 @@ pub const MAX_MODE: u32 = 0o7777;
 /// The flag of [`FileCall::Rename2`] by which nothing may stand at the new path (renameat2(2), `RENAME_NOREPLACE`).
 pub const RENAME_NOREPLACE: u32 = 1;
 
-/// The flag of [`FileCall::Rename2`] by which the two paths change places (renameat2(2), `RENAME_EXCHANGE`).
+/// The flag of [`FileCall::Rename2`] that exchanges the two paths (renameat2(2), `RENAME_EXCHANGE`).
 pub const RENAME_EXCHANGE: u32 = 2;
 
 /// A call on files. Each one opens, acts and closes by itself.
@@ -65,25 +65,27 @@ pub enum FileCall {
     Rmdir {
         path: Path,
     },
-    /// Moves a file, or a directory with all that is below it, in the place of what stands at the new path
+    /// Moves a file, or a directory with all its descendants, to the new path, and replaces what stands there
     /// (POSIX.1-2017 `rename`). Where both paths are of the same file, nothing happens.
     Rename {
         old: Path,
         new: Path,
     },
-    /// A rename by flags (renameat2(2)). With 0 it is [`FileCall::Rename`]. With [`RENAME_NOREPLACE`] it is refused where something
-    /// stands at the new path, be it the same file. With [`RENAME_EXCHANGE`] something stands at both paths, and they change
-    /// places, each with all that is below it; where both are of the same file, nothing happens. No other flags are accepted.
+    /// A rename with flags (renameat2(2)). With 0 it is [`FileCall::Rename`]. With [`RENAME_NOREPLACE`] it is refused
+    /// if something stands at the new path, even the same file. With [`RENAME_EXCHANGE`] something stands at both
+    /// paths, and they are exchanged, each with all its descendants; if both are of the same file, nothing happens. No
+    /// other flags are accepted.
     Rename2 {
         old: Path,
         new: Path,
         flags: u32,
     },
-    /// Tells what stands at a path (POSIX.1-2017 `stat`). Answers [`Answer::Stat`](crate::Answer::Stat).
+    /// Gets the status of what stands at a path (POSIX.1-2017 `stat`). Answers [`Answer::Stat`](crate::Answer::Stat).
     Stat {
         path: Path,
     },
-    /// Tells the names in a directory, in the order of their bytes (POSIX.1-2017 `readdir`). Answers [`Answer::Names`](crate::Answer::Names).
+    /// Lists the names in a directory, in the order of their bytes (POSIX.1-2017 `readdir`).
+    /// Answers [`Answer::Names`](crate::Answer::Names).
     List {
         path: Path,
     },
@@ -93,7 +95,7 @@ impl FileCall {
     ghost use Rattle.tree_paths.specs.declared.refusal.Refusal.TheVariants.{Enomem};
     ghost use Rattle.tree_ops.specs.CallPaths.{path_of, new_path_of};
 
-    /// The same call once more. `Err` is want of memory.
+    /// A copy of the call. `Err` means out of memory.
     pub fn copy(&self) -> Result<FileCall, Refusal>
         ensures ok { IfOk result (λ call. call ≡ self.now) }
         ensures err { IfErr result (λ refusal. refusal ≡ Enomem) }

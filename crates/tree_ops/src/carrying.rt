@@ -44,7 +44,7 @@ fn make(
     Ok(Answer::Number(number))
 }
 
-// Makes room for bytes in a file, from an offset on. No bytes need none.
+// Reserves capacity for bytes in a file, from an offset on. No bytes need none.
 fn reserve(table: &mut Table, path: &Resolved, offset: usize, bytes: &[u8]) -> Result<(), Refusal>
     requires resolved { IsResolved table.old path.now }
     requires there { IsSome (look (world_of table.old) path.now.names) }
@@ -106,7 +106,7 @@ fn unlink(table: &mut Table, path: &Resolved) -> Answer
     Answer::Done
 }
 
-// What is told of a file.
+// What `stat` answers for a file.
 pub(crate) fn stat(path: &Lookup) -> Answer
     requires { IsSome (look (world_of path.now.tree) path.now.path.names) }
     ensures { result ≡ stat_of (world_of path.now.tree) path.now.path.names }

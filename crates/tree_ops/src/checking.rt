@@ -282,7 +282,7 @@ fn check_noreplace(paths: &Paths, counts: &Counts, limits: &Limits) -> Result<Mo
     Ok(Moves::Move)
 }
 
-// Whether two things may change places.
+// Whether what stands at two paths may be exchanged.
 #[tactic(auto, unfolding(crate::specs::Refused::swap_rows))]
 fn check_swap(
     paths: &Paths,

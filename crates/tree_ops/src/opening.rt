@@ -9,8 +9,8 @@ use inode_table::Table;
 use std::alloc::Global;
 use tree_paths::Refusal;
 
-/// The table of a new tree: the root alone, an empty directory with the number 1 and the mode 0755. The next number is 2.
-/// `Err` is want of memory.
+/// The table of a new tree: the root alone, an empty directory with number 1 and mode 0755. The next number is 2.
+/// `Err` means out of memory.
 pub fn opening_table(alloc: Global) -> Result<Table, Refusal>
     ensures world { IfOk result (λ table. world_of table ≡ opening_world) }
     ensures numbers { IfOk result (λ table. HasNumbersBelow (world_of table) (root_number + 1)) }

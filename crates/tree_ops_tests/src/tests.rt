@@ -163,7 +163,7 @@ fn directory(number: u32, mode: u32) -> Result<Answer, Refusal> {
     })
 }
 
-/// The call has told what is wanted.
+/// The call returned what is wanted.
 fn tells(rt: &impl Abort, told: Result<Answer, Refusal>, wanted: Result<Answer, Refusal>) {
     assert_eq!(rt; told, wanted);
 }

@@ -43,7 +43,7 @@ is-below path above e = by (rest_after above path) refl e
     by (Some []) is f = absurd (cc)
     by (Some (l ∷ s)) is f = (l, s, rest_after-some above path (l ∷ s) is)
 
--- a test that tells whether a path is below another one is this test
+-- a test that decides whether a path is below another one equals `is_below`
 pub same-test : (path above : List (List ℕ)) (r : Bool) → (IsTrue r → IsBelow path above) × (IsBelow path above → IsTrue r) → r ≡ is_below path above
 same-test path above r both = by r (is_below path above) (λ h. below path above (both.0 h)) (λ h. both.1 (is-below path above h))
   where

@@ -14,7 +14,7 @@ pub fn pathnames_are_parsed()
     ensures { (names : List (List ℕ)) → All IsName names → length (pathname_of names) < path_max → parsed (pathname_of names) ≡ Ok names }
 {}
 
-/// The test whether a path is below another one tells whether that one is a proper prefix of it.
+/// `is_below` is true exactly if the second path is a proper prefix of the first.
 pub fn is_below_tells_proper_prefixes()
     ensures { (path above : List (List ℕ)) → IsTrue (is_below path above) ↔ IsBelow path above }
 {}

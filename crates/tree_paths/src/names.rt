@@ -55,7 +55,7 @@ impl Names {
         &self.names
     }
 
-    /// The same names once more. `Err` is want of memory.
+    /// A copy of the names. `Err` means out of memory.
     pub fn copy(&self) -> Result<Names, Refusal>
         ensures ok { IfOk result (λ names. names ≡ self.now) }
         ensures err { IfErr result (λ refusal. refusal ≡ Enomem) }

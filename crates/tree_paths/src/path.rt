@@ -130,7 +130,7 @@ impl Path {
         })
     }
 
-    /// The same path once more. `Err` is want of memory.
+    /// A copy of the path. `Err` means out of memory.
     pub fn copy(&self) -> Result<Path, Refusal>
         ensures ok { IfOk result (λ path. path ≡ self.now) }
         ensures err { IfErr result (λ refusal. refusal ≡ Enomem) }

@@ -1,10 +1,10 @@
-//! Each growth of `notices` and `stage` refused in turn. Where nobody refuses growths each is called once.
+//! Fault injection: each allocation of `notices` and `stage` fails in turn. Without the shim each is called once.
 
 use super::*;
 use refuser::{refuse, refuse_from, was_refused};
 use tree_ops::RENAME_EXCHANGE;
 
-/// More growths than a call here has.
+/// More allocations than a call here makes.
 const MOST: u32 = 60;
 
 /// How many calls there are.
@@ -71,7 +71,7 @@ fn call_of(calls: &Calls, which: u32) -> Result<FileCall, Refusal> {
     })
 }
 
-// What a call would tell.
+// The notices that a call would have.
 fn noticed(calls: &Calls, call: &FileCall) -> Result<Notices, Refusal> {
     let paths = Paths::resolve(&calls.table, call);
     let ready = check(paths, &calls.counts, &Limits::full())?;
@@ -84,7 +84,7 @@ fn noticed(calls: &Calls, call: &FileCall) -> Result<Notices, Refusal> {
     Ok(told)
 }
 
-// How many growths the notices of a call have, each refused. None where one was not.
+// How many allocations the notices of a call take. Each was made to fail. `None` if a result was wrong.
 fn notices_refused(calls: &Calls, call: &FileCall) -> Result<Option<u32>, Refusal> {
     let wanted = noticed(calls, call)?;
     for k in 1..MOST {
@@ -104,8 +104,8 @@ fn are_same(one: &Staged, other: &Staged) -> bool {
     one.events.iter().eq(other.events.iter()) && one.drops.as_slice() == other.drops.as_slice()
 }
 
-// How many growths the events of a call have, each refused. None where one was not, or where staging them again in the room
-// that has grown has one.
+// How many allocations the events of a call take. Each was made to fail. `None` if a result was wrong, or if staging
+// them again in the capacity that was allocated takes another one.
 fn stage_refused(
     alloc: Global,
     watches: &Watches,

@@ -20,7 +20,8 @@ impl Table {
     ghost use Rattle.inode_table.specs.TableWorld.{world_of};
     ghost use Rattle.inode_table.specs.Resolution.{IsResolved};
 
-    /// Gives a free path to a new file without bytes, or to a new empty directory. `reserve_node` has made room for it.
+    /// Gives a free path to a new file without bytes, or to a new empty directory. `reserve_node` has reserved the
+    /// capacity for it.
     pub fn add_node(
         &mut self,
         path: &Resolved,
@@ -74,8 +75,8 @@ impl Table {
         Ok(())
     }
 
-    /// Moves a file, or a directory with all that is below it, to another path, in the place of a file or an empty
-    /// directory that is there, which goes where that was its last path.
+    /// Moves a file, or a directory with all its descendants, to another path. It replaces a file or an empty directory
+    /// there, which is deleted if that was its last path.
     pub fn replace_name(&mut self, old: &Resolved, new: &Resolved) -> Result<(), Refusal>
         requires resolved { IsResolved self.old old.now }
         requires other_resolved { IsResolved self.old new.now }
@@ -111,7 +112,7 @@ impl Table {
         self.drop_if_lost(key);
     }
 
-    /// Exchanges two paths, with all that is below each.
+    /// Exchanges two paths, each with all its descendants.
     pub fn swap_names(&mut self, one: &Resolved, other: &Resolved)
         requires resolved { IsResolved self.old one.now }
         requires other_resolved { IsResolved self.old other.now }
@@ -153,7 +154,7 @@ impl Table {
     ghost use Rattle.inode_table.specs.TableWorld.{number_of};
     ghost use Rattle.inode_table.specs.Resolution.{IsResolved};
 
-    // Moves a path to another one, which may be taken, and tells the key of what was there, which has one path less.
+    // Moves a path to another one, which may be taken. Returns the key of what was there, which has one path less.
     fn put_name(&mut self, old: &Resolved, new: &Resolved) -> Result<Option<usize>, Refusal>
         requires resolved { IsResolved self.old old.now }
         requires other_resolved { IsResolved self.old new.now }
@@ -185,7 +186,7 @@ impl Table {
         Ok(replaced)
     }
 
-    // Takes out a path, and tells its key.
+    // Takes out a path, and returns its key.
     fn take_name(&mut self, path: &Resolved) -> usize
         requires resolved { IsResolved self.old path.now }
         requires named { path.now.names ≢ [] }

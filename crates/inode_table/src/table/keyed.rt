@@ -21,7 +21,7 @@ impl Table {
     ghost use Rattle.inode_table.specs.Rows.{child, key_in, bytes_in, reserved};
     ghost use Rattle.inode_table.specs.Kept.{body_of, is_directory};
 
-    /// Gives a name to a new node, for which there is room.
+    /// Gives a name to a new node, for which capacity is already reserved.
     pub(crate) fn add_node_at(
         &mut self,
         directory: usize,
@@ -55,7 +55,7 @@ impl Table {
         Ok(key)
     }
 
-    /// Takes out the name of a file or of an empty directory, and tells its key.
+    /// Takes out the name of a file or of an empty directory, and returns its key.
     pub(crate) fn drop_name_at(&mut self, directory: usize, name: &Name) -> usize
         requires directory { IsOpen self.old directory }
         requires there { IsSome (child self.old.rows directory name.now) }
@@ -89,7 +89,7 @@ impl Table {
         remove_node(&mut self.nodes, key);
     }
 
-    /// Moves a name, and all that is below it, to another one, which may be taken.
+    /// Moves a name, with all its descendants, to another one, which may be taken.
     pub(crate) fn replace_name_at(
         &mut self,
         directory: usize,
@@ -120,7 +120,7 @@ impl Table {
         }
     }
 
-    /// Exchanges two names, and all that is below each.
+    /// Exchanges two names, each with all its descendants.
     pub(crate) fn swap_names_at(
         &mut self,
         directory: usize,
@@ -197,7 +197,7 @@ impl Table {
         set_bytes(&mut self.nodes, key, bytes);
     }
 
-    /// Makes room for `len` bytes in a file.
+    /// Reserves capacity for `len` bytes in a file.
     pub(crate) fn reserve_bytes_at(&mut self, key: usize, len: usize) -> Result<(), AllocError>
         requires there { IsSome (what_at self.old key) }
         requires regular { is_directory self.old.rows key ≡ false }
@@ -214,7 +214,7 @@ impl Table {
         reserve_bytes(&mut self.nodes, key, len)
     }
 
-    /// Writes over the bytes of a file from `offset` on. There is room for them.
+    /// Writes over the bytes of a file from `offset` on. The capacity is already reserved.
     pub(crate) fn write_bytes_at(&mut self, key: usize, offset: usize, bytes: &[u8])
         requires there { IsSome (what_at self.old key) }
         requires regular { is_directory self.old.rows key ≡ false }
@@ -227,7 +227,7 @@ impl Table {
         write_bytes(&mut self.nodes, key, offset, bytes);
     }
 
-    /// Cuts a file, or fills it up with zero bytes. There is room for `len` bytes.
+    /// Cuts a file, or fills it up with zero bytes. Capacity for `len` bytes is already reserved.
     pub(crate) fn set_len_at(&mut self, key: usize, len: usize)
         requires there { IsSome (what_at self.old key) }
         requires regular { is_directory self.old.rows key ≡ false }

@@ -345,7 +345,7 @@ impl Calls {
     }
 }
 
-// The place of the first step that fails, if any, of those that begin with a new table.
+// The index of the first step that fails, if any. The steps begin with a new table.
 fn failed(alloc: Global, steps: &[Step]) -> Result<Option<usize>, Refusal> {
     let mut calls = Calls::new(alloc)?;
     for (place, step) in steps.iter().enumerate() {

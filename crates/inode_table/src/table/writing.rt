@@ -29,7 +29,7 @@ impl Table {
         self.set_content_at(key, bytes);
     }
 
-    /// Makes room for `len` bytes in the file at a path, for [`Table::write`] and [`Table::set_len`].
+    /// Reserves capacity for `len` bytes in the file at a path, for [`Table::write`] and [`Table::set_len`].
     pub fn reserve_content(&mut self, path: &Resolved, len: usize) -> Result<(), Refusal>
         requires resolved { IsResolved self.old path.now }
         requires there { IsSome (look (world_of self.old) path.now.names) }
@@ -50,7 +50,8 @@ impl Table {
         Ok(())
     }
 
-    /// Writes over the bytes of the file at a path from `offset` on, and fills a gap with zero bytes. There is room for them.
+    /// Writes over the bytes of the file at a path from `offset` on, and fills a gap with zero bytes. The capacity is
+    /// already reserved.
     pub fn write(&mut self, path: &Resolved, offset: usize, bytes: &[u8])
         requires resolved { IsResolved self.old path.now }
         requires there { IsSome (look (world_of self.old) path.now.names) }
@@ -64,7 +65,7 @@ impl Table {
         self.write_bytes_at(key, offset, bytes);
     }
 
-    /// Cuts the file at a path to `len` bytes, or fills it up with zero bytes. There is room for them.
+    /// Cuts the file at a path to `len` bytes, or fills it up with zero bytes. The capacity is already reserved.
     pub fn set_len(&mut self, path: &Resolved, len: usize)
         requires resolved { IsResolved self.old path.now }
         requires there { IsSome (look (world_of self.old) path.now.names) }

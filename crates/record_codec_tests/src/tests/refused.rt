@@ -1,11 +1,11 @@
-//! Each growth of each call refused in turn: want of memory is the answer, and a vector is as before. Where nobody refuses
-//! growths each call is made once.
+//! Fault injection: each allocation of each call fails in turn. The call then runs out of memory, and leaves a
+//! vector as it was. Without the shim each call is made once.
 
 use super::*;
 use refuser::{refuse, refuse_from, was_refused};
 use std::alloc::AllocError;
 
-/// More growths than a call here has.
+/// More allocations than a call here makes.
 const MOST: u32 = 50;
 
 /// The shortest name that takes memory.
@@ -73,7 +73,7 @@ fn is_decoded(alloc: Global) -> Result<bool, AllocError> {
     }
 }
 
-// How many growths of a call were refused, each with all well. None where one was not.
+// How many allocations of a call were made to fail, each with the right result. `None` if a result was wrong.
 fn refused_in_turn(alloc: Global, which: u32, event: &Event) -> Result<Option<u32>, AllocError> {
     for k in 1..MOST {
         let mut text = Vec::from_slice(alloc, b"before")?;
@@ -126,7 +126,7 @@ fn some_calls_take_no_memory(rt: HostRuntime) -> Result<(), Fail> {
     Ok(())
 }
 
-// Whether a name of these bytes is made and copied. `Err` is want of memory.
+// Whether a name of these bytes is made and copied. `Err` means out of memory.
 fn is_made_and_copied(alloc: Global, bytes: &[u8]) -> Result<bool, AllocError> {
     Ok(match Name::new(alloc, bytes)? {
         Some(name) => name.copy()?.bytes() == bytes,

@@ -1,11 +1,11 @@
-//! Each growth of `carry_out`, and of a table's rows, refused in turn, and the calls that take no memory. Where nobody
-//! refuses growths each is called once.
+//! Fault injection: each allocation of `carry_out`, and of a table's rows, fails in turn. Also tested are the calls
+//! that take no memory. Without the shim each is called once.
 
 use super::*;
 use inode_table::FileRow;
 use refuser::{refuse, refuse_from, was_refused};
 
-/// More growths than a call here has.
+/// More allocations than a call here makes.
 const MOST: u32 = 200;
 
 /// How many calls there are.
@@ -113,7 +113,7 @@ fn are_alike(one: &Table, other: &Table) -> Result<bool, Refusal> {
     Ok(are_same && files.len() == others.len() && one.flat()? == other.flat()?)
 }
 
-// How many growths a call has, each refused with the table as it was. None where one was not.
+// How many allocations a call makes. Each was made to fail, with the table as it was. `None` if a result was wrong.
 fn refused_in_turn(alloc: Global, which: u32) -> Result<Option<u32>, Refusal> {
     let twin = prepared(alloc)?;
     let mut after = prepared(alloc)?;
@@ -134,7 +134,7 @@ fn refused_in_turn(alloc: Global, which: u32) -> Result<Option<u32>, Refusal> {
     Ok(None)
 }
 
-// Whether growths can be refused.
+// Whether allocations can be made to fail.
 fn has_refuser(alloc: Global) -> bool {
     let has = refuse(alloc, MOST);
     let _ = was_refused(alloc);
@@ -162,7 +162,7 @@ fn counted(table: &Table, are_paths: bool) -> Result<usize, Refusal> {
     Ok(table.files()?.len())
 }
 
-// How many growths the rows have, each refused. None where one was not.
+// How many allocations the rows take. Each was made to fail. `None` if a result was wrong.
 fn rows_refused_in_turn(alloc: Global, table: &Table, are_paths: bool) -> Option<u32> {
     for k in 1..MOST {
         let _ = refuse(alloc, k);

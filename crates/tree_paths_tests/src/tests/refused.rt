@@ -1,10 +1,10 @@
-//! Each growth of each call refused in turn, and the calls that take no memory. Where nobody refuses growths each call is
-//! made once.
+//! Fault injection: each allocation of each call fails in turn. Also tested are the calls that take no memory. Without
+//! the shim each call is made once.
 
 use super::*;
 use refuser::{refuse, refuse_from, was_refused};
 
-/// More growths than a call here has.
+/// More allocations than a call here makes.
 const MOST: u32 = 50;
 
 /// A path of twelve short names.
@@ -45,7 +45,7 @@ fn is_right(alloc: Global, which: u32, path: &Path) -> Result<bool, Refusal> {
     })
 }
 
-// How many growths of a call were refused, each with all well. None where one was not.
+// How many allocations of a call were made to fail, each with the right result. `None` if a result was wrong.
 fn refused_in_turn(alloc: Global, which: u32, path: &Path) -> Option<u32> {
     for k in 1..MOST {
         let _ = refuse(alloc, k);
@@ -74,7 +74,7 @@ fn each_growth_of_each_call(rt: HostRuntime) -> Result<(), Fail> {
     Ok(())
 }
 
-// Whether texts that are no paths are told so.
+// Whether texts that are no paths are refused with the right error.
 fn are_refused(alloc: Global, long: &[u8]) -> bool {
     Path::parse(alloc, b"").err() == Some(Refusal::Enoent)
         && Path::parse(alloc, b"a/b").err() == Some(Refusal::Einval)
@@ -104,7 +104,7 @@ fn some_calls_take_no_memory(rt: HostRuntime) -> Result<(), Fail> {
     Ok(())
 }
 
-// Whether a path of these names is made and copied. `Err` is want of memory.
+// Whether a path of these names is made and copied. `Err` means out of memory.
 fn is_made_and_copied(alloc: Global, text: &[u8], names: &[&[u8]]) -> Result<bool, Refusal> {
     let path = Path::parse(alloc, text)?;
     Ok(has_names(&path, names) && path.copy()? == path)
