@@ -1,4 +1,4 @@
--- Instances that hear what was staged for them, one after the other.
+-- How instances receive what was staged for them, one after the other.
 use Rattle.std.proofs.Common.{◌≡◌, ℕ, is_some, get_or, true, false, cond, eqb, Option, Some, None, List, [], ◌∷◌, ◌++◌, map, append_assoc, refl, sym, ap, ◌∙◌}
 use Rattle.std.specs.Prelude.{ℤ, All, fold, option_map}
 use Rattle.std.specs.FinMap as finmap
@@ -105,7 +105,7 @@ heard-told s m ns staged =
         ∙ ap (λ (j : Instance). record j { watches = fold removed j.watches (wds_to q ds) }) (fold-hears mine i)
         ∙ (λ k. record i { watches = staged.drops q i e k; queue = fold after_offer i.queue (staged.events q i e k) }))
 
--- ---- where nobody watches
+-- ---- where no file is watched
 
 module _ (quiet : (w : Watching) (ns : List Notice) → All (λ n. watch_of w (told_number n) ≡ None) ns → events_of w ns ≡ []) (kept : (w : Watching) (ns : List Notice) → All (λ n. watch_of w (told_number n) ≡ None) ns → watches_after w ns ≡ w) where
   pub unwatched-stay : (m : Instances) (ns : List Notice) → NobodyWatches m → all_changed m (told ns) ≡ m
@@ -122,7 +122,7 @@ module _ (quiet : (w : Watching) (ns : List Notice) → All (λ n. watch_of w (t
           let all : All (λ n. watch_of i.watches (told_number n) ≡ None) ns = (λ k d p. none-of (watch_of i.watches (told_number (get_or ns k d))) (ap (watches_file (told_number (get_or ns k d))) (sym e) ∙ nobody (told_number (get_or ns k d)) q)) in
           ap Some (λ k. record i { watches = kept i.watches ns all k; queue = fold after_offer i.queue (quiet i.watches ns all k) })
 
--- ---- a run of events that one instance hears
+-- ---- a run of events that one instance receives
 
 fold-more : (b : Rattle.event_queue.specs.Backlogs.Backlog) (es : List Event) (e : Event) → after_offer (fold after_offer b es) e ≡ fold after_offer b (es ++ e ∷ [])
 fold-more b [] e = refl

@@ -104,11 +104,11 @@ waiting-cut m id all q = subst (λ o. AreEvents (waiting_of o)) (sym (get-cut m 
 -- ---- the rows
 
 module _ (rows : List Opened) (id place : ℕ) (rising : IsStrictlySortedBy nat_cmp (ids_of rows)) (at : IsPlace (ids_of rows) id (Ok place)) where
-  -- the instance at the place of a number
+  -- the instance at the index of a number
   pub instance-at : (row : Opened) → row ≡ get_or rows place row → instance_of (by_number rows) id ≡ Some row.instance
   instance-at row e = get-at (λ (o : Opened). o.id) (λ (o : Opened). o.instance) rows place id row rising at.0 at.1 ∙ ap (λ (o : Opened). Some o.instance) (sym e)
 
-  -- another instance at the place of a number
+  -- another instance at the index of a number
   module _ (row : Opened) (same : row.id ≡ id) where
     numbered : get_or (ids_of rows) place 0 ≡ row.id
     numbered = at.1 ∙ sym same
@@ -125,7 +125,7 @@ module _ (rows : List Opened) (id place : ℕ) (rising : IsStrictlySortedBy nat_
   pub rows-cut : by_number (take place rows ++ drop (suc place) rows) ≡ map.remove (by_number rows) id
   rows-cut = map-cut (λ (o : Opened). o.id) (λ (o : Opened). o.instance) rows place id rising at.0 at.1
 
--- at the place of a number is an instance
+-- there is an instance at the index of a number
 some-at : (rows : List Opened) (id place : ℕ) → IsStrictlySortedBy nat_cmp (ids_of rows) → IsPlace (ids_of rows) id (Ok place) → instance_of (by_number rows) id ≡ None → ⊥
 some-at [] id place rising at free = omega (arith, at.0)
 some-at (row ∷ rows) id place rising at free =
@@ -265,7 +265,7 @@ module _ (a b : Inside) (whole : NotesEveryWatch a) (rising : IsStrictlySortedBy
 pub entries-opened : (a : Inside) → NotesEveryWatch a → map.entries (instances_of a) ≡ Rattle.std.proofs.Common.map (λ (o : Opened). (o.id, o.instance)) a.opened.items
 entries-opened a whole = entries-rising (λ (o : Opened). o.id) (λ (o : Opened). o.instance) a.opened.items whole.rising
 
--- ---- the instance of a number, at its place
+-- ---- the instance of a number, at its index
 
 module _ (a : Inside) (whole : NotesEveryWatch a) (id : ℕ) (seen : List Opened) (is : seen ≡ a.opened.items) where
   -- none is there
@@ -319,7 +319,7 @@ module _ (a : Inside) (whole : NotesEveryWatch a) (id : ℕ) (seen : List Opened
             IsIndexed-changed a (record with_instance { index = index }) whole still-rising rows id row.instance j there put
             (subst (λ (q : Backlog). AreEvents q.waiting) (sym queue) (events-at a whole id row.instance there)) noted
 
-  -- a new one, at its place
+  -- a new one, at its index
   module _ (i : ℕ) (place : IsPlace (ids_of seen) id (Err i)) (j : Instance) (b : Inside) (with : b.opened.items ≡ take i a.opened.items ++ record { id = id; instance = j } ∷ drop i a.opened.items) where
     free-place : IsPlace (ids_of a.opened.items) id (Err i)
     free-place = subst (λ rows. IsPlace (ids_of rows) id (Err i)) is place

@@ -88,7 +88,7 @@ found xs x r h position = searched xs x r position (λ i j p q. rising i j p q)
       | inr (inr above) ↦ absurd (omega arith)
     ]
 
--- the place behind rising numbers of which the last one is smaller
+-- a number above the last of rising numbers belongs at their end
 pub place-last : (xs : List ℕ) (x : ℕ) → IsStrictlySortedBy nat_cmp xs → (0 < length xs → get_or xs (length xs - 1) 0 < x) → IsPlace xs x (Err (length xs))
 place-last xs x h last = ((omega arith), (λ k p. below k p), (λ k p q. absurd (omega arith)))
   where

@@ -1,4 +1,4 @@
--- What is staged: who hears, and who does not.
+-- What is staged: who is a recipient, and who is not.
 use Rattle.std.proofs.Common.{◌≡◌, ℕ, zero, suc, Bool, true, false, cond, ◌||◌, ◌<◌, ◌≤◌, List, [], ◌∷◌, ◌++◌, length, eqb, is_some, Option, Some, None, take, map, refl, sym, ap, ◌∙◌, get_or, arith}
 use Rattle.std.specs.Prelude.{ℤ, fold, All}
 use Rattle.std.specs.FinMap as finmap
@@ -25,7 +25,7 @@ number-in ids items k e h =
     contains_key-keys ids id ∙ sym (same-tests id (finmap.keys ids)) ∙ ap (list_any (λ x. eqb id x)) (sym e)
     ∙ list_any_at (λ x. eqb id x) items k 0 h (Rattle.std.proofs.lemmas.Bool.eq-eqb id id refl)
 
--- nobody hears what no instance is there for
+-- an instance that is not open is not a recipient
 pub nobody-hears : (ns : List Notice) → list_any (λ (n : Notice). watches_file (told_number n) None) ns ≡ false
 nobody-hears [] = refl
 nobody-hears (n ∷ ns) = nobody-hears ns
@@ -113,7 +113,7 @@ module _ (m : Instances) (ns : List Notice) (ids : IdSet) (hear : (q : ℕ) → 
       ap (list_any (λ id. eqb q id)) (take_all k items done ∙ is) ∙ same-tests q (finmap.keys ids) ∙ sym (contains_key-keys ids q) ∙ hear q
       ∙ ap (λ o. list_any (λ (n : Notice). watches_file (told_number n) o) ns) e
 
-  -- what is there for those that hear is there for all, where there is nothing for the others
+  -- where there is nothing for the others, what is staged for the recipients is all there is
   pub all-staged : {A : Type 0} (q : ℕ) (i : Instance) (mine all : List A) → instance_of m q ≡ Some i → mine ≡ cond (list_any (λ id. eqb q id) (take k items)) all []
       → (All (λ n. watch_of i.watches (told_number n) ≡ None) ns → all ≡ []) → mine ≡ all
   all-staged q i mine all e so none =

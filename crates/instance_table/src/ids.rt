@@ -52,7 +52,7 @@ impl Ids {
         self.ids.clear();
     }
 
-    /// Puts in a number. `Err` is want of memory.
+    /// Puts in a number. `Err` is out of memory.
     pub fn add(&mut self, id: u32) -> Result<(), AllocError>
         ensures ok { OnOk result (self.new ≡ map.insert self.old id tt) }
         ensures err { OnErr result (self.new ≡ self.old) }
@@ -87,7 +87,8 @@ impl Ids {
     }
 }
 
-// Where a number is among rising ones, or else where it is put in. The last one is looked at first, as numbers mostly come rising.
+// Where a number is among rising ones, or else where it is put in. The last one is looked at first, as numbers mostly
+// come rising.
 fn place_of(ids: &[u32], id: u32) -> Result<usize, usize>
     requires { IsStrictlySortedBy nat_cmp ids.now }
     ensures { IsPlace ids.now id result }

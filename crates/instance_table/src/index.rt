@@ -34,7 +34,7 @@ impl Index {
         }
     }
 
-    /// Notes that an instance watches a file. `Err` is want of memory.
+    /// Notes that an instance watches a file. `Err` is out of memory.
     pub fn add(&mut self, number: u32, id: u32) -> Result<(), AllocError>
         ensures ok { OnOk result ((n q : ℕ) → is_noted self.new n q ≡ ((n == number && q == id) || is_noted self.old n q)) }
         ensures err { OnErr result ((n q : ℕ) → is_noted self.new n q ≡ is_noted self.old n q) }
@@ -49,7 +49,7 @@ impl Index {
         Ok(())
     }
 
-    /// Notes that an instance does not watch a file any more. A file that nobody watches has no row. It takes no memory.
+    /// Notes that an instance does not watch a file any more. An unwatched file has no row. It takes no memory.
     pub fn remove(&mut self, number: u32, id: u32)
         ensures noted { (n q : ℕ) → is_noted self.new n q ≡ (not (n == number && q == id) && is_noted self.old n q) }
         ensures rows { HasNoEmptyRow self.old → HasNoEmptyRow self.new }

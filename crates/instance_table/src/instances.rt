@@ -94,8 +94,8 @@ impl Instances {
         self.find(id, &mut 0)
     }
 
-    /// The open instance of a number. The place is looked at first, and is then where the instance stands among the open ones:
-    /// a call for the same instance that is handed it need not search again. Any place gives the same answer.
+    /// The open instance of a number. The index `place` is tried first, and is then the instance's index among the open
+    /// ones: a call for the same instance that gets it need not search again. Any index gives the same answer.
     pub fn find(&self, id: u32, place: &mut usize) -> Option<&Instance>
         ensures { option_copied result ≡ instance_of self.now id }
     {
@@ -132,7 +132,7 @@ impl Instances {
         Ok(rows)
     }
 
-    /// Opens an instance with a queue of `limit` records. `Err` is want of memory.
+    /// Opens an instance with a queue of `limit` records. `Err` is out of memory.
     pub fn open(
         &mut self,
         id: u32,
@@ -160,7 +160,8 @@ impl Instances {
         }
     }
 
-    /// Closes an instance: its watches are gone, and what waited is given up. It takes no memory. `place` is looked at first.
+    /// Closes an instance: its watches are gone, and what waited is given up. It takes no memory. The index `place` is
+    /// tried first.
     pub fn close(&mut self, id: u32, place: usize)
         ensures { self.new ≡ finmap.remove self.old id }
     {
@@ -171,7 +172,7 @@ impl Instances {
         forget(&mut self.index, &closed.instance.watches, id);
     }
 
-    /// Watches a file for an instance, and answers the descriptor of the watch. `place` is looked at first.
+    /// Watches a file for an instance, and answers the descriptor of the watch. The index `place` is tried first.
     ///
     /// It is refused as [`Watches::add`] says; then all is as it was.
     pub fn watch(
@@ -203,7 +204,8 @@ impl Instances {
         )
     }
 
-    /// Ends the watch of a descriptor, and tells the instance so. It takes no memory. `place` is looked at first.
+    /// Ends the watch of a descriptor: the instance receives `IN_IGNORED`. It takes no memory. The index `place` is
+    /// tried first.
     pub fn unwatch(&mut self, id: u32, place: usize, wd: i32)
         ensures { self.new ≡ changed self.old id (unwatching wd) }
     {
@@ -212,7 +214,7 @@ impl Instances {
         self.offer(id, place, ignored(wd));
     }
 
-    /// Takes the oldest records out of an instance's queue. It takes no memory. `place` is looked at first.
+    /// Takes the oldest records out of an instance's queue. It takes no memory. The index `place` is tried first.
     pub fn drop_oldest(&mut self, id: u32, place: usize, count: usize)
         ensures { self.new ≡ changed self.old id (after_read count) }
     {
@@ -222,8 +224,8 @@ impl Instances {
         drop_oldest(&mut self.opened[found].instance.queue, count);
     }
 
-    /// Moves the oldest records out of an instance's queue, behind those of a vector that has room for them. It takes no
-    /// memory. `place` is looked at first.
+    /// Moves the oldest records out of an instance's queue, to the end of a vector that has the capacity for them. It
+    /// takes no memory. The index `place` is tried first.
     pub fn move_oldest(&mut self, id: u32, place: usize, count: usize, records: &mut Vec<Event>)
         requires room { vec_len records.old + count ≤ vec_capacity records.old }
         ensures instances { self.new ≡ changed self.old id (after_read count) }
@@ -235,7 +237,7 @@ impl Instances {
         move_oldest(&mut self.opened[found].instance.queue, count, records);
     }
 
-    // The open instance of a number. The place `next` is looked at first, and is then the one behind the instance.
+    // The open instance of a number. The index `next` is tried first, and is then the one behind the instance.
     pub(crate) fn get_next(&self, id: u32, next: &mut usize) -> Option<&Instance>
         ensures { option_copied result ≡ instance_of self.now id }
     {
@@ -246,8 +248,8 @@ impl Instances {
         Some(&self.opened[place].instance)
     }
 
-    // Raises an event, and those behind it that the same instance hears. The place `next` is looked at first, and is then the
-    // one behind the instance.
+    // Raises an event, and the events for the same instance that directly follow it. The index `next` is tried first,
+    // and is then the one behind the instance.
     pub(crate) fn hear(
         &mut self,
         first: StagedEvent,
@@ -264,7 +266,7 @@ impl Instances {
         offer_run(&mut self.opened[place].instance.queue, first, events);
     }
 
-    // Raises an event. The place is looked at first.
+    // Raises an event. The index `place` is tried first.
     pub(crate) fn offer(&mut self, id: u32, place: usize, event: Event)
         ensures { self.new ≡ changed self.old id (λ i. record i { queue = after_offer i.queue event }) }
     {
@@ -274,7 +276,7 @@ impl Instances {
         offer_one(&mut self.opened[found].instance.queue, event);
     }
 
-    // Ends the watch of a descriptor, if there is one. The place `next` is looked at first, and is then the one behind the
+    // Ends the watch of a descriptor, if there is one. The index `next` is tried first, and is then the one behind the
     // instance.
     pub(crate) fn end_watch(&mut self, id: u32, wd: i32, next: &mut usize)
         ensures { self.new ≡ changed self.old id (λ i. record i { watches = removed i.watches wd }) }

@@ -24,7 +24,7 @@ use std::alloc::{AllocError, Global};
 use std::collections::VecDeque;
 use tree_paths::Refusal;
 
-/// What notices raise for the instances that hear any of them. Its room stays from one call to the next.
+/// What notices raise for their recipients. Its buffers are kept from one call to the next.
 #[derive(Drop)]
 pub struct Staging {
     pub(crate) hearers: Ids,
@@ -42,8 +42,8 @@ impl Staging {
 }
 
 impl Instances {
-    /// Stages what notices raise for the instances, in place of what was staged. It looks at those alone that watch one of
-    /// the files, and changes nothing.
+    /// Stages what notices raise for the instances, in place of what was staged. It looks at those alone that watch one
+    /// of the files, and changes nothing.
     ///
     /// # Errors
     /// `ENOMEM` alone.
@@ -55,7 +55,7 @@ impl Instances {
         self.stage_each(notices, &staging.hearers, &mut staging.staged)
     }
 
-    /// Tells the instances what was staged for them: each hears its events, and its watches end. It takes no memory.
+    /// Delivers what was staged: each instance receives its events, and its watches end. It takes no memory.
     pub fn tell(&mut self, notices: &[Notice], staging: &mut Staging)
         requires { IsStaged self.old notices.now staging.old }
         ensures { self.new ≡ all_changed self.old (told notices.now) }
@@ -75,7 +75,7 @@ impl Instances {
         Ok(())
     }
 
-    // Puts in the instances that watch a file, beside those that watch a file told before.
+    // Adds the instances that watch a file to those that watch the file of an earlier notice.
     #[inline(always)]
     fn add_watchers(&self, told: &[Notice], number: u32, ids: &mut Ids) -> Result<(), AllocError>
         requires { (q : ℕ) → is_some (finmap.get ids.old q) ≡ list_any (λ n. watches_file (told_number n) (instance_of self.now q)) told.now }
@@ -87,7 +87,7 @@ impl Instances {
         add_all(ids, self.watchers(number))
     }
 
-    // Stages what notices raise for those that hear any of them.
+    // Stages what notices raise for their recipients.
     fn stage_each(
         &self,
         notices: &[Notice],
@@ -132,7 +132,7 @@ impl Instances {
     }
 }
 
-// Whether one of the last two notices tells this file: a call mostly tells an object and its directory in turn.
+// Whether one of the last two notices is for this file: a call mostly notifies an object and its directory alternately.
 fn is_told_of_late(notices: &[Notice], number: u32) -> bool
     ensures { IsTrue result → list_any (λ n. told_number n == number) notices.now ≡ true }
 {

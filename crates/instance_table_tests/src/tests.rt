@@ -1,4 +1,4 @@
-//! The instances from outside: who hears what, when watches end, and who watches a file.
+//! The instances from outside: who receives what, when watches end, and who watches a file.
 
 mod refused;
 
@@ -14,7 +14,8 @@ use std::test::Fail;
 use tree_paths::{Limits, Refusal};
 use watch_table::Mask;
 
-/// What was got is what is wanted. Tests assert in these two functions: the macros in a long body take minutes to prove.
+/// What was got is what is wanted. Tests assert in these two functions: the macros in a long body take minutes to
+/// prove.
 fn equal<T: PartialEq + Debug + Drop>(rt: &impl Abort, got: T, wanted: T) {
     assert_eq!(rt; got, wanted);
 }
@@ -44,7 +45,7 @@ fn watch(instances: &mut Instances, id: u32, number: u32, bits: u32) -> Result<i
     instances.watch(id, 0, number, mask, false)
 }
 
-// A notice that is told of a file.
+// A notice of an event of the file.
 fn told(bits: u32) -> Notice {
     Notice::Told {
         number: FILE,
@@ -54,7 +55,7 @@ fn told(bits: u32) -> Notice {
     }
 }
 
-// Tells the instances of one notice.
+// Stages one notice for the instances, and delivers what it raises.
 fn tell(alloc: Global, instances: &mut Instances, notice: Notice) -> Result<(), Refusal> {
     let mut notices = Vec::new(alloc);
     notices.push(notice)?;
@@ -72,7 +73,7 @@ fn waiting(instances: &Instances, id: u32) -> usize {
     }
 }
 
-// Whether the record that waits at a place has this descriptor and this mask.
+// Whether the record that waits at an index has this descriptor and this mask.
 fn waits(instances: &Instances, id: u32, index: usize, wd: i32, mask: u32) -> bool {
     let Some(instance) = instances.get(id) else {
         return false;

@@ -176,7 +176,7 @@ cookies-left t f none few = by (cookies-there t.world t.limits (counts_of t) t.n
     by (inl unused) = omega (arith, unused, few)
     by (inr room) = room.0
 
--- a record has room for each of them
+-- each of them fits the cookie field of a record
 pub cookies-fit : (limits : Limits) (next used : ℕ) → HasRoom limits next used → cookie_now next + used ≤ 2 ^ 32
 cookies-fit limits next used (inl unused) = by (nat_le next most_cookies) refl
   where

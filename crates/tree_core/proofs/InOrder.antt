@@ -43,7 +43,7 @@ joined-append rs ss = flat_map-append (λ (r : Raised). joining (fate r) r.event
 abbrev pub GoesOn : Option Instance → List Raised → List Event → Option Instance → Type 0
 GoesOn old raised read new = waiting_of old ++ joined raised ≡ read ++ waiting_of new
 
--- an open instance is closed, and hears nothing and is not read by that
+-- an open instance is closed: this raises nothing for it, and reads nothing of it
 pub record IsClosing (old : Option Instance) (raised : List Raised) (read : List Event) (new : Option Instance) : Type 0 where
   pub instance : Instance
   pub was_open : old ≡ Some instance
@@ -81,7 +81,7 @@ same-waiting true change None keeps = refl
 same-waiting true change (Some i) keeps = ap (λ (q : Backlog). q.waiting) (keeps i)
 same-waiting false change o keeps = refl
 
--- a watch ends in one instance, which is told so
+-- a watch ends in one instance, which receives an IN_IGNORED
 abbrev IsUnwatched : Bool → ℤ → Option Instance → Option Instance → Type 0
 IsUnwatched b wd o new = GoesOn o (where_open None o (λ i. raised_to i.queue (if b then ignored wd ∷ [] else []))) (where_open None o (λ i. [])) new
 

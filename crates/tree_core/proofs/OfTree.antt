@@ -1,4 +1,4 @@
--- Which refusals a tree gives: none is want of memory, a full journal or a full pipe.
+-- Which refusals a tree gives: none is out of memory, a full journal or a full pipe.
 use Rattle.std.specs.Prelude.{ℤ}
 use Rattle.std.proofs.Common.{◌≡◌, ℕ, Bool, true, false, if◌then◌else◌, List, [], ◌∷◌, Option, Some, None, is_none, is_some, not, ◌&&◌, ◌==◌, length, refl, sym, ap, subst, ◌∙◌}
 use Rattle.tree_paths.specs.Rows.{row, first_row}

@@ -1,4 +1,4 @@
--- What a reply tells of the tree that gave it.
+-- What a reply says about the tree that gave it.
 use Rattle.std.proofs.Common.{◌≡◌, ℕ, Bool, true, false, not, IsTrue, List, [], Option, Some, None, refl, sym, ap, ◌∙◌}
 use Rattle.tree_paths.specs.Rows.{first_row}
 use Rattle.tree_paths.specs.declared.refusal.Refusal.{Refusal}

@@ -1,4 +1,4 @@
--- A snapshot of a sound tree tells the tree.
+-- A snapshot of a sound tree determines the tree.
 use Rattle.std.proofs.Common.{◌≡◌, ℕ, ◌+◌, ◌≤◌, List, [], ◌∷◌, map, Option, Some, None, option_map, refl, sym, ap, ◌∙◌, arith}
 use Rattle.std.specs.Prelude.{ℤ}
 use Rattle.std.specs.Cmp.{nat_cmp_total}
@@ -42,7 +42,7 @@ watches-back w sound =
 
 -- ---- instances
 
--- what a row tells of an instance
+-- the instance that its row stands for
 abbrev told_back : Limits → Instance → Instance
 told_back limits i = (open_of limits (instance_row (0, i))).1
 

@@ -7,9 +7,9 @@ use Rattle.tree_core.specs.declared.reply.Receipt.{Receipt}
 use Rattle.tree_core.specs.Tree.{reply_of}
 use Rattle.tree_core.specs.Journal.{Journaled, IsLawfulFrom, IsSpent, last_place, now, with_entry}
 
--- a call makes one entry more, with the reply of the tree before it, and the receipt in the answer tells the entry's place and that
--- reply; or it is refused, and the state is as before. Either way the journal is lawful. It is refused as full where no entry more is
--- taken, and there alone, and otherwise for want of memory
+-- a call makes one more entry, with the reply of the tree before it, and the receipt in the answer has the sequence
+-- number of the entry and that reply; or it is refused, and the state is as before. Either way the journal is lawful.
+-- It is refused as full if and only if the journal takes no more entries, and otherwise as out of memory
 pub record Applies {X : Type 0} (receipt : X → Receipt) (old : Journaled) (caller : ℕ) (call : Call) (result : Result X Refusal) (new : Journaled) : Type 0 where
   pub entry : IfOk result (λ x. new ≡ with_entry old (record { caller = caller; call = call; reply = (receipt x).reply }))
   pub place : IfOk result (λ x. (receipt x).place ≡ last_place new)
@@ -19,6 +19,6 @@ pub record Applies {X : Type 0} (receipt : X → Receipt) (old : Journaled) (cal
   pub full : (result ≡ Err JournalFull) ↔ IsSpent old
   pub errors : IfErr result (λ e. (e ≡ JournalFull) ⊎ (e ≡ Enomem))
 
--- the receipt of an entry at this place
+-- the receipt of an entry with this sequence number
 abbrev pub receipt_of : Journaled → Call → ℕ → Receipt
 receipt_of old call place = record { place = place; reply = reply_of (now old) call }

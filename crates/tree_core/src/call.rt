@@ -22,20 +22,20 @@ pub enum Call {
         piped: bool,
     },
     /// Watches a file, as `inotify_add_watch`. A file that is watched already keeps its watch descriptor, and the mask
-    /// takes the place of the old one, or is joined with it under `IN_MASK_ADD`.
+    /// replaces the old one, or is joined with it under `IN_MASK_ADD`.
     ///
-    /// The first that holds: `EBADF`, no such instance; `EINVAL`, the mask has `IN_MASK_CREATE` and `IN_MASK_ADD`, or no
-    /// bit of an event; `ENOENT` or `ENOTDIR`, no such file; `ENOTDIR`, `IN_ONLYDIR` and no directory; `EEXIST`,
+    /// The first that holds: `EBADF`, no such instance; `EINVAL`, the mask has `IN_MASK_CREATE` and `IN_MASK_ADD`, or
+    /// no bit of an event; `ENOENT` or `ENOTDIR`, no such file; `ENOTDIR`, `IN_ONLYDIR` and no directory; `EEXIST`,
     /// `IN_MASK_CREATE` and the file is watched already; `ENOSPC`, too many watches, or no watch descriptor is left.
     AddWatch {
         /// The instance that is to watch.
         instance: u32,
         /// The file.
         path: Path,
-        /// The bits of the events that are to be told, and flags of the call. Other bits have no effect.
+        /// The bits of the events that are to be raised, and flags of the call. Other bits have no effect.
         mask: u32,
     },
-    /// Ends a watch, as `inotify_rm_watch`: the instance is told `IN_IGNORED`.
+    /// Ends a watch, as `inotify_rm_watch`: the instance receives `IN_IGNORED`.
     ///
     /// The first that holds: `EBADF`, no such instance; `EINVAL`, no watch has the descriptor.
     RmWatch {
@@ -51,7 +51,7 @@ pub enum Call {
     Read {
         /// The instance that is read.
         instance: u32,
-        /// How many bytes there is room for.
+        /// How many bytes of records fit.
         bytes: u32,
     },
     /// Reads the oldest records that fit, for the pipe of an instance.
@@ -60,7 +60,7 @@ pub enum Call {
     Pump {
         /// The instance that is read.
         instance: u32,
-        /// How many bytes there is room for.
+        /// How many bytes of records fit.
         bytes: u32,
     },
     /// Closes an instance, as `close` of an inotify file descriptor: its watches are gone, and what waited is given up.

@@ -4,15 +4,15 @@ ghost use Rattle.tree_core.specs.CutLaws.{CutsKeepAnswers, PastsMakeWhole, Snaps
 
 use crate::turn_laws::trees_are_sound;
 
-/// A law: where a lawful journal is cut, the tree at the cut is sound, and the rest is lawful from it, with the replies that
-/// it had, and leads where the whole journal leads.
+/// A law: where a lawful journal is cut, the tree at the cut is sound, and the rest is lawful from it, with the replies
+/// that it had, and leads where the whole journal leads.
 pub fn cuts_keep_answers()
     ensures { CutsKeepAnswers }
 {
     trees_are_sound();
 }
 
-/// A law: a snapshot tells its tree, limits aside, and its place.
+/// A law: a snapshot determines its tree, limits aside, and its sequence number.
 pub fn snapshots_tell_all()
     ensures { SnapshotsTellAll }
 {}

@@ -29,7 +29,7 @@ use watch_table::Mask;
 /// The number of the first file that is made: the root has the number 1.
 const FIRST_NUMBER: u32 = 2;
 
-/// The files, the open instances, the numbers that come next, and room for what a call tells.
+/// The files, the open instances, the numbers that come next, and buffers for what a call raises.
 pub struct FileSystem {
     pub(crate) alloc: Global,
     pub(crate) limits: Limits,
@@ -73,7 +73,7 @@ pub enum Rest {
     Nothing,
     /// The staged events are delivered.
     Notify,
-    /// The oldest records leave the queue of an instance. The place is looked at first.
+    /// The oldest records leave the queue of an instance. The index `place` is tried first.
     Take {
         instance: u32,
         place: usize,
@@ -113,7 +113,7 @@ impl FileSystem {
         })
     }
 
-    /// A snapshot of the tree, behind an entry at this place.
+    /// A snapshot of the tree after the entry with this sequence number.
     pub fn snapshot(&self, place: u64) -> Result<Snapshot, Refusal>
         ensures ok { IfOk result (IsSnapshotOf (tree_in self.now) place) }
         ensures err { IfErr result (λ refusal. refusal ≡ Enomem) }
@@ -355,7 +355,7 @@ fn answered(begun: Result<Begun, Refusal>) -> Result<Begun, Refusal>
     }
 }
 
-// Notes what an accepted call tells, where anybody watches a file; else nobody hears of it.
+// Notes the notices of an accepted call, if any file is watched. Otherwise they have no recipients, and none is noted.
 fn note(
     instances: &Instances,
     ready: &Ready,
@@ -426,7 +426,7 @@ fn check_close(instance: Option<&Instance>) -> Result<(), Refusal>
     }
 }
 
-// The bytes of the oldest records, for which room is made at once.
+// The bytes of the oldest records, in a buffer that is allocated once.
 fn spelled(alloc: Global, queue: &Queue, fit: Fit) -> Result<Bytes, AllocError>
     requires { fit.count ≤ length queue.now.waiting }
     ensures bytes { IfOk result (λ bytes. bytes ≡ spelling (take fit.count queue.now.waiting)) }

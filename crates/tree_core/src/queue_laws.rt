@@ -32,7 +32,7 @@ pub fn events_are_accounted_for()
     watches_stay_sound();
 }
 
-/// A law: an instance that was never made, or is closed, hears nothing and gives nothing to read.
+/// A law: an instance that was never made, or is closed, receives no events and gives nothing to read.
 pub fn closed_instances_hear_nothing()
     ensures unmade { UnmadeInstancesHearNothing }
     ensures closed { ClosedInstancesHearNothing }

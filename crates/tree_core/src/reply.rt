@@ -37,10 +37,10 @@ pub struct Entry {
     pub reply: Reply,
 }
 
-/// What an applied call answered, and its place in the journal.
+/// What an applied call answered, and the sequence number of its entry.
 #[derive(Debug, Drop, PartialEq, Eq)]
 pub struct Receipt {
-    /// The place of the call's entry, the first being 1.
+    /// The sequence number of the call's entry. The first is 1.
     pub place: u64,
     /// What the call answered.
     pub reply: Reply,
@@ -49,7 +49,7 @@ pub struct Receipt {
 /// A copy of what the journal keeps of a call, for who made it.
 #[derive(Debug, Drop, PartialEq, Eq)]
 pub struct Kept {
-    /// The place of the call's entry, the first being 1.
+    /// The sequence number of the call's entry. The first is 1.
     pub place: u64,
     /// The call.
     pub call: Call,

@@ -4,7 +4,7 @@ use inode_table::FileRow;
 use instance_table::InstanceRow;
 use tree_paths::Path;
 
-/// A tree in lists, as it was at a cut, and the place of the last entry before it.
+/// A tree in lists, as it was at a cut, and the sequence number of the last entry before it.
 ///
 /// Paths stand name by name in the order of their bytes, a path before those below it; files by their numbers, and
 /// instances by theirs.
@@ -21,7 +21,7 @@ pub struct Snapshot {
     pub next_cookie: u32,
     /// The number of the next instance.
     pub next_id: u32,
-    /// The place of the last entry before the cut, 0 where there is none.
+    /// The sequence number of the last entry before the cut, 0 where there is none.
     pub place: u64,
 }
 

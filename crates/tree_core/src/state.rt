@@ -29,9 +29,9 @@ mod peeking;
 
 /// A tree of files with its instances, and the journal of the calls that it answered.
 ///
-/// Contracts see it as the tree at the last cut, the place of the last entry before it, and its journal, which are the
-/// entries since: the files, the watches and what waits are what these stand for. The journal is lawful at each moment:
-/// each reply in it is the one that the tree gives after the calls before.
+/// Contracts see it as the tree at the last cut, the sequence number of the last entry before it, and its journal,
+/// which has the entries since: the files, the watches and what waits are what these stand for. The journal is lawful
+/// at each moment: each reply in it is the one that the tree gives after the calls before.
 pub struct State {
     file_system: FileSystem,
     snapshot: Snapshot,
@@ -87,7 +87,8 @@ impl State {
     ///
     /// # Errors
     /// The first that holds; the state is then as before, the journal too.
-    /// - `JournalFull`, where the journal has as many entries since the last cut as its limit, or the last place is 2^64 - 1.
+    /// - `JournalFull`, where the journal has as many entries since the last cut as its limit, or the last sequence
+    ///   number is 2^64 - 1.
     /// - `ENOMEM`, where there is no memory for the call.
     pub fn apply(&mut self, caller: u32, call: Call) -> Result<Receipt, Refusal>
         ensures applied { Applies (λ r. r) self.old caller call result self.new }
@@ -122,7 +123,7 @@ impl State {
     }
 
     /// Carries out a call as [`State::apply`], and leaves its reply to the journal: [`State::last_entry`] has the only
-    /// copy. It answers the place of the entry.
+    /// copy. It answers the sequence number of the entry.
     ///
     /// # Errors
     /// Those of [`State::apply`].
@@ -180,8 +181,8 @@ impl State {
         Ok((receipt, kept))
     }
 
-    /// Carries out a [`Call::Pump`] as [`State::keep`], and also gives the records that it read, moved out of the queue.
-    /// `None` where it was refused.
+    /// Carries out a [`Call::Pump`] as [`State::keep`], and also gives the records that it read, moved out of the
+    /// queue. `None` where it was refused.
     ///
     /// # Errors
     /// Those of [`State::apply`].
@@ -232,15 +233,15 @@ impl State {
         self.journal.last()
     }
 
-    /// The place of the last entry, whether it was cut off or not: 0 where there is none.
+    /// The sequence number of the last entry, whether it was cut off or not: 0 where there is none.
     pub fn last_place(&self) -> u64
         ensures { result ≡ last_place self.now }
     {
         self.snapshot.place + self.journal.len() as u64
     }
 
-    /// What the last cut kept of the tree, and the place of the last entry before it. Before any cut it is the opening tree,
-    /// and the place is 0.
+    /// What the last cut kept of the tree, and the sequence number of the last entry before it. Before any cut it is
+    /// the opening tree, and the sequence number is 0.
     pub fn snapshot(&self) -> &Snapshot
         ensures tells { IsSnapshotOf self.now.start self.now.place result.now }
         ensures sound { IsSoundTree self.now.start }
@@ -250,9 +251,9 @@ impl State {
         &self.snapshot
     }
 
-    /// Puts a snapshot of the tree in the place of the journal, and answers the place of the last entry. The tree stays
-    /// as it is, and places go on. It takes time and memory in proportion to the tree, and gives back all that the
-    /// entries held.
+    /// Replaces the journal with a snapshot of the tree, and answers the sequence number of the last entry. The tree
+    /// stays as it is, and sequence numbers continue. It takes time and memory in proportion to the tree, and frees all
+    /// memory that the entries held.
     ///
     /// # Errors
     /// `ENOMEM`, where there is no memory for it. The state is then as before.
@@ -266,7 +267,7 @@ impl State {
         self.file_system.instances.law();
         let place = self.snapshot.place + self.journal.len() as u64;
         self.snapshot = self.file_system.snapshot(place)?;
-        // The room goes back with the entries, so that memory is bounded by what stands since the cut.
+        // The capacity is freed with the entries, so that memory is bounded by what stands since the cut.
         self.journal = Vec::new(self.file_system.alloc);
         Ok(place)
     }
@@ -294,7 +295,7 @@ impl State {
     }
 }
 
-// Room for one more entry of a journal that begins behind this place.
+// Reserves capacity for one more entry of a journal that begins after this sequence number.
 fn make_room(journal: &mut Vec<Entry>, limits: &Limits, place: u64) -> Result<(), Refusal>
     requires { place + length journal.old.items < 2 ^ 64 }
     ensures items { journal.new.items ≡ journal.old.items }

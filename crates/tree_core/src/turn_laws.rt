@@ -1,5 +1,5 @@
-//! Laws of numbers, descriptors and cookies, and of the end of watches, over all lawful journals. Each is a function that
-//! does nothing, and its contract is the law.
+//! Laws of numbers, descriptors and cookies, and of the end of watches, over all lawful journals. Each is a function
+//! that does nothing, and its contract is the law.
 
 ghost use Rattle.tree_core.specs.declared.call.Call.{Call};
 ghost use Rattle.tree_core.specs.Tree.{Tree};
@@ -43,8 +43,8 @@ pub fn numbers_are_in_turn()
     other_watches_stay();
 }
 
-/// A law: no two moves share a cookie; the i-th pair of `IN_MOVED_FROM` and `IN_MOVED_TO` that a call raises has the i-th of its
-/// cookies, and all other events have none.
+/// A law: no two moves share a cookie; the i-th pair of `IN_MOVED_FROM` and `IN_MOVED_TO` that a call raises has the
+/// i-th of its cookies, and all other events have none.
 pub fn cookies_are_in_turn()
     ensures turn { CookiesAreInTurn }
     ensures tie { CookiesTieMoves }
@@ -64,7 +64,7 @@ pub fn watches_end_once()
     watches_stay_sound();
 }
 
-/// A law: what the reply to a call tells of the tree that gave it. A refused call changes nothing, raises nothing and
+/// A law: what the reply to a call says about the tree that gave it. A refused call changes nothing, raises nothing and
 /// reads nothing; and no tree replies `ENOMEM`, `JournalFull` or `PipeFull`, so that none of these stands in a lawful
 /// journal.
 pub fn replies_tell()

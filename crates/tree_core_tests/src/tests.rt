@@ -1,4 +1,4 @@
-//! The tree from outside: each call with its answer, what is heard of it, and each limit at its last value.
+//! The tree from outside: each call with its answer and its events, and each limit at its last value.
 
 mod calls;
 mod cuts;
@@ -20,7 +20,8 @@ use tree_core::{Call, Receipt, Reply, State};
 use tree_ops::{Answer, FileCall, RENAME_EXCHANGE};
 use tree_paths::{Limits, Names, Path, Refusal};
 
-/// What was got is what is wanted. Tests assert in these two functions: the macros in a long body take minutes to prove.
+/// What was got is what is wanted. Tests assert in these two functions: the macros in a long body take minutes to
+/// prove.
 fn equal<T: PartialEq + Debug + Drop>(rt: &impl Abort, got: T, wanted: T) {
     assert_eq!(rt; got, wanted);
 }
@@ -33,7 +34,7 @@ fn holds(rt: &impl Abort, what: &str, is_so: bool) {
 /// Who makes the calls.
 const CALLER: u32 = 7;
 
-/// Room for all that waits, in bytes.
+/// The size of a buffer for all that waits, in bytes.
 const ALL: u32 = 4096;
 
 /// More names than a path here has.
@@ -60,7 +61,7 @@ fn is_last(state: &State, call: &Call, reply: &Reply) -> bool {
     }
 }
 
-// What a call answers, and whether the journal has it so as its last entry, at the receipt's place.
+// What a call answers, and whether the journal's last entry says so and has the receipt's sequence number.
 fn answered(state: &mut State, call: Result<Call, Refusal>) -> Result<(Reply, bool), Refusal> {
     let call = call?;
     let receipt = made(state, &call)?;

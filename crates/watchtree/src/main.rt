@@ -1,5 +1,5 @@
-//! The program `watchtree`: runs a script of calls on a tree of files and prints their replies, or lets two writers and two
-//! listeners work on one tree at once and settles its book.
+//! The program `watchtree`: runs a script of calls on a tree of files and prints their replies, or lets two writers and
+//! two listeners work on one tree at once and settles its book.
 #![tactic(auto)]
 
 ghost use Rattle.std.specs.Prelude.{◌≤◌};
@@ -56,7 +56,7 @@ fn main(rt: HostRuntime) -> ExitCode {
     match ended {
         Ok(()) => ExitCode::SUCCESS,
         Err(fault) => {
-            // The status tells of a fault even where its line cannot be written.
+            // The status reports the fault even if its line cannot be written.
             let _ = eprintln!(rt; "watchtree: {fault}");
             ExitCode::from(fault.status())
         }

@@ -35,7 +35,7 @@ bytes_by n bytes None = let l = length-take n bytes in omega (arith, l)
 pub file_fits : (t : Tree) (p : List (List ℕ)) (offset n : ℕ) → Fits (reply_of t (call.File (file.ReadFile p offset n))) n
 file_fits t p offset n = bytes_by n _ (refusal_of t (call.File (file.ReadFile p offset n)))
 
--- what fits fits in more room
+-- what fits a buffer fits a longer one
 pub more_room : (r : Reply) (n m : ℕ) → n ≤ m → Fits r n → Fits r m
 more_room (reply.Records bytes) n m l f = omega arith
 more_room (reply.File (answer.Bytes bytes)) n m l f = omega arith

@@ -20,7 +20,7 @@ overlaid-nothing xs = drop_all (length xs) [] (omega arith)
 length-overlaid : (xs old : List ℕ) → length (overlaid xs old) ≡ length old
 length-overlaid xs old = simp (length-append, length-take, length-drop) (omega arith)
 
--- where there is room for all of the first part
+-- where all of the first part fits
 roomy : (xs ys old : List ℕ) → length xs ≤ length old → take (length xs) (overlaid xs old) ++ overlaid ys (drop (length xs) (overlaid xs old)) ≡ overlaid (xs ++ ys) old
 roomy xs ys old le =
     let n = length xs in
@@ -37,14 +37,14 @@ roomy xs ys old le =
     ap (λ (t : List ℕ). t ++ overlaid ys (drop n (overlaid xs old))) front ∙ ap (λ (t : List ℕ). xs ++ overlaid ys t) back
     ∙ sym (append_assoc xs (take k ys) behind) ∙ sym parts
 
--- where there is room for no more than the first part
+-- where no more than the first part fits
 full : (xs ys old : List ℕ) → length old ≤ length xs → overlaid xs old ≡ overlaid (xs ++ ys) old
 full xs ys old le =
     let total = length-append xs ys in
     let none : drop (length xs) old ≡ drop (length (xs ++ ys)) old = drop_all (length xs) old le ∙ sym (drop_all (length (xs ++ ys)) old (omega (arith, total, le))) in
     ap (λ (t : List ℕ). take (length old) xs ++ t) none ∙ ap (λ (t : List ℕ). t ++ drop (length (xs ++ ys)) old) (sym (take-append-le (length old) xs ys le))
 
--- a write from a place to the end
+-- a write from an index to the end
 to_end : (now mid : List ℕ) (s : ℕ) → put_mid s (length now - s) now mid ≡ take s now ++ mid
 to_end now mid s =
     let k = length now - s in
@@ -121,6 +121,6 @@ pub slashed_all : (names : List (List ℕ)) → (names ≡ [] → ⊥) → slash
 slashed_all [] some = absurd (some refl)
 slashed_all (name ∷ names) some = refl
 
--- a count that stops at the greatest number tells as much
+-- a count that saturates at the greatest number gives the same answer
 pub count_same : (n : ℕ) → count_number (min n (2 ^ 64 - 1)) ≡ count_number n
 count_same n = ap pos (omega arith)

@@ -34,7 +34,7 @@ unasked s f text e (inl is) = by (parsed text)
 pub asked : (s : Journaled) (f : List (List ℕ) → Call) (text : List ℕ) (p : List (List ℕ)) (r : Reply) → parsed text ≡ Ok p → MayReply s (f p) r → WouldReply s (on_path f (parsed text)) r
 asked s f text p r is may = subst (λ o. WouldReply s (on_path f o) r) (sym is) may
 
--- a refusal of the call, or want of memory
+-- a refusal of the call, or out of memory
 pub refused-may : (s : Journaled) (c : Call) (e : Refusal) → (reply_of (now s) c ≡ reply.Refused e) ⊎ (e ≡ Enomem) → MayReply s c (reply.Refused e)
 refused-may s c e (inl is) = inl (sym is)
 refused-may s c e (inr is) = inr (ap (λ x. reply.Refused x) is)

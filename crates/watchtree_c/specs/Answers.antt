@@ -47,7 +47,8 @@ abbrev pub IsReplied : Journaled → Result Call Refusal → Reply → Journaled
 IsReplied old (Ok call) r new = Replies old call r new
 IsReplied old (Err refusal) r new = (r ≡ reply.Refused refusal) × (new ≡ old)
 
--- a call that is made of a tree may have this reply, and lead from the old tree to the new one. A tree that is not open answers EBADF
+-- a call that is made of a tree may have this reply, and lead from the old tree to the new one. A tree that is not open
+-- answers EBADF
 abbrev pub IsMade : Option Opened → Result Call Refusal → Option Opened → Reply → Type 0
 IsMade (Some old) call new r = (after : Journaled) × IsReplied old.state call r after × (new ≡ Some (record old { state = after }))
 IsMade None call new r = (r ≡ reply.Refused Ebadf) × (new ≡ None)
@@ -68,7 +69,7 @@ pub record Answers (M : Reply → Type 0) (number : ℤ) : Type 0 where
 
 -- ---- bytes
 
--- bytes put over the front of others, as many as there is room for
+-- bytes put over the front of others, as many as fit
 abbrev pub overlaid : List ℕ → List ℕ → List ℕ
 overlaid bytes old = take (length old) bytes ++ drop (length bytes) old
 
@@ -124,7 +125,7 @@ IsOpened None number new =
 
 -- ---- a journal that is cut
 
--- it is cut, and the place of the last entry told, or there is no memory for it and all stays as it is
+-- it is cut, and answers the sequence number of the last entry; or there is no memory for it, and all stays as it is
 abbrev pub IsCutOff : Option Opened → ℤ → Option Opened → Type 0
 IsCutOff (Some old) number new =
     ((number ≡ count_number (last_place old.state)) × (new ≡ Some (record old { state = cut_off old.state })))

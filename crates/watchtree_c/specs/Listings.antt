@@ -1,4 +1,4 @@
--- What C is told of the names in a directory.
+-- The names in a directory, as C gets them.
 use Rattle.std.specs.Prelude.{◌≡◌, ℕ, ℤ, pos, List, [], ◌∷◌, ◌++◌, length}
 use Rattle.std.specs.List.{flat_map}
 use Rattle.tree_ops.specs.declared.answer.Answer.TheVariants as answer

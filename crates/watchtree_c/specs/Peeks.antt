@@ -1,4 +1,4 @@
--- What C is told where no call is made.
+-- What C gets where no call is made.
 use Rattle.std.specs.Prelude.{◌≡◌, ◌⊎◌, ℕ, ℤ, List, length, Option, Some, None, Result, Ok, Err}
 use Rattle.tree_paths.specs.declared.refusal.Refusal.{Refusal}
 use Rattle.tree_paths.specs.declared.refusal.Refusal.TheVariants.{Ebadf, Enoent, Enomem}
@@ -27,7 +27,7 @@ abbrev pub IsReadyTold : Option Opened → ℤ → List ℕ → List ℕ → Typ
 IsReadyTold (Some content) number out filled = AreTold (ready_in (now content.state).instances) number out filled
 IsReadyTold None number out filled = (number ≡ refused_number Ebadf) × (filled ≡ out)
 
--- the reply that a call would have on the tree that a journal stands for, or want of memory
+-- the reply that a call would have on the tree that a journal stands for, or out of memory
 abbrev pub MayReply : Journaled → Call → Reply → Type 0
 MayReply s call r = (r ≡ reply_of (now s) call) ⊎ (r ≡ reply.Refused Enomem)
 

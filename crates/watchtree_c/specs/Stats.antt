@@ -1,4 +1,4 @@
--- What C is told of what stands at a path.
+-- The status of what is at a path, as C gets it.
 use Rattle.std.specs.Prelude.{◌≡◌, ℕ, ℤ, Option, Some, None}
 use Rattle.inode_table.specs.declared.seen.Kind.{Kind}
 use Rattle.inode_table.specs.declared.seen.Kind.TheVariants.{Regular, Directory}
@@ -12,7 +12,7 @@ abbrev pub directory_number : Kind → ℕ
 directory_number Regular = 0
 directory_number Directory = 1
 
--- what a reply tells, if it does
+-- the status that a reply has, if any
 abbrev pub stat_of : Reply → Option Stat
 stat_of (reply.File (answer.Stat number kind mode links size)) =
     Some (record { links = links; size = size; number = number; mode = mode; is_directory = directory_number kind })
@@ -27,12 +27,12 @@ stat_of (reply.Records bytes) = None
 stat_of reply.Done = None
 stat_of (reply.Refused refusal) = None
 
--- what is told takes the place of what stood there
+-- the new status if there is one, and the old one otherwise
 abbrev pub told_or : Option Stat → Stat → Stat
 told_or (Some stat) old = stat
 told_or None old = old
 
--- what C asks for is answered by the number of such a reply, and told
+-- what C asks for is answered by the number of such a reply, and by its status
 pub record Tells (M : Reply → Type 0) (number : ℤ) (out told : Stat) : Type 0 where
   pub r : Reply
   pub made : M r

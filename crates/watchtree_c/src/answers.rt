@@ -47,7 +47,7 @@ pub(crate) fn count_number(count: u64) -> i64
     count.min(i64::MAX as u64) as i64
 }
 
-/// Puts the bytes of a reply at the front of `out`, as many as it has room for.
+/// Puts the bytes of a reply at the front of `out`, as many as fit.
 pub(crate) fn fill(out: &mut [u8], reply: &Reply)
     ensures { IsFilled reply.now out.old out.new }
 {

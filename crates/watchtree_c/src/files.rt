@@ -224,8 +224,8 @@ pub(crate) fn stat_of(reply: &Reply) -> Option<Stat>
     })
 }
 
-/// The names in a directory in the order of their bytes, each with a zero byte behind it, as many bytes as there is room
-/// for. It answers how many bytes all of them are.
+/// The names in a directory in the order of their bytes, each with a zero byte behind it, as many bytes as fit. It
+/// answers how many bytes all of them are.
 #[unsafe(no_mangle)]
 pub extern "C" fn wt_list(alloc: Global, tree: &mut Tree, path: &[u8], out: &mut [u8]) -> i64
     ensures { Lists (IsReply tree.old.held.state (list_call path.now) tree.new.held.state) result out.old out.new }
@@ -238,8 +238,8 @@ pub extern "C" fn wt_list(alloc: Global, tree: &mut Tree, path: &[u8], out: &mut
     put_names(out, names.as_slice())
 }
 
-/// Puts names at the front of `out`, each with a zero byte behind it, as many bytes as it has room for. It answers how many
-/// bytes all of them are.
+/// Puts names at the front of `out`, each with a zero byte behind it, as many bytes as fit. It answers how many bytes
+/// all of them are.
 pub(crate) fn put_names(out: &mut [u8], names: &[Name]) -> i64
     ensures number { result ≡ count_number (length (flat_map ended names.now)) }
     ensures bytes { out.new ≡ overlaid (flat_map ended names.now) out.old }
@@ -252,8 +252,8 @@ pub(crate) fn put_names(out: &mut [u8], names: &[Name]) -> i64
     count_number(len as u64)
 }
 
-/// Puts bytes behind the `len` bytes that were put at the front of `out`, as many as it has room for. It answers how many
-/// bytes all of them are, no more than a `usize` may be.
+/// Puts bytes behind the `len` bytes that were put at the front of `out`, as many as fit. It answers how many bytes all
+/// of them are, no more than a `usize` may be.
 pub(crate) fn put_more(out: &mut [u8], len: usize, bytes: &[u8]) -> usize
     ensures len { result ≡ min (len + length bytes.now) (2 ^ 64 - 1) }
     ensures bytes { (front old : List ℕ) → len ≡ min (length front) (2 ^ 64 - 1) → out.old ≡ overlaid front old → out.new ≡ overlaid (front ++ bytes.now) old }

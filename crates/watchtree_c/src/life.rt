@@ -52,8 +52,8 @@ pub extern "C" fn wt_close(alloc: Global, tree: &mut Tree)
     drop(tree.take(alloc));
 }
 
-/// Cuts the journal: a snapshot takes the place of the calls so far, and answers and places go on as they would. It answers
-/// the place of the last call.
+/// Cuts the journal: a snapshot replaces the calls so far. Answers and sequence numbers continue as they would without
+/// the cut. It answers the sequence number of the last call.
 ///
 /// # Errors
 /// - `EBADF`, where the tree is not open.

@@ -13,9 +13,9 @@ use watchtree_script::{RunFault, ScriptFault, print_line};
 /// The number of each line: C counts its own.
 const LINE: u64 = 1;
 
-/// Runs one line of a script, and puts the text that it prints at the front of `out`, as much as there is room for. It
-/// answers how many bytes the text has. The whole text is kept until the next line: [`wt_text`] gives it. `queue` is the
-/// limit of an instance that names none.
+/// Runs one line of a script, and puts the text that it prints at the front of `out`, as much as fits. It answers how
+/// many bytes the text has. The whole text is kept until the next line: [`wt_text`] gives it. `queue` is the limit of
+/// an instance that names none.
 ///
 /// # Errors
 /// - `EBADF`, where the tree is not open.
@@ -63,8 +63,8 @@ fn run_number(fault: RunFault) -> i64
     }
 }
 
-/// Puts the text of the last line that [`wt_line`] ran at the front of `out`, as much as there is room for. It answers how
-/// many bytes the text has: 0 where no line ran, or the last one had a fault or no memory. No call is made for it.
+/// Puts the text of the last line that [`wt_line`] ran at the front of `out`, as much as fits. It answers how many
+/// bytes the text has: 0 where no line ran, or the last one had a fault or no memory. No call is made for it.
 ///
 /// # Errors
 /// `EBADF`, where the tree is not open.

@@ -1,4 +1,4 @@
--- A text is refused as no path for what it is, and never for want of memory, which is answered as the call's.
+-- A text is refused as no path for its bytes alone. Out of memory is answered as the call's ENOMEM.
 use Rattle.std.proofs.Common.{◌≡◌, ℕ, ◌-◌, Bool, true, false, not, ◌&&◌, nat_eq, nat_lt, List, [], length, Result, Ok, Err, refl, ap, subst, inl, inr}
 use Rattle.std.specs.Prelude.{◌⊎◌, cond, nat_le, slice_index, IfErr}
 use Rattle.std.specs.List.{list_any}
@@ -38,7 +38,7 @@ lacking : {A : Type 0} (r : Result (List (List ℕ)) Refusal) (told : Result A R
 lacking (Ok x) told lacks other h = (x, refl)
 lacking (Err e) told lacks other h = absurd (other cc)
 
--- a text that is refused is refused as the definition says: so where memory is wanting it is a path
+-- a text that is no path is refused as the definition says, so one that is refused as out of memory is a path
 pub path-lacking : {A : Type 0} (text : List ℕ) (told : Result A Refusal) → told ≡ Err Enomem → IfErr (parsed text) (λ e. told ≡ Err e) → ((x : List (List ℕ)) × (path_of text ≡ Ok x)) ⊎ (path_of text ≡ Err PathMemory)
 unfolding path_of
 path-lacking text told lacks h = inl (lacking (parsed text) told lacks (never text) h)
@@ -60,13 +60,13 @@ behind (Ok x) q g other Memory h = tt
 behind (Err e) q (inl g) other error h = absurd (not-both e g.0 g.1)
 behind (Err e) q (inr g) other error h = absurd (other g)
 
--- where memory is wanting for the first of two paths, which is one then, the line is refused for what is told of the other
+-- where memory runs out for the first of two texts, which is a path then, the line has the error of the second
 pub error-behind : (old new : List ℕ) (lacks : LineError) → lacks ≡ PathMemory → GivesPath (Err lacks) (path_of old) → (error : LineError) → GivesPath (Err error) (path_of new) → GivesPath (Err error) (paths_of old new)
 unfolding path_of paths_of
 error-behind old new lacks is g error h =
     behind (refused (parsed old)) (refused (parsed new)) (subst (λ e. GivesPath (Err e) (refused (parsed old))) is g) (told-one (parsed old)) error h
 
--- where memory is wanting for a path, the line's call is answered so
+-- where memory runs out for a path, the line's call is answered ENOMEM
 pub path_answered : (old : Journaled) (asked : Result Line LineError) (text : List ℕ) → AsksByPath asked → text ≡ refusal_text Enomem → PrintsLine old asked text old
 path_answered old (Ok Silent) text h e = absurd h
 path_answered old (Ok Cut) text h e = absurd h

@@ -70,7 +70,7 @@ first-position s bs (Some k) h = some (position p bs) refl
         let not_behind : k < i → ⊥ = λ lt. false≢true (sym (found.2 k lt) ∙ h.1) in
         ap Some (omega (arith, not_before, not_behind))
 
--- it tells whether there is one
+-- it finds one if and only if there is one
 pub first-any : (s : ℕ) (bs : List ℕ) (r : Option ℕ) → IsFirstByte (is_byte s) bs r → is_some r ≡ list_any (λ b. b == s) bs
 first-any s bs None h =
     let none = All-from_get_or (λ b. (b == s) ≡ false) bs 0 (λ k below. fails (get_or bs k 0 == s) (h k (omega arith) below)) in

@@ -5,7 +5,7 @@ use thiserror::Error;
 
 /// What is wrong with a line.
 ///
-/// Of a line the first that holds is told, in this order, and of the words the leftmost.
+/// The fault of a line is the first of these that holds. Of the faults of its words it is that of the leftmost word.
 #[derive(Clone, Copy, Debug, PartialEq, Eq, Error)]
 pub enum ScriptFault {
     /// A byte is neither a space nor from `!` to `~`.

@@ -35,13 +35,13 @@ pub enum Command {
     Unlink,
     /// `rmdir PATH` takes away an empty directory.
     Rmdir,
-    /// `rename OLD NEW` moves a file, or a directory with all that is below it.
+    /// `rename OLD NEW` moves a file, or a directory with its descendants.
     Rename,
     /// `rename2 OLD NEW FLAGS` renames by flags.
     Rename2,
-    /// `stat PATH` tells what stands at a path.
+    /// `stat PATH` shows what is at a path.
     Stat,
-    /// `list PATH` tells the names in a directory.
+    /// `list PATH` lists the names in a directory.
     List,
     /// `init` or `init LIMIT` makes an instance.
     Init,
@@ -75,7 +75,7 @@ pub enum OutputFormat {
 pub enum Line {
     /// Nothing: the line is empty, or a comment.
     Silent,
-    /// A cut of the journal, whose place is printed.
+    /// A cut of the journal. The sequence number of its last entry is printed.
     Cut,
     /// A call, whose reply is printed.
     Run { call: Call, format: OutputFormat },

@@ -61,7 +61,7 @@ impl<'a> Lines<'a> {
         Lines { rest: Some(script) }
     }
 
-    /// The next line. Where all its bytes are printable, one look at each finds its end and tells so.
+    /// The next line. If all its bytes are printable, a single pass over them finds its end and shows that they are.
     #[inline(always)]
     pub fn next_line(&mut self) -> Option<ScriptLine<'a>>
         ensures line { MatchOption result ((self.old ≡ []) × (self.new ≡ [])) (λ line. self.old ≡ line.bytes.now ∷ self.new) }

@@ -14,7 +14,7 @@ use std::io::Write;
 /// How many bytes are collected at most.
 const PAGE_SIZE: usize = 65_536;
 
-/// Text that waits to be written. Its room is made at once, so that no text is refused for want of memory.
+/// Text that waits to be written. Its buffer is allocated at the start, so that no text is refused as out of memory.
 #[derive(Drop)]
 pub(crate) struct Page {
     text: Vec<u8>,
@@ -29,7 +29,7 @@ impl Page {
         })
     }
 
-    /// Takes a text. What waits is written before, where there is no room for both.
+    /// Takes a text. What waits is written first if the buffer is too small for both.
     pub fn take<W: Write>(&mut self, output: &mut Port<W>, text: &[u8]) -> Result<(), RunFault>
         ensures ok { OnOk result (Passes self.old.text.items text.now self.new.text.items (W.contents (inner_of output.old)) (W.contents (inner_of output.new))) }
         ensures err { OnErr result (IsFrontWritten (self.old.text.items ++ text.now) (W.contents (inner_of output.old)) (W.contents (inner_of output.new))) }

@@ -1,13 +1,13 @@
-//! Each growth of each call refused in turn, and the calls that take no memory. Where nobody refuses growths each is called
-//! once.
+//! Fault injection: each allocation of each call fails in turn. Also the calls that take no memory. Without the shim
+//! each call is made once.
 
 use super::*;
 use refuser::{refuse, refuse_from, was_refused};
 
-/// More growths than a call here has.
+/// More allocations than a call here makes.
 const MOST: u32 = 400;
 
-/// How many instances hear the same.
+/// How many instances receive the same events.
 const CROWD: u32 = 128;
 
 /// Steps enough for two nodes of each ordered map.
@@ -44,7 +44,7 @@ fn is_alike(one: &Instances, other: &Instances, id: u32) -> bool {
     }
 }
 
-// Whether both tell the same of each instance and each file.
+// Whether both agree on each instance and each file.
 fn are_alike(one: &Instances, other: &Instances) -> bool {
     for id in 0..30 {
         if !is_alike(one, other, id) || one.watchers(id) != other.watchers(id) {
@@ -54,7 +54,7 @@ fn are_alike(one: &Instances, other: &Instances) -> bool {
     one.len() == other.len()
 }
 
-// Makes a step on both, with each growth of it on the first refused. How many there were; none where one did not go well.
+// Makes a step on both: on the first each allocation fails in turn. How many there were; none if one did not go well.
 fn refused_in_turn(
     alloc: Global,
     instances: &mut Instances,
@@ -76,7 +76,7 @@ fn refused_in_turn(
     Ok(None)
 }
 
-// Whether growths can be refused.
+// Whether allocations can be made to fail.
 fn has_refuser(alloc: Global) -> bool {
     let has = refuse(alloc, MOST);
     let _ = was_refused(alloc);
@@ -106,7 +106,7 @@ fn prepared(alloc: Global) -> Result<Instances, Refusal> {
     Ok(instances)
 }
 
-// Three notices: of a file that is told of, of one that is gone, and of one that nobody watches.
+// Three notices: of an event of a file, of a file that is gone, and of an unwatched file.
 fn three_notices(alloc: Global) -> Result<Vec<Notice>, Refusal> {
     let mut notices = Vec::new(alloc);
     notices.push(told(IN_CREATE))?;
@@ -115,7 +115,8 @@ fn three_notices(alloc: Global) -> Result<Vec<Notice>, Refusal> {
     Ok(notices)
 }
 
-// How many growths staging has, each refused with all as it was. Then they are told, as the twin is. None where one was not.
+// How many allocations staging makes, if all stays as it was when each fails in turn. The instances and the twin are
+// then notified, and are alike. None if not.
 fn stage_refused(
     alloc: Global,
     instances: &mut Instances,
@@ -159,7 +160,7 @@ fn have_heard(instances: &Instances, count: usize) -> bool {
     (1..=CROWD).all(|id| waiting(instances, id) == count) && waiting(instances, CROWD + 1) == 0
 }
 
-// Tells the instances while growths are refused. Whether none was.
+// Notifies the instances while allocations are made to fail. Whether none did.
 fn tells_in_room(
     alloc: Global,
     instances: &mut Instances,
@@ -192,7 +193,7 @@ fn what_many_hear_takes_no_memory_again(rt: HostRuntime) -> Result<(), Fail> {
     Ok(())
 }
 
-// How many growths the rows have, each refused. None where one was not.
+// How many allocations the rows make, if each fails in turn. None if one does not.
 fn rows_refused(alloc: Global, instances: &Instances) -> Option<u32> {
     for k in 1..MOST {
         let _ = refuse(alloc, k);

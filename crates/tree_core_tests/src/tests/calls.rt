@@ -142,7 +142,7 @@ fn plain_calls(rt: HostRuntime) -> Result<(), Fail> {
     Ok(())
 }
 
-// A receipt of a close, with its place.
+// A receipt of a close, with this sequence number.
 fn done_at(place: u64) -> Receipt {
     Receipt {
         place,
@@ -150,7 +150,7 @@ fn done_at(place: u64) -> Receipt {
     }
 }
 
-/// Receipts are equal where their places and replies are.
+/// Receipts are equal where their sequence numbers and replies are.
 #[test]
 fn receipts_are_of_their_places(rt: HostRuntime) {
     let other = Receipt {

@@ -4,13 +4,13 @@ use super::dice::{Dice, guessed};
 use super::*;
 use std::test::Fail;
 
-// The cut answers this place, and the journal is empty.
+// The cut answers this sequence number, and the journal is empty.
 fn cuts(rt: &impl Abort, state: &mut State, place: u64) {
     assert_eq!(rt; state.cut(), Ok(place));
     equal(rt, state.journal().len(), 0);
 }
 
-// The call answers what is wanted, at this place.
+// The call answers what is wanted, and its entry has this sequence number.
 fn tells_at(
     rt: &impl Abort,
     state: &mut State,
@@ -22,7 +22,7 @@ fn tells_at(
     equal(rt, state.last_place(), place);
 }
 
-// The place, the next number, the next cookie and the next instance of the snapshot.
+// The sequence number, the next file number, the next cookie and the next instance of the snapshot.
 fn counts(state: &State) -> (u64, u32, u32, u32) {
     let kept = state.snapshot();
     (kept.place, kept.next_number, kept.next_cookie, kept.next_id)
@@ -133,7 +133,7 @@ fn a_cut_makes_room(rt: HostRuntime) -> Result<(), Fail> {
     Ok(())
 }
 
-// The call answers the same on both trees, at the same place. Whether it gave records.
+// The call answers the same on both trees, with the same sequence number. Whether it gave records.
 fn both_tell(rt: &impl Abort, one: &mut State, other: &mut State, call: &Call) -> bool {
     let told = made(one, call);
     assert_eq!(rt; made(other, call), told);

@@ -1,4 +1,4 @@
-//! Many instances: who hears, and which numbers are given.
+//! Many instances: who receives events, and which numbers are given.
 
 use super::*;
 use std::test::Fail;

@@ -10,12 +10,12 @@ fn kept(state: &mut State, call: &Call) -> Result<(Receipt, Kept), Refusal> {
     state.keep(CALLER, call.copy()?)
 }
 
-// Whether the receipt and what is kept name the place of the journal's last entry.
+// Whether the receipt and what is kept have the sequence number of the journal's last entry.
 fn is_at_the_end(state: &State, receipt: &Receipt, kept: &Kept) -> bool {
     receipt.place == state.journal().len() as u64 && kept.place == receipt.place
 }
 
-// Whether what is kept of the call is the last entry of the journal, at the receipt's place.
+// Whether what is kept of the call is the last entry of the journal, with the receipt's sequence number.
 fn is_as_journaled(state: &State, receipt: &Receipt, kept: &Kept) -> bool {
     is_at_the_end(state, receipt, kept)
         && kept.reply == receipt.reply
@@ -75,7 +75,7 @@ fn calls_are_kept(rt: HostRuntime) -> Result<(), Fail> {
     Ok(())
 }
 
-// Whether the journal's last entry has this reply at this place.
+// Whether the journal's last entry has this reply and this sequence number.
 fn is_entry(state: &State, wanted: &Receipt) -> bool {
     match state.last_entry() {
         Some(entry) => entry.reply == wanted.reply && wanted.place == state.last_place(),

@@ -3,7 +3,7 @@
 use super::*;
 use std::test::Fail;
 
-// What a peek tells of a path, as the reply of the call.
+// What a peek returns for a path, as the reply of the call.
 fn seen(alloc: Global, state: &State, text: &str) -> Result<Reply, Refusal> {
     let path = path(alloc, text)?;
     Ok(match state.peek_stat(&path) {
@@ -26,7 +26,7 @@ fn reads(rt: &impl Abort, state: &State, path: &Path, offset: u64, wanted: &[u8]
     assert_eq!(rt; state.peek_bytes(path, offset, ALL), Ok(wanted));
 }
 
-// These instances have a record waiting, and so they are put into room for three.
+// So many instances have a record waiting, and a buffer for three numbers then has these.
 fn ready(rt: &impl Abort, state: &State, count: usize, ids: [u32; 3]) {
     let mut out = [9; 3];
     assert_eq!(rt; state.ready(&mut out), count);

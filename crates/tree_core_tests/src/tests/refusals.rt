@@ -3,7 +3,7 @@
 use super::*;
 use std::test::Fail;
 
-// Instance 1, and instance 2 with a pipe, each with the new file f to hear of.
+// Instance 1, and instance 2 with a pipe, each with an event of the new file f waiting.
 fn two_that_hear(rt: &impl Abort, alloc: Global) -> Result<State, Refusal> {
     let mut tree = opened(alloc, Limits::full())?;
     does(rt, &mut tree, init(10));

@@ -1,5 +1,5 @@
-//! Each growth of each call refused in turn: the call is answered `ENOMEM`, all is as before, and the same call then goes
-//! as if nothing had happened. Where nobody refuses growths each call is made once.
+//! Fault injection: each allocation of each call fails in turn. The call is answered `ENOMEM`, all is as before, and
+//! the same call then succeeds as if nothing had happened. Without the shim each call is made once.
 
 use super::*;
 use inode_table::FileRow;
@@ -7,7 +7,7 @@ use instance_table::InstanceRow;
 use refuser::{refuse, refuse_from, was_refused};
 use std::test::Fail;
 
-/// More growths than a call has in a small tree.
+/// More allocations than a call makes in a small tree.
 const MOST: u32 = 100;
 
 /// How many calls there are, and how many probes.
@@ -40,7 +40,7 @@ fn call_of(alloc: Global, which: u32) -> Result<Call, Refusal> {
     }
 }
 
-// Calls that together tell the whole of a tree.
+// Calls whose replies together show the whole of a tree.
 fn probe_of(alloc: Global, which: u32) -> Result<Call, Refusal> {
     match which {
         0 => list(alloc, "/"),
@@ -71,7 +71,7 @@ const FILES: [&str; 24] = [
     "/d/n", "/d/o", "/d/p", "/d/q", "/d/r", "/d/s", "/d/t", "/d/u", "/d/v", "/d/w", "/d/x", "/d/y",
 ];
 
-// The steps of a story. The sixteenth fills the journal's room.
+// The steps of a story. The sixteenth fills the journal's capacity.
 fn step_of(alloc: Global, which: u32) -> Result<Call, Refusal> {
     match which {
         0 => mkdir(alloc, "/d"),
@@ -135,7 +135,7 @@ fn answer_alike(one: &mut State, other: &mut State, call: &Call) -> Result<bool,
     Ok(first == second && !matches!(first.reply, Reply::Refused(Refusal::Enomem)))
 }
 
-// Whether the trees look alike and tell the same.
+// Whether the trees look and answer alike.
 fn are_alike(one: &mut State, other: &mut State, alloc: Global) -> Result<bool, Refusal> {
     if !look_alike(one, other) {
         return Ok(false);
@@ -148,12 +148,12 @@ fn are_alike(one: &mut State, other: &mut State, alloc: Global) -> Result<bool, 
     Ok(look_alike(one, other))
 }
 
-/// What came of a call of which one growth was to be refused.
+/// The outcome of a call of which one allocation was to fail.
 #[derive(Clone, Copy, Debug, PartialEq, Eq)]
 enum Came {
-    /// It was refused, and all was well.
+    /// The allocation failed, and all was well.
     Refused,
-    /// The call has not so many growths, and was carried out.
+    /// The call makes fewer allocations, and was carried out.
     Done,
     Wrong,
 }
@@ -215,7 +215,7 @@ fn is_carried_out(told: &Result<Receipt, Refusal>) -> bool {
     }
 }
 
-// What comes of a call, made in this way, of which growth `k` is refused. The twin is such a tree too, and is not made the call.
+// The outcome of a call, made in this way, whose allocation `k` fails. The twin is the same tree before the call.
 fn refused_at(
     alloc: Global,
     tree: &mut State,
@@ -241,7 +241,7 @@ fn refused_at(
     })
 }
 
-// How many growths a call has after so many steps, each of which was refused with all well. None where one was not.
+// How many allocations a call makes after so many steps, if all is well when each fails in turn. None if not.
 fn refused_in_turn(
     alloc: Global,
     steps: u32,
@@ -260,14 +260,15 @@ fn refused_in_turn(
     Ok(None)
 }
 
-// Whether growths can be refused.
+// Whether allocations can be made to fail.
 fn has_refuser(alloc: Global) -> bool {
     let has = refuse(alloc, MOST);
     let _ = was_refused(alloc);
     has
 }
 
-// How many growths each kind of call has, where the journal has no room left, so that each has one.
+// The fewest allocations that any kind of call makes, where the journal has no capacity left, so that each makes at
+// least one.
 fn counts_of_calls(alloc: Global, way: Way) -> Result<Option<u32>, Refusal> {
     let mut least = MOST;
     for which in 0..CALLS {
@@ -291,7 +292,7 @@ fn each_growth_of_each_call(rt: HostRuntime) -> Result<(), Fail> {
     Ok(())
 }
 
-// Each step of a story, so that each container grows from its first room on.
+// Each step of a story, so that each container outgrows its first capacity.
 #[test]
 fn each_growth_of_each_step(rt: HostRuntime) -> Result<(), Fail> {
     let alloc = rt.alloc();
@@ -349,7 +350,7 @@ fn after_a_cut(alloc: Global, steps: u32) -> Result<State, Refusal> {
     Ok(tree)
 }
 
-// What comes of a cut of which growth `k` is refused. The twin is such a tree too.
+// The outcome of a cut whose allocation `k` fails. The twin is the same tree before the cut.
 fn cut_refused_at(
     alloc: Global,
     tree: &mut State,
@@ -375,7 +376,7 @@ fn cut_refused_at(
     })
 }
 
-// How many growths a cut has after so many steps, each of which was refused with all well. None where one was not.
+// How many allocations a cut makes after so many steps, if all is well when each fails in turn. None if not.
 fn cut_refused_in_turn(alloc: Global, steps: u32) -> Result<Option<u32>, Refusal> {
     for k in 1..10 * MOST {
         let mut tree = after_a_cut(alloc, steps)?;
@@ -453,8 +454,8 @@ fn add_file(tree: &mut State, alloc: Global, number: u32) -> Result<(), Refusal>
     Ok(())
 }
 
-// A thousand files in ten directories, and one instance, which watches the last directory. A copy of such a table takes two
-// allocations for each file, one for its name and one for its byte.
+// A thousand files in ten directories, and one instance, which watches the last directory. A copy of such a table takes
+// two allocations for each file, one for its name and one for its byte.
 fn large(alloc: Global) -> Result<State, Refusal> {
     let mut tree = State::new(alloc, Limits::full())?;
     for number in 0..1000 {

@@ -13,7 +13,7 @@ use Rattle.instance_table.proofs.instances.Instances.add_watchers.Goals as goal
 abbrev hears : Option Instance → Notice → Bool
 hears o n = watches_file (told_number n) o
 
--- who watches a file hears the notices of which one tells it
+-- an instance that watches a file is a recipient of notices if one of them is for that file
 told-hears : (number : ℕ) (o : Option Instance) (ns : List Notice) → list_any (λ (n : Notice). eqb (told_number n) number) ns ≡ true → (watches_file number o || list_any (hears o) ns) ≡ list_any (hears o) ns
 told-hears number o [] told = absurd (Rattle.std.proofs.lemmas.Bool.false≢true told)
 told-hears number o (n ∷ ns) told =

@@ -6,7 +6,7 @@ use Rattle.tree_core.specs.declared.call.Call.TheVariants.{File, Init, AddWatch,
 use Rattle.tree_core.specs.contracts.call.CallPartialEq.TheImpl as derived
 use Rattle.tree_core.proofs.call.Call.is_same.Goals as goal
 
--- the derived test tells whether two calls are the same
+-- the derived test decides whether two calls are the same
 same : (a b : Call) → IsTrue (derived.ghosts.eq a b) ↔ (a ≡ b)
 same (File f) b = elim b as (λ b. IsTrue (derived.ghosts.eq (File f) b) ↔ (File f ≡ b)) [ File g ↦ search (rules, calls_same) | _ ↦ search rules ]
 same (Init l p) b = elim b as (λ b. IsTrue (derived.ghosts.eq (Init l p) b) ↔ (Init l p ≡ b)) [ Init m q ↦ search rules | _ ↦ search rules ]

@@ -20,7 +20,7 @@ use Rattle.tree_core.proofs.Serving.{failed-attempts, complete-attempts}
 use Rattle.tree_core.proofs.Instances.{copied-none, copied-some, at-instance, either-of, add-bad-there, add-mask-there, add-path-there, add-seen-there, answer-there, watching-there, IsNumbered-changed}
 use Rattle.tree_core.proofs.file_system.FileSystem.add_watch.Goals as goal
 
--- the derived test of what a file is tells a directory
+-- the derived test of kinds decides whether a file is a directory
 tells-directory : (k : Kind) → derived.ghosts.eq k Directory ≡ is_directory_kind k
 tells-directory Regular = refl
 tells-directory Directory = refl

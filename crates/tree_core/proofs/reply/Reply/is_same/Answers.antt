@@ -5,7 +5,7 @@ use Rattle.tree_core.specs.declared.reply.Reply.TheVariants.{File, Instance, Wd,
 use Rattle.tree_core.specs.contracts.reply.ReplyPartialEq.TheImpl as derived
 use Rattle.tree_core.proofs.reply.Reply.is_same.Goals as goal
 
--- the derived test tells whether two replies are the same
+-- the derived test decides whether two replies are the same
 same : (a b : Reply) → IsTrue (derived.ghosts.eq a b) ↔ (a ≡ b)
 same (File x) b = elim b as (λ b. IsTrue (derived.ghosts.eq (File x) b) ↔ (File x ≡ b)) [ File y ↦ search (rules, answers_same) | _ ↦ search rules ]
 same (Instance n) b = elim b as (λ b. IsTrue (derived.ghosts.eq (Instance n) b) ↔ (Instance n ≡ b)) [ Instance m ↦ search rules | _ ↦ search rules ]
