@@ -158,6 +158,6 @@ fn receipts_are_of_their_places(rt: HostRuntime) {
         reply: Reply::Wd(1),
     };
     holds(&rt, "the same", done_at(3) == done_at(3));
-    holds(&rt, "another place", done_at(3) != done_at(4));
+    holds(&rt, "another sequence number", done_at(3) != done_at(4));
     holds(&rt, "another reply", done_at(3) != other);
 }
