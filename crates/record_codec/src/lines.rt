@@ -1,6 +1,7 @@
 //! Names and records as text.
 
 ghost use Rattle.std.specs.Prelude.{◌≡◌, ◌≤◌, ◌+◌, ◌*◌, ◌++◌, length, vec_len, vec_capacity, OnOk, OnErr};
+ghost use Rattle.std.specs.List.{list_all};
 ghost use Rattle.record_codec.specs.Lines.{is_plain, printed_byte, printed_name, printed_numbers, record_line};
 ghost use Rattle.record_codec.specs.Views.{event_seen};
 
@@ -91,9 +92,19 @@ fn add_name(name: &[u8], out: &mut Vec<u8>)
     requires { vec_len out.old + PRINTED_BYTE_LEN * length name.now ≤ vec_capacity out.old }
     ensures { out.new.items ≡ out.old.items ++ printed_name name.now }
 {
+    if are_plain(name) {
+        return add(out, name);
+    }
     for byte in name {
         add_byte(*byte, out);
     }
+}
+
+/// Whether the bytes are printed as they are.
+fn are_plain(name: &[u8]) -> bool
+    ensures { result ≡ list_all is_plain name.now }
+{
+    name.iter().all(|b| is_plain(*b))
 }
 
 fn add_byte(byte: u8, out: &mut Vec<u8>)
