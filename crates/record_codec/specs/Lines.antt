@@ -20,7 +20,8 @@ printed_name name = flat_map printed_byte name
 
 -- wd in decimal, mask as eight hexadecimal digits, and cookie in decimal, with a space between them
 unfoldable pub printed_numbers : Event → List ℕ
-printed_numbers e = signed_decimal e.wd ++ codes " " ++ encode_lower (to_be_bytes w32 e.mask) ++ codes " " ++ decimal e.cookie
+printed_numbers e =
+    signed_decimal e.wd ++ codes " " ++ encode_lower (to_be_bytes w32 e.mask) ++ codes " " ++ decimal e.cookie
 
 unfoldable pub printed_ending : Option (List ℕ) → List ℕ
 printed_ending None = []
