@@ -21,7 +21,8 @@ is_null b = b == 0
 abbrev pub slash : ℕ
 slash = 47
 
--- the filenames of a pathname, between slashes, of which several together count as one (POSIX.1-2017, 3.271 Pathname, 3.170 Filename)
+-- the filenames of a pathname, between slashes, of which several together count as one (POSIX.1-2017, 3.271 Pathname,
+-- 3.170 Filename)
 abbrev pub names_of : List ℕ → List (List ℕ)
 names_of text = runs slash text
 

@@ -5,7 +5,8 @@ ghost use Rattle.tree_paths.specs.Greatest.{most_numbers, most_file_bytes, most_
 
 /// The last value of each kind that is still given; the next one is refused.
 ///
-/// Each field lies between 1 and its value in [`Limits::full`], which the type keeps: code that sets one has to prove it.
+/// Each field lies between 1 and its value in [`Limits::full`], which the type keeps: code that sets one has to prove
+/// it.
 #[derive(Clone, Copy)]
 pub struct Limits {
     /// File numbers, the root counted: up to 2^20. Beyond it `NumbersSpent`.
