@@ -64,7 +64,8 @@ impl Content {
     pub(crate) fn names(&self) -> Keys<'_, Name, usize>
         requires { kind_of (bytes_in (body_of self.now)) ≡ Kind.Directory }
         ensures ordered { IsStrictlySortedBy (slice_cmp nat_cmp) result }
-        ensures members { (l : Label) → is_member (eq_by_cmp (slice_cmp nat_cmp)) result l ≡ is_some (key_in (body_of self.now) l) }
+        ensures members { (l : Label)
+            → is_member (eq_by_cmp (slice_cmp nat_cmp)) result l ≡ is_some (key_in (body_of self.now) l) }
         ensures runs { ShowsInOrder (deref {X = Label}) }
     {
         match self {
@@ -148,7 +149,8 @@ impl Content {
     pub(crate) fn write(&mut self, offset: usize, new: &[u8])
         requires regular { is_none (bytes_in (body_of self.old)) ≡ false }
         requires reserved { 0 < length new.now → offset + length new.now ≤ reserved_in (body_of self.old) }
-        ensures bytes { bytes_in (body_of self.new) ≡ option_map (written offset new.now) (bytes_in (body_of self.old)) }
+        ensures bytes { bytes_in (body_of self.new)
+            ≡ option_map (written offset new.now) (bytes_in (body_of self.old)) }
         ensures names { (l : Label) → key_in (body_of self.new) l ≡ key_in (body_of self.old) l }
     {
         match self {

@@ -96,8 +96,8 @@ impl Table {
         Ok(())
     }
 
-    /// What is true of the world of every table, for a caller's proof: it is a world of files, its paths are those that lead to a
-    /// node, each with the node's number, and its files are the nodes under their numbers.
+    /// What is true of the world of every table, for a caller's proof: it is a world of files, its paths are those that
+    /// lead to a node, each with the node's number, and its files are the nodes under their numbers.
     pub fn law(&self)
         ensures world { IsWorld (world_of self.now) }
         ensures paths { (p : List Label) → finmap.get (world_of self.now).paths p ≡ number_under self.now.rows p }

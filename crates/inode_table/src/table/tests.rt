@@ -68,7 +68,8 @@ fn is_in_directory(table: &Table, path: &Resolved) -> bool
 fn has_parent(table: &Table, path: &Resolved) -> bool
     requires resolved { IsResolved table.now path.now }
     ensures named { IsTrue result → path.now.names ≢ [] }
-    ensures directory { IsTrue result → is_directory_seen (look (world_of table.now) (parent_of path.now.names)) ≡ true }
+    ensures directory { IsTrue result
+        → is_directory_seen (look (world_of table.now) (parent_of path.now.names)) ≡ true }
 {
     !path.as_path().is_root() && is_in_directory(table, path)
 }
@@ -77,7 +78,8 @@ fn has_parent(table: &Table, path: &Resolved) -> bool
 fn is_free(table: &Table, path: &Resolved) -> bool
     requires resolved { IsResolved table.now path.now }
     ensures named { IsTrue result → path.now.names ≢ [] }
-    ensures directory { IsTrue result → is_directory_seen (look (world_of table.now) (parent_of path.now.names)) ≡ true }
+    ensures directory { IsTrue result
+        → is_directory_seen (look (world_of table.now) (parent_of path.now.names)) ≡ true }
     ensures free { IsTrue result → look (world_of table.now) path.now.names ≡ None }
 {
     has_parent(table, path) && table.look(path).is_err()
