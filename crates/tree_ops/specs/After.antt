@@ -27,14 +27,15 @@ are_same None t = false
 are_same (Some n) None = false
 are_same (Some n) (Some m) = n == m
 
--- two paths of one file: nothing. Else the pair of the new path is dropped, and each pair (old + s, f) becomes (new + s, f)
+-- two paths of one file: nothing. Else the pair of the new path is dropped, and each pair (old + s, f) becomes
+-- (new + s, f)
 unfoldable pub after_rename : World → List (List ℕ) → List (List ℕ) → World
 after_rename w old new =
     if are_same (finmap.get w.paths old) (finmap.get w.paths new) then w
     else without_lost (with_move w old new) (finmap.get w.paths new)
 
--- two paths of one file: nothing. Else each pair (old + s, f) becomes (new + s, f), and at once each pair (new + s, g) becomes
--- (old + s, g): renameat2(2), RENAME_EXCHANGE
+-- two paths of one file: nothing. Else each pair (old + s, f) becomes (new + s, f), and at once each pair (new + s, g)
+-- becomes (old + s, g): renameat2(2), RENAME_EXCHANGE
 unfoldable pub after_exchange : World → List (List ℕ) → List (List ℕ) → World
 after_exchange w old new = if are_same (finmap.get w.paths old) (finmap.get w.paths new) then w else with_swap w old new
 

@@ -381,7 +381,8 @@ fn check_call(paths: &Paths, counts: &Counts, limits: &Limits) -> Result<Moves, 
 
 /// Finds the first row that refuses a call, or makes the call ready to be carried out. It does not allocate.
 ///
-/// `counts` says what the call gets where it makes a file or moves one. No number of the table has reached `next_number`.
+/// `counts` says what the call gets where it makes a file or moves one. No number of the table has reached
+/// `next_number`.
 #[inline(always)]
 pub fn check<'t, 'a>(
     paths: Paths<'t, 'a>,
