@@ -91,9 +91,12 @@ pub fn stage(
     notices: &[Notice],
     staged: &mut Staged,
 ) -> Result<(), Refusal>
-    ensures events { OnOk result (staged.new.events.items ≡ staged.old.events.items ++ map (staged_event id) (events_of watches.now notices.now)) }
-    ensures drops { OnOk result (staged.new.drops.items ≡ staged.old.drops.items ++ map (staged_end id) (wds_ended watches.now notices.now)) }
-    ensures left { OnOk result (fold removed watches.now (wds_ended watches.now notices.now) ≡ watches_after watches.now notices.now) }
+    ensures events { OnOk result (staged.new.events.items
+        ≡ staged.old.events.items ++ map (staged_event id) (events_of watches.now notices.now)) }
+    ensures drops { OnOk result (staged.new.drops.items
+        ≡ staged.old.drops.items ++ map (staged_end id) (wds_ended watches.now notices.now)) }
+    ensures left { OnOk result (fold removed watches.now (wds_ended watches.now notices.now)
+        ≡ watches_after watches.now notices.now) }
     ensures memory { IfErr result (λ refusal. refusal ≡ Refusal.Enomem) }
 {
     removals_leave_the_rest();
@@ -104,7 +107,8 @@ pub fn stage(
     Ok(())
 }
 
-// Adds the events that notices raise for an instance, and the descriptors of the watches that they end, where none is there.
+// Adds the events that notices raise for an instance, and the descriptors of the watches that they end, where none is
+// there.
 fn raise(
     id: u32,
     watches: &Watches,
@@ -113,7 +117,8 @@ fn raise(
     wds: &mut Vec<i32>,
 ) -> Result<(), AllocError>
     requires { wds.old.items ≡ [] }
-    ensures events { OnOk result (events.new.items ≡ events.old.items ++ map (staged_event id) (events_of watches.now notices.now)) }
+    ensures events { OnOk result (events.new.items
+        ≡ events.old.items ++ map (staged_event id) (events_of watches.now notices.now)) }
     ensures ended { OnOk result (wds.new.items ≡ wds_ended watches.now notices.now) }
 {
     removals_leave_the_rest();
@@ -148,7 +153,8 @@ fn raise_one(
     events: &mut VecDeque<StagedEvent>,
     wds: &mut Vec<i32>,
 ) -> Result<(), AllocError>
-    ensures events { OnOk result (events.new.items ≡ events.old.items ++ map (staged_event id) (raised_at notice.now watch)) }
+    ensures events { OnOk result (events.new.items
+        ≡ events.old.items ++ map (staged_event id) (raised_at notice.now watch)) }
     ensures ended { OnOk result (wds.new.items ≡ wds.old.items ++ ended_by notice.now watch) }
 {
     let Some(watch) = watch else {

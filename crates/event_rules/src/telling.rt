@@ -299,8 +299,8 @@ fn tell_call(told: &mut Notices, ready: &Ready, cookie: u32) -> Result<(), Alloc
     }
 }
 
-/// What an accepted call raises, in the table that it was checked on, in place of what `told` held. `cookie` is that of a
-/// rename that moves something, and the first of an exchange. Each cookie that the call uses fits in a record.
+/// What an accepted call raises, in the table that it was checked on, in place of what `told` held. `cookie` is that of
+/// a rename that moves something, and the first of an exchange. Each cookie that the call uses fits in a record.
 ///
 /// # Errors
 /// `ENOMEM` alone.
