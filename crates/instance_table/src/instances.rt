@@ -187,8 +187,10 @@ impl Instances {
         requires mask { mask_fault mask.0 ≡ None }
         ensures wd { IfOk result (λ wd. IfSome (instance_of self.old id) (λ i. wd ≡ wd_added i.watches number)) }
         ensures ok { OnOk result (self.new ≡ changed self.old id (watching number mask.0)) }
-        ensures accepted { OnOk result (IfSome (instance_of self.old id) (λ i. add_refusal i.watches number mask.0 is_directory ≡ None)) }
-        ensures refusals { IfErr result (λ r. IfSome (instance_of self.old id) (λ i. (add_refusal i.watches number mask.0 is_directory ≡ Some r) ⊎ (r ≡ Enomem))) }
+        ensures accepted { OnOk result (IfSome (instance_of self.old id)
+            (λ i. add_refusal i.watches number mask.0 is_directory ≡ None)) }
+        ensures refusals { IfErr result (λ r. IfSome (instance_of self.old id)
+            (λ i. (add_refusal i.watches number mask.0 is_directory ≡ Some r) ⊎ (r ≡ Enomem))) }
         ensures err { OnErr result (self.new ≡ self.old) }
     {
         let Ok(found) = place_of(&self.opened, id, place) else {
@@ -307,9 +309,11 @@ fn add_noted(
     requires noted { is_noted index.old number id ≡ is_some (watch_of watches.old number) }
     ensures wd { IfOk result (λ wd. wd ≡ wd_added watches.old number) }
     ensures watches { OnOk result (watches.new ≡ added watches.old number mask.0) }
-    ensures noted { OnOk result ((n q : ℕ) → is_noted index.new n q ≡ ((n == number && q == id) || is_noted index.old n q)) }
+    ensures noted { OnOk result ((n q : ℕ)
+        → is_noted index.new n q ≡ ((n == number && q == id) || is_noted index.old n q)) }
     ensures accepted { OnOk result (add_refusal watches.old number mask.0 is_directory ≡ None) }
-    ensures refusals { IfErr result (λ r. (add_refusal watches.old number mask.0 is_directory ≡ Some r) ⊎ (r ≡ Enomem)) }
+    ensures refusals { IfErr result (λ r. (add_refusal watches.old number mask.0 is_directory ≡ Some r)
+        ⊎ (r ≡ Enomem)) }
     ensures err { OnErr result (watches.new ≡ watches.old) }
     ensures rows { HasNoEmptyRow index.old → HasNoEmptyRow index.new }
     ensures err_noted { OnErr result ((n q : ℕ) → is_noted index.new n q ≡ is_noted index.old n q) }
@@ -330,7 +334,8 @@ fn add_noted(
 // Takes the watches of an instance out of the index.
 fn forget(index: &mut Index, watches: &Watches, id: u32)
     ensures rows { HasNoEmptyRow index.old → HasNoEmptyRow index.new }
-    ensures noted { (n q : ℕ) → is_noted index.new n q ≡ (not (is_some (watch_of watches.now n) && q == id) && is_noted index.old n q) }
+    ensures noted { (n q : ℕ)
+        → is_noted index.new n q ≡ (not (is_some (watch_of watches.now n) && q == id) && is_noted index.old n q) }
 {
     for number in watches.numbers() {
         index.remove(*number, id);
