@@ -88,7 +88,8 @@ fn push_bytes(text: &mut Vec<u8>, bytes: &[u8]) -> Result<(), AllocError>
 
 // The names in a directory, in a line each.
 fn push_names(text: &mut Vec<u8>, names: &[Name]) -> Result<(), AllocError>
-    ensures { OnOk result (text.new.items ≡ text.old.items ++ ok_line (decimal (length names.now)) ++ flat_map name_line names.now) }
+    ensures { OnOk result (text.new.items
+        ≡ text.old.items ++ ok_line (decimal (length names.now)) ++ flat_map name_line names.now) }
 {
     push_ok(text, names.len())?;
     for name in names {
@@ -125,7 +126,8 @@ fn push_stat(
 
 // The number and the kind of a file, before its mode.
 fn push_kind(text: &mut Vec<u8>, number: u32, kind: Kind) -> Result<(), AllocError>
-    ensures { OnOk result (text.new.items ≡ text.old.items ++ codes "ok " ++ decimal number ++ codes " " ++ kind_letter kind ++ codes " ") }
+    ensures { OnOk result (text.new.items
+        ≡ text.old.items ++ codes "ok " ++ decimal number ++ codes " " ++ kind_letter kind ++ codes " ") }
 {
     let mut buffer = Buffer::new();
     text.extend_from_slice(b"ok ")?;
@@ -213,7 +215,8 @@ fn push_byte(text: &mut Vec<u8>, byte: u8) -> Result<(), AllocError>
 // A line for each record.
 fn push_records(text: &mut Vec<u8>, bytes: &[u8]) -> Result<(), AllocError>
     requires { AreRecords bytes.now }
-    ensures { OnOk result ((events : List Event) × AreEventsIn bytes.now events × (text.new.items ≡ text.old.items ++ flat_map event_line events)) }
+    ensures { OnOk result ((events : List Event) × AreEventsIn bytes.now events
+        × (text.new.items ≡ text.old.items ++ flat_map event_line events)) }
 {
     let mut rest = bytes;
     while let Some((record, behind)) = next_record(rest) {

@@ -290,7 +290,8 @@ impl<'a> Parser<'a> {
 
     /// The only word.
     fn one(&self) -> Result<&'a [u8], LineError>
-        ensures { MatchResult result (λ word. self.now.words ≡ word.now ∷ []) (λ error. (error ≡ LineError.Fault ScriptFault.WrongNumber) × ((length self.now.words == 1) ≡ false)) }
+        ensures { MatchResult result (λ word. self.now.words ≡ word.now ∷ [])
+            (λ error. (error ≡ LineError.Fault ScriptFault.WrongNumber) × ((length self.now.words == 1) ≡ false)) }
     {
         self.words
             .copied()
@@ -300,7 +301,8 @@ impl<'a> Parser<'a> {
 
     /// The only two words.
     fn two(&self) -> Result<(&'a [u8], &'a [u8]), LineError>
-        ensures { MatchResult result (λ words. self.now.words ≡ words.0.now ∷ words.1.now ∷ []) (λ error. (error ≡ LineError.Fault ScriptFault.WrongNumber) × ((length self.now.words == 2) ≡ false)) }
+        ensures { MatchResult result (λ words. self.now.words ≡ words.0.now ∷ words.1.now ∷ [])
+            (λ error. (error ≡ LineError.Fault ScriptFault.WrongNumber) × ((length self.now.words == 2) ≡ false)) }
     {
         self.words
             .copied()
@@ -310,7 +312,8 @@ impl<'a> Parser<'a> {
 
     /// The only three words.
     fn three(&self) -> Result<(&'a [u8], &'a [u8], &'a [u8]), LineError>
-        ensures { MatchResult result (λ words. self.now.words ≡ words.0.now ∷ words.1.now ∷ words.2.now ∷ []) (λ error. (error ≡ LineError.Fault ScriptFault.WrongNumber) × ((length self.now.words == 3) ≡ false)) }
+        ensures { MatchResult result (λ words. self.now.words ≡ words.0.now ∷ words.1.now ∷ words.2.now ∷ [])
+            (λ error. (error ≡ LineError.Fault ScriptFault.WrongNumber) × ((length self.now.words == 3) ≡ false)) }
     {
         self.words
             .copied()
@@ -332,8 +335,8 @@ fn path_of(alloc: Global, text: &[u8]) -> Result<Path, LineError>
     }
 }
 
-/// The paths of two texts, of which the old one is read first. A text that is no path is refused as such even where there is
-/// no memory for the other one.
+/// The paths of two texts, of which the old one is read first. A text that is no path is refused as such even where
+/// there is no memory for the other one.
 #[tactic(auto, unfolding(crate::specs::Commands::paths_of))]
 #[inline(always)]
 fn paths_of(alloc: Global, old: &[u8], new: &[u8]) -> Result<(Path, Path), LineError>

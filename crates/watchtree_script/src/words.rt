@@ -49,7 +49,9 @@ fn byte_of(high: u8, low: u8) -> Option<u8>
 /// The first byte that a word stands for, and the rest of the word.
 fn first_byte(word: &[u8]) -> Option<(u8, &[u8])>
     requires { 0 < length word.now }
-    ensures { MatchOption result (unescaped word.entry.now ≡ None) (λ first. (unescaped word.entry.now ≡ before (Some first.0) (unescaped first.1.now)) × (length first.1.now < length word.entry.now)) }
+    ensures { MatchOption result (unescaped word.entry.now ≡ None)
+        (λ first. (unescaped word.entry.now ≡ before (Some first.0) (unescaped first.1.now))
+        × (length first.1.now < length word.entry.now)) }
 {
     if word[0] != b'%' {
         return Some((word[0], &word[1..]));
