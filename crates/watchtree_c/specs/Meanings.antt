@@ -61,9 +61,11 @@ faulted_number fault = neg_ℤ (pos (fault_number fault))
 pub record IsTextOf (number : ℤ) (text : Option (List ℕ)) : Type 0 where
   pub refusal : (r : Refusal) → number ≡ refused_number r → text ≡ Some (refusal_text r)
   pub fault : (f : ScriptFault) → number ≡ faulted_number f → text ≡ Some (fault_text f)
-  pub other : ((r : Refusal) → number ≢ refused_number r) → ((f : ScriptFault) → number ≢ faulted_number f) → text ≡ None
+  pub other : ((r : Refusal) → number ≢ refused_number r) → ((f : ScriptFault) → number ≢ faulted_number f)
+      → text ≡ None
 
--- a text is put over the front of C's bytes, and answered by its number of bytes. Where there is none, that is an EINVAL
+-- a text is put over the front of C's bytes, and answered by its number of bytes. Where there is none, that is an
+-- EINVAL
 abbrev pub IsTextGiven : Option (List ℕ) → ℤ → List ℕ → List ℕ → Type 0
 IsTextGiven (Some text) answer out filled = (answer ≡ count_number (length text)) × (filled ≡ overlaid text out)
 IsTextGiven None answer out filled = (answer ≡ refused_number Einval) × (filled ≡ out)
