@@ -1,6 +1,7 @@
 //! Laws of the definitions. Each is a function that does nothing, and its contract is the law.
 
-ghost use Rattle.std.specs.Prelude.{◌≡◌, ◌⊎◌, ◌++◌, ◌∷◌, [], ℕ, ℤ, List, All, Contains, Some, None, IsSome, filter, fold, map, IsTrue};
+ghost use Rattle.std.specs.Prelude.{◌≡◌, ◌⊎◌, ◌++◌, ◌∷◌, [], ℕ, ℤ, List, All, Contains, Some, None, IsSome, filter};
+ghost use Rattle.std.specs.Prelude.{fold, map, IsTrue};
 ghost use Rattle.std.specs.FinMap as finmap;
 ghost use Rattle.tree_paths.specs.declared.limits.Limits.{Limits};
 ghost use Rattle.inode_table.specs.World.{World, IsWorld};
@@ -15,7 +16,8 @@ ghost use Rattle.event_rules.specs.declared.notice.Notice.{Notice};
 ghost use Rattle.event_rules.specs.declared.notice.Notice.TheVariants.{Gone};
 ghost use Rattle.event_rules.specs.Table.{notices_of};
 ghost use Rattle.event_rules.specs.Raised.{events_of, ignored, told_number, watches_after, wds_ended};
-ghost use Rattle.event_rules.specs.Laws.{AreTied, HasOneEvent, HasWatch, IsPartOf, Mark, TellsNothing, cookies_from, marks_of, marks_told, moves_with, says_ended, watch_without};
+ghost use Rattle.event_rules.specs.Laws.{AreTied, HasOneEvent, HasWatch, IsPartOf, Mark, TellsNothing, cookies_from};
+ghost use Rattle.event_rules.specs.Laws.{marks_of, marks_told, moves_with, says_ended, watch_without};
 
 use watch_table::{descriptors_end_for_good, descriptors_tell_files, watches_stay_sound};
 

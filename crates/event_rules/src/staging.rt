@@ -5,7 +5,8 @@ ghost use Rattle.std.specs.Option.{option_to_list};
 ghost use Rattle.watch_table.specs.Masks.{has_any};
 ghost use Rattle.watch_table.specs.Watching.{removed, watch_of};
 ghost use Rattle.event_rules.specs.Staging.{staged_end, staged_event};
-ghost use Rattle.event_rules.specs.Raised.{asks_for, ended_by, ends_watch, event_told, events_of, ignored, raised_at, watches_after, wds_ended};
+ghost use Rattle.event_rules.specs.Raised.{asks_for, ended_by, ends_watch, event_told, events_of, ignored, raised_at};
+ghost use Rattle.event_rules.specs.Raised.{watches_after, wds_ended};
 ghost use Rattle.event_rules.specs.Recent.{AreFound};
 
 use crate::laws::{removals_leave_the_rest, removed_watches_are_left_out};

@@ -7,7 +7,9 @@ ghost use Rattle.record_codec.specs.declared.bits.TheConstants.{IN_ATTRIB, IN_CR
 ghost use Rattle.tree_ops.specs.After.{answer_of};
 ghost use Rattle.tree_ops.specs.Moves.{cookies_of, moves_of};
 ghost use Rattle.tree_ops.specs.declared.call.FileCall.TheVariants.{ReadFile};
-ghost use Rattle.event_rules.specs.Table.{about, answers_byte, chmod_told, create_told, kind_seen, mkdir_told, move_told, no_counts, notices_of, path_lost, read_told, rmdir_told, swap_told, to_both, to_dir, to_self, truncate_told, unlink_told, write_told};
+ghost use Rattle.event_rules.specs.Table.{about, answers_byte, chmod_told, create_told, kind_seen, mkdir_told};
+ghost use Rattle.event_rules.specs.Table.{move_told, no_counts, notices_of, path_lost, read_told, rmdir_told};
+ghost use Rattle.event_rules.specs.Table.{swap_told, to_both, to_dir, to_self, truncate_told, unlink_told, write_told};
 
 use crate::notice::{NO_COOKIE, Notice, Notices};
 use crate::subject::Subject;

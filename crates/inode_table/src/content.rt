@@ -1,6 +1,7 @@
 //! What a node holds: the bytes of a file, or the names in a directory.
 
-ghost use Rattle.std.specs.Prelude.{◌≡◌, ◌<◌, ◌≤◌, ◌+◌, ◌-◌, ◌++◌, take, drop, replicate, None, Some, false, is_none, is_some, length, unwrap_or, [], vec_capacity, OnOk, OnErr, IsSome};
+ghost use Rattle.std.specs.Prelude.{◌≡◌, ◌<◌, ◌≤◌, ◌+◌, ◌-◌, ◌++◌, take, drop, replicate, None, Some, false, is_none};
+ghost use Rattle.std.specs.Prelude.{is_some, length, unwrap_or, [], vec_capacity, OnOk, OnErr, IsSome};
 ghost use Rattle.std.specs.Option.{option_map};
 ghost use Rattle.std.specs.List.Sorted.{IsStrictlySortedBy};
 ghost use Rattle.std.specs.Ordering.{nat_cmp, eq_by_cmp};

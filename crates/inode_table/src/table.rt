@@ -1,6 +1,7 @@
 //! The table of nodes.
 
-ghost use Rattle.std.specs.Prelude.{◌≡◌, ◌↔◌, ◌≤◌, ℕ, List, None, Some, IfOk, IfErr, OnOk, OnErr, IsSome, if◌then◌else◌};
+ghost use Rattle.std.specs.Prelude.{◌≡◌, ◌↔◌, ◌≤◌, ℕ, List, None, Some, IfOk, IfErr, OnOk, OnErr, IsSome};
+ghost use Rattle.std.specs.Prelude.{if◌then◌else◌};
 ghost use Rattle.std.specs.FinMap as finmap;
 ghost use Rattle.inode_table.specs.Rows.{Label, row_under};
 ghost use Rattle.inode_table.specs.Kept.{rows_of, is_directory, row_of};

@@ -1,5 +1,7 @@
 //! The open instances.
-ghost use Rattle.std.specs.Prelude.{◌≡◌, ◌↔◌, ◌≤◌, ◌+◌, ◌++◌, ◌∷◌, ◌⊎◌, ◌&&◌, ◌||◌, ◌==◌, ℕ, not, is_some, drop, false, take, vec_len, vec_capacity, Some, None, Ok, Err, IfOk, IfErr, OnOk, OnErr, IsSome, IfSome, map};
+ghost use Rattle.std.specs.Prelude.{◌≡◌, ◌↔◌, ◌≤◌, ◌+◌, ◌++◌, ◌∷◌, ◌⊎◌, ◌&&◌, ◌||◌, ◌==◌, ℕ, not, is_some, drop, false};
+ghost use Rattle.std.specs.Prelude.{take, vec_len, vec_capacity, Some, None, Ok, Err, IfOk, IfErr, OnOk, OnErr, IsSome};
+ghost use Rattle.std.specs.Prelude.{IfSome, map};
 ghost use Rattle.std.specs.Option.{option_copied};
 ghost use Rattle.std.specs.VecDeque.{deque_len};
 ghost use Rattle.std.specs.FinMap as finmap;
@@ -11,7 +13,8 @@ ghost use Rattle.watch_table.specs.Watching.{add_refusal, added, removed, watch_
 ghost use Rattle.instance_table.specs.Index.{HasNoEmptyRow, is_noted};
 ghost use Rattle.instance_table.specs.Rows.{instance_row};
 ghost use Rattle.instance_table.specs.Heard.{heard_all};
-ghost use Rattle.instance_table.specs.Instances.{NobodyWatches, WaitingAreEvents, after_read, changed, instance_of, new_instance, unwatching, waiting_of, watchers_of, watching};
+ghost use Rattle.instance_table.specs.Instances.{NobodyWatches, WaitingAreEvents, after_read, changed, instance_of};
+ghost use Rattle.instance_table.specs.Instances.{new_instance, unwatching, waiting_of, watchers_of, watching};
 
 use crate::index::Index;
 use crate::instance::Instance;

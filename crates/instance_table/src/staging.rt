@@ -1,5 +1,6 @@
 //! What notices raise for all instances.
-ghost use Rattle.std.specs.Prelude.{◌≡◌, IsTrue, ℕ, ◌==◌, ◌||◌, ◌≤◌, List, ◌∷◌, ◌++◌, Some, is_some, true, fold, map, IfErr, OnOk};
+ghost use Rattle.std.specs.Prelude.{◌≡◌, IsTrue, ℕ, ◌==◌, ◌||◌, ◌≤◌, List, ◌∷◌, ◌++◌, Some, is_some, true, fold, map};
+ghost use Rattle.std.specs.Prelude.{IfErr, OnOk};
 ghost use Rattle.std.specs.FinMap as finmap;
 ghost use Rattle.std.specs.VecDeque.{deque_len};
 ghost use Rattle.std.specs.List.{list_any};

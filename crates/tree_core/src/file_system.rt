@@ -1,5 +1,6 @@
 //! The files and the instances: what they answer to each call.
-ghost use Rattle.std.specs.Prelude.{◌≡◌, ◌≢◌, ◌⊎◌, ◌≤◌, ◌+◌, ◌^◌, None, Some, Ok, Err, IfOk, IfErr, OnOk, OnErr, length, option_map, take};
+ghost use Rattle.std.specs.Prelude.{◌≡◌, ◌≢◌, ◌⊎◌, ◌≤◌, ◌+◌, ◌^◌, None, Some, Ok, Err, IfOk, IfErr, OnOk, OnErr};
+ghost use Rattle.std.specs.Prelude.{length, option_map, take};
 ghost use Rattle.tree_core.specs.Snapshots.{IsSnapshotOf};
 ghost use Rattle.std.specs.Option.{option_copied};
 ghost use Rattle.record_codec.specs.Records.{AreEvents, spelling};
@@ -10,7 +11,8 @@ ghost use Rattle.tree_ops.specs.Moves.{cookies_of};
 ghost use Rattle.event_rules.specs.Table.{notices_of};
 ghost use Rattle.instance_table.specs.Instances.{all_changed, instance_of, told};
 ghost use Rattle.tree_core.specs.Histories.{oldest, pumped};
-ghost use Rattle.tree_core.specs.FileSystems.{tree_in, Attempts, Begins, CanFinish, IsNumbered, finished, reading, taken};
+ghost use Rattle.tree_core.specs.FileSystems.{tree_in, Attempts, Begins, CanFinish, IsNumbered, finished, reading};
+ghost use Rattle.tree_core.specs.FileSystems.{taken};
 ghost use Rattle.tree_core.specs.Tree.{opening, counts_of, init_rows, rm_watch_rows, read_rows, close_rows};
 
 use crate::call::Call;

@@ -1,5 +1,6 @@
 //! A tree with the journal of its calls.
-ghost use Rattle.std.specs.Prelude.{◌≡◌, ◌↔◌, ◌-◌, ◌+◌, ◌^◌, ◌<◌, ◌≤◌, ◌⊎◌, IfOk, IfErr, IfSome, OnOk, OnErr, None, length, true, vec_len, vec_capacity};
+ghost use Rattle.std.specs.Prelude.{◌≡◌, ◌↔◌, ◌-◌, ◌+◌, ◌^◌, ◌<◌, ◌≤◌, ◌⊎◌, IfOk, IfErr, IfSome, OnOk, OnErr, None};
+ghost use Rattle.std.specs.Prelude.{length, true, vec_len, vec_capacity};
 ghost use Rattle.record_codec.specs.Records.{AreEvents, spelling};
 ghost use Rattle.instance_table.specs.Instances.{WaitingAreEvents, watchers_of};
 ghost use Rattle.tree_core.specs.Histories.{pumped};

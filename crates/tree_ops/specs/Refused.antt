@@ -1,9 +1,11 @@
 -- Why a call on files is refused: the first row that holds. POSIX.1-2017 says when each error comes (`open`, `mkdir`,
 -- `write`, `read`, `truncate`, `chmod`, `link`, `unlink`, `rmdir`, `rename`, `stat`, `opendir`), renameat2(2) does for
 -- its flags, and both leave open which comes first; here it is the order of the rows.
-use Rattle.std.specs.Prelude.{ℕ, ◌+◌, Bool, false, not, ◌&&◌, ◌||◌, ◌==◌, List, [], ◌∷◌, ◌++◌, Option, Some, None, is_some, length, nat_lt, if◌then◌else◌}
+use Rattle.std.specs.Prelude.{ℕ, ◌+◌, Bool, false, not, ◌&&◌, ◌||◌, ◌==◌, List, [], ◌∷◌, ◌++◌, Option, Some, None}
+use Rattle.std.specs.Prelude.{is_some, length, nat_lt, if◌then◌else◌}
 use Rattle.tree_paths.specs.declared.refusal.Refusal.{Refusal}
-use Rattle.tree_paths.specs.declared.refusal.Refusal.TheVariants.{Eperm, Ebusy, Eexist, Enotdir, Eisdir, Einval, Efbig, Emlink, Enotempty, CookiesSpent, NumbersSpent}
+use Rattle.tree_paths.specs.declared.refusal.Refusal.TheVariants.{Eperm, Ebusy, Eexist, Enotdir, Eisdir, Einval, Efbig}
+use Rattle.tree_paths.specs.declared.refusal.Refusal.TheVariants.{Emlink, Enotempty, CookiesSpent, NumbersSpent}
 use Rattle.tree_paths.specs.declared.limits.Limits.{Limits}
 use Rattle.inode_table.specs.declared.seen.Seen.{Seen}
 use Rattle.tree_paths.specs.Paths.{is_below}
@@ -12,7 +14,8 @@ use Rattle.tree_paths.specs.Rows.{row, first_row}
 use Rattle.inode_table.specs.Refusals.{Look, is_directory_seen, find, parent}
 use Rattle.tree_ops.specs.declared.call.TheConstants.{MAX_MODE, RENAME_EXCHANGE, RENAME_NOREPLACE}
 use Rattle.tree_ops.specs.declared.call.FileCall.{FileCall}
-use Rattle.tree_ops.specs.declared.call.FileCall.TheVariants.{Create, Write, ReadFile, Truncate, Chmod, Mkdir, Link, Unlink, Rmdir, Rename, Rename2, Stat, List as Listed}
+use Rattle.tree_ops.specs.declared.call.FileCall.TheVariants.{Create, Write, ReadFile, Truncate, Chmod, Mkdir, Link}
+use Rattle.tree_ops.specs.declared.call.FileCall.TheVariants.{Unlink, Rmdir, Rename, Rename2, Stat, List as Listed}
 use Rattle.tree_ops.specs.declared.call.Counts.{Counts}
 
 abbrev pub is_root : List (List ℕ) → Bool

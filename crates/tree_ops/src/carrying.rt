@@ -1,6 +1,7 @@
 //! What accepted calls do.
 
-ghost use Rattle.std.specs.Prelude.{◌≡◌, ◌≢◌, [], None, true, false, IfOk, IfErr, OnOk, OnErr, IsSome, ◌+◌, ◌<◌, ◌≤◌, ◌^◌, length, take, drop};
+ghost use Rattle.std.specs.Prelude.{◌≡◌, ◌≢◌, [], None, true, false, IfOk, IfErr, OnOk, OnErr, IsSome, ◌+◌, ◌<◌, ◌≤◌};
+ghost use Rattle.std.specs.Prelude.{◌^◌, length, take, drop};
 ghost use Rattle.std.specs.FinMap as finmap;
 ghost use Rattle.inode_table.specs.Bytes.{resized, written};
 ghost use Rattle.inode_table.specs.World.{IsWhole, look, with_file, changed_at};

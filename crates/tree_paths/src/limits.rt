@@ -1,7 +1,8 @@
 //! How much a tree takes.
 
 ghost use Rattle.std.specs.Prelude.{◌≡◌, ◌≤◌};
-ghost use Rattle.tree_paths.specs.Greatest.{most_numbers, most_file_bytes, most_links, most_instances, most_ids, most_watches, most_wds, most_queue, most_cookies, most_journal, most_seats};
+ghost use Rattle.tree_paths.specs.Greatest.{most_numbers, most_file_bytes, most_links, most_instances, most_ids};
+ghost use Rattle.tree_paths.specs.Greatest.{most_watches, most_wds, most_queue, most_cookies, most_journal, most_seats};
 
 /// The last value of each kind that is still given; the next one is refused.
 ///

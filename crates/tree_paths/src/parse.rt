@@ -1,6 +1,7 @@
 //! Pathnames as texts.
 
-ghost use Rattle.std.specs.Prelude.{◌≡◌, ◌+◌, ◌++◌, ◌∷◌, [], ◌≤◌, filter, ◌<◌, true, false, IfOk, MatchResult, if◌then◌else◌, length, take, slice_index};
+ghost use Rattle.std.specs.Prelude.{◌≡◌, ◌+◌, ◌++◌, ◌∷◌, [], ◌≤◌, filter, ◌<◌, true, false, IfOk, MatchResult};
+ghost use Rattle.std.specs.Prelude.{if◌then◌else◌, length, take, slice_index};
 ghost use Rattle.std.specs.List.{list_any, list_all};
 ghost use Rattle.record_codec.specs.Names.{is_name_byte};
 ghost use Rattle.tree_paths.specs.declared.refusal.Refusal.TheVariants.{Einval, Enametoolong};

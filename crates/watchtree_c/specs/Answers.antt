@@ -1,5 +1,6 @@
 -- What a call of C answers, and what becomes of its tree.
-use Rattle.std.specs.Prelude.{◌≡◌, ◌⊎◌, ⊤, ◌≤◌, ℕ, ◌^◌, ◌-◌, ℤ, pos, neg_ℤ, List, ◌++◌, [], length, take, drop, min, Option, Some, None, Result, Ok, Err}
+use Rattle.std.specs.Prelude.{◌≡◌, ◌⊎◌, ⊤, ◌≤◌, ℕ, ◌^◌, ◌-◌, ℤ, pos, neg_ℤ, List, ◌++◌, [], length, take, drop, min}
+use Rattle.std.specs.Prelude.{Option, Some, None, Result, Ok, Err}
 use Rattle.tree_paths.specs.declared.refusal.Refusal.{Refusal}
 use Rattle.tree_paths.specs.declared.refusal.Refusal.TheVariants.{Ebadf, Ebusy, Enomem}
 use Rattle.tree_paths.specs.Bounds.{full}

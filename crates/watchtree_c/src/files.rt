@@ -4,7 +4,9 @@ ghost use Rattle.std.specs.Prelude.{◌≡◌, ◌+◌, ◌-◌, ◌^◌, ◌++�
 ghost use Rattle.std.specs.List.{flat_map};
 ghost use Rattle.watchtree_c.specs.Answers.{Answers, AnswersBytes, IsAsked, IsReply, count_number, overlaid};
 ghost use Rattle.watchtree_c.specs.Stats.{Tells, stat_of};
-ghost use Rattle.watchtree_c.specs.Calls.{asked_bytes, mkdir_call, create_call, rename_call, rename2_call, truncate_call, chmod_call, unlink_call, rmdir_call, link_call, write_call, read_call, stat_call, list_call};
+ghost use Rattle.watchtree_c.specs.Calls.{asked_bytes, mkdir_call, create_call, rename_call, rename2_call};
+ghost use Rattle.watchtree_c.specs.Calls.{truncate_call, chmod_call, unlink_call, rmdir_call, link_call, write_call};
+ghost use Rattle.watchtree_c.specs.Calls.{read_call, stat_call, list_call};
 ghost use Rattle.watchtree_c.specs.Listings.{Lists, ended};
 
 use crate::answers::{count_number, fill, put, reply_number};

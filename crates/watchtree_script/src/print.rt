@@ -2,7 +2,9 @@
 
 ghost use Rattle.std.specs.Prelude.{◌≡◌, ◌∷◌, ◌++◌, List, [], OnOk, codes, decimal, length};
 ghost use Rattle.std.specs.List.{flat_map};
-ghost use Rattle.watchtree_script.specs.Replies.{ok_line, done_line, hexadecimal, name_line, event_line, kind_letter, mode_text, octal_digit, refusal_text, answer_text, AreEventsIn, IsReadText, IsReplyText};
+ghost use Rattle.watchtree_script.specs.Replies.{ok_line, done_line, hexadecimal, name_line, event_line, kind_letter};
+ghost use Rattle.watchtree_script.specs.Replies.{mode_text, octal_digit, refusal_text, answer_text, AreEventsIn};
+ghost use Rattle.watchtree_script.specs.Replies.{IsReadText, IsReplyText};
 ghost use Rattle.record_codec.specs.declared.event.Event.{Event};
 ghost use Rattle.record_codec.specs.Views.{AreRecords, event_seen};
 ghost use Rattle.hex.specs.Hex.{encode_lower};

@@ -1,7 +1,9 @@
 //! The rows of the table of commands: the words behind a command, and the call that they ask for.
 
 ghost use Rattle.std.specs.Prelude.{◌≡◌, ◌==◌, ◌∷◌, [], length, false, Err, MatchResult};
-ghost use Rattle.watchtree_script.specs.Commands.{one, two, three, path_of, paths_of, a_path, old_and_new, path_and_mode, id_and_bytes, write_call, cat_call, truncate_call, rename2_call, watch_call, unwatch_call, asking, line_asked};
+ghost use Rattle.watchtree_script.specs.Commands.{one, two, three, path_of, paths_of, a_path, old_and_new};
+ghost use Rattle.watchtree_script.specs.Commands.{path_and_mode, id_and_bytes, write_call, cat_call, truncate_call};
+ghost use Rattle.watchtree_script.specs.Commands.{rename2_call, watch_call, unwatch_call, asking, line_asked};
 ghost use Rattle.watchtree_script.specs.Reading.{GivesPath, GivesLine};
 ghost use Rattle.tree_core.specs.declared.call.Call.TheVariants as call;
 

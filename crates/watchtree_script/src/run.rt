@@ -9,7 +9,8 @@ ghost use Rattle.tree_core.specs.declared.reply.Reply.{Reply};
 ghost use Rattle.watchtree_script.specs.Commands.{line_of};
 ghost use Rattle.watchtree_script.specs.Lines.{is_line_byte};
 ghost use Rattle.watchtree_script.specs.Replies.{IsReplyText};
-ghost use Rattle.watchtree_script.specs.Script.{PrintsLine, MayHaveRun, FaultTells, IsShort, Adds, IsText, Replies, write_faults, read_faults, PrintsNothing, LeavesLine};
+ghost use Rattle.watchtree_script.specs.Script.{PrintsLine, MayHaveRun, FaultTells, IsShort, Adds, IsText, Replies};
+ghost use Rattle.watchtree_script.specs.Script.{write_faults, read_faults, PrintsNothing, LeavesLine};
 ghost use Rattle.watchtree_script.specs.Running.{LineTells, ReadTells, IsRunFault, Passes};
 
 use crate::fault::RunFault;

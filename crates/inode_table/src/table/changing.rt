@@ -1,6 +1,7 @@
 //! The changes of a table, by paths that are resolved on it.
 
-ghost use Rattle.std.specs.Prelude.{◌≡◌, ◌≢◌, [], Option, Some, None, IfOk, IfErr, OnOk, OnErr, true, false, IsSome, IfSome, ◌&&◌, ◌+◌, ◌<◌, ◌≤◌, ◌^◌};
+ghost use Rattle.std.specs.Prelude.{◌≡◌, ◌≢◌, [], Option, Some, None, IfOk, IfErr, OnOk, OnErr, true, false, IsSome};
+ghost use Rattle.std.specs.Prelude.{IfSome, ◌&&◌, ◌+◌, ◌<◌, ◌≤◌, ◌^◌};
 ghost use Rattle.std.specs.Option.{IsSomeAnd};
 ghost use Rattle.std.specs.FinMap as finmap;
 ghost use Rattle.tree_paths.specs.Paths.{is_below};
@@ -15,7 +16,8 @@ use crate::seen::Kind;
 use tree_paths::Refusal;
 
 impl Table {
-    ghost use Rattle.inode_table.specs.World.{with_file, with_move, with_swap, without_path, without_lost, linked, changed_at, look};
+    ghost use Rattle.inode_table.specs.World.{with_file, with_move, with_swap, without_path, without_lost, linked};
+    ghost use Rattle.inode_table.specs.World.{changed_at, look};
     ghost use Rattle.inode_table.specs.Refusals.{is_directory_seen};
     ghost use Rattle.inode_table.specs.TableWorld.{world_of};
     ghost use Rattle.inode_table.specs.Resolution.{IsResolved};

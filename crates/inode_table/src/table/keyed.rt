@@ -1,6 +1,7 @@
 //! The changes of a table by keys. Each states the new paths and nodes, and the new world.
 
-ghost use Rattle.std.specs.Prelude.{◌≡◌, ◌≢◌, ◌+◌, ◌^◌, ◌<◌, ◌≤◌, ◌++◌, ◌∷◌, ℕ, List, [], Some, None, false, IfSome, IfOk, OnOk, OnErr, IsSome, length};
+ghost use Rattle.std.specs.Prelude.{◌≡◌, ◌≢◌, ◌+◌, ◌^◌, ◌<◌, ◌≤◌, ◌++◌, ◌∷◌, ℕ, List, [], Some, None, false, IfSome};
+ghost use Rattle.std.specs.Prelude.{IfOk, OnOk, OnErr, IsSome, length};
 ghost use Rattle.inode_table.specs.Rows.{Label, What};
 ghost use Rattle.inode_table.specs.Tree.{at, what_at};
 
@@ -14,10 +15,13 @@ use record_codec::Name;
 use std::alloc::AllocError;
 
 impl Table {
-    ghost use Rattle.inode_table.specs.World.{World, with_file, with_path, without_path, with_move, with_swap, with_content, without_file};
+    ghost use Rattle.inode_table.specs.World.{World, with_file, with_path, without_path, with_move, with_swap};
+    ghost use Rattle.inode_table.specs.World.{with_content, without_file};
     ghost use Rattle.inode_table.specs.Stands.{Stands, look_in};
     ghost use Rattle.inode_table.specs.TableWorld.{file_of};
-    ghost use Rattle.inode_table.specs.Changes.{AddsPath, DropsPath, MovesPath, SwapsPaths, Avoids, IsOpen, LosesLink, ChangesWhat, one_link_more, with_mode, with_bytes, with_written, with_len};
+    ghost use Rattle.inode_table.specs.Changes.{AddsPath, DropsPath, MovesPath, SwapsPaths, Avoids, IsOpen, LosesLink};
+    ghost use Rattle.inode_table.specs.Changes.{ChangesWhat, one_link_more, with_mode, with_bytes, with_written};
+    ghost use Rattle.inode_table.specs.Changes.{with_len};
     ghost use Rattle.inode_table.specs.Rows.{child, key_in, bytes_in, reserved};
     ghost use Rattle.inode_table.specs.Kept.{body_of, is_directory};
 
