@@ -1,5 +1,6 @@
 -- What is true of the notices of every call, and of the events that notices raise.
-use Rattle.std.specs.Prelude.{◌≡◌, ◌≢◌, ◌⊎◌, ℕ, ℤ, zero, suc, ◌+◌, Bool, false, ◌==◌, ◌||◌, List, [], ◌∷◌, Option, Some, None, All, Contains, map, if◌then◌else◌}
+use Rattle.std.specs.Prelude.{◌≡◌, ◌≢◌, ◌⊎◌, ℕ, ℤ, zero, suc, ◌+◌, Bool, false, ◌==◌, ◌||◌, List, [], ◌∷◌, Option, Some}
+use Rattle.std.specs.Prelude.{None, All, Contains, map, if◌then◌else◌}
 use Rattle.std.specs.List.{list_any}
 use Rattle.std.specs.Ordering.{int_eq}
 use Rattle.record_codec.specs.declared.bits.TheConstants.{IN_IGNORED, IN_MOVED_FROM, IN_MOVED_TO}

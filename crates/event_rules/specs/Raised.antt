@@ -37,7 +37,8 @@ ignored wd = record { wd = wd; mask = IN_IGNORED; cookie = NO_COOKIE; name = Non
 
 -- the event of a notice, where the watch asks for it
 abbrev pub event_told : Notice → Watch → List Event
-event_told (Told number bits cookie name) watch = if asks_for watch bits then record { wd = watch.0; mask = bits; cookie = cookie; name = name } ∷ [] else []
+event_told (Told number bits cookie name) watch =
+    if asks_for watch bits then record { wd = watch.0; mask = bits; cookie = cookie; name = name } ∷ [] else []
 event_told (Gone number) watch = []
 
 -- these, where a watch ends

@@ -1,8 +1,11 @@
 -- The notices of an accepted call: inotify(7), "inotify events". That page does not say in which order one call raises
 -- several events, nor which of them have IN_ISDIR; here the lines of the table say so.
-use Rattle.std.specs.Prelude.{ℕ, ◌+◌, Bool, true, false, List, [], ◌∷◌, ◌++◌, Option, Some, None, bit_or, ◌==◌, if◌then◌else◌}
+use Rattle.std.specs.Prelude.{ℕ, ◌+◌, Bool, true, false, List, [], ◌∷◌, ◌++◌, Option, Some, None, bit_or, ◌==◌}
+use Rattle.std.specs.Prelude.{if◌then◌else◌}
 use Rattle.std.specs.List.{last_or}
-use Rattle.record_codec.specs.declared.bits.TheConstants.{IN_ACCESS, IN_MODIFY, IN_ATTRIB, IN_CLOSE_WRITE, IN_CLOSE_NOWRITE, IN_OPEN, IN_MOVED_FROM, IN_MOVED_TO, IN_CREATE, IN_DELETE, IN_DELETE_SELF, IN_MOVE_SELF, IN_ISDIR}
+use Rattle.record_codec.specs.declared.bits.TheConstants.{IN_ACCESS, IN_MODIFY, IN_ATTRIB, IN_CLOSE_WRITE}
+use Rattle.record_codec.specs.declared.bits.TheConstants.{IN_CLOSE_NOWRITE, IN_OPEN, IN_MOVED_FROM, IN_MOVED_TO}
+use Rattle.record_codec.specs.declared.bits.TheConstants.{IN_CREATE, IN_DELETE, IN_DELETE_SELF, IN_MOVE_SELF, IN_ISDIR}
 use Rattle.inode_table.specs.declared.seen.Kind.{Kind}
 use Rattle.inode_table.specs.declared.seen.Kind.TheVariants.{Regular, Directory}
 use Rattle.inode_table.specs.declared.seen.Seen.{Seen}
@@ -14,7 +17,8 @@ use Rattle.tree_ops.specs.declared.answer.Answer.TheVariants.{Bytes}
 use Rattle.tree_ops.specs.declared.call.Counts.{Counts}
 use Rattle.tree_ops.specs.declared.call.TheConstants.{RENAME_EXCHANGE}
 use Rattle.tree_ops.specs.declared.call.FileCall.{FileCall}
-use Rattle.tree_ops.specs.declared.call.FileCall.TheVariants.{Create, Write, ReadFile, Truncate, Chmod, Mkdir, Link, Unlink, Rmdir, Rename, Rename2, Stat, List as Listed}
+use Rattle.tree_ops.specs.declared.call.FileCall.TheVariants.{Create, Write, ReadFile, Truncate, Chmod, Mkdir, Link}
+use Rattle.tree_ops.specs.declared.call.FileCall.TheVariants.{Unlink, Rmdir, Rename, Rename2, Stat, List as Listed}
 use Rattle.tree_ops.specs.After.{answer_of}
 use Rattle.tree_ops.specs.Refused.{are_same_seen}
 use Rattle.event_rules.specs.declared.notice.TheConstants.{NO_COOKIE}
@@ -52,7 +56,8 @@ to_self (Some s) bits = Told s.number bits NO_COOKIE None ∷ []
 
 -- both are notified, and both notices say whether the object is a directory
 unfoldable pub to_both : Look → List Label → ℕ → List Notice
-to_both seen_at p event = to_dir seen_at p (kind_seen (seen_at p)) event NO_COOKIE ++ to_self (seen_at p) (about (kind_seen (seen_at p)) event)
+to_both seen_at p event = to_dir seen_at p (kind_seen (seen_at p)) event NO_COOKIE
+    ++ to_self (seen_at p) (about (kind_seen (seen_at p)) event)
 
 -- it is notified that it is deleted, and is gone
 abbrev pub deleted_told : ℕ → List Notice
@@ -72,18 +77,21 @@ path_lost (Some s) = lost_told s.kind s.number s.links
 -- ---- the table of events
 
 unfoldable pub create_told : Look → List Label → List Notice
-create_told seen_at p = to_dir seen_at p Regular IN_CREATE NO_COOKIE ++ to_dir seen_at p Regular IN_OPEN NO_COOKIE ++ to_dir seen_at p Regular IN_CLOSE_WRITE NO_COOKIE
+create_told seen_at p = to_dir seen_at p Regular IN_CREATE NO_COOKIE ++ to_dir seen_at p Regular IN_OPEN NO_COOKIE
+    ++ to_dir seen_at p Regular IN_CLOSE_WRITE NO_COOKIE
 
 unfoldable pub mkdir_told : Look → List Label → List Notice
 mkdir_told seen_at p = to_dir seen_at p Directory IN_CREATE NO_COOKIE
 
 -- where a byte was given
 unfoldable pub write_told : Look → List Label → Bool → List Notice
-write_told seen_at p given = to_both seen_at p IN_OPEN ++ (if given then to_both seen_at p IN_MODIFY else []) ++ to_both seen_at p IN_CLOSE_WRITE
+write_told seen_at p given =
+    to_both seen_at p IN_OPEN ++ (if given then to_both seen_at p IN_MODIFY else []) ++ to_both seen_at p IN_CLOSE_WRITE
 
 -- where a byte was answered
 unfoldable pub read_told : Look → List Label → Bool → List Notice
-read_told seen_at p answered = to_both seen_at p IN_OPEN ++ (if answered then to_both seen_at p IN_ACCESS else []) ++ to_both seen_at p IN_CLOSE_NOWRITE
+read_told seen_at p answered = to_both seen_at p IN_OPEN ++ (if answered then to_both seen_at p IN_ACCESS else [])
+    ++ to_both seen_at p IN_CLOSE_NOWRITE
 
 -- also where the length stays
 unfoldable pub truncate_told : Look → List Label → List Notice
@@ -112,7 +120,8 @@ move_told seen_at old new cookie =
 
 -- where both paths are of one file nothing is moved
 unfoldable pub rename_told : Look → List Label → List Label → ℕ → List Notice
-rename_told seen_at old new cookie = if are_same_seen (seen_at old) (seen_at new) then [] else move_told seen_at old new cookie
+rename_told seen_at old new cookie =
+    if are_same_seen (seen_at old) (seen_at new) then [] else move_told seen_at old new cookie
 
 -- the object that was at the old path moves to the new one, with a cookie, and then the other one moves back, with the
 -- next cookie. Each move notifies the directory that the object leaves, then the one it enters, then the object itself
@@ -127,7 +136,8 @@ swap_told seen_at old new cookie =
 
 -- where both paths are of one file nothing is moved
 unfoldable pub exchange_told : Look → List Label → List Label → ℕ → List Notice
-exchange_told seen_at old new cookie = if are_same_seen (seen_at old) (seen_at new) then [] else swap_told seen_at old new cookie
+exchange_told seen_at old new cookie =
+    if are_same_seen (seen_at old) (seen_at new) then [] else swap_told seen_at old new cookie
 
 abbrev pub has_byte : List ℕ → Bool
 has_byte [] = false
@@ -147,13 +157,15 @@ abbrev pub notices_of : World → FileCall → ℕ → List Notice
 notices_of w (Create p mode) cookie = create_told (look w) p
 notices_of w (Mkdir p mode) cookie = mkdir_told (look w) p
 notices_of w (Write p offset bytes) cookie = write_told (look w) p (has_byte bytes)
-notices_of w (ReadFile p offset count) cookie = read_told (look w) p (answers_byte (answer_of w no_counts (ReadFile p offset count)))
+notices_of w (ReadFile p offset count) cookie =
+    read_told (look w) p (answers_byte (answer_of w no_counts (ReadFile p offset count)))
 notices_of w (Truncate p len) cookie = truncate_told (look w) p
 notices_of w (Chmod p mode) cookie = chmod_told (look w) p
 notices_of w (Link old new) cookie = link_told (look w) old new
 notices_of w (Unlink p) cookie = unlink_told (look w) p
 notices_of w (Rmdir p) cookie = rmdir_told (look w) p
 notices_of w (Rename old new) cookie = rename_told (look w) old new cookie
-notices_of w (Rename2 old new flags) cookie = if flags == RENAME_EXCHANGE then exchange_told (look w) old new cookie else rename_told (look w) old new cookie
+notices_of w (Rename2 old new flags) cookie =
+    if flags == RENAME_EXCHANGE then exchange_told (look w) old new cookie else rename_told (look w) old new cookie
 notices_of w (Stat p) cookie = []
 notices_of w (Listed p) cookie = []

@@ -1,6 +1,7 @@
 //! Laws of the definitions. Each is a function that does nothing, and its contract is the law.
 
-ghost use Rattle.std.specs.Prelude.{◌≡◌, ◌⊎◌, ◌++◌, ◌∷◌, [], ℕ, ℤ, List, All, Contains, Some, None, IsSome, filter, fold, map, IsTrue};
+ghost use Rattle.std.specs.Prelude.{◌≡◌, ◌⊎◌, ◌++◌, ◌∷◌, [], ℕ, ℤ, List, All, Contains, Some, None, IsSome, filter};
+ghost use Rattle.std.specs.Prelude.{fold, map, IsTrue};
 ghost use Rattle.std.specs.FinMap as finmap;
 ghost use Rattle.tree_paths.specs.declared.limits.Limits.{Limits};
 ghost use Rattle.inode_table.specs.World.{World, IsWorld};
@@ -15,7 +16,8 @@ ghost use Rattle.event_rules.specs.declared.notice.Notice.{Notice};
 ghost use Rattle.event_rules.specs.declared.notice.Notice.TheVariants.{Gone};
 ghost use Rattle.event_rules.specs.Table.{notices_of};
 ghost use Rattle.event_rules.specs.Raised.{events_of, ignored, told_number, watches_after, wds_ended};
-ghost use Rattle.event_rules.specs.Laws.{AreTied, HasOneEvent, HasWatch, IsPartOf, Mark, TellsNothing, cookies_from, marks_of, marks_told, moves_with, says_ended, watch_without};
+ghost use Rattle.event_rules.specs.Laws.{AreTied, HasOneEvent, HasWatch, IsPartOf, Mark, TellsNothing, cookies_from};
+ghost use Rattle.event_rules.specs.Laws.{marks_of, marks_told, moves_with, says_ended, watch_without};
 
 use watch_table::{descriptors_end_for_good, descriptors_tell_files, watches_stay_sound};
 
@@ -27,15 +29,20 @@ pub fn notices_tell_one_event()
 /// A law: the i-th pair of `IN_MOVED_FROM` and `IN_MOVED_TO` in the notices of a call has the i-th of the cookies that
 /// it uses, and all other events have none. The events that notices raise for an instance are tied as the notices are.
 pub fn cookies_tie_moves()
-    ensures told { (w : World) (call : FileCall) (cookie : ℕ) → AreTied (moves_with (cookies_from cookie (cookies_of w call))) (marks_told (notices_of w call cookie)) }
-    ensures raised { (w : Watching) (ns : List Notice) (moves : List Mark) → AreTied moves (marks_told ns) → AreTied moves (marks_of (events_of w ns)) }
+    ensures told { (w : World) (call : FileCall) (cookie : ℕ)
+        → AreTied (moves_with (cookies_from cookie (cookies_of w call))) (marks_told (notices_of w call cookie)) }
+    ensures raised { (w : Watching) (ns : List Notice) (moves : List Mark) → AreTied moves (marks_told ns)
+        → AreTied moves (marks_of (events_of w ns)) }
 {}
 
 /// A law: an instance that watches none of the files gets no events, and its watches stay.
 pub fn unwatched_files_raise_nothing()
-    ensures events { (w : Watching) (ns : List Notice) → All (λ n. watch_of w (told_number n) ≡ None) ns → events_of w ns ≡ [] }
-    ensures ended { (w : Watching) (ns : List Notice) → All (λ n. watch_of w (told_number n) ≡ None) ns → wds_ended w ns ≡ [] }
-    ensures watches { (w : Watching) (ns : List Notice) → All (λ n. watch_of w (told_number n) ≡ None) ns → watches_after w ns ≡ w }
+    ensures events { (w : Watching) (ns : List Notice) → All (λ n. watch_of w (told_number n) ≡ None) ns
+        → events_of w ns ≡ [] }
+    ensures ended { (w : Watching) (ns : List Notice) → All (λ n. watch_of w (told_number n) ≡ None) ns
+        → wds_ended w ns ≡ [] }
+    ensures watches { (w : Watching) (ns : List Notice) → All (λ n. watch_of w (told_number n) ≡ None) ns
+        → watches_after w ns ≡ w }
 {}
 
 /// A law: each event has the descriptor of a watch that was there.
@@ -45,11 +52,14 @@ pub fn events_are_of_watches()
 
 /// A law: after `IN_IGNORED` of a watch nothing of it follows, and it is not left.
 pub fn nothing_follows_ignored()
-    ensures said { (w : Watching) (ns : List Notice) → filter says_ended (events_of w ns) ≡ map ignored (wds_ended w ns) }
+    ensures said { (w : Watching) (ns : List Notice)
+        → filter says_ended (events_of w ns) ≡ map ignored (wds_ended w ns) }
     ensures here { (w : Watching) (ns : List Notice) (before after : List Event) (e : Event) → IsSound w
         → events_of w ns ≡ before ++ e ∷ after → IsTrue (says_ended e) → TellsNothing e.wd after }
-    ensures left { (w : Watching) (ns : List Notice) → IsSound w → All (HasEnded (watches_after w ns)) (wds_ended w ns) }
-    ensures later { (w : Watching) (ns : List Notice) (wd : ℤ) → IsSound w → HasEnded w wd → TellsNothing wd (events_of w ns) }
+    ensures left { (w : Watching) (ns : List Notice) → IsSound w
+        → All (HasEnded (watches_after w ns)) (wds_ended w ns) }
+    ensures later { (w : Watching) (ns : List Notice) (wd : ℤ) → IsSound w → HasEnded w wd
+        → TellsNothing wd (events_of w ns) }
     ensures ever { (w : Watching) (ns : List Notice) (wd : ℤ) → HasEnded w wd → HasEnded (watches_after w ns) wd }
 {
     descriptors_end_for_good();
@@ -60,9 +70,11 @@ pub fn nothing_follows_ignored()
 /// A law: a file that an accepted call leaves with no path is notified that it is gone. Then no watch of it is left.
 pub fn lost_files_are_gone()
     ensures told { (w : World) (limits : Limits) (counts : Counts) (call : FileCall) (cookie number : ℕ) → IsWorld w
-        → refused w limits counts call ≡ None → IsSome (finmap.get w.files number) → finmap.get (after w counts call).files number ≡ None
+        → refused w limits counts call ≡ None → IsSome (finmap.get w.files number)
+        → finmap.get (after w counts call).files number ≡ None
         → Contains (notices_of w call cookie) (Gone number) }
-    ensures unwatched { (w : Watching) (ns : List Notice) (number : ℕ) → Contains ns (Gone number) → watch_of (watches_after w ns) number ≡ None }
+    ensures unwatched { (w : Watching) (ns : List Notice) (number : ℕ) → Contains ns (Gone number)
+        → watch_of (watches_after w ns) number ≡ None }
 {}
 
 /// A law: the other watches stay as they are.
@@ -75,9 +87,11 @@ pub fn other_watches_stay()
     watches_stay_sound();
 }
 
-/// A law: the watches that descriptors are removed from are those that were there, without the ones of these descriptors.
+/// A law: the watches that descriptors are removed from are those that were there, without the ones of these
+/// descriptors.
 pub fn removed_watches_are_left_out()
-    ensures { (w : Watching) (wds : List ℤ) (number : ℕ) → IsSound w → watch_of (fold removed w wds) number ≡ watch_without wds (watch_of w number) }
+    ensures { (w : Watching) (wds : List ℤ) (number : ℕ) → IsSound w
+        → watch_of (fold removed w wds) number ≡ watch_without wds (watch_of w number) }
 {
     descriptors_tell_files();
     watches_stay_sound();

@@ -13,8 +13,8 @@ pub(crate) struct Found {
     watch: Option<(i32, u32)>,
 }
 
-/// What was found of the two files that were searched for last. The notices of a call are mostly of an object and of its
-/// directory in turn, so the watch of each is searched for once.
+/// What was found of the two files that were searched for last. The notices of a call are mostly of an object and of
+/// its directory in turn, so the watch of each is searched for once.
 #[derive(Clone, Copy)]
 pub(crate) struct Recent {
     last: Found,

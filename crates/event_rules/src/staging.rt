@@ -5,7 +5,8 @@ ghost use Rattle.std.specs.Option.{option_to_list};
 ghost use Rattle.watch_table.specs.Masks.{has_any};
 ghost use Rattle.watch_table.specs.Watching.{removed, watch_of};
 ghost use Rattle.event_rules.specs.Staging.{staged_end, staged_event};
-ghost use Rattle.event_rules.specs.Raised.{asks_for, ended_by, ends_watch, event_told, events_of, ignored, raised_at, watches_after, wds_ended};
+ghost use Rattle.event_rules.specs.Raised.{asks_for, ended_by, ends_watch, event_told, events_of, ignored, raised_at};
+ghost use Rattle.event_rules.specs.Raised.{watches_after, wds_ended};
 ghost use Rattle.event_rules.specs.Recent.{AreFound};
 
 use crate::laws::{removals_leave_the_rest, removed_watches_are_left_out};
@@ -91,9 +92,12 @@ pub fn stage(
     notices: &[Notice],
     staged: &mut Staged,
 ) -> Result<(), Refusal>
-    ensures events { OnOk result (staged.new.events.items ≡ staged.old.events.items ++ map (staged_event id) (events_of watches.now notices.now)) }
-    ensures drops { OnOk result (staged.new.drops.items ≡ staged.old.drops.items ++ map (staged_end id) (wds_ended watches.now notices.now)) }
-    ensures left { OnOk result (fold removed watches.now (wds_ended watches.now notices.now) ≡ watches_after watches.now notices.now) }
+    ensures events { OnOk result (staged.new.events.items
+        ≡ staged.old.events.items ++ map (staged_event id) (events_of watches.now notices.now)) }
+    ensures drops { OnOk result (staged.new.drops.items
+        ≡ staged.old.drops.items ++ map (staged_end id) (wds_ended watches.now notices.now)) }
+    ensures left { OnOk result (fold removed watches.now (wds_ended watches.now notices.now)
+        ≡ watches_after watches.now notices.now) }
     ensures memory { IfErr result (λ refusal. refusal ≡ Refusal.Enomem) }
 {
     removals_leave_the_rest();
@@ -104,7 +108,8 @@ pub fn stage(
     Ok(())
 }
 
-// Adds the events that notices raise for an instance, and the descriptors of the watches that they end, where none is there.
+// Adds the events that notices raise for an instance, and the descriptors of the watches that they end, where none is
+// there.
 fn raise(
     id: u32,
     watches: &Watches,
@@ -113,7 +118,8 @@ fn raise(
     wds: &mut Vec<i32>,
 ) -> Result<(), AllocError>
     requires { wds.old.items ≡ [] }
-    ensures events { OnOk result (events.new.items ≡ events.old.items ++ map (staged_event id) (events_of watches.now notices.now)) }
+    ensures events { OnOk result (events.new.items
+        ≡ events.old.items ++ map (staged_event id) (events_of watches.now notices.now)) }
     ensures ended { OnOk result (wds.new.items ≡ wds_ended watches.now notices.now) }
 {
     removals_leave_the_rest();
@@ -148,7 +154,8 @@ fn raise_one(
     events: &mut VecDeque<StagedEvent>,
     wds: &mut Vec<i32>,
 ) -> Result<(), AllocError>
-    ensures events { OnOk result (events.new.items ≡ events.old.items ++ map (staged_event id) (raised_at notice.now watch)) }
+    ensures events { OnOk result (events.new.items
+        ≡ events.old.items ++ map (staged_event id) (raised_at notice.now watch)) }
     ensures ended { OnOk result (wds.new.items ≡ wds.old.items ++ ended_by notice.now watch) }
 {
     let Some(watch) = watch else {

@@ -7,7 +7,9 @@ ghost use Rattle.record_codec.specs.declared.bits.TheConstants.{IN_ATTRIB, IN_CR
 ghost use Rattle.tree_ops.specs.After.{answer_of};
 ghost use Rattle.tree_ops.specs.Moves.{cookies_of, moves_of};
 ghost use Rattle.tree_ops.specs.declared.call.FileCall.TheVariants.{ReadFile};
-ghost use Rattle.event_rules.specs.Table.{about, answers_byte, chmod_told, create_told, kind_seen, mkdir_told, move_told, no_counts, notices_of, path_lost, read_told, rmdir_told, swap_told, to_both, to_dir, to_self, truncate_told, unlink_told, write_told};
+ghost use Rattle.event_rules.specs.Table.{about, answers_byte, chmod_told, create_told, kind_seen, mkdir_told};
+ghost use Rattle.event_rules.specs.Table.{move_told, no_counts, notices_of, path_lost, read_told, rmdir_told};
+ghost use Rattle.event_rules.specs.Table.{swap_told, to_both, to_dir, to_self, truncate_told, unlink_told, write_told};
 
 use crate::notice::{NO_COOKIE, Notice, Notices};
 use crate::subject::Subject;
@@ -299,8 +301,8 @@ fn tell_call(told: &mut Notices, ready: &Ready, cookie: u32) -> Result<(), Alloc
     }
 }
 
-/// What an accepted call raises, in the table that it was checked on, in place of what `told` held. `cookie` is that of a
-/// rename that moves something, and the first of an exchange. Each cookie that the call uses fits in a record.
+/// What an accepted call raises, in the table that it was checked on, in place of what `told` held. `cookie` is that of
+/// a rename that moves something, and the first of an exchange. Each cookie that the call uses fits in a record.
 ///
 /// # Errors
 /// `ENOMEM` alone.

@@ -13,7 +13,8 @@ use tree_ops::{Counts, FileCall, Paths, carry_out, check, opening_table};
 use tree_paths::{Limits, Path, Refusal};
 use watch_table::{Mask, Watches};
 
-/// What was got is what is wanted. Tests assert in these two functions: the macros in a long body take minutes to prove.
+/// What was got is what is wanted. Tests assert in these two functions: the macros in a long body take minutes to
+/// prove.
 fn equal<T: PartialEq + Debug + Drop>(rt: &impl Abort, got: T, wanted: T) {
     assert_eq!(rt; got, wanted);
 }

@@ -17,7 +17,8 @@ abbrev pub longer : List Label → List (Label × ℕ) → List (List Label × �
 longer path names = map (λ e. (path ++ e.0 ∷ [], e.1)) names
 
 -- the number of the node at a path, and the paths one name longer go onto the stack
-pub record Visits (rs : Rows) (path : List Label) (key : ℕ) (old new : List (List Label × ℕ)) (number : ℕ) : Type 0 where
+pub record Visits (rs : Rows) (path : List Label) (key : ℕ) (old new : List (List Label × ℕ))
+    (number : ℕ) : Type 0 where
   pub row : Row
   pub here : row_under rs key ≡ Some row
   pub numbered : number ≡ row.number

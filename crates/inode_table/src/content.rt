@@ -1,6 +1,7 @@
 //! What a node holds: the bytes of a file, or the names in a directory.
 
-ghost use Rattle.std.specs.Prelude.{◌≡◌, ◌<◌, ◌≤◌, ◌+◌, ◌-◌, ◌++◌, take, drop, replicate, None, Some, false, is_none, is_some, length, unwrap_or, [], vec_capacity, OnOk, OnErr, IsSome};
+ghost use Rattle.std.specs.Prelude.{◌≡◌, ◌<◌, ◌≤◌, ◌+◌, ◌-◌, ◌++◌, take, drop, replicate, None, Some, false, is_none};
+ghost use Rattle.std.specs.Prelude.{is_some, length, unwrap_or, [], vec_capacity, OnOk, OnErr, IsSome};
 ghost use Rattle.std.specs.Option.{option_map};
 ghost use Rattle.std.specs.List.Sorted.{IsStrictlySortedBy};
 ghost use Rattle.std.specs.Ordering.{nat_cmp, eq_by_cmp};
@@ -64,7 +65,8 @@ impl Content {
     pub(crate) fn names(&self) -> Keys<'_, Name, usize>
         requires { kind_of (bytes_in (body_of self.now)) ≡ Kind.Directory }
         ensures ordered { IsStrictlySortedBy (slice_cmp nat_cmp) result }
-        ensures members { (l : Label) → is_member (eq_by_cmp (slice_cmp nat_cmp)) result l ≡ is_some (key_in (body_of self.now) l) }
+        ensures members { (l : Label)
+            → is_member (eq_by_cmp (slice_cmp nat_cmp)) result l ≡ is_some (key_in (body_of self.now) l) }
         ensures runs { ShowsInOrder (deref {X = Label}) }
     {
         match self {
@@ -148,7 +150,8 @@ impl Content {
     pub(crate) fn write(&mut self, offset: usize, new: &[u8])
         requires regular { is_none (bytes_in (body_of self.old)) ≡ false }
         requires reserved { 0 < length new.now → offset + length new.now ≤ reserved_in (body_of self.old) }
-        ensures bytes { bytes_in (body_of self.new) ≡ option_map (written offset new.now) (bytes_in (body_of self.old)) }
+        ensures bytes { bytes_in (body_of self.new)
+            ≡ option_map (written offset new.now) (bytes_in (body_of self.old)) }
         ensures names { (l : Label) → key_in (body_of self.new) l ≡ key_in (body_of self.old) l }
     {
         match self {

@@ -1,10 +1,12 @@
 //! Nodes, and the writes of one node.
 
-ghost use Rattle.std.specs.Prelude.{◌≡◌, ◌<◌, ◌≤◌, ◌+◌, OnOk, OnErr, IfSome, IsSome, true, false, None, Some, ℕ, length};
+ghost use Rattle.std.specs.Prelude.{◌≡◌, ◌<◌, ◌≤◌, ◌+◌, OnOk, OnErr, IfSome, IsSome, true, false, None, Some, ℕ};
+ghost use Rattle.std.specs.Prelude.{length};
 ghost use Rattle.slab.specs.Slab.{slab_len, ContainsKey, HasRoomFor, Updates};
 ghost use Rattle.inode_table.specs.Kept.{rows_of, is_directory, is_live};
 ghost use Rattle.inode_table.specs.Rows.{child, what, reserved, Label};
-ghost use Rattle.inode_table.specs.Changes.{SetsChild, LosesLink, ChangesWhat, with_links, with_mode, with_bytes, with_written, with_len};
+ghost use Rattle.inode_table.specs.Changes.{SetsChild, LosesLink, ChangesWhat, with_links, with_mode, with_bytes};
+ghost use Rattle.inode_table.specs.Changes.{with_written, with_len};
 ghost use Rattle.inode_table.specs.Room.{HasRoomAs};
 
 use crate::content::Content;

@@ -20,7 +20,8 @@ impl<'a> Model for Resolved<'a> {
 
     ghost Value = { ResolvedPath };
 
-    ghost view = { λ resolved. record { names = resolved.path.now; directory = resolved.directory; here = resolved.here } };
+    ghost view = { λ resolved.
+        record { names = resolved.path.now; directory = resolved.directory; here = resolved.here } };
 }
 
 impl<'a> Resolved<'a> {

@@ -1,6 +1,7 @@
 //! The table of nodes.
 
-ghost use Rattle.std.specs.Prelude.{◌≡◌, ◌↔◌, ◌≤◌, ℕ, List, None, Some, IfOk, IfErr, OnOk, OnErr, IsSome, if◌then◌else◌};
+ghost use Rattle.std.specs.Prelude.{◌≡◌, ◌↔◌, ◌≤◌, ℕ, List, None, Some, IfOk, IfErr, OnOk, OnErr, IsSome};
+ghost use Rattle.std.specs.Prelude.{if◌then◌else◌};
 ghost use Rattle.std.specs.FinMap as finmap;
 ghost use Rattle.inode_table.specs.Rows.{Label, row_under};
 ghost use Rattle.inode_table.specs.Kept.{rows_of, is_directory, row_of};
@@ -96,8 +97,8 @@ impl Table {
         Ok(())
     }
 
-    /// What is true of the world of every table, for a caller's proof: it is a world of files, its paths are those that lead to a
-    /// node, each with the node's number, and its files are the nodes under their numbers.
+    /// What is true of the world of every table, for a caller's proof: it is a world of files, its paths are those that
+    /// lead to a node, each with the node's number, and its files are the nodes under their numbers.
     pub fn law(&self)
         ensures world { IsWorld (world_of self.now) }
         ensures paths { (p : List Label) → finmap.get (world_of self.now).paths p ≡ number_under self.now.rows p }

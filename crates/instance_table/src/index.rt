@@ -36,7 +36,8 @@ impl Index {
 
     /// Notes that an instance watches a file. `Err` is out of memory.
     pub fn add(&mut self, number: u32, id: u32) -> Result<(), AllocError>
-        ensures ok { OnOk result ((n q : ℕ) → is_noted self.new n q ≡ ((n == number && q == id) || is_noted self.old n q)) }
+        ensures ok { OnOk result ((n q : ℕ)
+            → is_noted self.new n q ≡ ((n == number && q == id) || is_noted self.old n q)) }
         ensures err { OnErr result ((n q : ℕ) → is_noted self.new n q ≡ is_noted self.old n q) }
         ensures rows { HasNoEmptyRow self.old → HasNoEmptyRow self.new }
     {

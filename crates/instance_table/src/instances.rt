@@ -1,5 +1,7 @@
 //! The open instances.
-ghost use Rattle.std.specs.Prelude.{◌≡◌, ◌↔◌, ◌≤◌, ◌+◌, ◌++◌, ◌∷◌, ◌⊎◌, ◌&&◌, ◌||◌, ◌==◌, ℕ, not, is_some, drop, false, take, vec_len, vec_capacity, Some, None, Ok, Err, IfOk, IfErr, OnOk, OnErr, IsSome, IfSome, map};
+ghost use Rattle.std.specs.Prelude.{◌≡◌, ◌↔◌, ◌≤◌, ◌+◌, ◌++◌, ◌∷◌, ◌⊎◌, ◌&&◌, ◌||◌, ◌==◌, ℕ, not, is_some, drop, false};
+ghost use Rattle.std.specs.Prelude.{take, vec_len, vec_capacity, Some, None, Ok, Err, IfOk, IfErr, OnOk, OnErr, IsSome};
+ghost use Rattle.std.specs.Prelude.{IfSome, map};
 ghost use Rattle.std.specs.Option.{option_copied};
 ghost use Rattle.std.specs.VecDeque.{deque_len};
 ghost use Rattle.std.specs.FinMap as finmap;
@@ -11,7 +13,8 @@ ghost use Rattle.watch_table.specs.Watching.{add_refusal, added, removed, watch_
 ghost use Rattle.instance_table.specs.Index.{HasNoEmptyRow, is_noted};
 ghost use Rattle.instance_table.specs.Rows.{instance_row};
 ghost use Rattle.instance_table.specs.Heard.{heard_all};
-ghost use Rattle.instance_table.specs.Instances.{NobodyWatches, WaitingAreEvents, after_read, changed, instance_of, new_instance, unwatching, waiting_of, watchers_of, watching};
+ghost use Rattle.instance_table.specs.Instances.{NobodyWatches, WaitingAreEvents, after_read, changed, instance_of};
+ghost use Rattle.instance_table.specs.Instances.{new_instance, unwatching, waiting_of, watchers_of, watching};
 
 use crate::index::Index;
 use crate::instance::Instance;
@@ -187,8 +190,10 @@ impl Instances {
         requires mask { mask_fault mask.0 ≡ None }
         ensures wd { IfOk result (λ wd. IfSome (instance_of self.old id) (λ i. wd ≡ wd_added i.watches number)) }
         ensures ok { OnOk result (self.new ≡ changed self.old id (watching number mask.0)) }
-        ensures accepted { OnOk result (IfSome (instance_of self.old id) (λ i. add_refusal i.watches number mask.0 is_directory ≡ None)) }
-        ensures refusals { IfErr result (λ r. IfSome (instance_of self.old id) (λ i. (add_refusal i.watches number mask.0 is_directory ≡ Some r) ⊎ (r ≡ Enomem))) }
+        ensures accepted { OnOk result (IfSome (instance_of self.old id)
+            (λ i. add_refusal i.watches number mask.0 is_directory ≡ None)) }
+        ensures refusals { IfErr result (λ r. IfSome (instance_of self.old id)
+            (λ i. (add_refusal i.watches number mask.0 is_directory ≡ Some r) ⊎ (r ≡ Enomem))) }
         ensures err { OnErr result (self.new ≡ self.old) }
     {
         let Ok(found) = place_of(&self.opened, id, place) else {
@@ -307,9 +312,11 @@ fn add_noted(
     requires noted { is_noted index.old number id ≡ is_some (watch_of watches.old number) }
     ensures wd { IfOk result (λ wd. wd ≡ wd_added watches.old number) }
     ensures watches { OnOk result (watches.new ≡ added watches.old number mask.0) }
-    ensures noted { OnOk result ((n q : ℕ) → is_noted index.new n q ≡ ((n == number && q == id) || is_noted index.old n q)) }
+    ensures noted { OnOk result ((n q : ℕ)
+        → is_noted index.new n q ≡ ((n == number && q == id) || is_noted index.old n q)) }
     ensures accepted { OnOk result (add_refusal watches.old number mask.0 is_directory ≡ None) }
-    ensures refusals { IfErr result (λ r. (add_refusal watches.old number mask.0 is_directory ≡ Some r) ⊎ (r ≡ Enomem)) }
+    ensures refusals { IfErr result (λ r. (add_refusal watches.old number mask.0 is_directory ≡ Some r)
+        ⊎ (r ≡ Enomem)) }
     ensures err { OnErr result (watches.new ≡ watches.old) }
     ensures rows { HasNoEmptyRow index.old → HasNoEmptyRow index.new }
     ensures err_noted { OnErr result ((n q : ℕ) → is_noted index.new n q ≡ is_noted index.old n q) }
@@ -330,7 +337,8 @@ fn add_noted(
 // Takes the watches of an instance out of the index.
 fn forget(index: &mut Index, watches: &Watches, id: u32)
     ensures rows { HasNoEmptyRow index.old → HasNoEmptyRow index.new }
-    ensures noted { (n q : ℕ) → is_noted index.new n q ≡ (not (is_some (watch_of watches.now n) && q == id) && is_noted index.old n q) }
+    ensures noted { (n q : ℕ)
+        → is_noted index.new n q ≡ (not (is_some (watch_of watches.now n) && q == id) && is_noted index.old n q) }
 {
     for number in watches.numbers() {
         index.remove(*number, id);

@@ -1,5 +1,6 @@
 //! What notices raise for all instances.
-ghost use Rattle.std.specs.Prelude.{◌≡◌, IsTrue, ℕ, ◌==◌, ◌||◌, ◌≤◌, List, ◌∷◌, ◌++◌, Some, is_some, true, fold, map, IfErr, OnOk};
+ghost use Rattle.std.specs.Prelude.{◌≡◌, IsTrue, ℕ, ◌==◌, ◌||◌, ◌≤◌, List, ◌∷◌, ◌++◌, Some, is_some, true, fold, map};
+ghost use Rattle.std.specs.Prelude.{IfErr, OnOk};
 ghost use Rattle.std.specs.FinMap as finmap;
 ghost use Rattle.std.specs.VecDeque.{deque_len};
 ghost use Rattle.std.specs.List.{list_any};
@@ -66,7 +67,8 @@ impl Instances {
 
     // The instances that watch a file of which one of the notices is.
     fn hearers(&self, notices: &[Notice], ids: &mut Ids) -> Result<(), AllocError>
-        ensures { OnOk result ((q : ℕ) → is_some (finmap.get ids.new q) ≡ list_any (λ n. watches_file (told_number n) (instance_of self.now q)) notices.now) }
+        ensures { OnOk result ((q : ℕ) → is_some (finmap.get ids.new q)
+            ≡ list_any (λ n. watches_file (told_number n) (instance_of self.now q)) notices.now) }
     {
         ids.clear();
         for (place, notice) in notices.iter().enumerate() {
@@ -78,8 +80,10 @@ impl Instances {
     // Adds the instances that watch a file to those that watch the file of an earlier notice.
     #[inline(always)]
     fn add_watchers(&self, told: &[Notice], number: u32, ids: &mut Ids) -> Result<(), AllocError>
-        requires { (q : ℕ) → is_some (finmap.get ids.old q) ≡ list_any (λ n. watches_file (told_number n) (instance_of self.now q)) told.now }
-        ensures { OnOk result ((q : ℕ) → is_some (finmap.get ids.new q) ≡ (watches_file number (instance_of self.now q) || is_some (finmap.get ids.old q))) }
+        requires { (q : ℕ) → is_some (finmap.get ids.old q)
+            ≡ list_any (λ n. watches_file (told_number n) (instance_of self.now q)) told.now }
+        ensures { OnOk result ((q : ℕ) → is_some (finmap.get ids.new q)
+            ≡ (watches_file number (instance_of self.now q) || is_some (finmap.get ids.old q))) }
     {
         if is_told_of_late(told, number) {
             return Ok(());
@@ -94,9 +98,12 @@ impl Instances {
         hearers: &Ids,
         staged: &mut Staged,
     ) -> Result<(), Refusal>
-        requires { (q : ℕ) → is_some (finmap.get hearers.now q) ≡ list_any (λ n. watches_file (told_number n) (instance_of self.now q)) notices.now }
-        ensures events { OnOk result ((q : ℕ) (i : Instance) → instance_of self.now q ≡ Some i → events_to q staged.new.events.items ≡ events_of i.watches notices.now) }
-        ensures drops { OnOk result ((q : ℕ) (i : Instance) → instance_of self.now q ≡ Some i → fold removed i.watches (wds_to q staged.new.drops.items) ≡ watches_after i.watches notices.now) }
+        requires { (q : ℕ) → is_some (finmap.get hearers.now q)
+            ≡ list_any (λ n. watches_file (told_number n) (instance_of self.now q)) notices.now }
+        ensures events { OnOk result ((q : ℕ) (i : Instance) → instance_of self.now q ≡ Some i
+            → events_to q staged.new.events.items ≡ events_of i.watches notices.now) }
+        ensures drops { OnOk result ((q : ℕ) (i : Instance) → instance_of self.now q ≡ Some i
+            → fold removed i.watches (wds_to q staged.new.drops.items) ≡ watches_after i.watches notices.now) }
         ensures memory { IfErr result (λ refusal. refusal ≡ Enomem) }
     {
         unwatched_files_raise_nothing();
@@ -144,7 +151,8 @@ fn is_told_of_late(notices: &[Notice], number: u32) -> bool
 
 // Puts numbers in.
 fn add_all(ids: &mut Ids, more: &[u32]) -> Result<(), AllocError>
-    ensures { OnOk result ((q : ℕ) → is_some (finmap.get ids.new q) ≡ (list_any (λ id. q == id) more.now || is_some (finmap.get ids.old q))) }
+    ensures { OnOk result ((q : ℕ)
+        → is_some (finmap.get ids.new q) ≡ (list_any (λ id. q == id) more.now || is_some (finmap.get ids.old q))) }
 {
     for id in more {
         ids.add(*id)?;
@@ -174,7 +182,8 @@ pub(crate) fn offer_one(queue: &mut Queue, event: Event)
 
 // Raises an event, and those behind it of the same number.
 pub(crate) fn offer_run(queue: &mut Queue, first: StagedEvent, events: &mut VecDeque<StagedEvent>)
-    ensures queue { (es : List Event) × (first ∷ events.old.items ≡ map (staged_event first.id) es ++ events.new.items) × (queue.new ≡ fold after_offer queue.old es) }
+    ensures queue { (es : List Event) × (first ∷ events.old.items ≡ map (staged_event first.id) es ++ events.new.items)
+        × (queue.new ≡ fold after_offer queue.old es) }
     ensures events { AreEvents queue.old.waiting → AreEvents queue.new.waiting }
     ensures fewer { deque_len events.new ≤ deque_len events.old }
 {

@@ -7,7 +7,8 @@ use Rattle.std.specs.Cmp.Lexicographic.{pointwise, lists_equiv, options_equiv, n
 use Rattle.record_codec.specs.declared.event.Event.{Event}
 
 abbrev pub event_eq : Event → Event → Bool
-event_eq a b = int_eq a.wd b.wd && nat_eq a.mask b.mask && nat_eq a.cookie b.cookie && option_eq (pointwise nat_eq) a.name b.name
+event_eq a b =
+    int_eq a.wd b.wd && nat_eq a.mask b.mask && nat_eq a.cookie b.cookie && option_eq (pointwise nat_eq) a.name b.name
 
 abbrev pub events_eq : List Event → List Event → Bool
 events_eq = pointwise event_eq
@@ -15,5 +16,6 @@ events_eq = pointwise event_eq
 -- what `Eq` promises of it
 pub events_eq_equiv : IsEquivalence events_eq
 events_eq_equiv =
-    lists_equiv (and_equiv (and_equiv (and_equiv (on_equiv (λ (e : Event). e.wd) int_eq_equiv) (on_equiv (λ (e : Event). e.mask) nat_eq_equiv))
-    (on_equiv (λ (e : Event). e.cookie) nat_eq_equiv)) (on_equiv (λ (e : Event). e.name) (options_equiv nat_list_eq_equiv)))
+    lists_equiv (and_equiv (and_equiv (and_equiv (on_equiv (λ (e : Event). e.wd) int_eq_equiv)
+    (on_equiv (λ (e : Event). e.mask) nat_eq_equiv)) (on_equiv (λ (e : Event). e.cookie) nat_eq_equiv))
+    (on_equiv (λ (e : Event). e.name) (options_equiv nat_list_eq_equiv)))

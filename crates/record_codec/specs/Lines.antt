@@ -1,5 +1,6 @@
 -- How names and records are printed.
-use Rattle.std.specs.Prelude.{ℕ, Bool, not, ◌&&◌, ◌==◌, nat_le, List, [], ◌∷◌, ◌++◌, codes, decimal, Option, Some, None, if◌then◌else◌}
+use Rattle.std.specs.Prelude.{ℕ, Bool, not, ◌&&◌, ◌==◌, nat_le, List, [], ◌∷◌, ◌++◌, codes, decimal, Option, Some, None}
+use Rattle.std.specs.Prelude.{if◌then◌else◌}
 use Rattle.std.specs.List.{flat_map}
 use Rattle.std.specs.Fmt.{signed_decimal}
 use Rattle.std.specs.Int.{w32, to_be_bytes}
@@ -20,7 +21,8 @@ printed_name name = flat_map printed_byte name
 
 -- wd in decimal, mask as eight hexadecimal digits, and cookie in decimal, with a space between them
 unfoldable pub printed_numbers : Event → List ℕ
-printed_numbers e = signed_decimal e.wd ++ codes " " ++ encode_lower (to_be_bytes w32 e.mask) ++ codes " " ++ decimal e.cookie
+printed_numbers e =
+    signed_decimal e.wd ++ codes " " ++ encode_lower (to_be_bytes w32 e.mask) ++ codes " " ++ decimal e.cookie
 
 unfoldable pub printed_ending : Option (List ℕ) → List ℕ
 printed_ending None = []

@@ -17,4 +17,5 @@ event_seen view = record { wd = view.wd; mask = view.mask; cookie = view.cookie;
 -- the record that begins the bytes, and the records behind it, or that there are no bytes
 abbrev pub IsNextRecord : List ℕ → Option (RecordView × Bor (List ℕ)) → Type 0
 IsNextRecord bytes None = bytes ≡ []
-IsNextRecord bytes (Some (view, rest)) = IsEvent (event_seen view) × (bytes ≡ record_bytes (event_seen view) ++ rest.now) × AreRecords rest.now
+IsNextRecord bytes (Some (view, rest)) =
+    IsEvent (event_seen view) × (bytes ≡ record_bytes (event_seen view) ++ rest.now) × AreRecords rest.now

@@ -85,8 +85,8 @@ impl Kept {
         }
     }
 
-    /// The first eight bytes as a number, the first one worth most, as if zero bytes stood behind fewer. Where those of two
-    /// names differ, the names are ordered as they are.
+    /// The first eight bytes as a number, the first one worth most, as if zero bytes stood behind fewer. Where those of
+    /// two names differ, the names are ordered as they are.
     pub(crate) fn front(&self) -> u64
         requires { IsKept self.now }
         ensures { result ≡ front_of (kept_bytes self.now) }

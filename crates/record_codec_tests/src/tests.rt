@@ -13,7 +13,8 @@ use std::mem::size_of;
 use std::process::Abort;
 use std::test::Fail;
 
-/// What was got is what is wanted. Tests assert in these two functions: the macros in a long body take minutes to prove.
+/// What was got is what is wanted. Tests assert in these two functions: the macros in a long body take minutes to
+/// prove.
 fn equal<T: PartialEq + Debug + Drop>(rt: &impl Abort, got: T, wanted: T) {
     assert_eq!(rt; got, wanted);
 }
@@ -340,7 +341,8 @@ fn reads_faults(rt: HostRuntime) -> Result<(), Fail> {
     Ok(())
 }
 
-/// The record of a file `f` that was made, with one byte of it another: the fault of each rule, and where the record begins.
+/// The record of a file `f` that was made, with one byte of it another: the fault of each rule, and where the record
+/// begins.
 #[test]
 fn reads_the_faults_of_one_record(rt: HostRuntime) -> Result<(), Fail> {
     let record = &SPELLED[..32];
@@ -371,7 +373,8 @@ fn reads_the_faults_of_one_record(rt: HostRuntime) -> Result<(), Fail> {
     Ok(())
 }
 
-/// A record whose name has 256 bytes, as some file systems of Linux have them: 288 bytes, of which the name field is 272.
+/// A record whose name has 256 bytes, as some file systems of Linux have them: 288 bytes, of which the name field is
+/// 272.
 #[test]
 fn reads_no_name_of_256_bytes(rt: HostRuntime) -> Result<(), Fail> {
     let mut bytes = SPELLED[..12].to_vec(rt.alloc())?;
@@ -508,8 +511,8 @@ fn writes_all(rt: HostRuntime) -> Result<(), Fail> {
     Ok(())
 }
 
-/// A reader and a writer whose first call fails with `Interrupted`, whose second does nothing, and which then do one byte
-/// at a time.
+/// A reader and a writer whose first call fails with `Interrupted`, whose second does nothing, and which then do one
+/// byte at a time.
 #[derive(Drop)]
 struct Shaky {
     calls: usize,

@@ -10,8 +10,10 @@ use Rattle.tree_core.specs.Journal.{Journaled, IsLawfulFrom, IsSpent, last_place
 -- a call makes one more entry, with the reply of the tree before it, and the receipt in the answer has the sequence
 -- number of the entry and that reply; or it is refused, and the state is as before. Either way the journal is lawful.
 -- It is refused as full if and only if the journal takes no more entries, and otherwise as out of memory
-pub record Applies {X : Type 0} (receipt : X → Receipt) (old : Journaled) (caller : ℕ) (call : Call) (result : Result X Refusal) (new : Journaled) : Type 0 where
-  pub entry : IfOk result (λ x. new ≡ with_entry old (record { caller = caller; call = call; reply = (receipt x).reply }))
+pub record Applies {X : Type 0} (receipt : X → Receipt) (old : Journaled) (caller : ℕ) (call : Call)
+    (result : Result X Refusal) (new : Journaled) : Type 0 where
+  pub entry : IfOk result (λ x.
+      new ≡ with_entry old (record { caller = caller; call = call; reply = (receipt x).reply }))
   pub place : IfOk result (λ x. (receipt x).place ≡ last_place new)
   pub reply : IfOk result (λ x. (receipt x).reply ≡ reply_of (now old) call)
   pub lawful : IsLawfulFrom new.start new.entries

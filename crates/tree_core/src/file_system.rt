@@ -1,5 +1,6 @@
 //! The files and the instances: what they answer to each call.
-ghost use Rattle.std.specs.Prelude.{◌≡◌, ◌≢◌, ◌⊎◌, ◌≤◌, ◌+◌, ◌^◌, None, Some, Ok, Err, IfOk, IfErr, OnOk, OnErr, length, option_map, take};
+ghost use Rattle.std.specs.Prelude.{◌≡◌, ◌≢◌, ◌⊎◌, ◌≤◌, ◌+◌, ◌^◌, None, Some, Ok, Err, IfOk, IfErr, OnOk, OnErr};
+ghost use Rattle.std.specs.Prelude.{length, option_map, take};
 ghost use Rattle.tree_core.specs.Snapshots.{IsSnapshotOf};
 ghost use Rattle.std.specs.Option.{option_copied};
 ghost use Rattle.record_codec.specs.Records.{AreEvents, spelling};
@@ -10,7 +11,8 @@ ghost use Rattle.tree_ops.specs.Moves.{cookies_of};
 ghost use Rattle.event_rules.specs.Table.{notices_of};
 ghost use Rattle.instance_table.specs.Instances.{all_changed, instance_of, told};
 ghost use Rattle.tree_core.specs.Histories.{oldest, pumped};
-ghost use Rattle.tree_core.specs.FileSystems.{tree_in, Attempts, Begins, CanFinish, IsNumbered, finished, reading, taken};
+ghost use Rattle.tree_core.specs.FileSystems.{tree_in, Attempts, Begins, CanFinish, IsNumbered, finished, reading};
+ghost use Rattle.tree_core.specs.FileSystems.{taken};
 ghost use Rattle.tree_core.specs.Tree.{opening, counts_of, init_rows, rm_watch_rows, read_rows, close_rows};
 
 use crate::call::Call;
@@ -251,8 +253,10 @@ impl FileSystem {
     // Why no instance is made.
     #[tactic(auto, unfolding(crate::specs::Tree::init_rows))]
     fn check_init(&self, limit: u32) -> Result<(), Refusal>
-        ensures passes { OnOk result (first_row (init_rows self.now.limits self.now.instances self.now.next_id limit) ≡ None) }
-        ensures refused { IfErr result (λ r. first_row (init_rows self.now.limits self.now.instances self.now.next_id limit) ≡ Some r) }
+        ensures passes { OnOk result (first_row (init_rows self.now.limits self.now.instances self.now.next_id limit)
+            ≡ None) }
+        ensures refused { IfErr result (λ r.
+            first_row (init_rows self.now.limits self.now.instances self.now.next_id limit) ≡ Some r) }
     {
         if limit == 0 || limit > self.limits.queue {
             return Err(Refusal::Einval);
@@ -314,7 +318,8 @@ impl FileSystem {
     fn read(&self, id: u32, bytes: u32, pumps: bool) -> Result<Begun, Refusal>
         requires { IsNumbered (tree_in self.now) }
         ensures begun { Attempts self.now (reading pumps id bytes) result self.now }
-        ensures records { IfOk result (λ b. taken self.now b.rest ≡ option_map (oldest bytes) (instance_of self.now.instances id)) }
+        ensures records { IfOk result (λ b.
+            taken self.now b.rest ≡ option_map (oldest bytes) (instance_of self.now.instances id)) }
     {
         let mut place = 0;
         let instance = check_read(self.instances.find(id, &mut place), bytes, pumps)?;
@@ -346,7 +351,8 @@ impl FileSystem {
 #[inline(always)]
 fn answered(begun: Result<Begun, Refusal>) -> Result<Begun, Refusal>
     ensures begun { IfOk begun (λ b. result ≡ Ok b) }
-    ensures refused { IfErr begun (λ r. ((r ≡ Enomem) × (result ≡ Err Enomem)) ⊎ ((r ≢ Enomem) × (result ≡ Ok (record { reply = Reply.Refused r; rest = Rest.Nothing })))) }
+    ensures refused { IfErr begun (λ r. ((r ≡ Enomem) × (result ≡ Err Enomem))
+        ⊎ ((r ≢ Enomem) × (result ≡ Ok (record { reply = Reply.Refused r; rest = Rest.Nothing })))) }
 {
     match begun {
         Ok(begun) => Ok(begun),
@@ -363,7 +369,8 @@ fn note(
     noted: &mut Notices,
 ) -> Result<(), Refusal>
     requires { cookie + cookies_of (world_of ready.now.tree) ready.now.plan.call ≤ 2 ^ 32 }
-    ensures told { OnOk result (all_changed instances.now (told noted.new) ≡ all_changed instances.now (told (notices_of (world_of ready.now.tree) ready.now.plan.call cookie))) }
+    ensures told { OnOk result (all_changed instances.now (told noted.new)
+        ≡ all_changed instances.now (told (notices_of (world_of ready.now.tree) ready.now.plan.call cookie))) }
     ensures memory { IfErr result (λ refusal. refusal ≡ Enomem) }
 {
     unwatched_instances_stay();

@@ -1,7 +1,8 @@
 //! Laws of what is raised for an instance, what joins its queue, and what is read of it, over all lawful journals. Each
 //! is a function that does nothing, and its contract is the law.
 
-ghost use Rattle.tree_core.specs.QueueLaws.{BytesAreOfRecords, ClosedInstancesHearNothing, EventsAreAccountedFor, EventsFindTheUnread, ReadsAreInOrder, UnmadeInstancesHearNothing};
+ghost use Rattle.tree_core.specs.QueueLaws.{BytesAreOfRecords, ClosedInstancesHearNothing, EventsAreAccountedFor};
+ghost use Rattle.tree_core.specs.QueueLaws.{EventsFindTheUnread, ReadsAreInOrder, UnmadeInstancesHearNothing};
 
 use event_queue::nothing_is_lost_unsaid;
 use event_rules::{events_are_of_watches, other_watches_stay};

@@ -1,5 +1,6 @@
 //! A tree with the journal of its calls.
-ghost use Rattle.std.specs.Prelude.{◌≡◌, ◌↔◌, ◌-◌, ◌+◌, ◌^◌, ◌<◌, ◌≤◌, ◌⊎◌, IfOk, IfErr, IfSome, OnOk, OnErr, None, length, true, vec_len, vec_capacity};
+ghost use Rattle.std.specs.Prelude.{◌≡◌, ◌↔◌, ◌-◌, ◌+◌, ◌^◌, ◌<◌, ◌≤◌, ◌⊎◌, IfOk, IfErr, IfSome, OnOk, OnErr, None};
+ghost use Rattle.std.specs.Prelude.{length, true, vec_len, vec_capacity};
 ghost use Rattle.record_codec.specs.Records.{AreEvents, spelling};
 ghost use Rattle.instance_table.specs.Instances.{WaitingAreEvents, watchers_of};
 ghost use Rattle.tree_core.specs.Histories.{pumped};
@@ -194,7 +195,8 @@ impl State {
     ) -> Result<(Receipt, Kept, Option<Events>), Refusal>
         ensures applied { Applies (λ r. r.0) self.old caller (Call.Pump instance bytes) result self.new }
         ensures records { IfOk result (λ r. r.2 ≡ pumped (now self.old) instance bytes) }
-        ensures spelled { IfOk result (λ r. IfSome r.2 (λ records. AreEvents records × (r.0.reply ≡ Reply.Records (spelling records)))) }
+        ensures spelled { IfOk result (λ r.
+            IfSome r.2 (λ records. AreEvents records × (r.0.reply ≡ Reply.Records (spelling records)))) }
         ensures kept { IfOk result (λ r. IsKeptAs r.0 r.1 (Call.Pump instance bytes)) }
     {
         make_room(
@@ -302,7 +304,8 @@ fn make_room(journal: &mut Vec<Entry>, limits: &Limits, place: u64) -> Result<()
     ensures room { OnOk result (vec_len journal.new < vec_capacity journal.new) }
     ensures free { OnOk result (length journal.old.items < limits.now.journal) }
     ensures small { OnOk result (place + length journal.old.items + 1 < 2 ^ 64) }
-    ensures full { (result ≡ Err Refusal.JournalFull) ↔ ((limits.now.journal ≤ length journal.old.items) ⊎ (2 ^ 64 ≤ place + length journal.old.items + 1)) }
+    ensures full { (result ≡ Err Refusal.JournalFull)
+        ↔ ((limits.now.journal ≤ length journal.old.items) ⊎ (2 ^ 64 ≤ place + length journal.old.items + 1)) }
     ensures errors { IfErr result (λ e. (e ≡ Refusal.JournalFull) ⊎ (e ≡ Refusal.Enomem)) }
 {
     if journal.len() >= limits.journal as usize {

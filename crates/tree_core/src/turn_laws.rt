@@ -3,7 +3,8 @@
 
 ghost use Rattle.tree_core.specs.declared.call.Call.{Call};
 ghost use Rattle.tree_core.specs.Tree.{Tree};
-ghost use Rattle.tree_core.specs.TurnLaws.{CookiesAreInTurn, CookiesTieMoves, DescriptorsEndForGood, DescriptorsRunOn, IdsAreInTurn, NumbersAreInTurn, RepliesTell, TreesAreSound, WatchesEndOnce};
+ghost use Rattle.tree_core.specs.TurnLaws.{CookiesAreInTurn, CookiesTieMoves, DescriptorsEndForGood, DescriptorsRunOn};
+ghost use Rattle.tree_core.specs.TurnLaws.{IdsAreInTurn, NumbersAreInTurn, RepliesTell, TreesAreSound, WatchesEndOnce};
 
 use event_queue::bounds_are_kept;
 use event_rules::{

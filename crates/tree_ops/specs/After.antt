@@ -1,5 +1,6 @@
 -- What an accepted call on files does to the world, and what it answers.
-use Rattle.std.specs.Prelude.{ℕ, Bool, false, ◌==◌, List, [], ◌∷◌, Option, Some, None, map, length, take, drop, if◌then◌else◌}
+use Rattle.std.specs.Prelude.{ℕ, Bool, false, ◌==◌, List, [], ◌∷◌, Option, Some, None, map, length, take, drop}
+use Rattle.std.specs.Prelude.{if◌then◌else◌}
 use Rattle.std.specs.Option.{option_map, unwrap_or}
 use Rattle.std.specs.List.{filter_map}
 use Rattle.std.specs.Ordering.{nat_cmp}
@@ -8,10 +9,13 @@ use Rattle.std.specs.FinMap as finmap
 use Rattle.inode_table.specs.declared.seen.Kind.TheVariants.{Regular, Directory}
 use Rattle.inode_table.specs.Bytes.{resized, written}
 use Rattle.tree_paths.specs.Paths.{rest_after}
-use Rattle.inode_table.specs.World.{World, File, links, file_at, changed_at, linked, with_file, without_path, with_move, with_swap, without_lost}
+use Rattle.inode_table.specs.World.{World, File, links, file_at, changed_at, linked, with_file, without_path, with_move}
+use Rattle.inode_table.specs.World.{with_swap, without_lost}
 use Rattle.tree_ops.specs.declared.call.TheConstants.{RENAME_EXCHANGE}
 use Rattle.tree_ops.specs.declared.call.FileCall.{FileCall}
-use Rattle.tree_ops.specs.declared.call.FileCall.TheVariants.{Create, Write, ReadFile, Truncate, Chmod, Mkdir, Link, Unlink, Rmdir, Rename, Rename2, Stat as Status, List as Listed}
+use Rattle.tree_ops.specs.declared.call.FileCall.TheVariants.{Create, Write, ReadFile, Truncate, Chmod, Mkdir, Link}
+use Rattle.tree_ops.specs.declared.call.FileCall.TheVariants.{Unlink, Rmdir, Rename, Rename2, Stat as Status}
+use Rattle.tree_ops.specs.declared.call.FileCall.TheVariants.{List as Listed}
 use Rattle.tree_ops.specs.declared.call.Counts.{Counts}
 use Rattle.tree_ops.specs.declared.answer.Answer.{Answer}
 use Rattle.tree_ops.specs.declared.answer.Answer.TheVariants.{Done, Number, Count, Bytes, Names, Stat}
@@ -27,14 +31,15 @@ are_same None t = false
 are_same (Some n) None = false
 are_same (Some n) (Some m) = n == m
 
--- two paths of one file: nothing. Else the pair of the new path is dropped, and each pair (old + s, f) becomes (new + s, f)
+-- two paths of one file: nothing. Else the pair of the new path is dropped, and each pair (old + s, f) becomes
+-- (new + s, f)
 unfoldable pub after_rename : World → List (List ℕ) → List (List ℕ) → World
 after_rename w old new =
     if are_same (finmap.get w.paths old) (finmap.get w.paths new) then w
     else without_lost (with_move w old new) (finmap.get w.paths new)
 
--- two paths of one file: nothing. Else each pair (old + s, f) becomes (new + s, f), and at once each pair (new + s, g) becomes
--- (old + s, g): renameat2(2), RENAME_EXCHANGE
+-- two paths of one file: nothing. Else each pair (old + s, f) becomes (new + s, f), and at once each pair (new + s, g)
+-- becomes (old + s, g): renameat2(2), RENAME_EXCHANGE
 unfoldable pub after_exchange : World → List (List ℕ) → List (List ℕ) → World
 after_exchange w old new = if are_same (finmap.get w.paths old) (finmap.get w.paths new) then w else with_swap w old new
 

@@ -4,7 +4,8 @@ use Rattle.std.specs.Option.{unwrap_or}
 use Rattle.inode_table.specs.Resolution.{IsResolved, ResolvedPath}
 use Rattle.inode_table.specs.Tree.{Tree}
 use Rattle.tree_ops.specs.declared.call.FileCall.{FileCall}
-use Rattle.tree_ops.specs.declared.call.FileCall.TheVariants.{Create, Write, ReadFile, Truncate, Chmod, Mkdir, Link, Unlink, Rmdir, Rename, Rename2, Stat, List as Listed}
+use Rattle.tree_ops.specs.declared.call.FileCall.TheVariants.{Create, Write, ReadFile, Truncate, Chmod, Mkdir, Link}
+use Rattle.tree_ops.specs.declared.call.FileCall.TheVariants.{Unlink, Rmdir, Rename, Rename2, Stat, List as Listed}
 
 -- the path of a call, and the old one where it has two
 abbrev pub path_of : FileCall → List (List ℕ)

@@ -34,8 +34,8 @@ pub record ReadyValue : Type 0 where
   pub tree : Tree
   pub plan : PlanValue
 
--- no row refuses the call on this table, under some limits, the number of each file is below the next one, the plan says
--- what the call moves, and the paths of the call are resolved on the table
+-- no row refuses the call on this table, under some limits, the number of each file is below the next one, the plan
+-- says what the call moves, and the paths of the call are resolved on the table
 pub record IsReady (t : Tree) (plan : PlanValue) : Type 0 where
   pub limits : Limits
   pub accepted : refused (world_of t) limits plan.counts plan.call ≡ None

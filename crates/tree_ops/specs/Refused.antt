@@ -1,9 +1,11 @@
--- Why a call on files is refused: the first row that holds. POSIX.1-2017 says when each error comes (`open`, `mkdir`, `write`,
--- `read`, `truncate`, `chmod`, `link`, `unlink`, `rmdir`, `rename`, `stat`, `opendir`), renameat2(2) does for its flags, and both
--- leave open which comes first; here it is the order of the rows.
-use Rattle.std.specs.Prelude.{ℕ, ◌+◌, Bool, false, not, ◌&&◌, ◌||◌, ◌==◌, List, [], ◌∷◌, ◌++◌, Option, Some, None, is_some, length, nat_lt, if◌then◌else◌}
+-- Why a call on files is refused: the first row that holds. POSIX.1-2017 says when each error comes (`open`, `mkdir`,
+-- `write`, `read`, `truncate`, `chmod`, `link`, `unlink`, `rmdir`, `rename`, `stat`, `opendir`), renameat2(2) does for
+-- its flags, and both leave open which comes first; here it is the order of the rows.
+use Rattle.std.specs.Prelude.{ℕ, ◌+◌, Bool, false, not, ◌&&◌, ◌||◌, ◌==◌, List, [], ◌∷◌, ◌++◌, Option, Some, None}
+use Rattle.std.specs.Prelude.{is_some, length, nat_lt, if◌then◌else◌}
 use Rattle.tree_paths.specs.declared.refusal.Refusal.{Refusal}
-use Rattle.tree_paths.specs.declared.refusal.Refusal.TheVariants.{Eperm, Ebusy, Eexist, Enotdir, Eisdir, Einval, Efbig, Emlink, Enotempty, CookiesSpent, NumbersSpent}
+use Rattle.tree_paths.specs.declared.refusal.Refusal.TheVariants.{Eperm, Ebusy, Eexist, Enotdir, Eisdir, Einval, Efbig}
+use Rattle.tree_paths.specs.declared.refusal.Refusal.TheVariants.{Emlink, Enotempty, CookiesSpent, NumbersSpent}
 use Rattle.tree_paths.specs.declared.limits.Limits.{Limits}
 use Rattle.inode_table.specs.declared.seen.Seen.{Seen}
 use Rattle.tree_paths.specs.Paths.{is_below}
@@ -12,7 +14,8 @@ use Rattle.tree_paths.specs.Rows.{row, first_row}
 use Rattle.inode_table.specs.Refusals.{Look, is_directory_seen, find, parent}
 use Rattle.tree_ops.specs.declared.call.TheConstants.{MAX_MODE, RENAME_EXCHANGE, RENAME_NOREPLACE}
 use Rattle.tree_ops.specs.declared.call.FileCall.{FileCall}
-use Rattle.tree_ops.specs.declared.call.FileCall.TheVariants.{Create, Write, ReadFile, Truncate, Chmod, Mkdir, Link, Unlink, Rmdir, Rename, Rename2, Stat, List as Listed}
+use Rattle.tree_ops.specs.declared.call.FileCall.TheVariants.{Create, Write, ReadFile, Truncate, Chmod, Mkdir, Link}
+use Rattle.tree_ops.specs.declared.call.FileCall.TheVariants.{Unlink, Rmdir, Rename, Rename2, Stat, List as Listed}
 use Rattle.tree_ops.specs.declared.call.Counts.{Counts}
 
 abbrev pub is_root : List (List ℕ) → Bool
@@ -50,7 +53,8 @@ cookies_row limits counts = row ((counts.next_cookie == 0) || nat_lt limits.cook
 
 -- no two cookies are left
 abbrev pub two_cookies_row : Limits → Counts → Option Refusal
-two_cookies_row limits counts = row ((counts.next_cookie == 0) || nat_lt limits.cookies (counts.next_cookie + 1)) CookiesSpent
+two_cookies_row limits counts =
+    row ((counts.next_cookie == 0) || nat_lt limits.cookies (counts.next_cookie + 1)) CookiesSpent
 
 -- a new name cannot stand at the path
 abbrev pub name_rows : Look → List (List ℕ) → List (Option Refusal)
@@ -123,7 +127,8 @@ noreplace_rows seen_at limits counts old new =
     source_rows seen_at old new ++ row (is_some (seen_at new)) Eexist ∷ cookies_row limits counts ∷ []
 
 -- neither of two directories can be put below itself, and each of the two moves has its cookie
-unfoldable pub swap_rows : Limits → Counts → List (List ℕ) → List (List ℕ) → Option Seen → Option Seen → List (Option Refusal)
+unfoldable pub swap_rows : Limits → Counts → List (List ℕ) → List (List ℕ) → Option Seen → Option Seen
+    → List (Option Refusal)
 swap_rows limits counts old new one other =
     row ((is_directory_seen one && is_below new old) || (is_directory_seen other && is_below old new)) Einval
     ∷ two_cookies_row limits counts
@@ -135,7 +140,8 @@ exchange_rows seen_at limits counts old new =
     row (is_root old || is_root new) Ebusy
     ∷ find seen_at old
     ∷ find seen_at new
-    ∷ (if are_same_seen (seen_at old) (seen_at new) then [] else swap_rows limits counts old new (seen_at old) (seen_at new))
+    ∷ (if are_same_seen (seen_at old) (seen_at new) then []
+    else swap_rows limits counts old new (seen_at old) (seen_at new))
 
 -- the flags are looked at before all else (renameat2(2), "ERRORS": EINVAL)
 unfoldable pub rename2_rows : Look → Limits → Counts → List (List ℕ) → List (List ℕ) → ℕ → List (Option Refusal)

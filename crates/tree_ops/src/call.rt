@@ -29,14 +29,16 @@ pub enum FileCall {
         path: Path,
         mode: u32,
     },
-    /// Writes the bytes from `offset` bytes on (POSIX.1-2017 `pwrite`), all of them or none, and fills a gap before them with
-    /// zero bytes. A write of no bytes changes nothing, whatever its offset. Answers [`Answer::Count`](crate::Answer::Count).
+    /// Writes the bytes from `offset` bytes on (POSIX.1-2017 `pwrite`), all of them or none, and fills a gap before
+    /// them with zero bytes. A write of no bytes changes nothing, whatever its offset. Answers
+    /// [`Answer::Count`](crate::Answer::Count).
     Write {
         path: Path,
         offset: u64,
         bytes: Bytes,
     },
-    /// Reads at most `count` bytes from `offset` bytes on (POSIX.1-2017 `pread`), none past the end. Answers [`Answer::Bytes`](crate::Answer::Bytes).
+    /// Reads at most `count` bytes from `offset` bytes on (POSIX.1-2017 `pread`), none past the end. Answers
+    /// [`Answer::Bytes`](crate::Answer::Bytes).
     ReadFile {
         path: Path,
         offset: u64,
@@ -182,7 +184,7 @@ impl FileCall {
 pub struct Counts {
     /// The number of the next file or directory that is made.
     pub next_number: u32,
-    /// The cookie of the next move: a rename that moves something is one, and an exchange is two. It is 0 where all 2^32 - 1 of them
-    /// are spent.
+    /// The cookie of the next move: a rename that moves something is one, and an exchange is two. It is 0 where all
+    /// 2^32 - 1 of them are spent.
     pub next_cookie: u32,
 }

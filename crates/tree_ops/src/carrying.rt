@@ -1,6 +1,7 @@
 //! What accepted calls do.
 
-ghost use Rattle.std.specs.Prelude.{◌≡◌, ◌≢◌, [], None, true, false, IfOk, IfErr, OnOk, OnErr, IsSome, ◌+◌, ◌<◌, ◌≤◌, ◌^◌, length, take, drop};
+ghost use Rattle.std.specs.Prelude.{◌≡◌, ◌≢◌, [], None, true, false, IfOk, IfErr, OnOk, OnErr, IsSome, ◌+◌, ◌<◌, ◌≤◌};
+ghost use Rattle.std.specs.Prelude.{◌^◌, length, take, drop};
 ghost use Rattle.std.specs.FinMap as finmap;
 ghost use Rattle.inode_table.specs.Bytes.{resized, written};
 ghost use Rattle.inode_table.specs.World.{IsWhole, look, with_file, changed_at};
@@ -34,7 +35,8 @@ fn make(
     requires free { look (world_of table.old) path.now.names ≡ None }
     requires named { path.now.names ≢ [] }
     requires unused { finmap.get (world_of table.old).files number ≡ None }
-    ensures world { OnOk result (world_of table.new ≡ with_file (world_of table.old) path.now.names number (record { kind = kind; mode = mode; bytes = [] })) }
+    ensures world { OnOk result (world_of table.new
+        ≡ with_file (world_of table.old) path.now.names number (record { kind = kind; mode = mode; bytes = [] })) }
     ensures answer { IfOk result (λ answer. answer ≡ Answer.Number number) }
     ensures err { OnErr result (table.new.rows ≡ table.old.rows) }
     ensures memory { IfErr result (λ refusal. refusal ≡ Refusal.Enomem) }
@@ -52,7 +54,8 @@ fn reserve(table: &mut Table, path: &Resolved, offset: usize, bytes: &[u8]) -> R
     requires range { 0 < length bytes.now → offset + length bytes.now < 2 ^ 64 }
     ensures world { world_of table.new ≡ world_of table.old }
     ensures resolved { (p : ResolvedPath) → IsResolved table.old p → IsResolved table.new p }
-    ensures reserved { OnOk result (0 < length bytes.now → offset + length bytes.now ≤ reserved_at table.new path.now.names) }
+    ensures reserved { OnOk result (0 < length bytes.now
+        → offset + length bytes.now ≤ reserved_at table.new path.now.names) }
     ensures err { OnErr result (table.new.rows ≡ table.old.rows) }
     ensures memory { IfErr result (λ refusal. refusal ≡ Refusal.Enomem) }
 {
@@ -68,7 +71,8 @@ fn write(table: &mut Table, path: &Resolved, offset: usize, bytes: &[u8]) -> Res
     requires there { IsSome (look (world_of table.old) path.now.names) }
     requires regular { is_directory_seen (look (world_of table.old) path.now.names) ≡ false }
     requires range { 0 < length bytes.now → offset + length bytes.now < 2 ^ 64 }
-    ensures world { OnOk result (world_of table.new ≡ changed_at (world_of table.old) path.now.names (λ f. record f { bytes = written offset bytes.now f.bytes })) }
+    ensures world { OnOk result (world_of table.new ≡ changed_at (world_of table.old) path.now.names
+        (λ f. record f { bytes = written offset bytes.now f.bytes })) }
     ensures answer { IfOk result (λ answer. answer ≡ Answer.Count (length bytes.now)) }
     ensures err { OnErr result (table.new.rows ≡ table.old.rows) }
     ensures memory { IfErr result (λ refusal. refusal ≡ Refusal.Enomem) }
@@ -83,7 +87,8 @@ fn truncate(table: &mut Table, path: &Resolved, len: usize) -> Result<Answer, Re
     requires resolved { IsResolved table.old path.now }
     requires there { IsSome (look (world_of table.old) path.now.names) }
     requires regular { is_directory_seen (look (world_of table.old) path.now.names) ≡ false }
-    ensures world { OnOk result (world_of table.new ≡ changed_at (world_of table.old) path.now.names (λ f. record f { bytes = resized len f.bytes })) }
+    ensures world { OnOk result (world_of table.new ≡ changed_at (world_of table.old) path.now.names
+        (λ f. record f { bytes = resized len f.bytes })) }
     ensures answer { IfOk result (λ answer. answer ≡ Answer.Done) }
     ensures err { OnErr result (table.new.rows ≡ table.old.rows) }
     ensures memory { IfErr result (λ refusal. refusal ≡ Refusal.Enomem) }
@@ -235,8 +240,8 @@ fn apply(alloc: Global, table: &mut Table, plan: &Plan) -> Result<Answer, Refusa
 
 /// Does what the call says, and answers as the call's variant of [`FileCall`] says.
 ///
-/// `plan` is that of a [`Ready`](crate::Ready) call on this table, which has not changed since. If each file of the table
-/// had a path, each still has one.
+/// `plan` is that of a [`Ready`](crate::Ready) call on this table, which has not changed since. If each file of the
+/// table had a path, each still has one.
 ///
 /// # Errors
 /// `ENOMEM` alone, and then the table is as before.

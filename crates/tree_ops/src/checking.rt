@@ -5,7 +5,10 @@ ghost use Rattle.inode_table.specs.World.{look};
 ghost use Rattle.inode_table.specs.TableWorld.{world_of, HasNumbersBelow};
 ghost use Rattle.tree_paths.specs.Rows.{first_row};
 ghost use Rattle.inode_table.specs.Refusals.{is_directory_seen, find, parent};
-ghost use Rattle.tree_ops.specs.Refused.{name_rows, file_rows, make_rows, write_rows, read_rows, truncate_rows, chmod_rows, link_rows, unlink_rows, rmdir_rows, move_rows, source_rows, rename_rows, noreplace_rows, swap_rows, exchange_rows, rename2_rows, list_rows, cookies_row, refusal_seen, refused, has_names_seen, are_same_seen};
+ghost use Rattle.tree_ops.specs.Refused.{name_rows, file_rows, make_rows, write_rows, read_rows, truncate_rows};
+ghost use Rattle.tree_ops.specs.Refused.{chmod_rows, link_rows, unlink_rows, rmdir_rows, move_rows, source_rows};
+ghost use Rattle.tree_ops.specs.Refused.{rename_rows, noreplace_rows, swap_rows, exchange_rows, rename2_rows};
+ghost use Rattle.tree_ops.specs.Refused.{list_rows, cookies_row, refusal_seen, refused, has_names_seen, are_same_seen};
 ghost use Rattle.tree_ops.specs.ReadyCall.{IsReady};
 ghost use Rattle.tree_ops.specs.CallPaths.{other_path_of, path_of};
 ghost use Rattle.tree_ops.specs.Moves.{moves_between, moves_for, moves_seen};
@@ -381,7 +384,8 @@ fn check_call(paths: &Paths, counts: &Counts, limits: &Limits) -> Result<Moves, 
 
 /// Finds the first row that refuses a call, or makes the call ready to be carried out. It does not allocate.
 ///
-/// `counts` says what the call gets where it makes a file or moves one. No number of the table has reached `next_number`.
+/// `counts` says what the call gets where it makes a file or moves one. No number of the table has reached
+/// `next_number`.
 #[inline(always)]
 pub fn check<'t, 'a>(
     paths: Paths<'t, 'a>,

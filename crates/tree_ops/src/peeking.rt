@@ -17,7 +17,8 @@ use tree_paths::{Names, Path, Refusal};
 
 /// What [`FileCall::Stat`] would answer. It takes no memory.
 pub fn peek_stat(table: &Table, path: &Path) -> Result<Answer, Refusal>
-    ensures { (limits : Limits) (counts : Counts) → result ≡ answered (world_of table.now) limits counts (FileCall.Stat path.now) }
+    ensures { (limits : Limits) (counts : Counts)
+        → result ≡ answered (world_of table.now) limits counts (FileCall.Stat path.now) }
 {
     let path = table.resolve(path);
     let path = Lookup::new(table, &path);
@@ -30,8 +31,11 @@ pub fn peek_stat(table: &Table, path: &Path) -> Result<Answer, Refusal>
 /// # Errors
 /// Those of the call, and `ENOMEM`.
 pub fn peek_names(alloc: Global, table: &Table, path: &Path) -> Result<Names, Refusal>
-    ensures ok { (limits : Limits) (counts : Counts) → IfOk result (λ names. answered (world_of table.now) limits counts (FileCall.List path.now) ≡ Ok (Answer.Names names)) }
-    ensures err { (limits : Limits) (counts : Counts) → IfErr result (λ refusal. (answered (world_of table.now) limits counts (FileCall.List path.now) ≡ Err refusal) ⊎ (refusal ≡ Refusal.Enomem)) }
+    ensures ok { (limits : Limits) (counts : Counts) → IfOk result (λ names.
+        answered (world_of table.now) limits counts (FileCall.List path.now) ≡ Ok (Answer.Names names)) }
+    ensures err { (limits : Limits) (counts : Counts) → IfErr result (λ refusal.
+        (answered (world_of table.now) limits counts (FileCall.List path.now) ≡ Err refusal)
+        ⊎ (refusal ≡ Refusal.Enomem)) }
 {
     let path = table.resolve(path);
     let path = Lookup::new(table, &path);
@@ -46,8 +50,11 @@ pub fn peek_bytes<'a>(
     offset: u64,
     count: u32,
 ) -> Result<&'a [u8], Refusal>
-    ensures ok { (limits : Limits) (counts : Counts) → IfOk result (λ bytes. answered (world_of table.now) limits counts (FileCall.ReadFile path.now offset count) ≡ Ok (Answer.Bytes bytes.now)) }
-    ensures err { (limits : Limits) (counts : Counts) → IfErr result (λ refusal. answered (world_of table.now) limits counts (FileCall.ReadFile path.now offset count) ≡ Err refusal) }
+    ensures ok { (limits : Limits) (counts : Counts) → IfOk result (λ bytes.
+        answered (world_of table.now) limits counts (FileCall.ReadFile path.now offset count)
+        ≡ Ok (Answer.Bytes bytes.now)) }
+    ensures err { (limits : Limits) (counts : Counts) → IfErr result (λ refusal.
+        answered (world_of table.now) limits counts (FileCall.ReadFile path.now offset count) ≡ Err refusal) }
 {
     let path = table.resolve(path);
     check_read(&Lookup::new(table, &path))?;

@@ -1,7 +1,8 @@
 -- How much a tree takes at most.
 use Rattle.std.proofs.Common.{lit≤}
 use Rattle.tree_paths.specs.declared.limits.Limits.{Limits}
-use Rattle.tree_paths.specs.Greatest.{most_numbers, most_file_bytes, most_links, most_instances, most_ids, most_watches, most_wds, most_queue, most_cookies, most_journal, most_seats}
+use Rattle.tree_paths.specs.Greatest.{most_numbers, most_file_bytes, most_links, most_instances, most_ids, most_watches}
+use Rattle.tree_paths.specs.Greatest.{most_wds, most_queue, most_cookies, most_journal, most_seats}
 
 -- the greatest limits
 abbrev pub full : Limits

@@ -1,5 +1,6 @@
 -- What a pathname's text stands for, and how paths lie to one another.
-use Rattle.std.specs.Prelude.{◌≡◌, ℕ, ◌-◌, Bool, true, false, not, ◌&&◌, ◌||◌, ◌==◌, nat_lt, nat_le, cond, List, [], ◌∷◌, ◌++◌, length, slice_index, codes, Option, Some, None, Result, Ok, Err, if◌then◌else◌}
+use Rattle.std.specs.Prelude.{◌≡◌, ℕ, ◌-◌, Bool, true, false, not, ◌&&◌, ◌||◌, ◌==◌, nat_lt, nat_le, cond, List, []}
+use Rattle.std.specs.Prelude.{◌∷◌, ◌++◌, length, slice_index, codes, Option, Some, None, Result, Ok, Err, if◌then◌else◌}
 use Rattle.std.specs.BTreeMap.{is_at}
 use Rattle.std.specs.Cmp.Lexicographic.{slice_cmp}
 use Rattle.std.specs.List.{list_any, flat_map}
@@ -21,7 +22,8 @@ is_null b = b == 0
 abbrev pub slash : ℕ
 slash = 47
 
--- the filenames of a pathname, between slashes, of which several together count as one (POSIX.1-2017, 3.271 Pathname, 3.170 Filename)
+-- the filenames of a pathname, between slashes, of which several together count as one (POSIX.1-2017, 3.271 Pathname,
+-- 3.170 Filename)
 abbrev pub names_of : List ℕ → List (List ℕ)
 names_of text = runs slash text
 

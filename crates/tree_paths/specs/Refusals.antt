@@ -1,7 +1,11 @@
 -- How refusals are called and numbered.
 use Rattle.std.specs.Prelude.{ℕ, List, codes}
 use Rattle.tree_paths.specs.declared.refusal.Refusal.{Refusal}
-use Rattle.tree_paths.specs.declared.refusal.Refusal.TheVariants.{Eperm, Enoent, Ebadf, Eagain, Enomem, Ebusy, Eexist, Enotdir, Eisdir, Einval, Emfile, Efbig, Enospc, Emlink, Enametoolong, Enotempty, JournalFull, PipeFull, Piped, CookiesSpent, NotPiped, SeatsSpent, NumbersSpent}
+use Rattle.tree_paths.specs.declared.refusal.Refusal.TheVariants.{Eperm, Enoent, Ebadf, Eagain, Enomem, Ebusy, Eexist}
+use Rattle.tree_paths.specs.declared.refusal.Refusal.TheVariants.{Enotdir, Eisdir, Einval, Emfile, Efbig, Enospc}
+use Rattle.tree_paths.specs.declared.refusal.Refusal.TheVariants.{Emlink, Enametoolong, Enotempty, JournalFull}
+use Rattle.tree_paths.specs.declared.refusal.Refusal.TheVariants.{PipeFull, Piped, CookiesSpent, NotPiped, SeatsSpent}
+use Rattle.tree_paths.specs.declared.refusal.Refusal.TheVariants.{NumbersSpent}
 
 -- the symbols of <errno.h> (POSIX.1-2017, 2.3 Error Numbers), and names of this project's own
 abbrev pub refusal_name : Refusal → List ℕ

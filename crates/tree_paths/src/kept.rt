@@ -1,6 +1,7 @@
 //! Where a path keeps its names.
 
-ghost use Rattle.std.specs.Prelude.{◌≡◌, ◌++◌, ◌∷◌, [], IfOk, IfSome, IsTrue, MatchOption, ◌≤◌, ◌<◌, ◌-◌, length, take, Ok};
+ghost use Rattle.std.specs.Prelude.{◌≡◌, ◌++◌, ◌∷◌, [], IfOk, IfSome, IsTrue, MatchOption, ◌≤◌, ◌<◌, ◌-◌, length, take};
+ghost use Rattle.std.specs.Prelude.{Ok};
 ghost use Rattle.record_codec.specs.declared.name.TheConstants.{NAME_IN_PLACE};
 ghost use Rattle.record_codec.specs.Names.{is_name};
 ghost use Rattle.tree_paths.specs.Kept.{kept_names, left_names, shape_of, IsKept, IsLeft, IsSlashed, IsLastStart};
@@ -83,8 +84,8 @@ impl Kept {
         })
     }
 
-    // The names of a path's text in which slashes stand together, or of the root's. With one slash before each name they
-    // have `len` bytes.
+    // The names of a path's text in which slashes stand together, or of the root's. With one slash before each name
+    // they have `len` bytes.
     #[cold]
     fn squeezed(alloc: Global, text: &[u8], len: usize) -> Result<Kept, AllocError>
         requires path { parsed text.now ≡ Ok (names_of text.now) }
@@ -136,7 +137,8 @@ impl Kept {
     #[inline(always)]
     pub(crate) fn last(&self) -> Option<PathName<'_>>
         requires { IsKept self.now }
-        ensures { MatchOption result (kept_names self.now ≡ []) (λ name. kept_names self.now ≡ take (length (kept_names self.now) - 1) (kept_names self.now) ++ name ∷ []) }
+        ensures { MatchOption result (kept_names self.now ≡ [])
+            (λ name. kept_names self.now ≡ take (length (kept_names self.now) - 1) (kept_names self.now) ++ name ∷ []) }
     {
         match self {
             Kept::Short { len, text } => last_in(&text[..*len as usize]),
@@ -209,7 +211,8 @@ impl Kept {
 #[inline(always)]
 fn last_in(text: &[u8]) -> Option<PathName<'_>>
     requires { IsSlashed text.now }
-    ensures { MatchOption result (names_of text.now ≡ []) (λ name. names_of text.now ≡ take (length (names_of text.now) - 1) (names_of text.now) ++ name ∷ []) }
+    ensures { MatchOption result (names_of text.now ≡ [])
+        (λ name. names_of text.now ≡ take (length (names_of text.now) - 1) (names_of text.now) ++ name ∷ []) }
 {
     if text.is_empty() {
         return None;

@@ -11,7 +11,8 @@ pub fn parsed_names_are_names()
 
 /// Each list of names that is not too long has a text, which stands for it.
 pub fn pathnames_are_parsed()
-    ensures { (names : List (List ℕ)) → All IsName names → length (pathname_of names) < path_max → parsed (pathname_of names) ≡ Ok names }
+    ensures { (names : List (List ℕ)) → All IsName names → length (pathname_of names) < path_max
+        → parsed (pathname_of names) ≡ Ok names }
 {}
 
 /// `is_below` is true exactly if the second path is a proper prefix of the first.

@@ -1,11 +1,13 @@
 //! How much a tree takes.
 
 ghost use Rattle.std.specs.Prelude.{◌≡◌, ◌≤◌};
-ghost use Rattle.tree_paths.specs.Greatest.{most_numbers, most_file_bytes, most_links, most_instances, most_ids, most_watches, most_wds, most_queue, most_cookies, most_journal, most_seats};
+ghost use Rattle.tree_paths.specs.Greatest.{most_numbers, most_file_bytes, most_links, most_instances, most_ids};
+ghost use Rattle.tree_paths.specs.Greatest.{most_watches, most_wds, most_queue, most_cookies, most_journal, most_seats};
 
 /// The last value of each kind that is still given; the next one is refused.
 ///
-/// Each field lies between 1 and its value in [`Limits::full`], which the type keeps: code that sets one has to prove it.
+/// Each field lies between 1 and its value in [`Limits::full`], which the type keeps: code that sets one has to prove
+/// it.
 #[derive(Clone, Copy)]
 pub struct Limits {
     /// File numbers, the root counted: up to 2^20. Beyond it `NumbersSpent`.

@@ -1,6 +1,7 @@
 //! Pathnames as texts.
 
-ghost use Rattle.std.specs.Prelude.{◌≡◌, ◌+◌, ◌++◌, ◌∷◌, [], ◌≤◌, filter, ◌<◌, true, false, IfOk, MatchResult, if◌then◌else◌, length, take, slice_index};
+ghost use Rattle.std.specs.Prelude.{◌≡◌, ◌+◌, ◌++◌, ◌∷◌, [], ◌≤◌, filter, ◌<◌, true, false, IfOk, MatchResult};
+ghost use Rattle.std.specs.Prelude.{if◌then◌else◌, length, take, slice_index};
 ghost use Rattle.std.specs.List.{list_any, list_all};
 ghost use Rattle.record_codec.specs.Names.{is_name_byte};
 ghost use Rattle.tree_paths.specs.declared.refusal.Refusal.TheVariants.{Einval, Enametoolong};
@@ -32,7 +33,8 @@ pub(crate) struct Shape {
 /// The shape of a path's text, or why the text is no path.
 #[tactic(auto, unfolding(crate::specs::Paths::parsed))]
 pub(crate) fn shape_of_text(text: &[u8]) -> Result<Shape, Refusal>
-    ensures answer { MatchResult result (λ shape. parsed text.now ≡ Ok (names_of text.now)) (λ refusal. parsed text.now ≡ Err refusal) }
+    ensures answer { MatchResult result (λ shape. parsed text.now ≡ Ok (names_of text.now))
+        (λ refusal. parsed text.now ≡ Err refusal) }
     ensures shape { IfOk result (λ shape. shape ≡ shape_of (names_of text.now)) }
 {
     if text.is_empty() {
@@ -52,7 +54,10 @@ pub(crate) fn shape_of_text(text: &[u8]) -> Result<Shape, Refusal>
 
 /// The shape of names between slashes, or why they are no path's.
 fn shape_between(text: &[u8]) -> Result<Shape, Refusal>
-    ensures { result ≡ (if list_any is_null text.now then Err Einval else if list_any is_dots (names_of text.now) then Err Einval else if list_any is_long (names_of text.now) then Err Enametoolong else Ok (shape_of (names_of text.now))) }
+    ensures { result ≡ (if list_any is_null text.now then Err Einval
+        else if list_any is_dots (names_of text.now) then Err Einval
+        else if list_any is_long (names_of text.now) then Err Enametoolong
+        else Ok (shape_of (names_of text.now))) }
 {
     let mut rest = text;
     let mut count = 0;

@@ -1,6 +1,7 @@
 //! Paths from the root.
 
-ghost use Rattle.std.specs.Prelude.{◌≡◌, ◌⊎◌, ◌∷◌, ◌++◌, [], MatchOption, IsSome, IfOk, IfErr, IsTrue, ◌-◌, ◌<◌, ◌↔◌, take, length};
+ghost use Rattle.std.specs.Prelude.{◌≡◌, ◌⊎◌, ◌∷◌, ◌++◌, [], MatchOption, IsSome, IfOk, IfErr, IsTrue, ◌-◌, ◌<◌, ◌↔◌};
+ghost use Rattle.std.specs.Prelude.{take, length};
 ghost use Rattle.std.specs.Prelude.{nat_eq};
 ghost use Rattle.std.proofs.Common.{rules};
 ghost use Rattle.std.specs.Cmp.Rules.{comparing};
@@ -17,7 +18,8 @@ use record_codec::Name;
 use std::alloc::{AllocError, Global};
 use std::marker::Model;
 
-/// A path from the root: its names. A short one takes no allocation, and a longer one takes one, unless it has long names.
+/// A path from the root: its names. A short one takes no allocation, and a longer one takes one, unless it has long
+/// names.
 #[derive(Debug)]
 pub struct Path {
     kept: Kept,
@@ -95,7 +97,8 @@ impl Path {
     /// The last name. `None` for the root.
     #[inline(always)]
     pub fn last_name(&self) -> Option<PathName<'_>>
-        ensures parts { MatchOption result (self.now ≡ []) (λ name. self.now ≡ take (length self.now - 1) self.now ++ name ∷ []) }
+        ensures parts { MatchOption result (self.now ≡ [])
+            (λ name. self.now ≡ take (length self.now - 1) self.now ++ name ∷ []) }
         ensures some { IsSome result ↔ (0 < length self.now) }
     {
         self.kept.last()

@@ -7,7 +7,8 @@ use std::process::Abort;
 use std::test::Fail;
 use tree_paths::*;
 
-/// What was got is what is wanted. Tests assert in these two functions: the macros in a long body take minutes to prove.
+/// What was got is what is wanted. Tests assert in these two functions: the macros in a long body take minutes to
+/// prove.
 fn equal<T: PartialEq + Debug + Drop>(rt: &impl Abort, got: T, wanted: T) {
     assert_eq!(rt; got, wanted);
 }

@@ -1,5 +1,6 @@
 -- What a call of C answers, and what becomes of its tree.
-use Rattle.std.specs.Prelude.{◌≡◌, ◌⊎◌, ⊤, ◌≤◌, ℕ, ◌^◌, ◌-◌, ℤ, pos, neg_ℤ, List, ◌++◌, [], length, take, drop, min, Option, Some, None, Result, Ok, Err}
+use Rattle.std.specs.Prelude.{◌≡◌, ◌⊎◌, ⊤, ◌≤◌, ℕ, ◌^◌, ◌-◌, ℤ, pos, neg_ℤ, List, ◌++◌, [], length, take, drop, min}
+use Rattle.std.specs.Prelude.{Option, Some, None, Result, Ok, Err}
 use Rattle.tree_paths.specs.declared.refusal.Refusal.{Refusal}
 use Rattle.tree_paths.specs.declared.refusal.Refusal.TheVariants.{Ebadf, Ebusy, Enomem}
 use Rattle.tree_paths.specs.Bounds.{full}
@@ -50,7 +51,8 @@ IsReplied old (Err refusal) r new = (r ≡ reply.Refused refusal) × (new ≡ ol
 -- a call that is made of a tree may have this reply, and lead from the old tree to the new one. A tree that is not open
 -- answers EBADF
 abbrev pub IsMade : Option Opened → Result Call Refusal → Option Opened → Reply → Type 0
-IsMade (Some old) call new r = (after : Journaled) × IsReplied old.state call r after × (new ≡ Some (record old { state = after }))
+IsMade (Some old) call new r =
+    (after : Journaled) × IsReplied old.state call r after × (new ≡ Some (record old { state = after }))
 IsMade None call new r = (r ≡ reply.Refused Ebadf) × (new ≡ None)
 
 -- the same, where there may be no memory to read what C asks for

@@ -12,7 +12,8 @@ on_path f (Ok path) = Ok (f path)
 on_path f (Err refusal) = Err refusal
 
 -- a call on two paths, the old one being read first
-abbrev pub on_paths : (List (List ℕ) → List (List ℕ) → Call) → Result (List (List ℕ)) Refusal → Result (List (List ℕ)) Refusal → Result Call Refusal
+abbrev pub on_paths : (List (List ℕ) → List (List ℕ) → Call) → Result (List (List ℕ)) Refusal
+    → Result (List (List ℕ)) Refusal → Result Call Refusal
 on_paths f (Ok old) new = on_path (f old) new
 on_paths f (Err refusal) new = Err refusal
 

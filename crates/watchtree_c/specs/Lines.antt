@@ -30,13 +30,15 @@ run_number faults.Write = refused_number Enomem
 run_number faults.Memory = refused_number Enomem
 
 -- the line's text is kept, and by its number of bytes put over the front of C's
-pub record IsPrinted (queue : ℕ) (line : List ℕ) (old : Opened) (number : ℤ) (new : Opened) (out filled : List ℕ) : Type 0 where
+pub record IsPrinted (queue : ℕ) (line : List ℕ) (old : Opened) (number : ℤ) (new : Opened)
+    (out filled : List ℕ) : Type 0 where
   pub prints : PrintsLine old.state (line_of queue line) new.text.items new.state
   pub is_number : number ≡ count_number (length new.text.items)
   pub is_filled : filled ≡ overlaid new.text.items out
 
 -- the line has a fault, and nothing was done
-pub record IsFault (queue : ℕ) (line : List ℕ) (old : Opened) (number : ℤ) (new : Opened) (out filled : List ℕ) : Type 0 where
+pub record IsFault (queue : ℕ) (line : List ℕ) (old : Opened) (number : ℤ) (new : Opened)
+    (out filled : List ℕ) : Type 0 where
   pub fault : ScriptFault
   pub is_fault : line_of queue line ≡ Err (Fault fault)
   pub same : new.state ≡ old.state
@@ -45,7 +47,8 @@ pub record IsFault (queue : ℕ) (line : List ℕ) (old : Opened) (number : ℤ)
   pub is_filled : filled ≡ out
 
 -- there was no memory for the line or its text: nothing was done, or all that the line asks for
-pub record IsLost (queue : ℕ) (line : List ℕ) (old : Opened) (number : ℤ) (new : Opened) (out filled : List ℕ) : Type 0 where
+pub record IsLost (queue : ℕ) (line : List ℕ) (old : Opened) (number : ℤ) (new : Opened)
+    (out filled : List ℕ) : Type 0 where
   pub left : MayHaveRun old.state (line_of queue line) new.state
   pub no_text : new.text.items ≡ []
   pub is_number : number ≡ refused_number Enomem
@@ -54,14 +57,17 @@ pub record IsLost (queue : ℕ) (line : List ℕ) (old : Opened) (number : ℤ) 
 -- what a line comes to on an open tree
 abbrev pub RunsOn : ℕ → List ℕ → Opened → ℤ → Opened → List ℕ → List ℕ → Type 0
 RunsOn queue line old number new out filled =
-    IsPrinted queue line old number new out filled ⊎ IsFault queue line old number new out filled ⊎ IsLost queue line old number new out filled
+    IsPrinted queue line old number new out filled ⊎ IsFault queue line old number new out filled
+    ⊎ IsLost queue line old number new out filled
 
 -- the same of a tree that may not be open
 abbrev pub Runs : ℕ → List ℕ → Option Opened → ℤ → Option Opened → List ℕ → List ℕ → Type 0
-Runs queue line (Some old) number new out filled = (after : Opened) × RunsOn queue line old number after out filled × (new ≡ Some after)
+Runs queue line (Some old) number new out filled =
+    (after : Opened) × RunsOn queue line old number after out filled × (new ≡ Some after)
 Runs queue line None number new out filled = (number ≡ refused_number Ebadf) × (new ≡ None) × (filled ≡ out)
 
 -- the text of the last line, by its number of bytes, is put over the front of C's
 abbrev pub IsTextTold : Option Opened → ℤ → List ℕ → List ℕ → Type 0
-IsTextTold (Some content) number out filled = (number ≡ count_number (length content.text.items)) × (filled ≡ overlaid content.text.items out)
+IsTextTold (Some content) number out filled =
+    (number ≡ count_number (length content.text.items)) × (filled ≡ overlaid content.text.items out)
 IsTextTold None number out filled = (number ≡ refused_number Ebadf) × (filled ≡ out)

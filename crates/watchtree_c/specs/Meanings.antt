@@ -1,10 +1,16 @@
 -- What an answer below zero means, in words, and the version of the library.
 use Rattle.std.specs.Prelude.{◌≡◌, ◌≢◌, ℤ, pos, neg_ℤ, ℕ, List, ◌++◌, length, codes, Option, Some, None}
 use Rattle.tree_paths.specs.declared.refusal.Refusal.{Refusal}
-use Rattle.tree_paths.specs.declared.refusal.Refusal.TheVariants.{Eperm, Enoent, Ebadf, Eagain, Enomem, Ebusy, Eexist, Enotdir, Eisdir, Einval, Emfile, Efbig, Enospc, Emlink, Enametoolong, Enotempty, JournalFull, PipeFull, Piped, CookiesSpent, NotPiped, SeatsSpent, NumbersSpent}
+use Rattle.tree_paths.specs.declared.refusal.Refusal.TheVariants.{Eperm, Enoent, Ebadf, Eagain, Enomem, Ebusy, Eexist}
+use Rattle.tree_paths.specs.declared.refusal.Refusal.TheVariants.{Enotdir, Eisdir, Einval, Emfile, Efbig, Enospc}
+use Rattle.tree_paths.specs.declared.refusal.Refusal.TheVariants.{Emlink, Enametoolong, Enotempty, JournalFull}
+use Rattle.tree_paths.specs.declared.refusal.Refusal.TheVariants.{PipeFull, Piped, CookiesSpent, NotPiped, SeatsSpent}
+use Rattle.tree_paths.specs.declared.refusal.Refusal.TheVariants.{NumbersSpent}
 use Rattle.tree_paths.specs.Refusals.{refusal_name}
 use Rattle.watchtree_script.specs.declared.fault.ScriptFault.{ScriptFault}
-use Rattle.watchtree_script.specs.declared.fault.ScriptFault.TheVariants.{BadByte, UnknownCommand, WrongNumber, BadEscape, BadMode, BadHex, BadMask, BadNumber}
+use Rattle.watchtree_script.specs.declared.fault.ScriptFault.TheVariants.{BadByte, UnknownCommand, WrongNumber}
+use Rattle.watchtree_script.specs.declared.fault.ScriptFault.TheVariants.{BadEscape, BadMode, BadHex, BadMask}
+use Rattle.watchtree_script.specs.declared.fault.ScriptFault.TheVariants.{BadNumber}
 use Rattle.watchtree_c.specs.Answers.{count_number, refused_number, overlaid}
 use Rattle.watchtree_c.specs.Lines.{fault_number}
 
@@ -61,9 +67,11 @@ faulted_number fault = neg_ℤ (pos (fault_number fault))
 pub record IsTextOf (number : ℤ) (text : Option (List ℕ)) : Type 0 where
   pub refusal : (r : Refusal) → number ≡ refused_number r → text ≡ Some (refusal_text r)
   pub fault : (f : ScriptFault) → number ≡ faulted_number f → text ≡ Some (fault_text f)
-  pub other : ((r : Refusal) → number ≢ refused_number r) → ((f : ScriptFault) → number ≢ faulted_number f) → text ≡ None
+  pub other : ((r : Refusal) → number ≢ refused_number r) → ((f : ScriptFault) → number ≢ faulted_number f)
+      → text ≡ None
 
--- a text is put over the front of C's bytes, and answered by its number of bytes. Where there is none, that is an EINVAL
+-- a text is put over the front of C's bytes, and answered by its number of bytes. Where there is none, that is an
+-- EINVAL
 abbrev pub IsTextGiven : Option (List ℕ) → ℤ → List ℕ → List ℕ → Type 0
 IsTextGiven (Some text) answer out filled = (answer ≡ count_number (length text)) × (filled ≡ overlaid text out)
 IsTextGiven None answer out filled = (answer ≡ refused_number Einval) × (filled ≡ out)

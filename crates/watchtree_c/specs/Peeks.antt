@@ -43,7 +43,8 @@ IsPeeked None call r = r ≡ reply.Refused Ebadf
 
 -- the pathname of a path, or that there is none
 abbrev pub IsPathname : Option (List (List ℕ)) → ℤ → List ℕ → List ℕ → Type 0
-IsPathname (Some path) number out filled = (number ≡ count_number (length (pathname_of path))) × (filled ≡ overlaid (pathname_of path) out)
+IsPathname (Some path) number out filled =
+    (number ≡ count_number (length (pathname_of path))) × (filled ≡ overlaid (pathname_of path) out)
 IsPathname None number out filled = (number ≡ refused_number Enoent) × (filled ≡ out)
 
 -- the pathname of the first path of the file of a number, or out of memory

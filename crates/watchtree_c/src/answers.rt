@@ -1,7 +1,8 @@
 //! The numbers that C is answered with.
 
 ghost use Rattle.std.specs.Prelude.{◌≡◌, ◌++◌, ◌≤◌, ◌^◌, ◌-◌, length, take, drop};
-ghost use Rattle.watchtree_c.specs.Answers.{reply_number, answer_number, refused_number, count_number, IsFilled, overlaid};
+ghost use Rattle.watchtree_c.specs.Answers.{reply_number, answer_number, refused_number, count_number, IsFilled};
+ghost use Rattle.watchtree_c.specs.Answers.{overlaid};
 
 use tree_core::Reply;
 use tree_ops::Answer;

@@ -4,7 +4,9 @@ ghost use Rattle.std.specs.Prelude.{◌≡◌, ◌+◌, ◌-◌, ◌^◌, ◌++�
 ghost use Rattle.std.specs.List.{flat_map};
 ghost use Rattle.watchtree_c.specs.Answers.{Answers, AnswersBytes, IsAsked, IsReply, count_number, overlaid};
 ghost use Rattle.watchtree_c.specs.Stats.{Tells, stat_of};
-ghost use Rattle.watchtree_c.specs.Calls.{asked_bytes, mkdir_call, create_call, rename_call, rename2_call, truncate_call, chmod_call, unlink_call, rmdir_call, link_call, write_call, read_call, stat_call, list_call};
+ghost use Rattle.watchtree_c.specs.Calls.{asked_bytes, mkdir_call, create_call, rename_call, rename2_call};
+ghost use Rattle.watchtree_c.specs.Calls.{truncate_call, chmod_call, unlink_call, rmdir_call, link_call, write_call};
+ghost use Rattle.watchtree_c.specs.Calls.{read_call, stat_call, list_call};
 ghost use Rattle.watchtree_c.specs.Listings.{Lists, ended};
 
 use crate::answers::{count_number, fill, put, reply_number};
@@ -161,7 +163,8 @@ pub extern "C" fn wt_pread(
     offset: u64,
     out: &mut [u8],
 ) -> i64
-    ensures { AnswersBytes (IsReply tree.old.held.state (read_call path.now offset (asked_bytes out.old)) tree.new.held.state) result out.old out.new }
+    ensures { AnswersBytes (IsReply tree.old.held.state
+        (read_call path.now offset (asked_bytes out.old)) tree.new.held.state) result out.old out.new }
 {
     let count = u32::try_from(out.len()).unwrap_or(u32::MAX);
     let call = Path::parse(alloc, path).map(|path| {
@@ -256,7 +259,8 @@ pub(crate) fn put_names(out: &mut [u8], names: &[Name]) -> i64
 /// of them are, no more than a `usize` may be.
 pub(crate) fn put_more(out: &mut [u8], len: usize, bytes: &[u8]) -> usize
     ensures len { result ≡ min (len + length bytes.now) (2 ^ 64 - 1) }
-    ensures bytes { (front old : List ℕ) → len ≡ min (length front) (2 ^ 64 - 1) → out.old ≡ overlaid front old → out.new ≡ overlaid (front ++ bytes.now) old }
+    ensures bytes { (front old : List ℕ) → len ≡ min (length front) (2 ^ 64 - 1) → out.old ≡ overlaid front old
+        → out.new ≡ overlaid (front ++ bytes.now) old }
 {
     let start = len.min(out.len());
     put(&mut out[start..], bytes);

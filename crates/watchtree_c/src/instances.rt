@@ -42,11 +42,12 @@ pub extern "C" fn wt_inotify_add_watch(
     reply_number(&tree.make(alloc, call))
 }
 
-/// As read(2) of an inotify file descriptor that does not block: as many records as fit whole, or `EINVAL` where the first
-/// does not, which then still waits.
+/// As read(2) of an inotify file descriptor that does not block: as many records as fit whole, or `EINVAL` where the
+/// first does not, which then still waits.
 #[unsafe(no_mangle)]
 pub extern "C" fn wt_read(alloc: Global, tree: &mut Tree, instance: u32, out: &mut [u8]) -> i64
-    ensures { AnswersBytes (IsMade tree.old.held.state (Ok (call.Read instance (asked_bytes out.old))) tree.new.held.state) result out.old out.new }
+    ensures { AnswersBytes (IsMade tree.old.held.state
+        (Ok (call.Read instance (asked_bytes out.old))) tree.new.held.state) result out.old out.new }
 {
     let bytes = u32::try_from(out.len()).unwrap_or(u32::MAX);
     let reply = tree.make(alloc, Ok(Call::Read { instance, bytes }));

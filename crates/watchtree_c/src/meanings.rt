@@ -13,8 +13,8 @@ use crate::answers::{count_number, put, refused_number};
 use tree_paths::Refusal;
 use watchtree_script::ScriptFault;
 
-/// Writes the version of the library, as `1.0.0`, over the front of `out`, as many of its bytes as fit. It answers how many bytes
-/// the version has.
+/// Writes the version of the library, as `1.0.0`, over the front of `out`, as many of its bytes as fit. It answers how
+/// many bytes the version has.
 #[unsafe(no_mangle)]
 pub extern "C" fn wt_version(out: &mut [u8]) -> i64
     ensures number { result ≡ count_number (length version) }
@@ -25,8 +25,8 @@ pub extern "C" fn wt_version(out: &mut [u8]) -> i64
     count_number(version.len() as u64)
 }
 
-/// Writes what an answer below zero means over the front of `out`, as `ENOENT: No such file or directory`, as many bytes as fit. It
-/// answers how many bytes the text has.
+/// Writes what an answer below zero means over the front of `out`, as `ENOENT: No such file or directory`, as many
+/// bytes as fit. It answers how many bytes the text has.
 ///
 /// # Errors
 /// `EINVAL`, where no call answers this number.

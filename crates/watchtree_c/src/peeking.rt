@@ -5,7 +5,8 @@ ghost use Rattle.tree_paths.specs.Paths.{pathname_of};
 ghost use Rattle.watchtree_c.specs.Answers.{AnswersBytes, count_number, overlaid};
 ghost use Rattle.watchtree_c.specs.Calls.{asked_bytes, list_call, read_call, stat_call};
 ghost use Rattle.watchtree_c.specs.Listings.{Lists};
-ghost use Rattle.watchtree_c.specs.Peeks.{IsPathGiven, IsPathOf, IsPeeked, IsReadyTold, MayReply, WouldReply, bytes_waiting_number};
+ghost use Rattle.watchtree_c.specs.Peeks.{IsPathGiven, IsPathOf, IsPeeked, IsReadyTold, MayReply, WouldReply};
+ghost use Rattle.watchtree_c.specs.Peeks.{bytes_waiting_number};
 ghost use Rattle.watchtree_c.specs.Stats.{Tells};
 ghost use Rattle.tree_core.specs.Journal.{now};
 ghost use Rattle.tree_core.specs.Tree.{reply_of};
@@ -18,8 +19,8 @@ use tree_core::{Call, Reply, State};
 use tree_ops::FileCall;
 use tree_paths::{Path, PathNames, Refusal};
 
-/// How many bytes all records take that wait in an instance: what `ioctl` with `FIONREAD` gives of an inotify file descriptor
-/// (inotify(7)). No call is made for it.
+/// How many bytes all records take that wait in an instance: what `ioctl` with `FIONREAD` gives of an inotify file
+/// descriptor (inotify(7)). No call is made for it.
 ///
 /// # Errors
 /// `EBADF`, where there is no such instance.
@@ -39,8 +40,8 @@ pub extern "C" fn wt_bytes_waiting(alloc: Global, tree: &mut Tree, instance: u32
     }
 }
 
-/// Writes the numbers of the open instances that have a record waiting over the front of `out`, rising, as many as it holds. It
-/// answers how many there are. No call is made for it.
+/// Writes the numbers of the open instances that have a record waiting over the front of `out`, rising, as many as it
+/// holds. It answers how many there are. No call is made for it.
 ///
 /// # Errors
 /// `EBADF`, where the tree is not open.
@@ -133,7 +134,8 @@ pub extern "C" fn wt_peek_pread(
     offset: u64,
     out: &mut [u8],
 ) -> i64
-    ensures told { AnswersBytes (IsPeeked tree.old.held.state (read_call path.now offset (asked_bytes out.old))) result out.old out.new }
+    ensures told { AnswersBytes
+        (IsPeeked tree.old.held.state (read_call path.now offset (asked_bytes out.old))) result out.old out.new }
     ensures same { tree.new.held.state ≡ tree.old.held.state }
 {
     let Some(opened) = tree.take(alloc) else {
@@ -145,7 +147,8 @@ pub extern "C" fn wt_peek_pread(
 }
 
 fn read_bytes(alloc: Global, state: &State, path: &[u8], offset: u64, out: &mut [u8]) -> i64
-    ensures { AnswersBytes (WouldReply state.now (read_call path.now offset (asked_bytes out.old))) result out.old out.new }
+    ensures { AnswersBytes
+        (WouldReply state.now (read_call path.now offset (asked_bytes out.old))) result out.old out.new }
 {
     match Path::parse(alloc, path) {
         Ok(path) => bytes_at(state, &path, offset, out),
@@ -154,7 +157,8 @@ fn read_bytes(alloc: Global, state: &State, path: &[u8], offset: u64, out: &mut 
 }
 
 fn bytes_at(state: &State, path: &Path, offset: u64, out: &mut [u8]) -> i64
-    ensures { AnswersBytes (MayReply state.now (Call.File (FileCall.ReadFile path.now offset (asked_bytes out.old)))) result out.old out.new }
+    ensures { AnswersBytes (MayReply state.now
+        (Call.File (FileCall.ReadFile path.now offset (asked_bytes out.old)))) result out.old out.new }
 {
     let count = u32::try_from(out.len()).unwrap_or(u32::MAX);
     match state.peek_bytes(path, offset, count) {
@@ -166,9 +170,9 @@ fn bytes_at(state: &State, path: &Path, offset: u64, out: &mut [u8]) -> i64
     }
 }
 
-/// Writes a path of the file with this number over the front of `out`, as many of its bytes as fit: the first of its paths in
-/// the order of names. It answers how many bytes the path has. It looks at each path of the tree: its time and memory are in
-/// proportion to their number. No call is made for it.
+/// Writes a path of the file with this number over the front of `out`, as many of its bytes as fit: the first of its
+/// paths in the order of names. It answers how many bytes the path has. It looks at each path of the tree: its time and
+/// memory are in proportion to their number. No call is made for it.
 ///
 /// # Errors
 /// `ENOENT`, where no file has this number; `ENOMEM`; `EBADF`, where the tree is not open.
@@ -195,7 +199,8 @@ fn put_path_of(state: &State, number: u64, out: &mut [u8]) -> i64
     }
 }
 
-// Puts the pathname of names at the front of `out`, as many of its bytes as fit. It answers how many bytes the pathname has.
+// Puts the pathname of names at the front of `out`, as many of its bytes as fit. It answers how many bytes the pathname
+// has.
 fn put_pathname(out: &mut [u8], names: PathNames) -> i64
     ensures number { result ≡ count_number (length (pathname_of names.entry)) }
     ensures bytes { out.new ≡ overlaid (pathname_of names.entry) out.old }

@@ -3,7 +3,8 @@
 ghost use Rattle.std.specs.Prelude.{◌≡◌};
 ghost use Rattle.std.specs.List.{list_all};
 ghost use Rattle.watchtree_script.specs.Lines.{is_silent, is_line_byte};
-ghost use Rattle.watchtree_script.specs.Commands.{command_of, file_command_of, path_command_of, instance_command_of, words_line, line_of};
+ghost use Rattle.watchtree_script.specs.Commands.{command_of, file_command_of, path_command_of, instance_command_of};
+ghost use Rattle.watchtree_script.specs.Commands.{words_line, line_of};
 ghost use Rattle.watchtree_script.specs.Reading.{GivesLine};
 
 use crate::fault::ScriptFault;

@@ -64,7 +64,8 @@ impl<'a> Lines<'a> {
     /// The next line. If all its bytes are printable, a single pass over them finds its end and shows that they are.
     #[inline(always)]
     pub fn next_line(&mut self) -> Option<ScriptLine<'a>>
-        ensures line { MatchOption result ((self.old ≡ []) × (self.new ≡ [])) (λ line. self.old ≡ line.bytes.now ∷ self.new) }
+        ensures line { MatchOption result ((self.old ≡ []) × (self.new ≡ []))
+            (λ line. self.old ≡ line.bytes.now ∷ self.new) }
         ensures printable { IfSome result (λ line. line.is_printable ≡ list_all is_line_byte line.bytes.now) }
     {
         let bytes = self.rest?;
@@ -134,7 +135,8 @@ fn cut_printable<'a>(bytes: &'a [u8], len: usize) -> (&'a [u8], Option<&'a [u8]>
     requires front { list_all is_line_byte (take len bytes.now) ≡ true }
     requires end { len < length bytes.now → slice_index bytes.now len ≡ byte "\n" }
     ensures line { result.0.now ≡ take len bytes.entry.now }
-    ensures pieces { pieces (byte "\n") bytes.entry.now ≡ result.0.now ∷ pieces_in (byte "\n") (option_copied result.1) }
+    ensures pieces { pieces (byte "\n") bytes.entry.now
+        ≡ result.0.now ∷ pieces_in (byte "\n") (option_copied result.1) }
 {
     if len == bytes.len() {
         return (bytes, None);

@@ -38,7 +38,8 @@ fn value_of(radix: u32, digits: &[u8]) -> Option<u64>
     requires least { 2 ≤ radix }
     requires largest { radix ≤ 36 }
     requires all { list_all (λ c. is_digit c radix) digits.now ≡ true }
-    ensures { SomeIff result ((0 < length digits.now) × (digits_value radix digits.now < 2 ^ 64)) (digits_value radix digits.now) }
+    ensures { SomeIff result ((0 < length digits.now) × (digits_value radix digits.now < 2 ^ 64))
+        (digits_value radix digits.now) }
 {
     match str::from_utf8(digits) {
         Ok(text) => u64::from_str_radix(text, radix).ok(),

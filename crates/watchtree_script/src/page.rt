@@ -1,6 +1,7 @@
 //! Text that is collected, and written whole.
 
-ghost use Rattle.std.specs.Prelude.{◌≡◌, ◌≤◌, ◌+◌, ◌-◌, ◌++◌, [], length, vec_len, vec_capacity, IfOk, OnOk, OnErr, IfErr};
+ghost use Rattle.std.specs.Prelude.{◌≡◌, ◌≤◌, ◌+◌, ◌-◌, ◌++◌, [], length, vec_len, vec_capacity, IfOk, OnOk, OnErr};
+ghost use Rattle.std.specs.Prelude.{IfErr};
 ghost use Rattle.std.specs.Io.KnownBytes.{Appends};
 ghost use Rattle.record_codec.specs.Ports.{inner_of, faults_of};
 ghost use Rattle.watchtree_script.specs.Script.{write_faults};
@@ -31,8 +32,10 @@ impl Page {
 
     /// Takes a text. What waits is written first if the buffer is too small for both.
     pub fn take<W: Write>(&mut self, output: &mut Port<W>, text: &[u8]) -> Result<(), RunFault>
-        ensures ok { OnOk result (Passes self.old.text.items text.now self.new.text.items (W.contents (inner_of output.old)) (W.contents (inner_of output.new))) }
-        ensures err { OnErr result (IsFrontWritten (self.old.text.items ++ text.now) (W.contents (inner_of output.old)) (W.contents (inner_of output.new))) }
+        ensures ok { OnOk result (Passes self.old.text.items text.now self.new.text.items
+            (W.contents (inner_of output.old)) (W.contents (inner_of output.new))) }
+        ensures err { OnErr result (IsFrontWritten (self.old.text.items ++ text.now) (W.contents (inner_of output.old))
+            (W.contents (inner_of output.new))) }
         ensures fault { IfErr result (λ fault. fault ≡ RunFault.Write) }
         ensures faults { faults_of output.new ≡ write_faults result (faults_of output.old) }
     {
@@ -50,8 +53,10 @@ impl Page {
 
     /// Writes what waits.
     pub fn write<W: Write>(&mut self, output: &mut Port<W>) -> Result<(), RunFault>
-        ensures ok { OnOk result ((self.new.text.items ≡ []) × Appends (W.contents (inner_of output.old)) (W.contents (inner_of output.new)) self.old.text.items) }
-        ensures err { OnErr result (IsFrontWritten self.old.text.items (W.contents (inner_of output.old)) (W.contents (inner_of output.new))) }
+        ensures ok { OnOk result ((self.new.text.items ≡ [])
+            × Appends (W.contents (inner_of output.old)) (W.contents (inner_of output.new)) self.old.text.items) }
+        ensures err { OnErr result
+            (IsFrontWritten self.old.text.items (W.contents (inner_of output.old)) (W.contents (inner_of output.new))) }
         ensures fault { IfErr result (λ fault. fault ≡ RunFault.Write) }
         ensures faults { faults_of output.new ≡ write_faults result (faults_of output.old) }
     {
@@ -77,7 +82,8 @@ impl Page {
 /// Writes all of a text.
 fn write<W: Write>(output: &mut Port<W>, text: &[u8]) -> Result<(), RunFault>
     ensures ok { OnOk result (Appends (W.contents (inner_of output.old)) (W.contents (inner_of output.new)) text.now) }
-    ensures err { OnErr result (IsFrontWritten text.now (W.contents (inner_of output.old)) (W.contents (inner_of output.new))) }
+    ensures err { OnErr result
+        (IsFrontWritten text.now (W.contents (inner_of output.old)) (W.contents (inner_of output.new))) }
     ensures fault { IfErr result (λ fault. fault ≡ RunFault.Write) }
     ensures faults { faults_of output.new ≡ write_faults result (faults_of output.old) }
 {

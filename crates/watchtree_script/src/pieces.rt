@@ -113,7 +113,8 @@ impl<'a> Runs<'a> {
     /// The only two that are left.
     #[inline(always)]
     pub fn two(mut self) -> Option<(&'a [u8], &'a [u8])>
-        ensures { MatchOption result ((length self.entry == 2) ≡ false) (λ runs. self.entry ≡ runs.0.now ∷ runs.1.now ∷ []) }
+        ensures { MatchOption result ((length self.entry == 2) ≡ false)
+            (λ runs. self.entry ≡ runs.0.now ∷ runs.1.now ∷ []) }
     {
         let first = self.next_run()?;
         let second = self.one()?;
@@ -122,7 +123,8 @@ impl<'a> Runs<'a> {
 
     /// The only three that are left.
     pub fn three(mut self) -> Option<(&'a [u8], &'a [u8], &'a [u8])>
-        ensures { MatchOption result ((length self.entry == 3) ≡ false) (λ runs. self.entry ≡ runs.0.now ∷ runs.1.now ∷ runs.2.now ∷ []) }
+        ensures { MatchOption result ((length self.entry == 3) ≡ false)
+            (λ runs. self.entry ≡ runs.0.now ∷ runs.1.now ∷ runs.2.now ∷ []) }
     {
         let first = self.next_run()?;
         let (second, third) = self.two()?;

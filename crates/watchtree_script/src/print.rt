@@ -2,7 +2,9 @@
 
 ghost use Rattle.std.specs.Prelude.{◌≡◌, ◌∷◌, ◌++◌, List, [], OnOk, codes, decimal, length};
 ghost use Rattle.std.specs.List.{flat_map};
-ghost use Rattle.watchtree_script.specs.Replies.{ok_line, done_line, hexadecimal, name_line, event_line, kind_letter, mode_text, octal_digit, refusal_text, answer_text, AreEventsIn, IsReadText, IsReplyText};
+ghost use Rattle.watchtree_script.specs.Replies.{ok_line, done_line, hexadecimal, name_line, event_line, kind_letter};
+ghost use Rattle.watchtree_script.specs.Replies.{mode_text, octal_digit, refusal_text, answer_text, AreEventsIn};
+ghost use Rattle.watchtree_script.specs.Replies.{IsReadText, IsReplyText};
 ghost use Rattle.record_codec.specs.declared.event.Event.{Event};
 ghost use Rattle.record_codec.specs.Views.{AreRecords, event_seen};
 ghost use Rattle.hex.specs.Hex.{encode_lower};
@@ -88,7 +90,8 @@ fn push_bytes(text: &mut Vec<u8>, bytes: &[u8]) -> Result<(), AllocError>
 
 // The names in a directory, in a line each.
 fn push_names(text: &mut Vec<u8>, names: &[Name]) -> Result<(), AllocError>
-    ensures { OnOk result (text.new.items ≡ text.old.items ++ ok_line (decimal (length names.now)) ++ flat_map name_line names.now) }
+    ensures { OnOk result (text.new.items
+        ≡ text.old.items ++ ok_line (decimal (length names.now)) ++ flat_map name_line names.now) }
 {
     push_ok(text, names.len())?;
     for name in names {
@@ -125,7 +128,8 @@ fn push_stat(
 
 // The number and the kind of a file, before its mode.
 fn push_kind(text: &mut Vec<u8>, number: u32, kind: Kind) -> Result<(), AllocError>
-    ensures { OnOk result (text.new.items ≡ text.old.items ++ codes "ok " ++ decimal number ++ codes " " ++ kind_letter kind ++ codes " ") }
+    ensures { OnOk result (text.new.items
+        ≡ text.old.items ++ codes "ok " ++ decimal number ++ codes " " ++ kind_letter kind ++ codes " ") }
 {
     let mut buffer = Buffer::new();
     text.extend_from_slice(b"ok ")?;
@@ -213,7 +217,8 @@ fn push_byte(text: &mut Vec<u8>, byte: u8) -> Result<(), AllocError>
 // A line for each record.
 fn push_records(text: &mut Vec<u8>, bytes: &[u8]) -> Result<(), AllocError>
     requires { AreRecords bytes.now }
-    ensures { OnOk result ((events : List Event) × AreEventsIn bytes.now events × (text.new.items ≡ text.old.items ++ flat_map event_line events)) }
+    ensures { OnOk result ((events : List Event) × AreEventsIn bytes.now events
+        × (text.new.items ≡ text.old.items ++ flat_map event_line events)) }
 {
     let mut rest = bytes;
     while let Some((record, behind)) = next_record(rest) {

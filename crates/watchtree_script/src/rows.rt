@@ -1,7 +1,9 @@
 //! The rows of the table of commands: the words behind a command, and the call that they ask for.
 
 ghost use Rattle.std.specs.Prelude.{◌≡◌, ◌==◌, ◌∷◌, [], length, false, Err, MatchResult};
-ghost use Rattle.watchtree_script.specs.Commands.{one, two, three, path_of, paths_of, a_path, old_and_new, path_and_mode, id_and_bytes, write_call, cat_call, truncate_call, rename2_call, watch_call, unwatch_call, asking, line_asked};
+ghost use Rattle.watchtree_script.specs.Commands.{one, two, three, path_of, paths_of, a_path, old_and_new};
+ghost use Rattle.watchtree_script.specs.Commands.{path_and_mode, id_and_bytes, write_call, cat_call, truncate_call};
+ghost use Rattle.watchtree_script.specs.Commands.{rename2_call, watch_call, unwatch_call, asking, line_asked};
 ghost use Rattle.watchtree_script.specs.Reading.{GivesPath, GivesLine};
 ghost use Rattle.tree_core.specs.declared.call.Call.TheVariants as call;
 
@@ -290,7 +292,8 @@ impl<'a> Parser<'a> {
 
     /// The only word.
     fn one(&self) -> Result<&'a [u8], LineError>
-        ensures { MatchResult result (λ word. self.now.words ≡ word.now ∷ []) (λ error. (error ≡ LineError.Fault ScriptFault.WrongNumber) × ((length self.now.words == 1) ≡ false)) }
+        ensures { MatchResult result (λ word. self.now.words ≡ word.now ∷ [])
+            (λ error. (error ≡ LineError.Fault ScriptFault.WrongNumber) × ((length self.now.words == 1) ≡ false)) }
     {
         self.words
             .copied()
@@ -300,7 +303,8 @@ impl<'a> Parser<'a> {
 
     /// The only two words.
     fn two(&self) -> Result<(&'a [u8], &'a [u8]), LineError>
-        ensures { MatchResult result (λ words. self.now.words ≡ words.0.now ∷ words.1.now ∷ []) (λ error. (error ≡ LineError.Fault ScriptFault.WrongNumber) × ((length self.now.words == 2) ≡ false)) }
+        ensures { MatchResult result (λ words. self.now.words ≡ words.0.now ∷ words.1.now ∷ [])
+            (λ error. (error ≡ LineError.Fault ScriptFault.WrongNumber) × ((length self.now.words == 2) ≡ false)) }
     {
         self.words
             .copied()
@@ -310,7 +314,8 @@ impl<'a> Parser<'a> {
 
     /// The only three words.
     fn three(&self) -> Result<(&'a [u8], &'a [u8], &'a [u8]), LineError>
-        ensures { MatchResult result (λ words. self.now.words ≡ words.0.now ∷ words.1.now ∷ words.2.now ∷ []) (λ error. (error ≡ LineError.Fault ScriptFault.WrongNumber) × ((length self.now.words == 3) ≡ false)) }
+        ensures { MatchResult result (λ words. self.now.words ≡ words.0.now ∷ words.1.now ∷ words.2.now ∷ [])
+            (λ error. (error ≡ LineError.Fault ScriptFault.WrongNumber) × ((length self.now.words == 3) ≡ false)) }
     {
         self.words
             .copied()
@@ -332,8 +337,8 @@ fn path_of(alloc: Global, text: &[u8]) -> Result<Path, LineError>
     }
 }
 
-/// The paths of two texts, of which the old one is read first. A text that is no path is refused as such even where there is
-/// no memory for the other one.
+/// The paths of two texts, of which the old one is read first. A text that is no path is refused as such even where
+/// there is no memory for the other one.
 #[tactic(auto, unfolding(crate::specs::Commands::paths_of))]
 #[inline(always)]
 fn paths_of(alloc: Global, old: &[u8], new: &[u8]) -> Result<(Path, Path), LineError>

@@ -9,7 +9,8 @@ ghost use Rattle.tree_core.specs.declared.reply.Reply.{Reply};
 ghost use Rattle.watchtree_script.specs.Commands.{line_of};
 ghost use Rattle.watchtree_script.specs.Lines.{is_line_byte};
 ghost use Rattle.watchtree_script.specs.Replies.{IsReplyText};
-ghost use Rattle.watchtree_script.specs.Script.{PrintsLine, MayHaveRun, FaultTells, IsShort, Adds, IsText, Replies, write_faults, read_faults, PrintsNothing, LeavesLine};
+ghost use Rattle.watchtree_script.specs.Script.{PrintsLine, MayHaveRun, FaultTells, IsShort, Adds, IsText, Replies};
+ghost use Rattle.watchtree_script.specs.Script.{write_faults, read_faults, PrintsNothing, LeavesLine};
 ghost use Rattle.watchtree_script.specs.Running.{LineTells, ReadTells, IsRunFault, Passes};
 
 use crate::fault::RunFault;
@@ -36,7 +37,8 @@ const CALLER: u32 = 1;
 ///
 /// `queue` is the limit of each instance that names none. The whole script is read before its first line is run; a
 /// read of nothing ends it, and once more than [`SCRIPT_MAX`] bytes were read there is no further read. A refusal
-/// is a reply like any other, also `ENOMEM`, and the run goes on; so it does where there is no memory for a path of a call.
+/// is a reply like any other, also `ENOMEM`, and the run goes on; so it does where there is no memory for a path of a
+/// call.
 ///
 /// # Errors
 /// [`RunFault`] says why the run ended before its script. What the lines before printed stays written.
@@ -46,8 +48,10 @@ pub fn run_script<R: Read, W: Write>(
     output: &mut Port<W>,
     queue: u32,
 ) -> Result<(), RunFault>
-    ensures ok { OnOk result (Adds (IsText queue) (R.remaining (inner_of input.old)) (W.contents (inner_of output.old)) (W.contents (inner_of output.new))) }
-    ensures err { IfErr result (λ fault. FaultTells queue fault (R.remaining (inner_of input.old)) (W.contents (inner_of output.old)) (W.contents (inner_of output.new))) }
+    ensures ok { OnOk result (Adds (IsText queue) (R.remaining (inner_of input.old)) (W.contents (inner_of output.old))
+        (W.contents (inner_of output.new))) }
+    ensures err { IfErr result (λ fault. FaultTells queue fault (R.remaining (inner_of input.old))
+        (W.contents (inner_of output.old)) (W.contents (inner_of output.new))) }
     ensures read { faults_of input.new ≡ read_faults result (faults_of input.old) }
     ensures written { faults_of output.new ≡ write_faults result (faults_of output.old) }
 {
@@ -84,9 +88,11 @@ fn run_lines<W: Write>(
     queue: u32,
 ) -> Result<(), RunFault>
     requires { IsShort script.now }
-    ensures ok { OnOk result (Adds (IsText queue) (Some script.now) (W.contents (inner_of output.old)) (W.contents (inner_of output.new))) }
+    ensures ok { OnOk result
+        (Adds (IsText queue) (Some script.now) (W.contents (inner_of output.old)) (W.contents (inner_of output.new))) }
     ensures kind { IfErr result IsRunFault }
-    ensures err { IfErr result (λ fault. FaultTells queue fault (Some script.now) (W.contents (inner_of output.old)) (W.contents (inner_of output.new))) }
+    ensures err { IfErr result (λ fault. FaultTells queue fault (Some script.now) (W.contents (inner_of output.old))
+        (W.contents (inner_of output.new))) }
     ensures faults { faults_of output.new ≡ write_faults result (faults_of output.old) }
 {
     let Ok(mut state) = State::new(alloc, Limits::full()) else {
@@ -118,8 +124,12 @@ fn run_line<W: Write>(
     output: &mut Port<W>,
 ) -> Result<(), RunFault>
     requires { line.is_printable ≡ list_all is_line_byte line.bytes.now }
-    ensures ok { OnOk result ((printed : List ℕ) × PrintsLine state.old (line_of queue line.entry.bytes.now) printed state.new × Passes page.old.text.items printed page.new.text.items (W.contents (inner_of output.old)) (W.contents (inner_of output.new))) }
-    ensures err { IfErr result (λ fault. LineTells queue number state.old line.entry.bytes.now fault page.old.text.items (W.contents (inner_of output.old)) (W.contents (inner_of output.new))) }
+    ensures ok { OnOk result ((printed : List ℕ)
+        × PrintsLine state.old (line_of queue line.entry.bytes.now) printed state.new
+        × Passes page.old.text.items printed page.new.text.items
+        (W.contents (inner_of output.old)) (W.contents (inner_of output.new))) }
+    ensures err { IfErr result (λ fault. LineTells queue number state.old line.entry.bytes.now fault page.old.text.items
+        (W.contents (inner_of output.old)) (W.contents (inner_of output.new))) }
     ensures faults { faults_of output.new ≡ write_faults result (faults_of output.old) }
 {
     match print_script_line(text, state, queue, number, line) {
@@ -135,7 +145,8 @@ fn run_line<W: Write>(
 ///
 /// # Errors
 /// - [`RunFault::Script`], with the line's number: nothing was done.
-/// - [`RunFault::Memory`]: there was none to read its words or for its text. Nothing was done, or all that the line asks for.
+/// - [`RunFault::Memory`]: there was none to read its words or for its text. Nothing was done, or all that the line
+///   asks for.
 pub fn print_line(
     text: &mut Vec<u8>,
     state: &mut State,
@@ -202,7 +213,8 @@ fn push_call(
     format: OutputFormat,
 ) -> Result<(), AllocError>
     requires { text.old.items ≡ [] }
-    ensures ok { OnOk result ((reply : Reply) × Replies state.old call reply state.new × IsReplyText format reply text.new.items) }
+    ensures ok { OnOk result ((reply : Reply) × Replies state.old call reply state.new
+        × IsReplyText format reply text.new.items) }
     ensures left { OnErr result (MayHaveRun state.old (Ok (Line.Run call format)) state.new) }
 {
     match state.record(CALLER, call) {
@@ -215,7 +227,8 @@ fn push_call(
 fn push_last(text: &mut Vec<u8>, state: &State, format: OutputFormat) -> Result<(), AllocError>
     requires empty { text.old.items ≡ [] }
     requires entry { (entry : Entry) × (last_or None state.now.entries ≡ Some entry) × IsSpelled entry.reply }
-    ensures { OnOk result (IfSome (last_or None state.now.entries) (λ entry. IsReplyText format entry.reply text.new.items)) }
+    ensures { OnOk result (IfSome (last_or None state.now.entries)
+        (λ entry. IsReplyText format entry.reply text.new.items)) }
 {
     let Some(entry) = state.last_entry() else {
         unreachable!()

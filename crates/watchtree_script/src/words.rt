@@ -4,7 +4,9 @@ ghost use Rattle.std.specs.Prelude.{◌≡◌, ◌==◌, ◌<◌, ◌≤◌, len
 ghost use Rattle.std.specs.List.{list_any};
 ghost use Rattle.std.specs.Str.{byte};
 ghost use Rattle.std.specs.Cow.{cow_slice_items};
-ghost use Rattle.watchtree_script.specs.Words.{byte_of, before, unescaped, behind, number_spelled, below_zero, from_zero, path_word, mode_word, mask_word, u32_word, u64_word, i32_word, hex_word, u32_max};
+ghost use Rattle.watchtree_script.specs.Words.{byte_of, before, unescaped, behind, number_spelled, below_zero};
+ghost use Rattle.watchtree_script.specs.Words.{from_zero, path_word, mode_word, mask_word, u32_word, u64_word};
+ghost use Rattle.watchtree_script.specs.Words.{i32_word, hex_word, u32_max};
 ghost use Rattle.watchtree_script.specs.Reading.{Gives};
 
 use crate::fault::ScriptFault;
@@ -49,7 +51,9 @@ fn byte_of(high: u8, low: u8) -> Option<u8>
 /// The first byte that a word stands for, and the rest of the word.
 fn first_byte(word: &[u8]) -> Option<(u8, &[u8])>
     requires { 0 < length word.now }
-    ensures { MatchOption result (unescaped word.entry.now ≡ None) (λ first. (unescaped word.entry.now ≡ before (Some first.0) (unescaped first.1.now)) × (length first.1.now < length word.entry.now)) }
+    ensures { MatchOption result (unescaped word.entry.now ≡ None)
+        (λ first. (unescaped word.entry.now ≡ before (Some first.0) (unescaped first.1.now))
+        × (length first.1.now < length word.entry.now)) }
 {
     if word[0] != b'%' {
         return Some((word[0], &word[1..]));

@@ -1,6 +1,7 @@
 //! The changes of a table, by paths that are resolved on it.
 
-ghost use Rattle.std.specs.Prelude.{◌≡◌, ◌≢◌, [], Option, Some, None, IfOk, IfErr, OnOk, OnErr, true, false, IsSome, IfSome, ◌&&◌, ◌+◌, ◌<◌, ◌≤◌, ◌^◌};
+ghost use Rattle.std.specs.Prelude.{◌≡◌, ◌≢◌, [], Option, Some, None, IfOk, IfErr, OnOk, OnErr, true, false, IsSome};
+ghost use Rattle.std.specs.Prelude.{IfSome, ◌&&◌, ◌+◌, ◌<◌, ◌≤◌, ◌^◌};
 ghost use Rattle.std.specs.Option.{IsSomeAnd};
 ghost use Rattle.std.specs.FinMap as finmap;
 ghost use Rattle.tree_paths.specs.Paths.{is_below};
@@ -15,7 +16,8 @@ use crate::seen::Kind;
 use tree_paths::Refusal;
 
 impl Table {
-    ghost use Rattle.inode_table.specs.World.{with_file, with_move, with_swap, without_path, without_lost, linked, changed_at, look};
+    ghost use Rattle.inode_table.specs.World.{with_file, with_move, with_swap, without_path, without_lost, linked};
+    ghost use Rattle.inode_table.specs.World.{changed_at, look};
     ghost use Rattle.inode_table.specs.Refusals.{is_directory_seen};
     ghost use Rattle.inode_table.specs.TableWorld.{world_of};
     ghost use Rattle.inode_table.specs.Resolution.{IsResolved};
@@ -35,7 +37,8 @@ impl Table {
         requires directory { is_directory_seen (look (world_of self.old) (parent_of path.now.names)) ≡ true }
         requires free { look (world_of self.old) path.now.names ≡ None }
         requires unused { finmap.get (world_of self.old).files number ≡ None }
-        ensures world { OnOk result (world_of self.new ≡ with_file (world_of self.old) path.now.names number (record { kind = kind; mode = mode; bytes = [] })) }
+        ensures world { OnOk result (world_of self.new
+            ≡ with_file (world_of self.old) path.now.names number (record { kind = kind; mode = mode; bytes = [] })) }
         ensures room { OnOk result (self.new.room + 1 ≡ self.old.room) }
         ensures err { OnErr result (self.new ≡ self.old) }
         ensures memory { IfErr result (λ refusal. refusal ≡ Refusal.Enomem) }
@@ -60,7 +63,8 @@ impl Table {
         requires named { new.now.names ≢ [] }
         requires directory { is_directory_seen (look (world_of self.old) (parent_of new.now.names)) ≡ true }
         requires free { look (world_of self.old) new.now.names ≡ None }
-        ensures world { OnOk result (world_of self.new ≡ linked (world_of self.old) new.now.names (finmap.get (world_of self.old).paths old.now.names)) }
+        ensures world { OnOk result (world_of self.new
+            ≡ linked (world_of self.old) new.now.names (finmap.get (world_of self.old).paths old.now.names)) }
         ensures room { OnOk result (self.new.room ≡ self.old.room) }
         ensures err { OnErr result (self.new ≡ self.old) }
         ensures memory { IfErr result (λ refusal. refusal ≡ Refusal.Enomem) }
@@ -84,10 +88,13 @@ impl Table {
         requires named { old.now.names ≢ [] }
         requires other_named { new.now.names ≢ [] }
         requires other { old.now.names ≢ new.now.names }
-        requires below { (is_directory_seen (look (world_of self.old) old.now.names) && is_below new.now.names old.now.names) ≡ false }
+        requires below { (is_directory_seen (look (world_of self.old) old.now.names)
+            && is_below new.now.names old.now.names) ≡ false }
         requires directory { is_directory_seen (look (world_of self.old) (parent_of new.now.names)) ≡ true }
         requires empty { IfSome (look (world_of self.old) new.now.names) (λ seen. seen.has_names ≡ false) }
-        ensures world { OnOk result (world_of self.new ≡ without_lost (with_move (world_of self.old) old.now.names new.now.names) (finmap.get (world_of self.old).paths new.now.names)) }
+        ensures world { OnOk result (world_of self.new
+            ≡ without_lost (with_move (world_of self.old) old.now.names new.now.names)
+            (finmap.get (world_of self.old).paths new.now.names)) }
         ensures room { OnOk result (self.old.room ≤ self.new.room) }
         ensures err { OnErr result (self.new ≡ self.old) }
         ensures memory { IfErr result (λ refusal. refusal ≡ Refusal.Enomem) }
@@ -104,7 +111,8 @@ impl Table {
         requires resolved { IsResolved self.old path.now }
         requires named { path.now.names ≢ [] }
         requires there { IsSomeAnd (look (world_of self.old) path.now.names) (λ seen. seen.has_names ≡ false) }
-        ensures world { world_of self.new ≡ without_lost (without_path (world_of self.old) path.now.names) (finmap.get (world_of self.old).paths path.now.names) }
+        ensures world { world_of self.new ≡ without_lost (without_path (world_of self.old) path.now.names)
+            (finmap.get (world_of self.old).paths path.now.names) }
         ensures room { self.old.room ≤ self.new.room }
     {
         self.rows_law();
@@ -119,8 +127,10 @@ impl Table {
         requires there { IsSome (look (world_of self.old) one.now.names) }
         requires other_there { IsSome (look (world_of self.old) other.now.names) }
         requires other { one.now.names ≢ other.now.names }
-        requires below { (is_directory_seen (look (world_of self.old) one.now.names) && is_below other.now.names one.now.names) ≡ false }
-        requires above { (is_directory_seen (look (world_of self.old) other.now.names) && is_below one.now.names other.now.names) ≡ false }
+        requires below { (is_directory_seen (look (world_of self.old) one.now.names)
+            && is_below other.now.names one.now.names) ≡ false }
+        requires above { (is_directory_seen (look (world_of self.old) other.now.names)
+            && is_below one.now.names other.now.names) ≡ false }
         ensures world { world_of self.new ≡ with_swap (world_of self.old) one.now.names other.now.names }
         ensures room { self.new.room ≡ self.old.room }
     {
@@ -138,7 +148,8 @@ impl Table {
     pub fn set_mode(&mut self, path: &Resolved, mode: u32)
         requires resolved { IsResolved self.old path.now }
         requires there { IsSome (look (world_of self.old) path.now.names) }
-        ensures world { world_of self.new ≡ changed_at (world_of self.old) path.now.names (λ f. record f { mode = mode }) }
+        ensures world { world_of self.new ≡ changed_at (world_of self.old) path.now.names
+            (λ f. record f { mode = mode }) }
         ensures room { self.new.room ≡ self.old.room }
     {
         self.rows_law();
@@ -162,13 +173,16 @@ impl Table {
         requires named { old.now.names ≢ [] }
         requires other_named { new.now.names ≢ [] }
         requires other { old.now.names ≢ new.now.names }
-        requires below { (is_directory_seen (look_in self.old old.now.names) && is_below new.now.names old.now.names) ≡ false }
+        requires below { (is_directory_seen (look_in self.old old.now.names) && is_below new.now.names old.now.names)
+            ≡ false }
         requires directory { is_directory_seen (look_in self.old (parent_of new.now.names)) ≡ true }
         requires empty { IfSome (look_in self.old new.now.names) (λ seen. seen.has_names ≡ false) }
-        ensures world { OnOk result ((w : World) → Stands self.old w → Stands self.new (with_move w old.now.names new.now.names)) }
+        ensures world { OnOk result ((w : World) → Stands self.old w
+            → Stands self.new (with_move w old.now.names new.now.names)) }
         ensures replaced { IfOk result (λ key. key ≡ at self.old new.now.names) }
         ensures there { IfOk result (λ key. IfSome key (λ replaced. IsSome (what_at self.new replaced))) }
-        ensures number { IfOk result (λ key. (w : World) → Stands self.old w → finmap.get w.paths new.now.names ≡ number_of self.new key) }
+        ensures number { IfOk result (λ key. (w : World) → Stands self.old w
+            → finmap.get w.paths new.now.names ≡ number_of self.new key) }
         ensures room { OnOk result (self.new.room ≡ self.old.room) }
         ensures err { OnErr result (self.new ≡ self.old) }
         ensures memory { IfErr result (λ refusal. refusal ≡ Refusal.Enomem) }
@@ -194,7 +208,8 @@ impl Table {
         ensures world { (w : World) → Stands self.old w → Stands self.new (without_path w path.now.names) }
         ensures key { at self.old path.now.names ≡ Some result }
         ensures there { IsSome (what_at self.new result) }
-        ensures number { (w : World) → Stands self.old w → finmap.get w.paths path.now.names ≡ number_of self.new (Some result) }
+        ensures number { (w : World) → Stands self.old w
+            → finmap.get w.paths path.now.names ≡ number_of self.new (Some result) }
         ensures room { self.new.room ≡ self.old.room }
     {
         self.rows_law();
@@ -207,7 +222,8 @@ impl Table {
     // Takes a node away if it has lost its last name.
     fn drop_if_lost(&mut self, key: usize)
         requires there { IsSome (what_at self.old key) }
-        ensures world { (w : World) → Stands self.old w → Stands self.new (without_lost w (number_of self.old (Some key))) }
+        ensures world { (w : World) → Stands self.old w
+            → Stands self.new (without_lost w (number_of self.old (Some key))) }
         ensures room { self.old.room ≤ self.new.room }
     {
         self.rows_law();

@@ -31,7 +31,8 @@ impl Table {
     }
 }
 
-// The number under each path, in the order of the paths. The stack has the paths that are still to be visited, the next one at the end.
+// The number under each path, in the order of the paths. The stack has the paths that are still to be visited, the next
+// one at the end.
 fn all_paths(alloc: Global, nodes: &Slab<Node>) -> Result<Vec<(Path, u32)>, AllocError>
     requires { IsTable (rows_of nodes.now) }
     ensures { IfOk result (λ found. ArePaths (rows_of nodes.now) found.items) }

@@ -1,6 +1,7 @@
 //! The changes of a table by keys. Each states the new paths and nodes, and the new world.
 
-ghost use Rattle.std.specs.Prelude.{◌≡◌, ◌≢◌, ◌+◌, ◌^◌, ◌<◌, ◌≤◌, ◌++◌, ◌∷◌, ℕ, List, [], Some, None, false, IfSome, IfOk, OnOk, OnErr, IsSome, length};
+ghost use Rattle.std.specs.Prelude.{◌≡◌, ◌≢◌, ◌+◌, ◌^◌, ◌<◌, ◌≤◌, ◌++◌, ◌∷◌, ℕ, List, [], Some, None, false, IfSome};
+ghost use Rattle.std.specs.Prelude.{IfOk, OnOk, OnErr, IsSome, length};
 ghost use Rattle.inode_table.specs.Rows.{Label, What};
 ghost use Rattle.inode_table.specs.Tree.{at, what_at};
 
@@ -14,10 +15,13 @@ use record_codec::Name;
 use std::alloc::AllocError;
 
 impl Table {
-    ghost use Rattle.inode_table.specs.World.{World, with_file, with_path, without_path, with_move, with_swap, with_content, without_file};
+    ghost use Rattle.inode_table.specs.World.{World, with_file, with_path, without_path, with_move, with_swap};
+    ghost use Rattle.inode_table.specs.World.{with_content, without_file};
     ghost use Rattle.inode_table.specs.Stands.{Stands, look_in};
     ghost use Rattle.inode_table.specs.TableWorld.{file_of};
-    ghost use Rattle.inode_table.specs.Changes.{AddsPath, DropsPath, MovesPath, SwapsPaths, Avoids, IsOpen, LosesLink, ChangesWhat, one_link_more, with_mode, with_bytes, with_written, with_len};
+    ghost use Rattle.inode_table.specs.Changes.{AddsPath, DropsPath, MovesPath, SwapsPaths, Avoids, IsOpen, LosesLink};
+    ghost use Rattle.inode_table.specs.Changes.{ChangesWhat, one_link_more, with_mode, with_bytes, with_written};
+    ghost use Rattle.inode_table.specs.Changes.{with_len};
     ghost use Rattle.inode_table.specs.Rows.{child, key_in, bytes_in, reserved};
     ghost use Rattle.inode_table.specs.Kept.{body_of, is_directory};
 
@@ -36,11 +40,16 @@ impl Table {
         requires unused { (k : ℕ) (w : What) → what_at self.old k ≡ Some w → w.number ≢ number }
         requires empty { (l : Label) → key_in (body_of content) l ≡ None }
 
-        ensures path { IfOk result (λ key. (p : List Label) → at self.old p ≡ Some directory → AddsPath (at self.old) (at self.new) (p ++ name ∷ []) key) }
+        ensures path { IfOk result (λ key. (p : List Label) → at self.old p ≡ Some directory
+            → AddsPath (at self.old) (at self.new) (p ++ name ∷ []) key) }
         ensures vacant { IfOk result (λ key. what_at self.old key ≡ None) }
-        ensures node { IfOk result (λ key. what_at self.new key ≡ Some (record { number = number; mode = mode; links = 1; bytes = bytes_in (body_of content) })) }
+        ensures node { IfOk result (λ key. what_at self.new key
+            ≡ Some (record { number = number; mode = mode; links = 1; bytes = bytes_in (body_of content) })) }
         ensures others { IfOk result (λ key. (k : ℕ) → k ≢ key → what_at self.new k ≡ what_at self.old k) }
-        ensures world { OnOk result ((w : World) (p : List Label) → Stands self.old w → at self.old p ≡ Some directory → Stands self.new (with_file w (p ++ name ∷ []) number (file_of (record { number = number; mode = mode; links = 1; bytes = bytes_in (body_of content) })))) }
+        ensures world { OnOk result ((w : World) (p : List Label)
+            → Stands self.old w → at self.old p ≡ Some directory
+            → Stands self.new (with_file w (p ++ name ∷ []) number
+            (file_of (record { number = number; mode = mode; links = 1; bytes = bytes_in (body_of content) })))) }
         ensures room { OnOk result (self.new.room + 1 ≡ self.old.room) }
         ensures err { OnErr result (self.new ≡ self.old) }
     {
@@ -59,11 +68,14 @@ impl Table {
     pub(crate) fn drop_name_at(&mut self, directory: usize, name: &Name) -> usize
         requires directory { IsOpen self.old directory }
         requires there { IsSome (child self.old.rows directory name.now) }
-        requires empty { (x : ℕ) (l : Label) → child self.old.rows directory name.now ≡ Some x → child self.old.rows x l ≡ None }
+        requires empty { (x : ℕ) (l : Label) → child self.old.rows directory name.now ≡ Some x
+            → child self.old.rows x l ≡ None }
         ensures key { child self.old.rows directory name.now ≡ Some result }
-        ensures path { (p : List Label) → at self.old p ≡ Some directory → DropsPath (at self.old) (at self.new) (p ++ name.now ∷ []) }
+        ensures path { (p : List Label) → at self.old p ≡ Some directory
+            → DropsPath (at self.old) (at self.new) (p ++ name.now ∷ []) }
         ensures links { LosesLink self.old.rows self.new.rows (Some result) }
-        ensures world { (w : World) (p : List Label) → Stands self.old w → at self.old p ≡ Some directory → Stands self.new (without_path w (p ++ name.now ∷ [])) }
+        ensures world { (w : World) (p : List Label) → Stands self.old w → at self.old p ≡ Some directory
+            → Stands self.new (without_path w (p ++ name.now ∷ [])) }
         ensures room { self.new.room ≡ self.old.room }
     {
         match child(&self.nodes, directory, name) {
@@ -83,7 +95,8 @@ impl Table {
         ensures paths { (p : List Label) → at self.new p ≡ at self.old p }
         ensures gone { what_at self.new key ≡ None }
         ensures others { (k : ℕ) → k ≢ key → what_at self.new k ≡ what_at self.old k }
-        ensures world { (w : World) (v : What) → Stands self.old w → what_at self.old key ≡ Some v → Stands self.new (without_file w v.number) }
+        ensures world { (w : World) (v : What) → Stands self.old w → what_at self.old key ≡ Some v
+            → Stands self.new (without_file w v.number) }
         ensures room { self.new.room ≡ self.old.room + 1 }
     {
         remove_node(&mut self.nodes, key);
@@ -100,11 +113,18 @@ impl Table {
         requires directory { IsOpen self.old directory }
         requires other_directory { IsOpen self.old other_directory }
         requires there { IsSome (child self.old.rows directory name.now) }
-        requires apart { (p q : List Label) → at self.old p ≡ Some directory → at self.old q ≡ Some other_directory → Avoids (p ++ name.now ∷ []) (q ++ other_name ∷ []) }
-        requires empty { (y : ℕ) (l : Label) → child self.old.rows other_directory other_name ≡ Some y → child self.old.rows y l ≡ None }
-        ensures paths { OnOk result ((p q : List Label) → at self.old p ≡ Some directory → at self.old q ≡ Some other_directory → MovesPath (at self.old) (at self.new) (p ++ name.now ∷ []) (q ++ other_name ∷ [])) }
-        ensures links { OnOk result (LosesLink self.old.rows self.new.rows (child self.old.rows other_directory other_name)) }
-        ensures world { OnOk result ((w : World) (p q : List Label) → Stands self.old w → at self.old p ≡ Some directory → at self.old q ≡ Some other_directory → Stands self.new (with_move w (p ++ name.now ∷ []) (q ++ other_name ∷ []))) }
+        requires apart { (p q : List Label) → at self.old p ≡ Some directory → at self.old q ≡ Some other_directory
+            → Avoids (p ++ name.now ∷ []) (q ++ other_name ∷ []) }
+        requires empty { (y : ℕ) (l : Label) → child self.old.rows other_directory other_name ≡ Some y
+            → child self.old.rows y l ≡ None }
+        ensures paths { OnOk result ((p q : List Label)
+            → at self.old p ≡ Some directory → at self.old q ≡ Some other_directory
+            → MovesPath (at self.old) (at self.new) (p ++ name.now ∷ []) (q ++ other_name ∷ [])) }
+        ensures links { OnOk result
+            (LosesLink self.old.rows self.new.rows (child self.old.rows other_directory other_name)) }
+        ensures world { OnOk result ((w : World) (p q : List Label)
+            → Stands self.old w → at self.old p ≡ Some directory → at self.old q ≡ Some other_directory
+            → Stands self.new (with_move w (p ++ name.now ∷ []) (q ++ other_name ∷ []))) }
         ensures room { OnOk result (self.new.room ≡ self.old.room) }
         ensures err { OnErr result (self.new ≡ self.old) }
     {
@@ -132,11 +152,16 @@ impl Table {
         requires other_directory { IsOpen self.old other_directory }
         requires there { IsSome (child self.old.rows directory name.now) }
         requires other_there { IsSome (child self.old.rows other_directory other_name.now) }
-        requires below { (p q : List Label) → at self.old p ≡ Some directory → at self.old q ≡ Some other_directory → Avoids (p ++ name.now ∷ []) (q ++ other_name.now ∷ []) }
-        requires above { (p q : List Label) → at self.old p ≡ Some directory → at self.old q ≡ Some other_directory → Avoids (q ++ other_name.now ∷ []) (p ++ name.now ∷ []) }
-        ensures paths { (p q : List Label) → at self.old p ≡ Some directory → at self.old q ≡ Some other_directory → SwapsPaths (at self.old) (at self.new) (p ++ name.now ∷ []) (q ++ other_name.now ∷ []) }
+        requires below { (p q : List Label) → at self.old p ≡ Some directory → at self.old q ≡ Some other_directory
+            → Avoids (p ++ name.now ∷ []) (q ++ other_name.now ∷ []) }
+        requires above { (p q : List Label) → at self.old p ≡ Some directory → at self.old q ≡ Some other_directory
+            → Avoids (q ++ other_name.now ∷ []) (p ++ name.now ∷ []) }
+        ensures paths { (p q : List Label) → at self.old p ≡ Some directory → at self.old q ≡ Some other_directory
+            → SwapsPaths (at self.old) (at self.new) (p ++ name.now ∷ []) (q ++ other_name.now ∷ []) }
         ensures nodes { (k : ℕ) → what_at self.new k ≡ what_at self.old k }
-        ensures world { (w : World) (p q : List Label) → Stands self.old w → at self.old p ≡ Some directory → at self.old q ≡ Some other_directory → Stands self.new (with_swap w (p ++ name.now ∷ []) (q ++ other_name.now ∷ [])) }
+        ensures world { (w : World) (p q : List Label)
+            → Stands self.old w → at self.old p ≡ Some directory → at self.old q ≡ Some other_directory
+            → Stands self.new (with_swap w (p ++ name.now ∷ []) (q ++ other_name.now ∷ [])) }
         ensures room { self.new.room ≡ self.old.room }
     {
         if let Some(key) = child(&self.nodes, directory, name)
@@ -159,9 +184,12 @@ impl Table {
         requires regular { is_directory self.old.rows key ≡ false }
         requires links { IfSome (what_at self.old key) (λ w. w.links + 1 < 2 ^ 64) }
         requires there { IsSome (what_at self.old key) }
-        ensures path { OnOk result ((p : List Label) → at self.old p ≡ Some directory → AddsPath (at self.old) (at self.new) (p ++ name ∷ []) key) }
+        ensures path { OnOk result ((p : List Label) → at self.old p ≡ Some directory
+            → AddsPath (at self.old) (at self.new) (p ++ name ∷ []) key) }
         ensures links { OnOk result (ChangesWhat self.old.rows self.new.rows key one_link_more) }
-        ensures world { OnOk result ((w : World) (p : List Label) (v : What) → Stands self.old w → at self.old p ≡ Some directory → what_at self.old key ≡ Some v → Stands self.new (with_path w (p ++ name ∷ []) v.number)) }
+        ensures world { OnOk result ((w : World) (p : List Label) (v : What)
+            → Stands self.old w → at self.old p ≡ Some directory → what_at self.old key ≡ Some v
+            → Stands self.new (with_path w (p ++ name ∷ []) v.number)) }
         ensures room { OnOk result (self.new.room ≡ self.old.room) }
         ensures err { OnErr result (self.new ≡ self.old) }
     {
@@ -179,7 +207,8 @@ impl Table {
         requires there { IsSome (what_at self.old key) }
         ensures paths { (p : List Label) → at self.new p ≡ at self.old p }
         ensures node { ChangesWhat self.old.rows self.new.rows key (with_mode mode) }
-        ensures world { (w : World) (v : What) → Stands self.old w → what_at self.old key ≡ Some v → Stands self.new (with_content w v.number (file_of (with_mode mode v))) }
+        ensures world { (w : World) (v : What) → Stands self.old w → what_at self.old key ≡ Some v
+            → Stands self.new (with_content w v.number (file_of (with_mode mode v))) }
         ensures room { self.new.room ≡ self.old.room }
     {
         set_mode(&mut self.nodes, key, mode);
@@ -191,7 +220,8 @@ impl Table {
         requires regular { is_directory self.old.rows key ≡ false }
         ensures paths { (p : List Label) → at self.new p ≡ at self.old p }
         ensures node { ChangesWhat self.old.rows self.new.rows key (with_bytes bytes.items) }
-        ensures world { (w : World) (v : What) → Stands self.old w → what_at self.old key ≡ Some v → Stands self.new (with_content w v.number (file_of (with_bytes bytes.items v))) }
+        ensures world { (w : World) (v : What) → Stands self.old w → what_at self.old key ≡ Some v
+            → Stands self.new (with_content w v.number (file_of (with_bytes bytes.items v))) }
         ensures room { self.new.room ≡ self.old.room }
     {
         set_bytes(&mut self.nodes, key, bytes);
@@ -221,7 +251,8 @@ impl Table {
         requires reserved { 0 < length bytes.now → offset + length bytes.now ≤ reserved self.old.rows key }
         ensures paths { (p : List Label) → at self.new p ≡ at self.old p }
         ensures node { ChangesWhat self.old.rows self.new.rows key (with_written offset bytes.now) }
-        ensures world { (w : World) (v : What) → Stands self.old w → what_at self.old key ≡ Some v → Stands self.new (with_content w v.number (file_of (with_written offset bytes.now v))) }
+        ensures world { (w : World) (v : What) → Stands self.old w → what_at self.old key ≡ Some v
+            → Stands self.new (with_content w v.number (file_of (with_written offset bytes.now v))) }
         ensures room { self.new.room ≡ self.old.room }
     {
         write_bytes(&mut self.nodes, key, offset, bytes);
@@ -234,7 +265,8 @@ impl Table {
         requires reserved { len ≤ reserved self.old.rows key }
         ensures paths { (p : List Label) → at self.new p ≡ at self.old p }
         ensures node { ChangesWhat self.old.rows self.new.rows key (with_len len) }
-        ensures world { (w : World) (v : What) → Stands self.old w → what_at self.old key ≡ Some v → Stands self.new (with_content w v.number (file_of (with_len len v))) }
+        ensures world { (w : World) (v : What) → Stands self.old w → what_at self.old key ≡ Some v
+            → Stands self.new (with_content w v.number (file_of (with_len len v))) }
         ensures room { self.new.room ≡ self.old.room }
     {
         set_len(&mut self.nodes, key, len);

@@ -68,7 +68,8 @@ impl Table {
     /// The names in a directory, in the order of their bytes, lent one by one.
     pub fn child_names(&self, key: Key) -> Keys<'_, Name, usize>
         requires directory { IsSomeAnd (file_under self.now key) (λ file. file.kind ≡ Kind.Directory) }
-        ensures world { (p : List Label) → finmap.get (world_of self.now).paths p ≡ number_of self.now (Some key) → AreNamesOf (world_of self.now) p result }
+        ensures world { (p : List Label) → finmap.get (world_of self.now).paths p ≡ number_of self.now (Some key)
+            → AreNamesOf (world_of self.now) p result }
         ensures ordered { IsStrictlySortedBy (slice_cmp nat_cmp) result }
         ensures runs { ShowsInOrder (deref {X = Label}) }
     {

@@ -96,12 +96,14 @@ impl Table {
         self.look(path).ok()
     }
 
-    /// What stands at the directory of a resolved path's last name, or why nothing does. Of the root it is the root itself.
+    /// What stands at the directory of a resolved path's last name, or why nothing does. Of the root it is the root
+    /// itself.
     pub fn look_parent(&self, path: &Resolved) -> Result<Seen, Refusal>
         requires resolved { IsResolved self.now path.now }
         ensures seen { IfOk result (λ seen. look (world_of self.now) (parent_of path.now.names) ≡ Some seen) }
         ensures none { IfOk result (λ _. find (look (world_of self.now)) (parent_of path.now.names) ≡ None) }
-        ensures missing { IfErr result (λ refusal. find (look (world_of self.now)) (parent_of path.now.names) ≡ Some refusal) }
+        ensures missing { IfErr result (λ refusal.
+            find (look (world_of self.now)) (parent_of path.now.names) ≡ Some refusal) }
         ensures absent { IfErr result (λ _. look (world_of self.now) (parent_of path.now.names) ≡ None) }
     {
         self.rows_law();

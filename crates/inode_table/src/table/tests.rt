@@ -1,6 +1,7 @@
 //! Each call where its conditions were tested at run time: a call whose conditions do not hold is not made.
 
-ghost use Rattle.std.specs.Prelude.{◌≡◌, ◌≢◌, ◌<◌, ◌+◌, ℕ, [], Some, None, true, false, IsSome, IsTrue, IfOk, IfSome, OnOk};
+ghost use Rattle.std.specs.Prelude.{◌≡◌, ◌≢◌, ◌<◌, ◌+◌, ℕ, [], Some, None, true, false, IsSome, IsTrue, IfOk, IfSome};
+ghost use Rattle.std.specs.Prelude.{OnOk};
 ghost use Rattle.slab.specs.Slab.{get};
 ghost use Rattle.tree_paths.specs.Paths.{is_below};
 ghost use Rattle.inode_table.specs.Refusals.{is_directory_seen, parent_of};
@@ -68,7 +69,8 @@ fn is_in_directory(table: &Table, path: &Resolved) -> bool
 fn has_parent(table: &Table, path: &Resolved) -> bool
     requires resolved { IsResolved table.now path.now }
     ensures named { IsTrue result → path.now.names ≢ [] }
-    ensures directory { IsTrue result → is_directory_seen (look (world_of table.now) (parent_of path.now.names)) ≡ true }
+    ensures directory { IsTrue result
+        → is_directory_seen (look (world_of table.now) (parent_of path.now.names)) ≡ true }
 {
     !path.as_path().is_root() && is_in_directory(table, path)
 }
@@ -77,7 +79,8 @@ fn has_parent(table: &Table, path: &Resolved) -> bool
 fn is_free(table: &Table, path: &Resolved) -> bool
     requires resolved { IsResolved table.now path.now }
     ensures named { IsTrue result → path.now.names ≢ [] }
-    ensures directory { IsTrue result → is_directory_seen (look (world_of table.now) (parent_of path.now.names)) ≡ true }
+    ensures directory { IsTrue result
+        → is_directory_seen (look (world_of table.now) (parent_of path.now.names)) ≡ true }
     ensures free { IsTrue result → look (world_of table.now) path.now.names ≡ None }
 {
     has_parent(table, path) && table.look(path).is_err()

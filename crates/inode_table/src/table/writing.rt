@@ -1,6 +1,7 @@
 //! The bytes of a file, by its path as it is resolved on the table.
 //!
-//! A write in place is `reserve_content` and then `write`, which takes no memory: n bytes at the end of a file cost n, amortised.
+//! A write in place is `reserve_content` and then `write`, which takes no memory: n bytes at the end of a file cost n,
+//! amortised.
 
 ghost use Rattle.std.specs.Prelude.{◌≡◌, ℕ, OnOk, OnErr, IfErr, false, IsSome, ◌+◌, ◌<◌, ◌≤◌, length};
 ghost use Rattle.inode_table.specs.Bytes.{resized, written};
@@ -21,7 +22,8 @@ impl Table {
         requires resolved { IsResolved self.old path.now }
         requires there { IsSome (look (world_of self.old) path.now.names) }
         requires regular { is_directory_seen (look (world_of self.old) path.now.names) ≡ false }
-        ensures world { world_of self.new ≡ changed_at (world_of self.old) path.now.names (λ f. record f { bytes = bytes.items }) }
+        ensures world { world_of self.new ≡ changed_at (world_of self.old) path.now.names
+            (λ f. record f { bytes = bytes.items }) }
         ensures room { self.new.room ≡ self.old.room }
     {
         self.rows_law();
@@ -57,7 +59,8 @@ impl Table {
         requires there { IsSome (look (world_of self.old) path.now.names) }
         requires regular { is_directory_seen (look (world_of self.old) path.now.names) ≡ false }
         requires reserved { 0 < length bytes.now → offset + length bytes.now ≤ reserved_at self.old path.now.names }
-        ensures world { world_of self.new ≡ changed_at (world_of self.old) path.now.names (λ f. record f { bytes = written offset bytes.now f.bytes }) }
+        ensures world { world_of self.new ≡ changed_at (world_of self.old) path.now.names
+            (λ f. record f { bytes = written offset bytes.now f.bytes }) }
         ensures room { self.new.room ≡ self.old.room }
     {
         self.rows_law();
@@ -71,7 +74,8 @@ impl Table {
         requires there { IsSome (look (world_of self.old) path.now.names) }
         requires regular { is_directory_seen (look (world_of self.old) path.now.names) ≡ false }
         requires reserved { len ≤ reserved_at self.old path.now.names }
-        ensures world { world_of self.new ≡ changed_at (world_of self.old) path.now.names (λ f. record f { bytes = resized len f.bytes }) }
+        ensures world { world_of self.new ≡ changed_at (world_of self.old) path.now.names
+            (λ f. record f { bytes = resized len f.bytes }) }
         ensures room { self.new.room ≡ self.old.room }
     {
         self.rows_law();

@@ -7,8 +7,8 @@ use crate::instances::Instances;
 use crate::opened::Opened;
 
 impl Instances {
-    /// Writes the numbers of the open instances that have a record waiting over the front of `out`, rising, as many as it
-    /// holds. It answers how many there are. It looks at each open instance, and takes no memory.
+    /// Writes the numbers of the open instances that have a record waiting over the front of `out`, rising, as many as
+    /// it holds. It answers how many there are. It looks at each open instance, and takes no memory.
     pub fn ready(&self, out: &mut [u32]) -> usize
         ensures count { result ≡ length (ready_in self.now) }
         ensures ids { out.new ≡ take (length out.old) (ready_in self.now) ++ drop (length (ready_in self.now)) out.old }
@@ -17,8 +17,8 @@ impl Instances {
     }
 }
 
-// Writes the numbers of those that have a record waiting over the front of `out`, as many as it holds, and answers how many
-// there are.
+// Writes the numbers of those that have a record waiting over the front of `out`, as many as it holds, and answers how
+// many there are.
 fn ready_rows(rows: &[Opened], out: &mut [u32]) -> usize
     ensures count { result ≡ length (ready_rows rows.now) }
     ensures ids { out.new ≡ written_over (ready_rows rows.now) out.old }
@@ -35,7 +35,8 @@ fn put_row(row: &Opened, out: &mut [u32], count: usize) -> usize
     requires { count + 1 < 2 ^ 64 }
     ensures count { result ≡ count + length (ready_rows (row.now ∷ [])) }
     ensures within { result ≤ count + 1 }
-    ensures ids { (front old : List ℕ) → count ≡ length front → out.old ≡ written_over front old → out.new ≡ written_over (front ++ ready_rows (row.now ∷ [])) old }
+    ensures ids { (front old : List ℕ) → count ≡ length front → out.old ≡ written_over front old
+        → out.new ≡ written_over (front ++ ready_rows (row.now ∷ [])) old }
 {
     if row.instance.queue.is_empty() {
         return count;
@@ -46,7 +47,8 @@ fn put_row(row: &Opened, out: &mut [u32], count: usize) -> usize
 
 // Writes a number behind `count` others, where `out` holds one more.
 fn put_id(out: &mut [u32], count: usize, id: u32)
-    ensures { (front old : List ℕ) → count ≡ length front → out.old ≡ written_over front old → out.new ≡ written_over (front ++ id ∷ []) old }
+    ensures { (front old : List ℕ) → count ≡ length front → out.old ≡ written_over front old
+        → out.new ≡ written_over (front ++ id ∷ []) old }
 {
     if count >= out.len() {
         return;

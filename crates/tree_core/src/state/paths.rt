@@ -8,8 +8,9 @@ use super::State;
 use tree_paths::{Path, Refusal};
 
 impl State {
-    /// The first path of the file with this number, in the order of names. `None` if no file has it, as none has a number above
-    /// `u32::MAX`. It looks at each path of the tree: its time and memory are in proportion to their number.
+    /// The first path of the file with this number, in the order of names. `None` if no file has it, as none has a
+    /// number above `u32::MAX`. It looks at each path of the tree: its time and memory are in proportion to their
+    /// number.
     ///
     /// # Errors
     /// `ENOMEM`, where there is no memory for the paths.

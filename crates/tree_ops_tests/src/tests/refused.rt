@@ -11,7 +11,8 @@ const MOST: u32 = 200;
 /// How many calls there are.
 const CALLS: u32 = 15;
 
-// A directory with more names than a node of an ordered map takes, files with one and two paths, and an empty directory.
+// A directory with more names than a node of an ordered map takes, files with one and two paths, and an empty
+// directory.
 fn prepared(alloc: Global) -> Result<Calls, Refusal> {
     let mut calls = Calls::new(alloc, Limits::full())?;
     mkdir(&mut calls, "/d")?;
