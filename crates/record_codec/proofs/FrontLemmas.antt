@@ -25,7 +25,8 @@ apart : (x y p r s : ℕ) → x < y → r < p → x * p + r < y * p + s
 apart x y p r s under small = let h = mul-add-lt x p r y under small in let e = mul_comm p y in omega (arith, h, e)
 
 -- the one with the smaller number comes first
-below : (n : ℕ) (xs ys : List ℕ) → IsBytes xs → IsBytes ys → list_all is_name_byte xs ≡ true → list_all is_name_byte ys ≡ true → big_from 0 n xs < big_from 0 n ys → slice_cmp nat_cmp xs ys ≡ Less
+below : (n : ℕ) (xs ys : List ℕ) → IsBytes xs → IsBytes ys → list_all is_name_byte xs ≡ true → list_all is_name_byte ys ≡ true
+    → big_from 0 n xs < big_from 0 n ys → slice_cmp nat_cmp xs ys ≡ Less
 below zero xs ys bx by nx ny h = absurd (omega (arith, h))
 below (suc n) [] [] bx by nx ny h = absurd (omega (arith, h))
 below (suc n) [] (y ∷ ys) bx by nx ny h = refl
@@ -39,11 +40,14 @@ below (suc n) (x ∷ xs) (y ∷ ys) bx by nx ny h =
           ap (λ o. ordering_then o (slice_cmp nat_cmp xs ys)) (sym (nat_cmp_is x y Equal same))
           ∙ below n xs ys (tail-bytes x xs bx) (tail-bytes y ys by) (and_both _ _ nx).1 (and_both _ _ ny).1 (omega (arith, h, front, other, e))
       | inr (inl under) ↦ ap (λ o. ordering_then o (slice_cmp nat_cmp xs ys)) (sym (nat_cmp_is x y Less under))
-      | inr (inr above) ↦ let off = apart y x (256 ^ n) (big_from 0 n ys) (big_from 0 n xs) above (big_from-lt 0 n ys (tail-bytes y ys by)) in absurd (omega (arith, h, front, other, off))
+      | inr (inr above) ↦
+          let off = apart y x (256 ^ n) (big_from 0 n ys) (big_from 0 n xs) above (big_from-lt 0 n ys (tail-bytes y ys by)) in
+          absurd (omega (arith, h, front, other, off))
     ]
 
 -- and the one with the greater number behind
-above : (n : ℕ) (xs ys : List ℕ) → IsBytes xs → IsBytes ys → list_all is_name_byte xs ≡ true → list_all is_name_byte ys ≡ true → big_from 0 n ys < big_from 0 n xs → slice_cmp nat_cmp xs ys ≡ Greater
+above : (n : ℕ) (xs ys : List ℕ) → IsBytes xs → IsBytes ys → list_all is_name_byte xs ≡ true → list_all is_name_byte ys ≡ true
+    → big_from 0 n ys < big_from 0 n xs → slice_cmp nat_cmp xs ys ≡ Greater
 above zero xs ys bx by nx ny h = absurd (omega (arith, h))
 above (suc n) [] [] bx by nx ny h = absurd (omega (arith, h))
 above (suc n) (x ∷ xs) [] bx by nx ny h = refl
@@ -57,7 +61,9 @@ above (suc n) (x ∷ xs) (y ∷ ys) bx by nx ny h =
           ap (λ o. ordering_then o (slice_cmp nat_cmp xs ys)) (sym (nat_cmp_is x y Equal same))
           ∙ above n xs ys (tail-bytes x xs bx) (tail-bytes y ys by) (and_both _ _ nx).1 (and_both _ _ ny).1 (omega (arith, h, front, other, e))
       | inr (inr over) ↦ ap (λ o. ordering_then o (slice_cmp nat_cmp xs ys)) (sym (nat_cmp_is x y Greater over))
-      | inr (inl under) ↦ let off = apart x y (256 ^ n) (big_from 0 n xs) (big_from 0 n ys) under (big_from-lt 0 n xs (tail-bytes x xs bx)) in absurd (omega (arith, h, front, other, off))
+      | inr (inl under) ↦
+          let off = apart x y (256 ^ n) (big_from 0 n xs) (big_from 0 n ys) under (big_from-lt 0 n xs (tail-bytes x xs bx)) in
+          absurd (omega (arith, h, front, other, off))
     ]
 
 -- no more bytes than these, with one number, are one list
@@ -72,7 +78,8 @@ named-byte : (b : ℕ) → is_name_byte b ≡ true → b ≢ 0
 named-byte zero h e = absurd cc
 named-byte (suc b) h e = absurd (omega (arith, e))
 
-pub alike : (n : ℕ) (xs ys : List ℕ) → IsBytes xs → IsBytes ys → list_all is_name_byte xs ≡ true → list_all is_name_byte ys ≡ true → length xs ≤ n → length ys ≤ n
+pub alike : (n : ℕ) (xs ys : List ℕ) → IsBytes xs → IsBytes ys → list_all is_name_byte xs ≡ true → list_all is_name_byte ys ≡ true
+    → length xs ≤ n → length ys ≤ n
     → big_from 0 n xs ≡ big_from 0 n ys → slice_cmp nat_cmp xs ys ≡ Equal
 alike n [] [] bx by nx ny lx ly h = refl
 alike zero [] (y ∷ ys) bx by nx ny lx ly h = absurd (omega (arith, ly))
@@ -94,9 +101,14 @@ alike (suc n) (x ∷ xs) (y ∷ ys) bx by nx ny lx ly h =
       | inl same ↦
           let e : x * 256 ^ n ≡ y * 256 ^ n = ap (λ k. k * 256 ^ n) same in
           ap (λ o. ordering_then o (slice_cmp nat_cmp xs ys)) (sym (nat_cmp_is x y Equal same))
-          ∙ alike n xs ys (tail-bytes x xs bx) (tail-bytes y ys by) (and_both _ _ nx).1 (and_both _ _ ny).1 (omega (arith, lx)) (omega (arith, ly)) (omega (arith, h, front, other, e))
-      | inr (inl under) ↦ let off = apart x y (256 ^ n) (big_from 0 n xs) (big_from 0 n ys) under (big_from-lt 0 n xs (tail-bytes x xs bx)) in absurd (omega (arith, h, front, other, off))
-      | inr (inr above) ↦ let off = apart y x (256 ^ n) (big_from 0 n ys) (big_from 0 n xs) above (big_from-lt 0 n ys (tail-bytes y ys by)) in absurd (omega (arith, h, front, other, off))
+          ∙ alike n xs ys (tail-bytes x xs bx) (tail-bytes y ys by) (and_both _ _ nx).1 (and_both _ _ ny).1 (omega (arith, lx))
+          (omega (arith, ly)) (omega (arith, h, front, other, e))
+      | inr (inl under) ↦
+          let off = apart x y (256 ^ n) (big_from 0 n xs) (big_from 0 n ys) under (big_from-lt 0 n xs (tail-bytes x xs bx)) in
+          absurd (omega (arith, h, front, other, off))
+      | inr (inr above) ↦
+          let off = apart y x (256 ^ n) (big_from 0 n ys) (big_from 0 n xs) above (big_from-lt 0 n ys (tail-bytes y ys by)) in
+          absurd (omega (arith, h, front, other, off))
     ]
 
 -- bytes that are the same at each index have the same number
@@ -124,18 +136,27 @@ fronts-decide : (xs ys : List ℕ) (f g : ℕ) → IsName xs → IsName ys → f
 fronts-decide xs ys f g nx ny front other differ =
     elim (cases_order f g) [
       | inl same ↦ absurd (differ same)
-      | inr (inl under) ↦ sym (nat_cmp_is f g Less under) ∙ sym (below 8 xs ys nx.bytes ny.bytes (bytes-named xs nx.named) (bytes-named ys ny.named) (omega (arith, under, front, other)))
-      | inr (inr over) ↦ sym (nat_cmp_is f g Greater over) ∙ sym (above 8 xs ys nx.bytes ny.bytes (bytes-named xs nx.named) (bytes-named ys ny.named) (omega (arith, over, front, other)))
+      | inr (inl under) ↦
+          sym (nat_cmp_is f g Less under)
+          ∙ sym (below 8 xs ys nx.bytes ny.bytes (bytes-named xs nx.named) (bytes-named ys ny.named) (omega (arith, under, front, other)))
+      | inr (inr over) ↦
+          sym (nat_cmp_is f g Greater over)
+          ∙ sym (above 8 xs ys nx.bytes ny.bytes (bytes-named xs nx.named) (bytes-named ys ny.named) (omega (arith, over, front, other)))
     ]
 
-pub fronts_decide : (xs ys vs ws : List ℕ) (f g : ℕ) → xs ≡ vs → ys ≡ ws → IsName xs → IsName ys → f ≡ big_from 0 8 xs → g ≡ big_from 0 8 ys → f ≢ g → nat_cmp f g ≡ slice_cmp nat_cmp vs ws
+pub fronts_decide : (xs ys vs ws : List ℕ) (f g : ℕ) → xs ≡ vs → ys ≡ ws → IsName xs → IsName ys → f ≡ big_from 0 8 xs
+    → g ≡ big_from 0 8 ys → f ≢ g → nat_cmp f g ≡ slice_cmp nat_cmp vs ws
 fronts_decide xs ys vs ws f g same also nx ny front other differ = fronts-decide xs ys f g nx ny front other differ ∙ (λ k. slice_cmp nat_cmp (same k) (also k))
 
 -- names of at most so many bytes are one name where their numbers are one
-fronts-agree : (xs ys : List ℕ) (f g : ℕ) → IsName xs → IsName ys → f ≡ big_from 0 8 xs → g ≡ big_from 0 8 ys → f ≡ g → length xs ≤ 8 → length ys ≤ 8 → slice_cmp nat_cmp xs ys ≡ Equal
+fronts-agree : (xs ys : List ℕ) (f g : ℕ) → IsName xs → IsName ys → f ≡ big_from 0 8 xs → g ≡ big_from 0 8 ys → f ≡ g
+    → length xs ≤ 8 → length ys ≤ 8 → slice_cmp nat_cmp xs ys ≡ Equal
 fronts-agree xs ys f g nx ny front other same lx ly =
     alike 8 xs ys nx.bytes ny.bytes (bytes-named xs nx.named) (bytes-named ys ny.named) lx ly (sym front ∙ same ∙ other)
 
-pub fronts_agree : (xs ys vs ws : List ℕ) (f g : ℕ) → xs ≡ vs → ys ≡ ws → IsName xs → IsName ys → f ≡ big_from 0 8 xs → g ≡ big_from 0 8 ys → f ≡ g → length vs ≤ 8 → length ws ≤ 8 → Equal ≡ slice_cmp nat_cmp vs ws
+pub fronts_agree : (xs ys vs ws : List ℕ) (f g : ℕ) → xs ≡ vs → ys ≡ ws → IsName xs → IsName ys → f ≡ big_from 0 8 xs
+    → g ≡ big_from 0 8 ys → f ≡ g → length vs ≤ 8 → length ws ≤ 8 → Equal ≡ slice_cmp nat_cmp vs ws
 fronts_agree xs ys vs ws f g also too nx ny front other same lx ly =
-    sym (fronts-agree xs ys f g nx ny front other same (omega (arith, lx, ap (λ (t : List ℕ). length t) also)) (omega (arith, ly, ap (λ (t : List ℕ). length t) too))) ∙ (λ k. slice_cmp nat_cmp (also k) (too k))
+    sym (fronts-agree xs ys f g nx ny front other same (omega (arith, lx, ap (λ (t : List ℕ). length t) also))
+    (omega (arith, ly, ap (λ (t : List ℕ). length t) too)))
+    ∙ (λ k. slice_cmp nat_cmp (also k) (too k))

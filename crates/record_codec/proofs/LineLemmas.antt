@@ -45,7 +45,8 @@ numbers-joined e old a b c d new h = rw (h.cookie, h.again, h.mask, h.space, h.w
 
 pub line-none : (e : Event) (old : List ℕ) → e.name ≡ None → old ++ printed_numbers e ≡ old ++ record_line e
 unfolding record_line printed_ending
-line-none e old is = ap (λ (t : List ℕ). old ++ t) (sym (append-nil (printed_numbers e)) ∙ ap (λ (n : Option (List ℕ)). printed_numbers e ++ printed_ending n) (sym is))
+line-none e old is =
+    ap (λ (t : List ℕ). old ++ t) (sym (append-nil (printed_numbers e)) ∙ ap (λ (n : Option (List ℕ)). printed_numbers e ++ printed_ending n) (sym is))
 
 pub line-some : (e : Event) (old name : List ℕ) → e.name ≡ Some name → ((old ++ printed_numbers e) ++ codes " ") ++ printed_name name ≡ old ++ record_line e
 unfolding record_line printed_ending

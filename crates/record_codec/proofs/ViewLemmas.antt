@@ -36,7 +36,8 @@ begun_by bytes (e ∷ es) fits same some =
 pub begun : (bytes : List ℕ) → AreRecords bytes → length bytes ≢ 0 → Begun bytes
 begun bytes records some = begun_by bytes records.0 records.1 records.2 some
 
-pub named_seen : (seen : Option (Bor (List ℕ))) (name : Option (List ℕ)) → option_copied seen ≡ name → IfSome name IsName → ForSome seen (λ n. IsTrue (is_name n.now))
+pub named_seen : (seen : Option (Bor (List ℕ))) (name : Option (List ℕ)) → option_copied seen ≡ name → IfSome name IsName
+    → ForSome seen (λ n. IsTrue (is_name n.now))
 named_seen seen name copied named x is =
     let some : name ≡ Some x.now = sym copied ∙ ap option_copied is in
     let it = rw some at named in

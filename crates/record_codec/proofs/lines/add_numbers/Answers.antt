@@ -12,7 +12,8 @@ returns-clause-items c =
     let fits : FitsSigned w32 c.args.view.now.wd = search rules in
     let wd = simp to_z-of_z at c.format.ensures.text in
     let mask : c.encode_to_slice.new.output ≡ encode_lower (to_be_bytes w32 c.args.view.now.mask) = search rules in
-    numbers-joined (event_seen c.args.view.now) c.args.out.now.items c.add.new.out.items c.add-2.new.out.items c.add-3.new.out.items c.add-4.new.out.items c.add-5.new.out.items (record {
+    numbers-joined (event_seen c.args.view.now) c.args.out.now.items c.add.new.out.items c.add-2.new.out.items
+    c.add-3.new.out.items c.add-4.new.out.items c.add-5.new.out.items (record {
       wd = c.add.ensures.items ∙ ap (λ (t : List ℕ). c.args.out.now.items ++ t) (c.as_bytes.ensures.value ∙ wd);
       space = c.add-2.ensures.items;
       mask = c.add-3.ensures.items ∙ ap (λ (t : List ℕ). c.add-2.new.out.items ++ t) mask;

@@ -56,6 +56,7 @@ returns c =
     let b = begun c.args.bytes.now c.requires (eqb-false _ _ (sym c.is_empty.ensures ∙ c.if-is_empty.false)) in
     let low : c.u32_at-2.result < 2 ^ 32 = c.u32_at-2.type_inv in
     let wd = ap (λ (z : ℤ). cast_signed w32 (cast_unsigned w32 z)) c.cast_signed.ensures ∙ ap (cast_signed w32) (of_z-to_z w32 c.u32_at-2.result low) in
-    let e = event_is c.args.bytes.now 0 c.u32_at.result c.u32_at-3.result c.u32_at-4.result _ (option_copied c.name_in_field.result) c.u32_at-2.result c.u32_at.ensures c.u32_at-2.ensures wd c.u32_at-3.ensures c.u32_at-4.ensures c.name_in_field.ensures in
+    let e = event_is c.args.bytes.now 0 c.u32_at.result c.u32_at-3.result c.u32_at-4.result _ (option_copied c.name_in_field.result)
+    c.u32_at-2.result c.u32_at.ensures c.u32_at-2.ensures wd c.u32_at-3.ensures c.u32_at-4.ensures c.name_in_field.ensures in
     let tail = take_rest c.args.bytes.now (16 + c.u32_at.result) ∙ ap (λ (n : ℕ). drop (16 + n) c.args.bytes.now) c.u32_at.ensures in
     next_is c.args.bytes.now _ _ b e tail

@@ -12,7 +12,9 @@ loop-rest-init g c = record { added = (0, record { so_far = Appends-nil (g.T.Wri
 
 pub loop-rest-preserved : goal.loop-rest-preserved
 loop-rest-preserved g c =
-    let more = Added-more (g.T.Write.contents (inner_of c.args.self.now)) (g.T.Write.contents (inner_of c.loop-rest.self)) (g.T.Write.contents (inner_of c.write.new.self)) c.args.bytes.now c.loop-rest.rest.now c.loop-rest.invariant.added.0 c.in_ok-count.count c.loop-rest.invariant.added.1 c.in_ok-count.ensures.bytes in
+    let more = Added-more (g.T.Write.contents (inner_of c.args.self.now)) (g.T.Write.contents (inner_of c.loop-rest.self))
+    (g.T.Write.contents (inner_of c.write.new.self)) c.args.bytes.now c.loop-rest.rest.now c.loop-rest.invariant.added.0
+    c.in_ok-count.count c.loop-rest.invariant.added.1 c.in_ok-count.ensures.bytes in
     record {
       added = (c.loop-rest.invariant.added.0 + c.in_ok-count.count, record { so_far = more.so_far; left = take_rest c.loop-rest.rest.now c.in_ok-count.count ∙ more.left });
       faults = c.in_ok-count.ensures.ok ∙ c.loop-rest.invariant.faults;
@@ -34,4 +36,5 @@ returns-clause-bytes g c =
     let n = c.loop-rest.invariant.added.0 in
     let none = eqb-true _ _ (sym c.is_empty.ensures ∙ c.loop-rest-test.false) in
     let long : length c.args.bytes.now ≤ n = omega (arith, ap length added.left, length-drop n c.args.bytes.now, none) in
-    subst (Appends (g.T.Write.contents (inner_of c.args.self.now)) (g.T.Write.contents (inner_of c.loop-rest.self))) (take_all n c.args.bytes.now long) added.so_far
+    subst (Appends (g.T.Write.contents (inner_of c.args.self.now)) (g.T.Write.contents (inner_of c.loop-rest.self)))
+    (take_all n c.args.bytes.now long) added.so_far
