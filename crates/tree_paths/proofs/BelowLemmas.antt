@@ -54,7 +54,8 @@ same-test path above r both = by r (is_below path above) (λ h. below path above
 
 -- a path that is not longer than another one is not below it
 pub short : (path above : List (List ℕ)) → length path ≤ length above → nat_lt (length above) (length path) ≡ is_below path above
-short path above within = same-test path above (nat_lt (length above) (length path)) (λ t. absurd (shorter t), λ b. lt-ltb (length above) (length path) (longer b))
+short path above within =
+    same-test path above (nat_lt (length above) (length path)) (λ t. absurd (shorter t), λ b. lt-ltb (length above) (length path) (longer b))
   where
     shorter : nat_lt (length above) (length path) ≡ true → ⊥
     shorter t = let h = ltb-true (length above) (length path) t in omega arith
@@ -100,7 +101,8 @@ is-same false e = absurd cc
 pub apart-by : (x y a b : List ℕ) (r : Bool) → a ≡ x → b ≡ y → r ≡ not (bytes_eq a b) → r ≡ true → y ≡ x → ⊥
 apart-by x y a b r ax by is on same = not-same (bytes_eq a b) (sym is ∙ on) ((bytes_eq-Decides a b).1 (ax ∙ sym same ∙ sym by))
 
-pub below-step : (path above names others ns os : List (List ℕ)) (x y a b : List ℕ) (r : Bool) → is_below path above ≡ is_below names others → names ≡ x ∷ ns → others ≡ y ∷ os
+pub below-step : (path above names others ns os : List (List ℕ)) (x y a b : List ℕ) (r : Bool)
+    → is_below path above ≡ is_below names others → names ≡ x ∷ ns → others ≡ y ∷ os
     → a ≡ x → b ≡ y → r ≡ not (bytes_eq a b) → r ≡ false → is_below path above ≡ is_below ns os
 below-step path above names others ns os x y a b r so_far n o ax by is off =
     let same : x ≡ y = sym ax ∙ (bytes_eq-Decides a b).0 (is-same (bytes_eq a b) (sym is ∙ off)) ∙ by in

@@ -20,7 +20,8 @@ use Rattle.tree_paths.proofs.PieceLemmas.{nonempty-cons, accepted, names_read}
 -- ---- a front and the pieces behind it
 
 -- what no empty piece has is looked for in the front and behind it
-any_front : (p : List ℕ → Bool) → p [] ≡ false → (x : List ℕ) (ps : List (List ℕ)) → list_any p (filter is_nonempty (x ∷ ps)) ≡ (p x || list_any p (filter is_nonempty ps))
+any_front : (p : List ℕ → Bool) → p [] ≡ false → (x : List ℕ) (ps : List (List ℕ))
+    → list_any p (filter is_nonempty (x ∷ ps)) ≡ (p x || list_any p (filter is_nonempty ps))
 any_front p e [] ps = sym (ap (λ (b : Bool). b || list_any p (filter is_nonempty ps)) e)
 any_front p e (b ∷ bs) ps = rw (nonempty-cons b bs) refl
 
@@ -43,7 +44,8 @@ no_front (b ∷ bs) ps none = absurd (omega (arith, none))
 cut : (w : List ℕ) (n : ℕ) → n < length w → w ≡ take n w ++ get_or w n 0 ∷ drop (n + 1) w
 cut w n lt = sym (take-append-drop n w) ∙ ap (λ (t : List ℕ). take n w ++ t) (drop_more w n 0 lt)
 
-pub names_cut : (w : List ℕ) (n : ℕ) → n < length w → list_all is_name_byte (take n w) ≡ true → get_or w n 0 ≡ 47 → names_of w ≡ filter is_nonempty (take n w ∷ pieces 47 (drop (n + 1) w))
+pub names_cut : (w : List ℕ) (n : ℕ) → n < length w → list_all is_name_byte (take n w) ≡ true → get_or w n 0 ≡ 47
+    → names_of w ≡ filter is_nonempty (take n w ∷ pieces 47 (drop (n + 1) w))
 names_cut w n lt h e =
     ap names_of (cut w n lt ∙ ap (λ (b : ℕ). take n w ++ b ∷ drop (n + 1) w) e)
     ∙ ap (filter is_nonempty) (slice_split_at (λ b. eqb b 47) (take n w) 47 (drop (n + 1) w) (no_slashes (take n w) h) refl)
@@ -53,12 +55,14 @@ names_end w n e h =
     let whole : take n w ≡ w = take_all n w (omega (arith, e)) in
     ap names_of (sym whole) ∙ ap (filter is_nonempty) (slice_split_none (λ b. eqb b 47) (take n w) (no_slashes (take n w) h))
 
-null_cut : (w : List ℕ) (n : ℕ) → n < length w → list_all is_name_byte (take n w) ≡ true → list_any is_null w ≡ (eqb (get_or w n 0) 0 || list_any is_null (drop (n + 1) w))
+null_cut : (w : List ℕ) (n : ℕ) → n < length w → list_all is_name_byte (take n w) ≡ true
+    → list_any is_null w ≡ (eqb (get_or w n 0) 0 || list_any is_null (drop (n + 1) w))
 null_cut w n lt h =
     ap (list_any is_null) (cut w n lt) ∙ list_any-append is_null (take n w) (get_or w n 0 ∷ drop (n + 1) w)
     ∙ ap (λ (b : Bool). b || (eqb (get_or w n 0) 0 || list_any is_null (drop (n + 1) w))) (no_null (take n w) h)
 
-pub null_behind : (w : List ℕ) (n : ℕ) → n < length w → list_all is_name_byte (take n w) ≡ true → get_or w n 0 ≡ 47 → list_any is_null w ≡ list_any is_null (drop (n + 1) w)
+pub null_behind : (w : List ℕ) (n : ℕ) → n < length w → list_all is_name_byte (take n w) ≡ true → get_or w n 0 ≡ 47
+    → list_any is_null w ≡ list_any is_null (drop (n + 1) w)
 null_behind w n lt h e = null_cut w n lt h ∙ ap (λ (b : ℕ). eqb b 0 || list_any is_null (drop (n + 1) w)) e
 
 pub null_end : (w : List ℕ) (n : ℕ) → n ≡ length w → list_all is_name_byte (take n w) ≡ true → list_any is_null w ≡ false
@@ -70,7 +74,8 @@ not_both false true h k = absurd cc
 not_both false false h k = absurd cc
 
 -- a byte of no name that is no slash
-pub null_there : (w : List ℕ) (n : ℕ) → n < length w → list_all is_name_byte (take n w) ≡ true → is_name_byte (get_or w n 0) ≡ false → eqb (get_or w n 0) 47 ≡ false → list_any is_null w ≡ true
+pub null_there : (w : List ℕ) (n : ℕ) → n < length w → list_all is_name_byte (take n w) ≡ true
+    → is_name_byte (get_or w n 0) ≡ false → eqb (get_or w n 0) 47 ≡ false → list_any is_null w ≡ true
 null_there w n lt h k ne =
     null_cut w n lt h ∙ ap (λ (b : Bool). b || list_any is_null (drop (n + 1) w)) (not_both (eqb (get_or w n 0) 0) (eqb (get_or w n 0) 47) k ne)
 
@@ -80,7 +85,8 @@ second false true c h k = refl
 second false false c h k = absurd cc
 
 -- the byte where a front ends, in a text with no zero byte
-pub slash_there : (w : List ℕ) (n : ℕ) → n < length w → list_all is_name_byte (take n w) ≡ true → is_name_byte (get_or w n 0) ≡ false → list_any is_null w ≡ false → get_or w n 0 ≡ 47
+pub slash_there : (w : List ℕ) (n : ℕ) → n < length w → list_all is_name_byte (take n w) ≡ true
+    → is_name_byte (get_or w n 0) ≡ false → list_any is_null w ≡ false → get_or w n 0 ≡ 47
 slash_there w n lt h k none =
     let zero_or : (eqb (get_or w n 0) 0 || list_any is_null (drop (n + 1) w)) ≡ false = sym (null_cut w n lt h) ∙ none in
     eqb-true (get_or w n 0) 47 (second (eqb (get_or w n 0) 0) (eqb (get_or w n 0) 47) (list_any is_null (drop (n + 1) w)) k zero_or)
@@ -121,7 +127,8 @@ dots_step w n c none =
     ap (list_any is_dots) (names_step w n c) ∙ any_front is_dots refl (take n w) (pieces 47 (behind_front w n))
     ∙ ap (λ (b : Bool). b || list_any is_dots (names_of (behind_front w n))) none
 
-pub long_step : (w : List ℕ) (n : ℕ) → IsCut w n → (has : Bool) → (has || list_any is_long (names_of w)) ≡ ((has || ltb 255 n) || list_any is_long (names_of (behind_front w n)))
+pub long_step : (w : List ℕ) (n : ℕ) → IsCut w n → (has : Bool)
+    → (has || list_any is_long (names_of w)) ≡ ((has || ltb 255 n) || list_any is_long (names_of (behind_front w n)))
 long_step w n c has =
     ap (λ (b : Bool). has || b)
     (ap (list_any is_long) (names_step w n c) ∙ any_front is_long refl (take n w) (pieces 47 (behind_front w n))
@@ -136,13 +143,15 @@ count_step w n c =
 abbrev text_len : List (List ℕ) → ℕ
 text_len names = length (slashed names)
 
-len_front : (x : List ℕ) (ps : List (List ℕ)) → text_len (filter is_nonempty (x ∷ ps)) ≡ (from_bool (ltb 0 (length x)) + length x) + text_len (filter is_nonempty ps)
+len_front : (x : List ℕ) (ps : List (List ℕ))
+    → text_len (filter is_nonempty (x ∷ ps)) ≡ (from_bool (ltb 0 (length x)) + length x) + text_len (filter is_nonempty ps)
 len_front [] ps = omega arith
 len_front (b ∷ bs) ps =
     let some : ltb 0 (length (b ∷ bs)) ≡ true = lt-ltb 0 (length (b ∷ bs)) (omega arith) in
     rw (nonempty-cons b bs, some) (omega (arith, length-append (b ∷ bs) (slashed (filter is_nonempty ps))))
 
-fits_front : (x : List ℕ) (ps : List (List ℕ)) → list_all is_in_place (filter is_nonempty (x ∷ ps)) ≡ (leb (length x) 31 && list_all is_in_place (filter is_nonempty ps))
+fits_front : (x : List ℕ) (ps : List (List ℕ))
+    → list_all is_in_place (filter is_nonempty (x ∷ ps)) ≡ (leb (length x) 31 && list_all is_in_place (filter is_nonempty ps))
 fits_front [] ps = refl
 fits_front (b ∷ bs) ps = rw (nonempty-cons b bs) refl
 
@@ -155,7 +164,8 @@ len_step w n c =
     ap text_len (names_step w n c) ∙ len_front (take n w) (pieces 47 (behind_front w n))
     ∙ ap (λ (k : ℕ). (from_bool (ltb 0 k) + k) + text_len (names_of (behind_front w n))) (length-take-le n w (omega (arith, c.inside)))
 
-pub fits_step : (w : List ℕ) (n : ℕ) → IsCut w n → (fits : Bool) → (fits && list_all is_in_place (names_of w)) ≡ ((fits && leb n 31) && list_all is_in_place (names_of (behind_front w n)))
+pub fits_step : (w : List ℕ) (n : ℕ) → IsCut w n → (fits : Bool)
+    → (fits && list_all is_in_place (names_of w)) ≡ ((fits && leb n 31) && list_all is_in_place (names_of (behind_front w n)))
 fits_step w n c fits =
     ap (λ (b : Bool). fits && b)
     (ap (list_all is_in_place) (names_step w n c) ∙ fits_front (take n w) (pieces 47 (behind_front w n))
@@ -236,7 +246,12 @@ by_chain false false false names r p h k = record { answer = rw h k; shape = rw 
 
 pub text_answer : (text : List ℕ) (r : Result Shape Refusal) → 0 < length text → length text < 4096 → get_or text 0 0 ≡ 47
     → (ltb 1 (length text) && eqb (get_or text (length text - 1) 0) 47) ≡ false
-    → r ≡ (let rest = take (length text - 1) (drop 1 text) in cond (list_any is_null rest) (Err Einval) (cond (list_any is_dots (names_of rest)) (Err Einval) (cond (list_any is_long (names_of rest)) (Err Enametoolong) (Ok (shape_of (names_of rest))))))
+    → r
+    ≡ (
+    let rest = take (length text - 1) (drop 1 text) in
+    cond (list_any is_null rest) (Err Einval)
+    (cond (list_any is_dots (names_of rest)) (Err Einval)
+    (cond (list_any is_long (names_of rest)) (Err Enametoolong) (Ok (shape_of (names_of rest))))))
     → IsAnswer r (parsed text) (names_of text)
 unfolding parsed
 text_answer text r some less first ends h =
@@ -246,9 +261,14 @@ text_answer text r some less first ends h =
     let names : names_of text ≡ names_of rest = ap names_of e in
     let none : eqb (length text) 0 ≡ false = ne_eqb (length text) 0 (λ z. omega (arith, some, z)) in
     let much : leb 4096 (length text) ≡ false = lt-leb 4096 (length text) less in
-    let back : cond (list_any is_null rest) (Err Einval) (cond (list_any is_dots (names_of rest)) (Err Einval) (cond (list_any is_long (names_of rest)) (Err Enametoolong) (Ok (shape_of (names_of rest)))))
-    ≡ cond (list_any is_null text) (Err Einval) (cond (list_any is_dots (names_of text)) (Err Einval) (cond (list_any is_long (names_of text)) (Err Enametoolong) (Ok (shape_of (names_of text))))) = rw (null, names) refl in
-    by_chain (list_any is_null text) (list_any is_dots (names_of text)) (list_any is_long (names_of text)) (names_of text) r (parsed text) (h ∙ back) (rw (none, much, first, ends) refl)
+    let back : cond (list_any is_null rest) (Err Einval)
+    (cond (list_any is_dots (names_of rest)) (Err Einval) (cond (list_any is_long (names_of rest)) (Err Enametoolong) (Ok (shape_of (names_of rest)))))
+    ≡ cond (list_any is_null text) (Err Einval)
+    (cond (list_any is_dots (names_of text)) (Err Einval)
+    (cond (list_any is_long (names_of text)) (Err Enametoolong) (Ok (shape_of (names_of text))))) =
+    rw (null, names) refl in
+    by_chain (list_any is_null text) (list_any is_dots (names_of text)) (list_any is_long (names_of text)) (names_of text) r
+    (parsed text) (h ∙ back) (rw (none, much, first, ends) refl)
 
 -- ---- the names of a text that is a path
 
@@ -300,7 +320,8 @@ pub front_is_name : (w : List ℕ) (n : ℕ) → IsFront w n → 0 < n → list_
 front_is_name w n f some h =
     let split = front_by w n f (ltb n (length w)) refl in
     let has : 0 < length (take n w) = omega (arith, length-take-le n w f.within, some) in
-    (and_parts (is_name (take n w)) (list_all is_name (filter is_nonempty split.0)) (sym (ap (list_all is_name) (split.1 ∙ name_front (take n w) split.0 has)) ∙ h)).0
+    (and_parts (is_name (take n w)) (list_all is_name (filter is_nonempty split.0))
+    (sym (ap (list_all is_name) (split.1 ∙ name_front (take n w) split.0 has)) ∙ h)).0
 
 named_by : (x : List ℕ) (ps : List (List ℕ)) → list_all is_name (filter is_nonempty (x ∷ ps)) ≡ true → list_all is_name (filter is_nonempty ps) ≡ true
 named_by [] ps h = h
@@ -312,9 +333,13 @@ named_step w n c h = named_by (take n w) (pieces 47 (behind_front w n)) (sym (ap
 
 -- ---- names that are gathered
 
-pub pushed : (all names more : List (List ℕ)) (x : List ℕ) (ps : List (List ℕ)) → all ≡ names ++ filter is_nonempty (x ∷ ps) → 0 < length x → more ≡ names ++ x ∷ [] → all ≡ more ++ filter is_nonempty ps
+pub pushed : (all names more : List (List ℕ)) (x : List ℕ) (ps : List (List ℕ)) → all ≡ names ++ filter is_nonempty (x ∷ ps)
+    → 0 < length x → more ≡ names ++ x ∷ [] → all ≡ more ++ filter is_nonempty ps
 pushed all names more x ps h some e =
-    h ∙ ap (λ (t : List (List ℕ)). names ++ t) (name_front x ps some) ∙ sym (append_assoc names (x ∷ []) (filter is_nonempty ps)) ∙ ap (λ (t : List (List ℕ)). t ++ filter is_nonempty ps) (sym e)
+    h ∙ ap (λ (t : List (List ℕ)). names ++ t) (name_front x ps some) ∙ sym (append_assoc names (x ∷ []) (filter is_nonempty ps))
+    ∙ ap (λ (t : List (List ℕ)). t ++ filter is_nonempty ps) (sym e)
 
-pub passed : (all names more : List (List ℕ)) (x : List ℕ) (ps : List (List ℕ)) → all ≡ names ++ filter is_nonempty (x ∷ ps) → length x ≡ 0 → more ≡ names → all ≡ more ++ filter is_nonempty ps
-passed all names more x ps h none e = h ∙ ap (λ (t : List (List ℕ)). names ++ t) (no_front x ps none) ∙ ap (λ (t : List (List ℕ)). t ++ filter is_nonempty ps) (sym e)
+pub passed : (all names more : List (List ℕ)) (x : List ℕ) (ps : List (List ℕ)) → all ≡ names ++ filter is_nonempty (x ∷ ps)
+    → length x ≡ 0 → more ≡ names → all ≡ more ++ filter is_nonempty ps
+passed all names more x ps h none e =
+    h ∙ ap (λ (t : List (List ℕ)). names ++ t) (no_front x ps none) ∙ ap (λ (t : List (List ℕ)). t ++ filter is_nonempty ps) (sym e)

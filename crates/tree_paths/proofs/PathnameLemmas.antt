@@ -121,7 +121,8 @@ none_long (x ∷ xs) h = rw (le-ltb 255 (length x) h.0.short) (none_long xs h.1)
 
 -- ---- all rows
 
-pathname-parsed_some : (x : List ℕ) (xs : List (List ℕ)) → NameIs x → AreNames xs → length (47 ∷ (x ++ behind xs)) < 4096 → parsed (47 ∷ (x ++ behind xs)) ≡ Ok (x ∷ xs)
+pathname-parsed_some : (x : List ℕ) (xs : List (List ℕ)) → NameIs x → AreNames xs → length (47 ∷ (x ++ behind xs)) < 4096
+    → parsed (47 ∷ (x ++ behind xs)) ≡ Ok (x ∷ xs)
 unfolding parsed
 pathname-parsed_some x xs f fs short =
     let w = x ++ behind xs in
@@ -129,9 +130,11 @@ pathname-parsed_some x xs f fs short =
     let none : eqb (length (47 ∷ w)) 0 ≡ false = ne_eqb (length (47 ∷ w)) 0 (λ e. omega (arith, e)) in
     let much : leb 4096 (length (47 ∷ w)) ≡ false = lt-leb 4096 (length (47 ∷ w)) short in
     let nonzero : list_any is_null w ≡ false = behind-no_null (x ∷ xs) (f, fs) in
-    let ends : eqb (get_or (47 ∷ w) (length (47 ∷ w) - 1) 0) 47 ≡ false = ap (λ (k : ℕ). eqb k 47) (last_more 47 w some) ∙ no_slash (get_or w (length w - 1) 0) (last_behind x xs f fs) in
+    let ends : eqb (get_or (47 ∷ w) (length (47 ∷ w) - 1) 0) 47 ≡ false =
+    ap (λ (k : ℕ). eqb k 47) (last_more 47 w some) ∙ no_slash (get_or w (length w - 1) 0) (last_behind x xs f fs) in
     let names : filter is_nonempty (pieces 47 w) ≡ x ∷ xs = ap (filter is_nonempty) (pieces-behind x xs f fs) ∙ filter-names (x ∷ xs) (f, fs) in
-    let row : (ltb 1 (length (47 ∷ w)) && eqb (get_or (47 ∷ w) (length (47 ∷ w) - 1) 0) 47) ≡ false = and_right (ltb 1 (length (47 ∷ w))) (eqb (get_or (47 ∷ w) (length (47 ∷ w) - 1) 0) 47) ends in
+    let row : (ltb 1 (length (47 ∷ w)) && eqb (get_or (47 ∷ w) (length (47 ∷ w) - 1) 0) 47) ≡ false =
+    and_right (ltb 1 (length (47 ∷ w))) (eqb (get_or (47 ∷ w) (length (47 ∷ w) - 1) 0) 47) ends in
     rw (none, much, nonzero, row, names, no_dots (x ∷ xs) (f, fs), none_long (x ∷ xs) (f, fs)) refl
 
 pub pathname-parsed : (names : List (List ℕ)) → All IsName names → length (pathname_of names) < 4096 → parsed (pathname_of names) ≡ Ok names

@@ -31,7 +31,8 @@ pub record Passes (none relative nul dots long : Bool) (names given : List (List
   pub all : names ≡ given
 
 passes : (none much relative nul ends dots long : Bool) (names given : List (List ℕ))
-    → cond none (Err Enoent) (cond much (Err Enametoolong) (cond relative (Err Einval) (cond nul (Err Einval) (cond ends (Err Einval) (cond dots (Err Einval) (cond long (Err Enametoolong) (Ok names)))))))
+    → cond none (Err Enoent) (cond much (Err Enametoolong)
+    (cond relative (Err Einval) (cond nul (Err Einval) (cond ends (Err Einval) (cond dots (Err Einval) (cond long (Err Enametoolong) (Ok names)))))))
     ≡ Ok given → Passes none relative nul dots long names given
 passes true much relative nul ends dots long names given h = absurd cc
 passes false true relative nul ends dots long names given h = absurd cc
@@ -40,14 +41,17 @@ passes false false false true ends dots long names given h = absurd cc
 passes false false false false true dots long names given h = absurd cc
 passes false false false false false true long names given h = absurd cc
 passes false false false false false false true names given h = absurd cc
-passes false false false false false false false names given h = record { some = refl; absolute = refl; no_zero = refl; no_dots = refl; none_long = refl; all = cc }
+passes false false false false false false false names given h =
+    record { some = refl; absolute = refl; no_zero = refl; no_dots = refl; none_long = refl; all = cc }
 
 pub accepted : (text : List ℕ) (names : List (List ℕ)) → parsed text ≡ Ok names
-    → Passes (eqb (length text) 0) (not (eqb (get_or text 0 0) 47)) (list_any (λ b. eqb b 0) text) (list_any is_dots (names_of text)) (list_any is_long (names_of text)) (names_of text) names
+    → Passes (eqb (length text) 0) (not (eqb (get_or text 0 0) 47)) (list_any (λ b. eqb b 0) text)
+    (list_any is_dots (names_of text)) (list_any is_long (names_of text)) (names_of text) names
 unfolding parsed
 accepted text names h =
     passes (eqb (length text) 0) (leb 4096 (length text)) (not (eqb (get_or text 0 0) 47)) (list_any (λ b. eqb b 0) text)
-    (ltb 1 (length text) && eqb (get_or text (length text - 1) 0) 47) (list_any is_dots (names_of text)) (list_any is_long (names_of text)) (names_of text) names h
+    (ltb 1 (length text) && eqb (get_or text (length text - 1) 0) 47) (list_any is_dots (names_of text))
+    (list_any is_long (names_of text)) (names_of text) names h
 
 -- ---- the bytes of pieces
 
@@ -84,7 +88,8 @@ piece_is_name (b ∷ bs) d l a =
     let short : leb (length (b ∷ bs)) 255 ≡ true = le-leb (length (b ∷ bs)) 255 (ltb-false 255 (length (b ∷ bs)) l) in
     rw (some, short, both.0, both.1, a) (sym (nonempty-cons b bs))
 
-names_among : (xs : List (List ℕ)) → list_any is_dots xs ≡ false → list_any is_long xs ≡ false → are_name_bytes xs ≡ true → filter is_name xs ≡ filter is_nonempty xs
+names_among : (xs : List (List ℕ)) → list_any is_dots xs ≡ false → list_any is_long xs ≡ false → are_name_bytes xs ≡ true
+    → filter is_name xs ≡ filter is_nonempty xs
 names_among [] d l a = refl
 names_among (x ∷ xs) d l a =
     let dots = or_none (is_dots x) (list_any is_dots xs) d in

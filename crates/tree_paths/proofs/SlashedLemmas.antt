@@ -48,7 +48,8 @@ none-if-empty (b ∷ bs) e = absurd (omega (arith, e))
 pub empty-if-none : (text : List ℕ) → IsSlashed text → names_of text ≡ [] → length text ≡ 0
 empty-if-none text s e = ap (λ (t : List ℕ). length t) (text-is text s ∙ ap slashed e)
 
-pub empty-decides : (text : List ℕ) (names : List (List ℕ)) (r : Bool) → IsSlashed text → names_of text ≡ names → r ≡ eqb (length text) 0 → (IsTrue r → names ≡ []) × (names ≡ [] → IsTrue r)
+pub empty-decides : (text : List ℕ) (names : List (List ℕ)) (r : Bool) → IsSlashed text → names_of text ≡ names
+    → r ≡ eqb (length text) 0 → (IsTrue r → names ≡ []) × (names ≡ [] → IsTrue r)
 empty-decides text names r s is e = (
   λ (t : IsTrue r). sym is ∙ none-if-empty text (eqb-true (length text) 0 (sym e ∙ t)),
   λ (none : names ≡ []). e ∙ ap (λ (n : ℕ). eqb n 0) (empty-if-none text s (is ∙ none)),
@@ -73,7 +74,8 @@ front_split (x ∷ p) [] a b hp hq sa sb e =
 front_split (x ∷ p) (y ∷ q) a b hp hq sa sb e =
     let same : x ≡ y = cc in
     let rest : p ++ a ≡ q ++ b = cc in
-    let r = front_split p q a b (and_parts (is_name_byte x) (list_all is_name_byte p) hp).1 (and_parts (is_name_byte y) (list_all is_name_byte q) hq).1 sa sb rest in
+    let r = front_split p q a b (and_parts (is_name_byte x) (list_all is_name_byte p) hp).1
+    (and_parts (is_name_byte y) (list_all is_name_byte q) hq).1 sa sb rest in
     ((λ i. same i ∷ r.0 i), r.1)
 
 Stops-slashed : (xs : List (List ℕ)) → Stops (slashed xs)
@@ -89,7 +91,8 @@ Stops-drop (b ∷ w) (suc n) h = Stops-drop w n (λ lt. h (omega arith))
 rest-is : (w : List ℕ) (n : ℕ) → take (length w - n) (drop n w) ≡ drop n w
 rest-is w n = take_all (length w - n) (drop n w) (omega (arith, length-drop n w))
 
-split-by : (names : List (List ℕ)) (text w : List ℕ) (n : ℕ) → list_all is_name names ≡ true → list_all is_in_place names ≡ true → text ≡ slashed names → 0 < length text → w ≡ drop 1 text
+split-by : (names : List (List ℕ)) (text w : List ℕ) (n : ℕ) → list_all is_name names ≡ true → list_all is_in_place names ≡ true
+    → text ≡ slashed names → 0 < length text → w ≡ drop 1 text
     → list_all is_name_byte (take n w) ≡ true → (n < length w → is_name_byte (get_or w n 0) ≡ false) → IsSplit text (take n w) (take (length w - n) (drop n w))
 split-by [] text w n named fits is some at front end = let e : length text ≡ 0 = ap (λ (t : List ℕ). length t) is in absurd (omega (arith, e, some))
 split-by (x ∷ xs) text w n named fits is some at front end =
@@ -131,7 +134,8 @@ IsSlashed-more text name s named short =
 
 pub names-more : (text name : List ℕ) → IsSlashed text → IsTrue (is_name name) → length name ≤ 31 → names_of (text ++ 47 ∷ name) ≡ names_of text ++ name ∷ []
 names-more text name s named short =
-    ap names_of (ap (λ (t : List ℕ). t ++ 47 ∷ name) s.is ∙ sym (slashed-more s.names name)) ∙ names-slashed (s.names ++ name ∷ []) (all-more is_name s.names name s.named named) ∙ ap (λ (t : List (List ℕ)). t ++ name ∷ []) (sym (names-are text s))
+    ap names_of (ap (λ (t : List ℕ). t ++ 47 ∷ name) s.is ∙ sym (slashed-more s.names name))
+    ∙ names-slashed (s.names ++ name ∷ []) (all-more is_name s.names name s.named named) ∙ ap (λ (t : List (List ℕ)). t ++ name ∷ []) (sym (names-are text s))
 
 -- ---- the last name
 
@@ -174,22 +178,30 @@ pub record IsLast (text name : List ℕ) : Type 0 where
   pub short : length name ≤ 31
   pub last : names_of text ≡ take (length (names_of text) - 1) (names_of text) ++ name ∷ []
 
-last-by : (names : List (List ℕ)) (text : List ℕ) (start : ℕ) → list_all is_name names ≡ true → list_all is_in_place names ≡ true → text ≡ slashed names → IsLastStart text start → IsLast text (drop start text)
+last-by : (names : List (List ℕ)) (text : List ℕ) (start : ℕ) → list_all is_name names ≡ true → list_all is_in_place names ≡ true
+    → text ≡ slashed names → IsLastStart text start → IsLast text (drop start text)
 last-by [] text start named fits is at = let e : length text ≡ 0 = ap (λ (t : List ℕ). length t) is in absurd (omega (arith, e, at.some, at.within))
 last-by (n ∷ ns) text start named fits is at =
     let r = snoc n ns in
-    let all : (list_all is_name r.front && list_all is_name (r.last ∷ [])) ≡ true = sym (ap (list_all is_name) r.is ∙ list_all-append is_name r.front (r.last ∷ [])) ∙ named in
-    let small : (list_all is_in_place r.front && list_all is_in_place (r.last ∷ [])) ≡ true = sym (ap (list_all is_in_place) r.is ∙ list_all-append is_in_place r.front (r.last ∷ [])) ∙ fits in
+    let all : (list_all is_name r.front && list_all is_name (r.last ∷ [])) ≡ true =
+    sym (ap (list_all is_name) r.is ∙ list_all-append is_name r.front (r.last ∷ [])) ∙ named in
+    let small : (list_all is_in_place r.front && list_all is_in_place (r.last ∷ [])) ≡ true =
+    sym (ap (list_all is_in_place) r.is ∙ list_all-append is_in_place r.front (r.last ∷ [])) ∙ fits in
     let good : is_name r.last ≡ true = (and_parts (is_name r.last) true (and_parts (list_all is_name r.front) (list_all is_name (r.last ∷ [])) all).1).0 in
-    let fit : is_in_place r.last ≡ true = (and_parts (is_in_place r.last) true (and_parts (list_all is_in_place r.front) (list_all is_in_place (r.last ∷ [])) small).1).0 in
+    let fit : is_in_place r.last ≡ true =
+    (and_parts (is_in_place r.last) true (and_parts (list_all is_in_place r.front) (list_all is_in_place (r.last ∷ [])) small).1).0 in
     let left : text ≡ slashed r.front ++ 47 ∷ r.last = is ∙ ap slashed r.is ∙ slashed-more r.front r.last in
     let before : start - 1 < length text = omega (arith, at.some, at.within) in
     let behind : start - 1 + 1 ≡ start = omega (arith, at.some) in
     let right : text ≡ take (start - 1) text ++ 47 ∷ drop start text =
-    sym (take-append-drop (start - 1) text) ∙ ap (λ (t : List ℕ). take (start - 1) text ++ t) (drop_more text (start - 1) 0 before ∙ (λ i. at.at_slash i ∷ drop (behind i) text)) in
-    let same : r.last ≡ drop start text = last-split (slashed r.front) (take (start - 1) text) r.last (drop start text) (others r.last (name_is r.last good).bytes) at.none (sym left ∙ right) in
+    sym (take-append-drop (start - 1) text)
+    ∙ ap (λ (t : List ℕ). take (start - 1) text ++ t) (drop_more text (start - 1) 0 before ∙ (λ i. at.at_slash i ∷ drop (behind i) text)) in
+    let same : r.last ≡ drop start text =
+    last-split (slashed r.front) (take (start - 1) text) r.last (drop start text)
+    (others r.last (name_is r.last good).bytes) at.none (sym left ∙ right) in
     let whole : names_of text ≡ r.front ++ r.last ∷ [] = ap names_of is ∙ names-slashed (n ∷ ns) named ∙ r.is in
-    let parent : r.front ≡ take (length (names_of text) - 1) (names_of text) = snoc-take r.front r.last ∙ ap (λ (t : List (List ℕ)). take (length t - 1) t) (sym whole) in
+    let parent : r.front ≡ take (length (names_of text) - 1) (names_of text) =
+    snoc-take r.front r.last ∙ ap (λ (t : List (List ℕ)). take (length t - 1) t) (sym whole) in
     record {
       named = subst (λ (y : List ℕ). IsTrue (is_name y)) same good;
       short = subst (λ (y : List ℕ). length y ≤ 31) same (leb-true (length r.last) 31 fit);
@@ -212,7 +224,8 @@ above-first text zero s some within ne = absurd (omega arith)
 above-first text (suc zero) s some within ne = absurd (ne (first-slash text s (omega arith)))
 above-first text (suc (suc k)) s some within ne = omega arith
 
-pub others-more : (text : List ℕ) (i : ℕ) → i < length text → eqb (get_or text i 0) 47 ≡ false → list_all is_other (drop (i + 1) text) ≡ true → list_all is_other (drop i text) ≡ true
+pub others-more : (text : List ℕ) (i : ℕ) → i < length text → eqb (get_or text i 0) 47 ≡ false
+    → list_all is_other (drop (i + 1) text) ≡ true → list_all is_other (drop i text) ≡ true
 others-more text i lt ne h = ap (list_all is_other) (drop_more text i 0 lt) ∙ rw (ne, h) refl
 
 -- ---- the text of a list of names is a path's text with each slash but one left out
@@ -241,8 +254,11 @@ none-dropped [] h = refl
 none-dropped ([] ∷ ps) h = let k = not-longer ps in absurd (omega (arith, h, k))
 none-dropped ((b ∷ bs) ∷ ps) h =
     let f : filter is_nonempty ((b ∷ bs) ∷ ps) ≡ (b ∷ bs) ∷ filter is_nonempty ps = rw (nonempty-cons b bs) refl in
-    let k : length (slashed ((b ∷ bs) ∷ ps)) ≤ length (slashed ((b ∷ bs) ∷ filter is_nonempty ps)) = subst (λ (t : List (List ℕ)). length (slashed ((b ∷ bs) ∷ ps)) ≤ length (slashed t)) f h in
-    f ∙ ap (λ (t : List (List ℕ)). (b ∷ bs) ∷ t) (none-dropped ps (omega (arith, k, length-append (b ∷ bs) (slashed ps), length-append (b ∷ bs) (slashed (filter is_nonempty ps)))))
+    let k : length (slashed ((b ∷ bs) ∷ ps)) ≤ length (slashed ((b ∷ bs) ∷ filter is_nonempty ps)) =
+    subst (λ (t : List (List ℕ)). length (slashed ((b ∷ bs) ∷ ps)) ≤ length (slashed t)) f h in
+    f
+    ∙ ap (λ (t : List (List ℕ)). (b ∷ bs) ∷ t)
+    (none-dropped ps (omega (arith, k, length-append (b ∷ bs) (slashed ps), length-append (b ∷ bs) (slashed (filter is_nonempty ps)))))
 
 pub plain : (text : List ℕ) → parsed text ≡ Ok (names_of text) → length (slashed (names_of text)) ≡ length text → text ≡ slashed (names_of text)
 plain text ok len =
@@ -251,10 +267,12 @@ plain text ok len =
     let e : text ≡ 47 ∷ w = behind_slash text is.some is.first in
     let joined : slashed (pieces 47 w) ≡ text = slashed-pieces w ∙ sym e in
     let names : names_of text ≡ filter is_nonempty (pieces 47 w) = ap names_of e in
-    let all : filter is_nonempty (pieces 47 w) ≡ pieces 47 w = none-dropped (pieces 47 w) (omega (arith, len, ap (λ (t : List (List ℕ)). length (slashed t)) names, ap (λ (t : List ℕ). length t) joined)) in
+    let all : filter is_nonempty (pieces 47 w) ≡ pieces 47 w =
+    none-dropped (pieces 47 w) (omega (arith, len, ap (λ (t : List (List ℕ)). length (slashed t)) names, ap (λ (t : List ℕ). length t) joined)) in
     sym (ap slashed (names ∙ all) ∙ joined)
 
-pub IsSlashed-plain : (text : List ℕ) → parsed text ≡ Ok (names_of text) → list_all is_in_place (names_of text) ≡ true → length (slashed (names_of text)) ≡ length text → IsSlashed text
+pub IsSlashed-plain : (text : List ℕ) → parsed text ≡ Ok (names_of text) → list_all is_in_place (names_of text) ≡ true
+    → length (slashed (names_of text)) ≡ length text → IsSlashed text
 IsSlashed-plain text ok fits len = record { names = names_of text; named = (is_path text ok).named; in_place = fits; is = plain text ok len }
 
 pub IsSlashed-names : (text : List ℕ) → parsed text ≡ Ok (names_of text) → list_all is_in_place (names_of text) ≡ true → IsSlashed (slashed (names_of text))
@@ -264,7 +282,8 @@ pub names-squeezed : (text : List ℕ) → parsed text ≡ Ok (names_of text) �
 names-squeezed text ok = names-slashed (names_of text) (is_path text ok).named
 
 -- a front and the pieces behind it
-pub slashed-front : (x : List ℕ) (ps : List (List ℕ)) → slashed (filter is_nonempty (x ∷ ps)) ≡ slashed (filter is_nonempty (x ∷ [])) ++ slashed (filter is_nonempty ps)
+pub slashed-front : (x : List ℕ) (ps : List (List ℕ))
+    → slashed (filter is_nonempty (x ∷ ps)) ≡ slashed (filter is_nonempty (x ∷ [])) ++ slashed (filter is_nonempty ps)
 slashed-front [] ps = refl
 slashed-front (b ∷ bs) ps = rw (nonempty-cons b bs) (ap (λ (t : List ℕ). 47 ∷ (t ++ slashed (filter is_nonempty ps))) (sym (append-nil (b ∷ bs))))
 
@@ -295,7 +314,9 @@ pieces-append : (a b : List ℕ) → pieces 47 (a ++ 47 ∷ b) ≡ pieces 47 a +
 pieces-append [] b = refl
 pieces-append (x ∷ a) b = by (eqb x 47) (pieces-append a b)
   where
-    by : (t : Bool) → pieces 47 (a ++ 47 ∷ b) ≡ pieces 47 a ++ pieces 47 b → cond t ([] ∷ pieces 47 (a ++ 47 ∷ b)) (onto_first x (pieces 47 (a ++ 47 ∷ b))) ≡ cond t ([] ∷ pieces 47 a) (onto_first x (pieces 47 a)) ++ pieces 47 b
+    by : (t : Bool) → pieces 47 (a ++ 47 ∷ b) ≡ pieces 47 a ++ pieces 47 b
+        → cond t ([] ∷ pieces 47 (a ++ 47 ∷ b)) (onto_first x (pieces 47 (a ++ 47 ∷ b)))
+        ≡ cond t ([] ∷ pieces 47 a) (onto_first x (pieces 47 a)) ++ pieces 47 b
     by true h = ap (λ (t : List (List ℕ)). [] ∷ t) h
     by false h = ap (onto_first x) h ∙ onto-append x (pieces 47 a) (pieces 47 b) (pieces-some a)
 
@@ -303,16 +324,20 @@ filter-append : (xs ys : List (List ℕ)) → filter is_nonempty (xs ++ ys) ≡ 
 filter-append [] ys = refl
 filter-append (x ∷ xs) ys = by (is_nonempty x) (filter-append xs ys)
   where
-    by : (t : Bool) → filter is_nonempty (xs ++ ys) ≡ filter is_nonempty xs ++ filter is_nonempty ys → cond t (x ∷ filter is_nonempty (xs ++ ys)) (filter is_nonempty (xs ++ ys)) ≡ cond t (x ∷ filter is_nonempty xs) (filter is_nonempty xs) ++ filter is_nonempty ys
+    by : (t : Bool) → filter is_nonempty (xs ++ ys) ≡ filter is_nonempty xs ++ filter is_nonempty ys
+        → cond t (x ∷ filter is_nonempty (xs ++ ys)) (filter is_nonempty (xs ++ ys))
+        ≡ cond t (x ∷ filter is_nonempty xs) (filter is_nonempty xs) ++ filter is_nonempty ys
     by true h = ap (λ (t : List (List ℕ)). x ∷ t) h
     by false h = h
 
 names-append : (a b : List ℕ) → names_of (a ++ 47 ∷ b) ≡ names_of a ++ names_of b
 names-append a b = ap (filter is_nonempty) (pieces-append a b) ∙ filter-append (pieces 47 a) (pieces 47 b)
 
-below-by : (text above rest : List ℕ) (names : List (List ℕ)) → IsSlashed text → IsSlashed above → text ≡ above ++ 47 ∷ rest → names_of rest ≡ names → IsBelow (names_of text) (names_of above)
+below-by : (text above rest : List ℕ) (names : List (List ℕ)) → IsSlashed text → IsSlashed above → text ≡ above ++ 47 ∷ rest
+    → names_of rest ≡ names → IsBelow (names_of text) (names_of above)
 below-by text above rest [] s t e is =
-    let same : names_of text ≡ names_of above = ap names_of e ∙ names-append above rest ∙ ap (λ (r : List (List ℕ)). names_of above ++ r) is ∙ append-nil (names_of above) in
+    let same : names_of text ≡ names_of above =
+    ap names_of e ∙ names-append above rest ∙ ap (λ (r : List (List ℕ)). names_of above ++ r) is ∙ append-nil (names_of above) in
     let short : text ≡ above = text-is text s ∙ ap slashed same ∙ sym (text-is above t) in
     let len : length text ≡ length above + suc (length rest) = ap (λ (w : List ℕ). length w) e ∙ length-append above (47 ∷ rest) in
     absurd (omega (arith, len, ap (λ (w : List ℕ). length w) short))
@@ -321,28 +346,34 @@ below-by text above rest (n ∷ ns) s t e is = (n, ns, ap names_of e ∙ names-a
 pub begins-below : (text above rest : List ℕ) → IsSlashed text → IsSlashed above → text ≡ above ++ 47 ∷ rest → IsBelow (names_of text) (names_of above)
 begins-below text above rest s t e = below-by text above rest (names_of rest) s t e refl
 
-pub below-begins : (text above : List ℕ) → IsSlashed text → IsSlashed above → (b : IsBelow (names_of text) (names_of above)) → text ≡ above ++ 47 ∷ (b.0 ++ slashed b.1)
+pub below-begins : (text above : List ℕ) → IsSlashed text → IsSlashed above → (b : IsBelow (names_of text) (names_of above))
+    → text ≡ above ++ 47 ∷ (b.0 ++ slashed b.1)
 below-begins text above s t b =
-    text-is text s ∙ ap slashed b.2 ∙ flat_map-append (λ n. 47 ∷ n) (names_of above) (b.0 ∷ b.1) ∙ ap (λ (w : List ℕ). w ++ 47 ∷ (b.0 ++ slashed b.1)) (sym (text-is above t))
+    text-is text s ∙ ap slashed b.2 ∙ flat_map-append (λ n. 47 ∷ n) (names_of above) (b.0 ∷ b.1)
+    ∙ ap (λ (w : List ℕ). w ++ 47 ∷ (b.0 ++ slashed b.1)) (sym (text-is above t))
 
 pub text-longer : (text above : List ℕ) → IsSlashed text → IsSlashed above → length text ≤ length above → IsBelow (names_of text) (names_of above) → ⊥
 text-longer text above s t short b =
-    let e : length text ≡ length above + suc (length (b.0 ++ slashed b.1)) = ap (λ (w : List ℕ). length w) (below-begins text above s t b) ∙ length-append above (47 ∷ (b.0 ++ slashed b.1)) in
+    let e : length text ≡ length above + suc (length (b.0 ++ slashed b.1)) =
+    ap (λ (w : List ℕ). length w) (below-begins text above s t b) ∙ length-append above (47 ∷ (b.0 ++ slashed b.1)) in
     omega (arith, e, short)
 
 pub slash-behind : (text above : List ℕ) → IsSlashed text → IsSlashed above → IsBelow (names_of text) (names_of above) → get_or text (length above) 0 ≡ 47
 slash-behind text above s t b =
     let w = b.0 ++ slashed b.1 in
     let at : length above ≡ length above + 0 = omega arith in
-    ap (λ (v : List ℕ). get_or v (length above) 0) (below-begins text above s t b) ∙ ap (λ (k : ℕ). get_or (above ++ 47 ∷ w) k 0) at ∙ get_or-append-add above (47 ∷ w) 0 0
+    ap (λ (v : List ℕ). get_or v (length above) 0) (below-begins text above s t b)
+    ∙ ap (λ (k : ℕ). get_or (above ++ 47 ∷ w) k 0) at ∙ get_or-append-add above (47 ∷ w) 0 0
 
-pub text-below : (text above : List ℕ) (r : Bool) → IsSlashed text → IsSlashed above → length above < length text → get_or text (length above) 0 ≡ 47 → r ≡ bytes_eq above (take (length above) text)
+pub text-below : (text above : List ℕ) (r : Bool) → IsSlashed text → IsSlashed above → length above < length text
+    → get_or text (length above) 0 ≡ 47 → r ≡ bytes_eq above (take (length above) text)
     → r ≡ is_below (names_of text) (names_of above)
 text-below text above r s t longer slash h =
     let both = starts_is Decides-eqb text above r h in
     let n = length above in
     same-test (names_of text) (names_of above) r (
-      λ (yes : IsTrue r). begins-below text above (drop (n + 1) text) s t (both.0 yes ∙ ap (λ (w : List ℕ). above ++ w) (drop_more text n 0 longer ∙ ap (λ (k : ℕ). k ∷ drop (n + 1) text) slash)),
+      λ (yes : IsTrue r). begins-below text above (drop (n + 1) text) s t
+          (both.0 yes ∙ ap (λ (w : List ℕ). above ++ w) (drop_more text n 0 longer ∙ ap (λ (k : ℕ). k ∷ drop (n + 1) text) slash)),
       λ (b : IsBelow (names_of text) (names_of above)). both.1 (47 ∷ (b.0 ++ slashed b.1)) (below-begins text above s t b),
     )
 

@@ -49,7 +49,8 @@ returns-then-len-rest c =
           pushed (names_of c.args.text.now) c.loop-names.names.items c.if-len-gt0.names.items t [] e (omega (arith, len, b.if-len-gt0.true))
           (ap (λ v. v.items) b.names-is ∙ b.in_ok-push.ensures.items ∙ ap (λ x. c.loop-names.names.items ++ x ∷ []) b.in_ok-of.ensures.same)
       | else-len-gt0 b ↦
-          passed (names_of c.args.text.now) c.loop-names.names.items c.if-len-gt0.names.items t [] e (omega (arith, len, b.if-len-gt0.false)) (ap (λ v. v.items) b.names-is)
+          passed (names_of c.args.text.now) c.loop-names.names.items c.if-len-gt0.names.items t [] e
+          (omega (arith, len, b.if-len-gt0.false)) (ap (λ v. v.items) b.names-is)
     ] in
     sym (all ∙ append-nil c.if-len-gt0.names.items)
 
@@ -71,7 +72,8 @@ loop-names-preserved c =
             pushed (names_of c.args.text.now) c.loop-names.names.items c.if-len-gt0.names.items t ps e (omega (arith, len, b.if-len-gt0.true))
             (ap (λ v. v.items) b.names-is ∙ b.in_ok-push.ensures.items ∙ ap (λ x. c.loop-names.names.items ++ x ∷ []) b.in_ok-of.ensures.same)
         | else-len-gt0 b ↦
-            passed (names_of c.args.text.now) c.loop-names.names.items c.if-len-gt0.names.items t ps e (omega (arith, len, b.if-len-gt0.false)) (ap (λ v. v.items) b.names-is)
+            passed (names_of c.args.text.now) c.loop-names.names.items c.if-len-gt0.names.items t ps e
+            (omega (arith, len, b.if-len-gt0.false)) (ap (λ v. v.items) b.names-is)
       ];
       named = named_step w n is inv.named;
       no_null = sym (null_step w n is) ∙ inv.no_null;

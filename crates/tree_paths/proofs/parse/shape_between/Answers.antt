@@ -25,8 +25,10 @@ returns-then-len-rest c =
     let null : list_any is_null c.args.text.now ≡ false = inv.null ∙ null_end w n c.if-len-rest.true c.front_len-len.ensures.front in
     let dots : list_any is_dots (names_of c.args.text.now) ≡ false = inv.dots ∙ dots_end w n is (sym c.has_dots.ensures ∙ c.if-has_dots.false) in
     let long : list_any is_long (names_of c.args.text.now) ≡ false = inv.long ∙ long_end w n is c.loop-rest.has_long ∙ c.if-has_long.false in
-    let count : length (names_of c.args.text.now) ≡ c.loop-rest.count + c.from-count.result = omega (arith, inv.count, count_end w n is, c.from-count.ensures) in
-    let len : length (slashed (names_of c.args.text.now)) ≡ (c.loop-rest.count + c.from-count.result) + (c.loop-rest.bytes + n) = omega (arith, inv.len, len_end w n is, c.from-count.ensures) in
+    let count : length (names_of c.args.text.now) ≡ c.loop-rest.count + c.from-count.result =
+    omega (arith, inv.count, count_end w n is, c.from-count.ensures) in
+    let len : length (slashed (names_of c.args.text.now)) ≡ (c.loop-rest.count + c.from-count.result) + (c.loop-rest.bytes + n) =
+    omega (arith, inv.len, len_end w n is, c.from-count.ensures) in
     let fits : list_all is_in_place (names_of c.args.text.now) ≡ (c.loop-rest.fits && leb n 31) = inv.fits ∙ fits_end w n is c.loop-rest.fits in
     rw (null, dots, long) (ap Ok (shape_by (names_of c.args.text.now) _ _ _ count len fits))
 

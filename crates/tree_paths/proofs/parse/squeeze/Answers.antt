@@ -46,8 +46,10 @@ returns-then-len-rest c =
     let inv = c.loop-rest.invariant in
     let front = slashed (filter is_nonempty (take n w ∷ [])) in
     let e : slashed (names_of w) ≡ front = ap slashed (names_end w n c.if-len-rest.true c.front_len-len.ensures.front) in
-    let all : length out ≤ c.put_front-at.result = omega (arith, c.put_front-at.auto.out, c.put_front-at.ensures.end, inv.len, ap (λ (t : List ℕ). length t) e) in
-    sym (take_all c.put_front-at.result out all) ∙ c.put_front-at.ensures.written ∙ ap (λ (t : List ℕ). take c.loop-rest.at c.loop-rest.out ++ t) (sym e) ∙ inv.written
+    let all : length out ≤ c.put_front-at.result =
+    omega (arith, c.put_front-at.auto.out, c.put_front-at.ensures.end, inv.len, ap (λ (t : List ℕ). length t) e) in
+    sym (take_all c.put_front-at.result out all) ∙ c.put_front-at.ensures.written
+    ∙ ap (λ (t : List ℕ). take c.loop-rest.at c.loop-rest.out ++ t) (sym e) ∙ inv.written
 
 pub loop-rest-preserved : goal.loop-rest-preserved
 loop-rest-preserved c =

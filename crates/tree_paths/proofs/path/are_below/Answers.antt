@@ -16,14 +16,17 @@ pub returns-then-ne : goal.returns-then-ne
 returns-then-ne c =
     sym (c.loop-front.invariant ∙ (λ i. is_below (c.in-Some-next.ensures i) (c.in-Some.ensures i))
     ∙ below-apart c.in-Some-next.name c.in-Some.front c.next-in-loop-front.new.self c.next.new.self
-    (apart-by c.in-Some-next.name c.in-Some.front c.as_name.result.now c.as_name-in-loop-front.result.now c.ne.result c.as_name.ensures c.as_name-in-loop-front.ensures c.ne.ensures c.if-ne.true))
+    (apart-by c.in-Some-next.name c.in-Some.front c.as_name.result.now c.as_name-in-loop-front.result.now c.ne.result
+    c.as_name.ensures c.as_name-in-loop-front.ensures c.ne.ensures c.if-ne.true))
 
 pub loop-front-preserved-else-ne : goal.loop-front-preserved-else-ne
 loop-front-preserved-else-ne c =
     below-step c.args.names c.args.above c.loop-front.names c.loop-front.above c.next-in-loop-front.new.self c.next.new.self c.in-Some-next.name c.in-Some.front
-    c.as_name.result.now c.as_name-in-loop-front.result.now c.ne.result c.loop-front.invariant c.in-Some-next.ensures c.in-Some.ensures c.as_name.ensures c.as_name-in-loop-front.ensures c.ne.ensures c.if-ne.false
+    c.as_name.result.now c.as_name-in-loop-front.result.now c.ne.result c.loop-front.invariant c.in-Some-next.ensures
+    c.in-Some.ensures c.as_name.ensures c.as_name-in-loop-front.ensures c.ne.ensures c.if-ne.false
 
 pub loop-front-preserved : goal.loop-front-preserved
 loop-front-preserved c =
     below-step c.args.names c.args.above c.loop-front.names c.loop-front.above c.next-in-loop-front.new.self c.next.new.self c.in-Some-next.name c.in-Some.front
-    c.as_name.result.now c.as_name-in-loop-front.result.now c.ne.result c.loop-front.invariant c.in-Some-next.ensures c.in-Some.ensures c.as_name.ensures c.as_name-in-loop-front.ensures c.ne.ensures c.if-ne.false
+    c.as_name.result.now c.as_name-in-loop-front.result.now c.ne.result c.loop-front.invariant c.in-Some-next.ensures
+    c.in-Some.ensures c.as_name.ensures c.as_name-in-loop-front.ensures c.ne.ensures c.if-ne.false

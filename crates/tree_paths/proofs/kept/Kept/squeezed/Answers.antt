@@ -7,7 +7,8 @@ use Rattle.tree_paths.proofs.kept.Kept.squeezed.Goals as goal
 pub returns-then-len-gt-SHORT_MAX-clause-kept : goal.returns-then-len-gt-SHORT_MAX-clause-kept
 returns-then-len-gt-SHORT_MAX-clause-kept c =
     let len = ap (λ (t : List ℕ). length t) c.squeeze.ensures in
-    ap names_of (take_at c.squeeze.new.out _ c.in_ok-squeezed.squeezed.len (omega (arith, len, c.requires.len, c.in_ok-squeezed.ensures.len)) ∙ c.squeeze.ensures)
+    ap names_of (take_at c.squeeze.new.out _ c.in_ok-squeezed.squeezed.len (omega (arith, len, c.requires.len, c.in_ok-squeezed.ensures.len))
+    ∙ c.squeeze.ensures)
     ∙ names-squeezed c.args.text.now c.requires.path
 
 pub returns-clause-kept : goal.returns-clause-kept
