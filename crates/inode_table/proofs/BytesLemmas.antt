@@ -12,7 +12,8 @@ take-filled offset end old le =
     elim (cases_lt (length old) offset) [
       | inl past ↦
           let n : (offset - length old) + (end - offset) ≡ end - length old = omega arith in
-          let len : length (old ++ replicate (offset - length old) 0) ≡ offset = omega (arith, length-append old (replicate (offset - length old) 0), length-replicate {A = ℕ} (offset - length old) 0) in
+          let len : length (old ++ replicate (offset - length old) 0) ≡ offset =
+          omega (arith, length-append old (replicate (offset - length old) 0), length-replicate {A = ℕ} (offset - length old) 0) in
           ap (λ z. take offset (old ++ z)) (sym (replicate-append-replicate (offset - length old) (end - offset) 0 ∙ ap (λ k. replicate k 0) n))
           ∙ ap (take offset) (sym (append_assoc old (replicate (offset - length old) 0) (replicate (end - offset) 0)))
           ∙ take_at (old ++ replicate (offset - length old) 0) (replicate (end - offset) 0) offset len
@@ -32,6 +33,8 @@ drop-filled end old =
           ∙ sym (drop_all end old past)
     ]
 
-pub written-is : (offset : ℕ) (new old : List ℕ) → length new ≢ 0 → take offset (filled (offset + length new) old) ++ (new ++ drop (offset + length new) (filled (offset + length new) old)) ≡ written offset new old
+pub written-is : (offset : ℕ) (new old : List ℕ) → length new ≢ 0
+    → take offset (filled (offset + length new) old) ++ (new ++ drop (offset + length new) (filled (offset + length new) old)) ≡ written offset new old
 written-is offset [] old some = absurd (some refl)
-written-is offset (b ∷ new) old some = λ i. take-filled offset (offset + length (b ∷ new)) old (omega arith) i ++ ((b ∷ new) ++ drop-filled (offset + length (b ∷ new)) old i)
+written-is offset (b ∷ new) old some =
+    λ i. take-filled offset (offset + length (b ∷ new)) old (omega arith) i ++ ((b ∷ new) ++ drop-filled (offset + length (b ∷ new)) old i)

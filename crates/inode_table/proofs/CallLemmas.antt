@@ -32,7 +32,8 @@ module _ (t : Tree) (table : IsTable t.rows) where
     node-of = let s = is_value (look_in t path) there in (s.0, node-at t (parent ++ name ∷ []) s.0 (ap (look_in t) (sym parts) ∙ s.1))
 
     pub parent-there : IsSome (look_in t parent)
-    parent-there = let s = is_value (look_in t path) there in some-from (look_in t parent) (parent-seen t table parent name s.0 (ap (look_in t) (sym parts) ∙ s.1))
+    parent-there =
+        let s = is_value (look_in t path) there in some-from (look_in t parent) (parent-seen t table parent name s.0 (ap (look_in t) (sym parts) ∙ s.1))
 
     pub parent-open : (k : ℕ) → at t parent ≡ Some k → IsOpen t k
     parent-open k found = open-parent t table parent name k node-of.0 found node-of.1
@@ -45,7 +46,8 @@ module _ (t : Tree) (table : IsTable t.rows) where
 
   -- a directory is seen at its path
   open-seen : (p : List Label) (k : ℕ) → at t p ≡ Some k → is_directory t.rows k ≡ true → is_directory_seen (look_in t p) ≡ true
-  open-seen p k there dir = ap (λ o. is_directory_seen (option_and_then (λ k. option_map seen_row (row_under t.rows k)) o)) there ∙ seen_directory (row_under t.rows k) ∙ dir
+  open-seen p k there dir =
+      ap (λ o. is_directory_seen (option_and_then (λ k. option_map seen_row (row_under t.rows k)) o)) there ∙ seen_directory (row_under t.rows k) ∙ dir
 
   -- of two names of which neither is below the other, none is the root's
   pub swap-named : (one other : List Label) → one ≢ other → (is_directory_seen (look_in t one) && is_below other one) ≡ false → one ≢ []
@@ -70,7 +72,8 @@ module _ (t : Tree) (table : IsTable t.rows) where
       (subst (λ x. Avoids x (other_parent ++ other_name ∷ [])) parts (subst (Avoids one) other_parts off))
 
   -- the key at a path, if there is one
-  pub ok-at : {E : Type 0} (path : List Label) (r : Result ℕ E) → IfOk r (λ k. at t path ≡ Some k) → IfErr r (λ _. look_in t path ≡ None) → result_ok r ≡ at t path
+  pub ok-at : {E : Type 0} (path : List Label) (r : Result ℕ E) → IfOk r (λ k. at t path ≡ Some k)
+      → IfErr r (λ _. look_in t path ≡ None) → result_ok r ≡ at t path
   ok-at path (Ok k) found absent = sym found
   ok-at path (Err e) found absent = sym (there-seen t table path absent)
 
@@ -84,14 +87,18 @@ if-some P (Some k) h = h k refl
 
 -- ---- the contents of a file
 
-pub file-regular : (t : Tree) (p : List Label) (k : ℕ) (v : What) → at t p ≡ Some k → what_at t k ≡ Some v → is_directory_seen (look_in t p) ≡ false → is_none v.bytes ≡ false
+pub file-regular : (t : Tree) (p : List Label) (k : ℕ) (v : What) → at t p ≡ Some k → what_at t k ≡ Some v
+    → is_directory_seen (look_in t p) ≡ false → is_none v.bytes ≡ false
 file-regular t p k v found is regular =
-    regular-what t.rows k v is (sym (seen_directory (row_under t.rows k)) ∙ sym (ap (λ o. is_directory_seen (option_and_then (λ k. option_map seen_row (row_under t.rows k)) o)) found) ∙ regular)
+    regular-what t.rows k v is
+    (sym (seen_directory (row_under t.rows k))
+    ∙ sym (ap (λ o. is_directory_seen (option_and_then (λ k. option_map seen_row (row_under t.rows k)) o)) found) ∙ regular)
 
 abbrev file : List ℕ → ℕ → Option (List ℕ) → world.File
 file bytes mode kind = record { kind = kind_of kind; mode = mode; bytes = bytes }
 
-pub file-mapped : (f : List ℕ → List ℕ) (v : What) → is_none v.bytes ≡ false → file_of (record v { bytes = option_map f v.bytes }) ≡ file (f (file_of v).bytes) v.mode v.bytes
+pub file-mapped : (f : List ℕ → List ℕ) (v : What) → is_none v.bytes ≡ false
+    → file_of (record v { bytes = option_map f v.bytes }) ≡ file (f (file_of v).bytes) v.mode v.bytes
 file-mapped f v regular = by v.bytes regular
   where
     by : (o : Option (List ℕ)) → is_none o ≡ false → file (unwrap_or (option_map f o) []) v.mode (option_map f o) ≡ file (f (unwrap_or o [])) v.mode o

@@ -37,13 +37,15 @@ rows_in [] = []
 rows_in (None ∷ rs) = rows_in rs
 rows_in (Some r ∷ rs) = row_shown (shown r) ∷ rows_in rs
 
-rows-entries : (slots : List (Option Node)) (key : ℕ) → map (λ (e : ℕ × Node). row_shown (shown (row_of e.1))) (entries_from key slots) ≡ rows_in (map (option_map row_of) slots)
+rows-entries : (slots : List (Option Node)) (key : ℕ)
+    → map (λ (e : ℕ × Node). row_shown (shown (row_of e.1))) (entries_from key slots) ≡ rows_in (map (option_map row_of) slots)
 rows-entries [] key = refl
 rows-entries (None ∷ slots) key = rows-entries slots (key + 1)
 rows-entries (Some n ∷ slots) key = ap (λ rows. row_shown (shown (row_of n)) ∷ rows) (rows-entries slots (key + 1))
 
 -- the row of the next node is added
-pub rows-turn : {A B : Type 0} (f : A → B) (was is all : List B) (left rest : List A) (a : A) (b : B) → was ++ map f left ≡ all → left ≡ a ∷ rest → is ≡ was ++ b ∷ [] → b ≡ f a → is ++ map f rest ≡ all
+pub rows-turn : {A B : Type 0} (f : A → B) (was is all : List B) (left rest : List A) (a : A) (b : B) → was ++ map f left ≡ all
+    → left ≡ a ∷ rest → is ≡ was ++ b ∷ [] → b ≡ f a → is ++ map f rest ≡ all
 rows-turn f was is all left rest a b so_far next add row =
     ap (λ es. es ++ map f rest) (add ∙ ap (λ x. was ++ x ∷ []) row) ∙ append_assoc was (f a ∷ []) (map f rest) ∙ ap (λ es. was ++ map f es) (sym next) ∙ so_far
 
@@ -131,7 +133,8 @@ rows-back : (rows : List FileRow) → map file_row (map entry_of rows) ≡ rows
 rows-back [] = refl
 rows-back (row ∷ rows) = ap (λ rs. row ∷ rs) (rows-back rows)
 
-module _ (t : Tree) (w : World) (stands : Stands t w) (rows : List FileRow) (moved : IsPermutation (rows_in t.rows) rows) (rise : IsNonDecreasingBy number_in rows) where
+module _ (t : Tree) (w : World) (stands : Stands t w) (rows : List FileRow) (moved : IsPermutation (rows_in t.rows) rows)
+    (rise : IsNonDecreasingBy number_in rows) where
   es : List (ℕ × File)
   es = map entry_of rows
 
@@ -152,8 +155,10 @@ module _ (t : Tree) (w : World) (stands : Stands t w) (rows : List FileRow) (mov
       none absent None e = refl
       none absent (Some f) e =
           let from = stands.no_more q f e in
-          let there = In-map entry_of rows (row_shown from.1) (In-permutation (rows_in t.rows) rows (row_shown from.1) moved (row-to t.rows from.0 from.1 from.2)) in
-          absurd (some_none (ap (λ n. finmap.find nat_cmp n es) from.3 ∙ absent) (find-In nat_cmp_total nat_cmp-IsAntisymmetric es from.1.number (file_of from.1) up there))
+          let there = In-map entry_of rows (row_shown from.1)
+          (In-permutation (rows_in t.rows) rows (row_shown from.1) moved (row-to t.rows from.0 from.1 from.2)) in
+          absurd (some_none (ap (λ n. finmap.find nat_cmp n es) from.3 ∙ absent)
+          (find-In nat_cmp_total nat_cmp-IsAntisymmetric es from.1.number (file_of from.1) up there))
 
       by : (o : Option File) → finmap.find nat_cmp q es ≡ o → finmap.find nat_cmp q es ≡ finmap.get w.files q
       by None e = e ∙ none e (finmap.get w.files q) refl
@@ -167,7 +172,8 @@ module _ (t : Tree) (w : World) (stands : Stands t w) (rows : List FileRow) (mov
   rows-of = sym (rows-back rows) ∙ ap (map file_row) (entries-of nat_cmp_total nat_cmp-IsAntisymmetric es w.files up found)
 
 -- the rows of all nodes, sorted by number
-pub files-rows : (t : Tree) (w : World) (s : Slab Node) (rows sorted : List FileRow) → t.rows ≡ rows_of s → Stands t w → rows ≡ map (λ (e : ℕ × Node). row_shown (shown (row_of e.1))) (entries s)
+pub files-rows : (t : Tree) (w : World) (s : Slab Node) (rows sorted : List FileRow) → t.rows ≡ rows_of s → Stands t w
+    → rows ≡ map (λ (e : ℕ × Node). row_shown (shown (row_of e.1))) (entries s)
     → IsPermutation rows sorted → IsNonDecreasingBy (λ (row : FileRow). row.number) sorted → sorted ≡ map file_row (finmap.entries w.files)
 files-rows t w s rows sorted same stands all moved rise =
     rows-of t w stands sorted (subst (λ rs. IsPermutation rs sorted) (all ∙ rows-entries s.slots 0 ∙ ap rows_in (sym same)) moved) rise

@@ -131,14 +131,16 @@ walk-start rs found pending table none one =
         live p k (inl is) = subst (λ (e : List Label × ℕ). IsSome (row_under rs e.1)) is (table.tree.directories 0 table.tree.root)
         live p k (inr h) = absurd h
 
-walk-more : (rs : Rows) (p : List Label) (l : Label) (i : ℕ) → walk (child rs) 0 p ≡ Some i → walk (child rs) 0 (p ++ l ∷ []) ≡ option_and_then (λ j. Some j) (child rs i l)
+walk-more : (rs : Rows) (p : List Label) (l : Label) (i : ℕ) → walk (child rs) 0 p ≡ Some i
+    → walk (child rs) 0 (p ++ l ∷ []) ≡ option_and_then (λ j. Some j) (child rs i l)
 walk-more rs p l i to = walk-append (child rs) 0 p (l ∷ []) ∙ ap (option_and_then (λ j. walk (child rs) j (l ∷ []))) to
 
 module _ (rs : Rows) (table : IsTable rs) (found rest : Entries) (path : List Label) (key : ℕ) (r : Row) where
   pub below : Entries
   below = longer path (names_in r.body)
 
-  module _ (walked : IsWalked rs found ((path, key) ∷ rest)) (here : row_under rs key ≡ Some r) (ordered : IsStrictlySortedBy (slice_cmp nat_cmp) (keys_of (names_in r.body))) (names : All (λ e. key_in r.body e.0 ≡ Some e.1) (names_in r.body)) where
+  module _ (walked : IsWalked rs found ((path, key) ∷ rest)) (here : row_under rs key ≡ Some r)
+      (ordered : IsStrictlySortedBy (slice_cmp nat_cmp) (keys_of (names_in r.body))) (names : All (λ e. key_in r.body e.0 ≡ Some e.1) (names_in r.body)) where
     to_path : walk (child rs) 0 path ≡ Some key
     to_path = walked.leads path key (inl refl)
 
@@ -182,13 +184,15 @@ module _ (rs : Rows) (table : IsTable rs) (found rest : Entries) (path : List La
         numbers p n (inl h) = walked.numbers p n h
         numbers p n (inr (inl is)) =
             subst (λ (e : List Label × ℕ). number_under rs e.0 ≡ Some e.1) is
-            (ap (option_and_then (λ k. option_map (λ (v : What). v.number) (what rs k))) to_path ∙ ap (λ o. option_map (λ (v : What). v.number) (option_map shown o)) here)
+            (ap (option_and_then (λ k. option_map (λ (v : What). v.number) (what rs k))) to_path
+            ∙ ap (λ o. option_map (λ (v : What). v.number) (option_map shown o)) here)
         numbers p n (inr (inr gone)) = absurd gone
 
         leads : (p : List Label) (k : ℕ) → In below (p, k) ⊎ In rest (p, k) → walk (child rs) 0 p ≡ Some k
         leads p k (inl h) =
             let from = from_below (p, k) h in
-            subst (λ (e : List Label × ℕ). walk (child rs) 0 e.0 ≡ Some e.1) from.3 (walk-more rs path from.0 key to_path ∙ ap (option_and_then (λ j. Some j)) from.2)
+            subst (λ (e : List Label × ℕ). walk (child rs) 0 e.0 ≡ Some e.1) from.3
+            (walk-more rs path from.0 key to_path ∙ ap (option_and_then (λ j. Some j)) from.2)
         leads p k (inr h) = walked.leads p k (inr h)
 
         live : (p : List Label) (k : ℕ) → In below (p, k) ⊎ In rest (p, k) → IsSome (row_under rs k)
@@ -197,7 +201,8 @@ module _ (rs : Rows) (table : IsTable rs) (found rest : Entries) (path : List La
             subst (λ (e : List Label × ℕ). IsSome (row_under rs e.1)) from.3 (table.tree.children key from.1 from.0 from.2)
         live p k (inr h) = walked.live p k (inr h)
 
-        met : (p : List Label) (k : ℕ) (q : Row) → walk (child rs) 0 p ≡ Some k → row_under rs k ≡ Some q → In found (p, q.number) ⊎ IsPending ((path, key) ∷ rest) p
+        met : (p : List Label) (k : ℕ) (q : Row) → walk (child rs) 0 p ≡ Some k → row_under rs k ≡ Some q
+            → In found (p, q.number) ⊎ IsPending ((path, key) ∷ rest) p
             → In (found ++ (path, r.number) ∷ []) (p, q.number) ⊎ IsPending (below ++ rest) p
         met p k q to is (inl h) = inl (In-left found _ (p, q.number) h)
         met p k q to is (inr (e, inr h, s, split)) = inr (e, In-right below rest e h, s, split)
@@ -211,32 +216,38 @@ module _ (rs : Rows) (table : IsTable rs) (found rest : Entries) (path : List La
                 inl (In-right found _ (p, q.number) (inl (λ i. (here_too i, (row_too i).number))))
             by (l ∷ t) split =
                 edge (child rs key l) refl
-                (sym (walk-append (child rs) 0 path (l ∷ t) ∙ ap (option_and_then (λ j. walk (child rs) j (l ∷ t))) to_path) ∙ ap (walk (child rs) 0) (sym split) ∙ to)
+                (sym (walk-append (child rs) 0 path (l ∷ t) ∙ ap (option_and_then (λ j. walk (child rs) j (l ∷ t))) to_path)
+                ∙ ap (walk (child rs) 0) (sym split) ∙ to)
               where
-                edge : (o : Option ℕ) → child rs key l ≡ o → option_and_then (λ j. walk (child rs) j t) o ≡ Some k → In (found ++ (path, r.number) ∷ []) (p, q.number) ⊎ IsPending (below ++ rest) p
+                edge : (o : Option ℕ) → child rs key l ≡ o → option_and_then (λ j. walk (child rs) j t) o ≡ Some k
+                    → In (found ++ (path, r.number) ∷ []) (p, q.number) ⊎ IsPending (below ++ rest) p
                 edge None is e = absurd (some_none refl e)
                 edge (Some j) is e =
                     inr ((path ++ l ∷ [], j), In-left below rest (path ++ l ∷ [], j) (to_below l j is), t, split ∙ sym (append_assoc path (l ∷ []) t))
 
 -- one turn of the loop, where the stack has the next path at its end
 pub walk-turn : (rs : Rows) (table : IsTable rs) (found is_found stack rest new : Entries) (path : List Label) (key number : ℕ)
-    → IsWalked rs found (reverse stack) → stack ≡ rest ++ (path, key) ∷ [] → Visits rs path key rest new number → is_found ≡ found ++ (path, number) ∷ [] → IsWalked rs is_found (reverse new)
+    → IsWalked rs found (reverse stack) → stack ≡ rest ++ (path, key) ∷ [] → Visits rs path key rest new number
+    → is_found ≡ found ++ (path, number) ∷ [] → IsWalked rs is_found (reverse new)
 unfolding below
 walk-turn rs table found is_found stack rest new path key number walked top visits more =
     let next = walk-next rs table found (reverse rest) path key visits.row
     (subst (IsWalked rs found) (ap reverse top ∙ reverse-append rest ((path, key) ∷ [])) walked) visits.here visits.ordered visits.names in
     subst (λ es. IsWalked rs es (reverse new)) (sym (more ∙ ap (λ n. found ++ (path, n) ∷ []) visits.numbered))
     (subst (IsWalked rs (found ++ (path, visits.row.number) ∷ []))
-    (sym (ap reverse visits.put_off ∙ reverse-append rest (reverse (longer path (names_in visits.row.body))) ∙ ap (λ es. es ++ reverse rest) (reverse-reverse (longer path (names_in visits.row.body)))))
+    (sym (ap reverse visits.put_off ∙ reverse-append rest (reverse (longer path (names_in visits.row.body)))
+    ∙ ap (λ es. es ++ reverse rest) (reverse-reverse (longer path (names_in visits.row.body)))))
     next)
 
-pub walk-live : (rs : Rows) (found stack rest : Entries) (path : List Label) (key : ℕ) → IsWalked rs found (reverse stack) → stack ≡ rest ++ (path, key) ∷ [] → IsSome (row_under rs key)
+pub walk-live : (rs : Rows) (found stack rest : Entries) (path : List Label) (key : ℕ) → IsWalked rs found (reverse stack)
+    → stack ≡ rest ++ (path, key) ∷ [] → IsSome (row_under rs key)
 walk-live rs found stack rest path key walked top =
     walked.live path key (subst (λ es. In es (path, key)) (sym (ap reverse top ∙ reverse-append rest ((path, key) ∷ []))) (inl refl))
 
 -- ---- at the end all is found
 
-number-parts : (rs : Rows) (p : List Label) (n : ℕ) → number_under rs p ≡ Some n → (k : ℕ) × (r : Row) × (walk (child rs) 0 p ≡ Some k) × (row_under rs k ≡ Some r) × (r.number ≡ n)
+number-parts : (rs : Rows) (p : List Label) (n : ℕ) → number_under rs p ≡ Some n
+    → (k : ℕ) × (r : Row) × (walk (child rs) 0 p ≡ Some k) × (row_under rs k ≡ Some r) × (r.number ≡ n)
 number-parts rs p n e = by (walk (child rs) 0 p) refl e
   where
     by : (o : Option ℕ) → walk (child rs) 0 p ≡ o → option_and_then (λ k. option_map (λ (v : What). v.number) (what rs k)) o ≡ Some n
@@ -265,7 +276,8 @@ walk-end rs found walked = record { ordered = holds (is_sorted path_cmp found) w
     by p None e = e ∙ none p e (number_under rs p) refl
     by p (Some n) e = e ∙ sym (walked.numbers p n (In-find path_total path_exact found p n e))
 
-pub flat-entries : (rs : Rows) (found : Entries) (m : FinMap path_cmp ℕ) → ArePaths rs found → ((p : List Label) → number_under rs p ≡ finmap.get m p) → found ≡ entries m
+pub flat-entries : (rs : Rows) (found : Entries) (m : FinMap path_cmp ℕ) → ArePaths rs found
+    → ((p : List Label) → number_under rs p ≡ finmap.get m p) → found ≡ entries m
 flat-entries rs found m are is = entries-of path_total path_exact found m (subst T (sym are.ordered) tt) (λ p. are.numbers p ∙ is p)
 
 -- ---- one node
@@ -275,7 +287,8 @@ row-node s k n found = row-rows_of s k ∙ ap (option_map row_of) (sym found)
 
 module _ (path : List Label) (b : Body) (was is : Entries) where
   -- the names of a directory go onto the stack
-  pub put-directory : (m : BTreeMap Label ℕ) → b ≡ Names m.entries → is ≡ was ++ reverse (longer path m.entries) → is ≡ was ++ reverse (longer path (names_in b))
+  pub put-directory : (m : BTreeMap Label ℕ) → b ≡ Names m.entries → is ≡ was ++ reverse (longer path m.entries)
+      → is ≡ was ++ reverse (longer path (names_in b))
   put-directory m body put = put ∙ ap (λ c. was ++ reverse (longer path (names_in c))) (sym body)
 
   pub put-file : names_in b ≡ [] → is ≡ was → is ≡ was ++ reverse (longer path (names_in b))

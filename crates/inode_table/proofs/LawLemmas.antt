@@ -40,10 +40,11 @@ module _ {t : Tree} {w : World} (stands : Stands t w) where
       let led : option_and_then (λ j. walk (child t.rows) j (l ∷ s)) (at t p) ≡ Some k.0 = sym (walk-append (child t.rows) 0 p (l ∷ s)) ∙ k.1 in
       elim (at t p) as (λ o. at t p ≡ o → option_and_then (λ j. walk (child t.rows) j (l ∷ s)) o ≡ Some k.0 → IsDirectoryAt w p) [
         | None ↦ λ _ e. absurd (some_none refl e)
-        | Some j ↦ λ there e. elim (child t.rows j l) as (λ o. child t.rows j l ≡ o → option_and_then (λ i. walk (child t.rows) i s) o ≡ Some k.0 → IsDirectoryAt w p) [
-          | None ↦ λ _ f. absurd (some_none refl f)
-          | Some i ↦ λ edge _. directory-at p j there (stands.table.tree.parents j i l edge)
-        ] refl e
+        | Some j ↦ λ there e.
+            elim (child t.rows j l) as (λ o. child t.rows j l ≡ o → option_and_then (λ i. walk (child t.rows) i s) o ≡ Some k.0 → IsDirectoryAt w p) [
+              | None ↦ λ _ f. absurd (some_none refl f)
+              | Some i ↦ λ edge _. directory-at p j there (stands.table.tree.parents j i l edge)
+            ] refl e
       ] refl led
 
   one_path-of : (p q : List Label) → IsDirectoryAt w p → finmap.get w.paths p ≡ finmap.get w.paths q → p ≡ q

@@ -36,7 +36,8 @@ find-below seen q l none below =
     let why : List Label → Option Refusal = (λ x. if is_directory_seen (seen x) then Some Enoent else Some Enotdir) in
     let whole : take (length (q ++ l ∷ [])) (q ++ l ∷ []) ≡ q ++ l ∷ [] = take-whole (q ++ l ∷ []) (length (q ++ l ∷ [])) (omega arith) in
     let step : longest_there seen (q ++ l ∷ []) (suc (length q)) ≡ longest_there seen (q ++ l ∷ []) (length q) =
-    ap (λ b. if b then take (suc (length q)) (q ++ l ∷ []) else longest_there seen (q ++ l ∷ []) (length q)) (ap (λ x. is_some (seen x)) (ap (λ n. take n (q ++ l ∷ [])) (sym (one-more q l)) ∙ whole) ∙ ap is_some below) in
+    ap (λ b. if b then take (suc (length q)) (q ++ l ∷ []) else longest_there seen (q ++ l ∷ []) (length q))
+    (ap (λ x. is_some (seen x)) (ap (λ n. take n (q ++ l ∷ [])) (sym (one-more q l)) ∙ whole) ∙ ap is_some below) in
     ap (λ b. if b then None else why (longest_there seen (q ++ l ∷ []) (length (q ++ l ∷ [])))) (ap is_some below)
     ∙ ap why (ap (longest_there seen (q ++ l ∷ [])) (one-more q l) ∙ step ∙ longest-more seen q (l ∷ []) (length q) (omega arith))
     ∙ sym (ap (λ b. if b then None else why (longest_there seen q (length q))) (ap is_some none))
@@ -75,7 +76,9 @@ module _ (t : Tree) (table : IsTable t.rows) where
 
   pub missing-below : (q : List Label) (l : Label) (e : Refusal) → find (look_in t) q ≡ Some e → look_in t q ≡ None → IsFound t (q ++ l ∷ []) (Err e)
   missing-below q l e missing absent =
-      let below : look_in t (q ++ l ∷ []) ≡ None = absent-seen t table (q ++ l ∷ []) (walk-append (child t.rows) 0 q (l ∷ []) ∙ ap (option_and_then (λ j. walk (child t.rows) j (l ∷ []))) (there-seen t table q absent)) in
+      let below : look_in t (q ++ l ∷ []) ≡ None =
+      absent-seen t table (q ++ l ∷ [])
+      (walk-append (child t.rows) 0 q (l ∷ []) ∙ ap (option_and_then (λ j. walk (child t.rows) j (l ∷ []))) (there-seen t table q absent)) in
       missing-at (q ++ l ∷ []) e (find-below (look_in t) q l absent below ∙ missing) below
 
   pub stops-at : (p : List Label) (e : Refusal) → StopsAt t p e → IsFound t p (Err e)
@@ -83,7 +86,8 @@ module _ (t : Tree) (table : IsTable t.rows) where
       missing-at p e (stops-missing t table p e stops) (absent-seen t table p (stops-absent t table p e stops))
 
 -- what was found stays found where no path and no file is another one
-pub resolved-kept : (t u : Tree) → ((p : List Label) → at u p ≡ at t p) → world_of u ≡ world_of t → (path : ResolvedPath) → IsResolved t path → IsResolved u path
+pub resolved-kept : (t u : Tree) → ((p : List Label) → at u p ≡ at t p) → world_of u ≡ world_of t → (path : ResolvedPath)
+    → IsResolved t path → IsResolved u path
 resolved-kept t u paths same path is = record { here = kept path.names path.here is.here; directory = kept (parent_of path.names) path.directory is.directory }
   where
     kept : (p : List Label) (r : Result ℕ Refusal) → IsFound t p r → IsFound u p r
@@ -113,7 +117,8 @@ pub record WalksTo (c : ℕ → Label → Option ℕ) (whole : List Label) (name
 pub walks-first : (c : ℕ → Label → Option ℕ) (name : Label) (left : List Label) → WalksTo c (name ∷ left) name left 0
 walks-first c name left = record { front = []; cut = refl; there = refl }
 
-pub walks-on : (c : ℕ → Label → Option ℕ) (whole : List Label) (name next : Label) (names left : List Label) (key there : ℕ) → WalksTo c whole name names key → names ≡ next ∷ left → c key name ≡ Some there
+pub walks-on : (c : ℕ → Label → Option ℕ) (whole : List Label) (name next : Label) (names left : List Label) (key there : ℕ)
+    → WalksTo c whole name names key → names ≡ next ∷ left → c key name ≡ Some there
     → WalksTo c whole next left there
 walks-on c whole name next names left key there w cut leads =
     record {
@@ -134,23 +139,28 @@ parent-one : (front : List Label) (x : Label) → parent_of (front ++ x ∷ []) 
 parent-one front x = parent-append front x [] ∙ append-nil front
 
 module _ (t : Tree) (table : IsTable t.rows) where
-  pub walk-parent : (whole : List Label) (name : Label) (left : List Label) (key found : ℕ) → WalksTo (child t.rows) whole name left key → left ≡ [] → found ≡ key → IsFound t (parent_of whole) (Ok found)
+  pub walk-parent : (whole : List Label) (name : Label) (left : List Label) (key found : ℕ)
+      → WalksTo (child t.rows) whole name left key → left ≡ [] → found ≡ key → IsFound t (parent_of whole) (Ok found)
   walk-parent whole name left key found w none same =
       let parent : parent_of whole ≡ w.front = ap parent_of (w.cut ∙ ap (λ (r : List Label). w.front ++ name ∷ r) none) ∙ parent-one w.front name in
       subst (λ (p : List Label). IsFound t p (Ok found)) (sym parent) (found-at t table w.front key found w.there same)
 
-  pub walk-here : (whole : List Label) (name last : Label) (left : List Label) (key : ℕ) (r : Result ℕ Refusal) → WalksTo (child t.rows) whole name left key → left ≡ [] → last ≡ name
+  pub walk-here : (whole : List Label) (name last : Label) (left : List Label) (key : ℕ) (r : Result ℕ Refusal)
+      → WalksTo (child t.rows) whole name left key → left ≡ [] → last ≡ name
       → ((p : List Label) → at t p ≡ Some key → IsFound t (p ++ last ∷ []) r) → IsFound t whole r
   walk-here whole name last left key r w none same here =
       let cut : w.front ++ last ∷ [] ≡ whole = sym (w.cut ∙ (λ i. w.front ++ sym same i ∷ none i)) in
       subst (λ (p : List Label). IsFound t p r) cut (here w.front w.there)
 
-  pub walk-stops : (whole : List Label) (name next : Label) (names left : List Label) (key : ℕ) (e : Refusal) → WalksTo (child t.rows) whole name names key → names ≡ next ∷ left
+  pub walk-stops : (whole : List Label) (name next : Label) (names left : List Label) (key : ℕ) (e : Refusal)
+      → WalksTo (child t.rows) whole name names key → names ≡ next ∷ left
       → child t.rows key name ≡ None → e ≡ cond (is_directory t.rows key) Enoent Enotdir → IsFound t whole (Err e) × IsFound t (parent_of whole) (Err e)
   walk-stops whole name next names left key e w more missing answer =
       let cut : whole ≡ w.front ++ name ∷ next ∷ left = w.cut ∙ ap (λ (r : List Label). w.front ++ name ∷ r) more in
       let none : at t (w.front ++ name ∷ []) ≡ None = walk_end (child t.rows) key w.front name w.there ∙ missing in
-      let parent : parent_of whole ≡ w.front ++ name ∷ parent_of (next ∷ left) = ap parent_of cut ∙ parent-append w.front name (next ∷ left) ∙ ap (λ (r : List Label). w.front ++ r) (parent-cons name next left) in (
-        stops-at t table whole e (record { front = w.front; label = name; rest = next ∷ left; key = key; cut = cut; there = w.there; missing = none; answer = answer }),
+      let parent : parent_of whole ≡ w.front ++ name ∷ parent_of (next ∷ left) =
+      ap parent_of cut ∙ parent-append w.front name (next ∷ left) ∙ ap (λ (r : List Label). w.front ++ r) (parent-cons name next left) in (
+        stops-at t table whole e
+            (record { front = w.front; label = name; rest = next ∷ left; key = key; cut = cut; there = w.there; missing = none; answer = answer }),
         stops-at t table (parent_of whole) e (record { front = w.front; label = name; rest = parent_of (next ∷ left); key = key; cut = parent; there = w.there; missing = none; answer = answer }),
       )

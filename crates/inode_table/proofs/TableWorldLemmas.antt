@@ -85,7 +85,9 @@ In-paths rs (suc n) k j [] there le = inl refl
 In-paths rs (suc n) k j (l ∷ p) there le =
     elim (child rs k l) as (λ o. child rs k l ≡ o → option_and_then (λ i. walk (child rs) i p) o ≡ Some j → In (paths_up_to (suc n) (names_of rs)) (l ∷ p)) [
       | None ↦ λ _ e. absurd (some_none refl e)
-      | Some i ↦ λ edge e. inr (In-flat_map (λ m. map (λ q. m ∷ q) (paths_up_to n (names_of rs))) (names_of rs) l (l ∷ p) (In-names rs k i l edge) (In-map (λ q. l ∷ q) (paths_up_to n (names_of rs)) p (In-paths rs n i j p e (shorter l p n le))))
+      | Some i ↦
+          λ edge e. inr (In-flat_map (λ m. map (λ q. m ∷ q) (paths_up_to n (names_of rs))) (names_of rs) l (l ∷ p)
+          (In-names rs k i l edge) (In-map (λ q. l ∷ q) (paths_up_to n (names_of rs)) p (In-paths rs n i j p e (shorter l p n le))))
     ] refl there
   where
     shorter : (l : Label) (p : List Label) (n : ℕ) → length (l ∷ p) ≤ suc n → length p ≤ n
@@ -101,7 +103,8 @@ passed rs k (l ∷ p) = k ∷ option_map_or (λ j. passed rs j p) (child rs k l)
 length-passed : (rs : Rows) (k j : ℕ) (p : List Label) → walk (child rs) k p ≡ Some j → length (passed rs k p) ≡ length p
 length-passed rs k j [] there = refl
 length-passed rs k j (l ∷ p) there =
-    elim (child rs k l) as (λ o. option_and_then (λ i. walk (child rs) i p) o ≡ Some j → length (k ∷ option_map_or (λ i. passed rs i p) o []) ≡ suc (length p)) [
+    elim (child rs k l) as (λ o. option_and_then (λ i. walk (child rs) i p) o ≡ Some j
+    → length (k ∷ option_map_or (λ i. passed rs i p) o []) ≡ suc (length p)) [
       | None ↦ λ e. absurd (some_none refl e)
       | Some i ↦ λ e. ap suc (length-passed rs i j p e)
     ] there
@@ -119,25 +122,31 @@ any_below n (k ∷ ks) below q any =
 
 module _ (rs : Rows) (table : IsTable rs) where
   onward : (front : List Label) (k i : ℕ) (l : Label) → walk (child rs) 0 front ≡ Some k → child rs k l ≡ Some i → walk (child rs) 0 (front ++ l ∷ []) ≡ Some i
-  onward front k i l there edge = walk-append (child rs) 0 front (l ∷ []) ∙ ap (option_and_then (λ j. walk (child rs) j (l ∷ []))) there ∙ ap (option_and_then (λ j. walk (child rs) j [])) edge
+  onward front k i l there edge =
+      walk-append (child rs) 0 front (l ∷ []) ∙ ap (option_and_then (λ j. walk (child rs) j (l ∷ []))) there
+      ∙ ap (option_and_then (λ j. walk (child rs) j [])) edge
 
   all-passed : (P : ℕ → Type 0) (front : List Label) (k j : ℕ) (p : List Label) → walk (child rs) 0 front ≡ Some k → walk (child rs) k p ≡ Some j
       → ((q : List Label) (i : ℕ) → walk (child rs) 0 (front ++ q) ≡ Some i → is_directory rs i ≡ true → P i) → AllByRecursion P (passed rs k p)
   all-passed P front k j [] there leads holds = tt
   all-passed P front k j (l ∷ p) there leads holds =
-      elim (child rs k l) as (λ o. child rs k l ≡ o → option_and_then (λ i. walk (child rs) i p) o ≡ Some j → AllByRecursion P (k ∷ option_map_or (λ i. passed rs i p) o [])) [
+      elim (child rs k l) as (λ o. child rs k l ≡ o → option_and_then (λ i. walk (child rs) i p) o ≡ Some j
+      → AllByRecursion P (k ∷ option_map_or (λ i. passed rs i p) o [])) [
         | None ↦ λ _ e. absurd (some_none refl e)
         | Some i ↦ λ edge e. (
           holds [] k (ap (walk (child rs) 0) (append-nil front) ∙ there) (table.tree.parents k i l edge),
-          all-passed P (front ++ l ∷ []) i j p (onward front k i l there edge) e (λ q h to dir. holds (l ∷ q) h (ap (walk (child rs) 0) (sym (append_assoc front (l ∷ []) q)) ∙ to) dir),
+          all-passed P (front ++ l ∷ []) i j p (onward front k i l there edge) e
+              (λ q h to dir. holds (l ∷ q) h (ap (walk (child rs) 0) (sym (append_assoc front (l ∷ []) q)) ∙ to) dir),
         )
       ] refl leads
 
-  distinct-passed : (front : List Label) (k j : ℕ) (p : List Label) → walk (child rs) 0 front ≡ Some k → walk (child rs) k p ≡ Some j → IsDistinct eqb (passed rs k p)
+  distinct-passed : (front : List Label) (k j : ℕ) (p : List Label) → walk (child rs) 0 front ≡ Some k
+      → walk (child rs) k p ≡ Some j → IsDistinct eqb (passed rs k p)
   unfolding IsDistinct
   distinct-passed front k j [] there leads = tt
   distinct-passed front k j (l ∷ p) there leads =
-      elim (child rs k l) as (λ o. child rs k l ≡ o → option_and_then (λ i. walk (child rs) i p) o ≡ Some j → IsDistinct eqb (k ∷ option_map_or (λ i. passed rs i p) o [])) [
+      elim (child rs k l) as (λ o. child rs k l ≡ o → option_and_then (λ i. walk (child rs) i p) o ≡ Some j
+      → IsDistinct eqb (k ∷ option_map_or (λ i. passed rs i p) o [])) [
         | None ↦ λ _ e. absurd (some_none refl e)
         | Some i ↦ λ edge e. (
           all-passed (λ h. eqb k h ≡ false) (front ++ l ∷ []) i j p (onward front k i l there edge) e (λ q h to dir. not_eqb k h (λ same.
@@ -150,8 +159,10 @@ module _ (rs : Rows) (table : IsTable rs) where
   -- a walk from the root has no more names than there are rows
   pub length-walk : (p : List Label) (j : ℕ) → walk (child rs) 0 p ≡ Some j → length p ≤ length rs
   length-walk p j leads =
-      let below = all-passed (λ i. i < length rs) [] 0 j p refl leads (λ q i to dir. let live = is_value (what rs i) (sym (live-what rs i) ∙ table.tree.directories i dir) in within rs i live.0 live.1) in
-      let most = length-le_from_distinct_below (passed rs 0 p) (length rs) (distinct-passed [] 0 j p refl leads) (any_below (length rs) (passed rs 0 p) below) in
+      let below = all-passed (λ i. i < length rs) [] 0 j p refl leads
+      (λ q i to dir. let live = is_value (what rs i) (sym (live-what rs i) ∙ table.tree.directories i dir) in within rs i live.0 live.1) in
+      let most = length-le_from_distinct_below (passed rs 0 p) (length rs) (distinct-passed [] 0 j p refl leads)
+      (any_below (length rs) (passed rs 0 p) below) in
       subst (λ n. n ≤ length rs) (length-passed rs 0 j p leads) most
 
 -- ---- the paths
@@ -161,10 +172,13 @@ paths-none t [] p none = get-empty path_cmp p
 paths-none t (q ∷ ps) p none =
     elim (number_under t.rows q) as (λ o. number_under t.rows q ≡ o → map.get (with_number (paths_among t.rows ps) q o) p ≡ None) [
       | None ↦ λ _. paths-none t ps p none
-      | Some n ↦ λ is. get-insert_other path_total path_exact (paths_among t.rows ps) q n p (λ same. some_none (ap (number_under t.rows) (sym same) ∙ none) is) ∙ paths-none t ps p none
+      | Some n ↦
+          λ is. get-insert_other path_total path_exact (paths_among t.rows ps) q n p (λ same. some_none (ap (number_under t.rows) (sym same) ∙ none) is)
+          ∙ paths-none t ps p none
     ] refl
 
-paths-some : (t : Tree) (ps : List (List Label)) (p : List Label) (n : ℕ) → In ps p → number_under t.rows p ≡ Some n → map.get (paths_among t.rows ps) p ≡ Some n
+paths-some : (t : Tree) (ps : List (List Label)) (p : List Label) (n : ℕ) → In ps p → number_under t.rows p ≡ Some n
+    → map.get (paths_among t.rows ps) p ≡ Some n
 paths-some t [] p n has is = absurd has
 paths-some t (q ∷ ps) p n has is =
     elim (decide_path p q) [
@@ -192,9 +206,11 @@ module _ (rs : Rows) (table : IsTable rs) where
         | Some w ↦ λ e. elim (cases_eq k j) [
           | inl same ↦
               let w_is : v ≡ w = same_some v w (sym is ∙ ap (what rs) same ∙ e) in
-              subst (λ u. map.get (map.insert (files_below rs j) w.number (file_of w)) u.number ≡ Some (file_of u)) (sym w_is) (get-insert_here nat_cmp_total nat_cmp-IsAntisymmetric (files_below rs j) w.number (file_of w))
+              subst (λ u. map.get (map.insert (files_below rs j) w.number (file_of w)) u.number ≡ Some (file_of u)) (sym w_is)
+              (get-insert_here nat_cmp_total nat_cmp-IsAntisymmetric (files_below rs j) w.number (file_of w))
           | inr off ↦
-              get-insert_other nat_cmp_total nat_cmp-IsAntisymmetric (files_below rs j) w.number (file_of w) v.number (λ same. off (table.numbers k j v w is e same))
+              get-insert_other nat_cmp_total nat_cmp-IsAntisymmetric (files_below rs j) w.number (file_of w) v.number
+              (λ same. off (table.numbers k j v w is e same))
               ∙ files-some j k v is (smaller k j below off)
         ]
       ] refl
@@ -205,7 +221,8 @@ module _ (rs : Rows) (table : IsTable rs) where
   files-no_more : (j n : ℕ) (f : world.File) → map.get (files_below rs j) n ≡ Some f → (k : ℕ) × (v : What) × (what rs k ≡ Some v) × (v.number ≡ n)
   files-no_more zero n f e = absurd (some_none (get-empty nat_cmp n) e)
   files-no_more (suc j) n f e =
-      elim (what rs j) as (λ o. what rs j ≡ o → map.get (with_node (files_below rs j) o) n ≡ Some f → (k : ℕ) × (v : What) × (what rs k ≡ Some v) × (v.number ≡ n)) [
+      elim (what rs j) as (λ o. what rs j ≡ o → map.get (with_node (files_below rs j) o) n ≡ Some f
+      → (k : ℕ) × (v : What) × (what rs k ≡ Some v) × (v.number ≡ n)) [
         | None ↦ λ _ g. files-no_more j n f g
         | Some w ↦ λ is g. elim (cases_eq n w.number) [
           | inl same ↦ (j, w, is, sym same)

@@ -13,8 +13,12 @@ use Rattle.inode_table.proofs.table.Table.add_name.Goals as goal
 
 pub add_name_at-requires-clause-free : goal.add_name_at-requires-clause-free
 add_name_at-requires-clause-free c =
-    free-child c.args.self.now c.rows_law.ensures.table (parent_of c.args.new.now.names) c.in_ok-copy.copy c.directory_at-directory.result c.directory_at-directory.ensures
-    (ap (look_in c.args.self.now) ((λ i. (parent_of c.args.new.now.names) ++ c.in_ok-copy.ensures.same i ∷ []) ∙ sym (named c.args.new.now.names c.last_name-last.result c.as_name-name.result.now c.last_name-last.ensures c.as_name-name.ensures)) ∙ (ap (λ l. l c.args.new.now.names) (sym c.rows_law.ensures.looks) ∙ c.requires.free))
+    free-child c.args.self.now c.rows_law.ensures.table (parent_of c.args.new.now.names) c.in_ok-copy.copy
+    c.directory_at-directory.result c.directory_at-directory.ensures
+    (ap (look_in c.args.self.now)
+    ((λ i. (parent_of c.args.new.now.names) ++ c.in_ok-copy.ensures.same i ∷ [])
+    ∙ sym (named c.args.new.now.names c.last_name-last.result c.as_name-name.result.now c.last_name-last.ensures c.as_name-name.ensures))
+    ∙ (ap (λ l. l c.args.new.now.names) (sym c.rows_law.ensures.looks) ∙ c.requires.free))
 
 pub returns-clause-world : goal.returns-clause-world
 returns-clause-world c =
@@ -26,6 +30,8 @@ returns-clause-world c =
     let found = c.key_at-key.ensures in
     let v = is_value (what_at t c.key_at-key.result) (live-there t c.rows_law.ensures.table c.args.old.now.names c.key_at-key.result found) in
     subst (λ o. Stands c.add_name_at.new.self (linked w c.args.new.now.names o)) (sym (number-at stands c.args.old.now.names c.key_at-key.result v.0 found v.1))
-    (subst (λ p. Stands c.add_name_at.new.self (with_path w p v.0.number)) ((λ i. (parent_of c.args.new.now.names) ++ c.in_ok-copy.ensures.same i ∷ []) ∙ sym (named c.args.new.now.names c.last_name-last.result c.as_name-name.result.now c.last_name-last.ensures c.as_name-name.ensures))
+    (subst (λ p. Stands c.add_name_at.new.self (with_path w p v.0.number))
+    ((λ i. (parent_of c.args.new.now.names) ++ c.in_ok-copy.ensures.same i ∷ [])
+    ∙ sym (named c.args.new.now.names c.last_name-last.result c.as_name-name.result.now c.last_name-last.ensures c.as_name-name.ensures))
     (c.in_ok-add_name_at.ensures.world w (parent_of c.args.new.now.names) v.0 stands c.directory_at-directory.ensures v.1))
     )

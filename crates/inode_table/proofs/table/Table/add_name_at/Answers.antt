@@ -14,16 +14,20 @@ linked c =
     let old = c.args.self.now.rows in
     let mid = rows_of c.set_child.new.nodes in
     let same : rows_of c.self.inside.nodes ≡ old = ap (λ t. t.rows) c.self.view_is in
-    let names : SetsChild old mid c.args.directory c.args.name (Some c.args.key) = subst (λ rs. SetsChild rs mid c.args.directory c.args.name (Some c.args.key)) same c.in_ok-set_child.ensures.ok in
+    let names : SetsChild old mid c.args.directory c.args.name (Some c.args.key) =
+    subst (λ rs. SetsChild rs mid c.args.directory c.args.name (Some c.args.key)) same c.in_ok-set_child.ensures.ok in
     let was : what old c.args.key ≡ Some (shown (row_of c.in-Some.node.now)) =
-    ap (λ rs. what rs c.args.key) (sym same) ∙ ap (option_map shown) (row-rows_of c.self.inside.nodes c.args.key ∙ ap (option_map row_of) (sym c.in-Some.ensures)) in
+    ap (λ rs. what rs c.args.key) (sym same)
+    ∙ ap (option_map shown) (row-rows_of c.self.inside.nodes c.args.key ∙ ap (option_map row_of) (sym c.in-Some.ensures)) in
     record {
       table = subst IsTable same c.self.invariant;
       directory = c.requires.directory.kind;
       regular = c.requires.regular;
       there = live-what old c.args.key ∙ c.requires.there;
       free = c.requires.free;
-      edge = SetsEdge-same (child old) (child mid) _ c.args.directory c.args.name (Some c.args.key) (SetsEdge-child old mid c.args.directory c.args.name (Some c.args.key) names) c.set_links.ensures.child;
+      edge =
+          SetsEdge-same (child old) (child mid) _ c.args.directory c.args.name (Some c.args.key)
+          (SetsEdge-child old mid c.args.directory c.args.name (Some c.args.key) names) c.set_links.ensures.child;
       links = one_more_link old mid _ c.args.key _ was names.what c.set_links.ensures.what;
     }
 

@@ -14,7 +14,8 @@ node-requires c = numbered-file c.args.self.now c.args.key (λ (f : world.File).
 
 pub names-requires : goal.names-requires
 names-requires c =
-    subst (λ o. IsSomeAnd o (λ (f : world.File). f.kind ≡ Directory)) (file-under c.rows_law.ensures.stands c.args.key (row_of c.node.result.now) c.node.ensures) c.requires.directory
+    subst (λ o. IsSomeAnd o (λ (f : world.File). f.kind ≡ Directory))
+    (file-under c.rows_law.ensures.stands c.args.key (row_of c.node.result.now) c.node.ensures) c.requires.directory
 
 pub returns-clause-world : goal.returns-clause-world
 returns-clause-world c p number =

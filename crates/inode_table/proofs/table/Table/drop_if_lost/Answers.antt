@@ -25,10 +25,15 @@ returns-then-node-eq0-clause-world c w stands =
     let v = is_value (what_at c.args.self.now c.args.key) c.requires.there in
     let number : number_of c.args.self.now (Some c.args.key) ≡ Some v.0.number = ap (option_map (λ (u : What). u.number)) v.1 in
     subst (λ o. Stands c.drop_node_at.new.self (without_lost w o)) (sym number)
-    (drop-lost stands c.args.key v.0 v.1 c.node.result.now.links (ap (λ o. option_map (λ (u : What). u.links) (option_map shown o)) (ap (row_under c.args.self.now.rows) (sym c.of.ensures) ∙ c.node.ensures)) c.drop_node_at.new.self c.if-node-eq0.true (c.drop_node_at.ensures.world w v.0 stands v.1))
+    (drop-lost stands c.args.key v.0 v.1 c.node.result.now.links
+    (ap (λ o. option_map (λ (u : What). u.links) (option_map shown o)) (ap (row_under c.args.self.now.rows) (sym c.of.ensures) ∙ c.node.ensures))
+    c.drop_node_at.new.self c.if-node-eq0.true (c.drop_node_at.ensures.world w v.0 stands v.1))
 
 pub returns-else-node-eq0-clause-world : goal.returns-else-node-eq0-clause-world
 returns-else-node-eq0-clause-world c w stands =
     let v = is_value (what_at c.args.self.now c.args.key) c.requires.there in
     let number : number_of c.args.self.now (Some c.args.key) ≡ Some v.0.number = ap (option_map (λ (u : What). u.number)) v.1 in
-    subst (λ o. Stands c.args.self.now (without_lost w o)) (sym number) (keep-linked stands c.args.key v.0 v.1 c.node.result.now.links (ap (λ o. option_map (λ (u : What). u.links) (option_map shown o)) (ap (row_under c.args.self.now.rows) (sym c.of.ensures) ∙ c.node.ensures)) c.if-node-eq0.false)
+    subst (λ o. Stands c.args.self.now (without_lost w o)) (sym number)
+    (keep-linked stands c.args.key v.0 v.1 c.node.result.now.links
+    (ap (λ o. option_map (λ (u : What). u.links) (option_map shown o)) (ap (row_under c.args.self.now.rows) (sym c.of.ensures) ∙ c.node.ensures))
+    c.if-node-eq0.false)

@@ -12,12 +12,16 @@ dropped c =
     let old = c.args.self.now.rows in
     let mid = rows_of c.unset_child.new.nodes in
     let same : rows_of c.self.inside.nodes ≡ old = ap (λ t. t.rows) c.self.view_is in
-    let names : SetsChild old mid c.args.directory c.args.name.now None = subst (λ rs. SetsChild rs mid c.args.directory c.args.name.now None) same c.unset_child.ensures.names in
-    let was : child old c.args.directory c.args.name.now ≡ Some c.in-Some.key = ap (λ rs. child rs c.args.directory c.args.name.now) (sym same) ∙ sym c.in-Some.ensures in
+    let names : SetsChild old mid c.args.directory c.args.name.now None =
+    subst (λ rs. SetsChild rs mid c.args.directory c.args.name.now None) same c.unset_child.ensures.names in
+    let was : child old c.args.directory c.args.name.now ≡ Some c.in-Some.key =
+    ap (λ rs. child rs c.args.directory c.args.name.now) (sym same) ∙ sym c.in-Some.ensures in
     record {
       table = subst IsTable same c.self.invariant;
       directory = c.requires.directory.kind;
-      edge = SetsEdge-same (child old) (child mid) _ c.args.directory c.args.name.now None (SetsEdge-child old mid c.args.directory c.args.name.now None names) c.lose_any_link.ensures.child;
+      edge =
+          SetsEdge-same (child old) (child mid) _ c.args.directory c.args.name.now None
+          (SetsEdge-child old mid c.args.directory c.args.name.now None names) c.lose_any_link.ensures.child;
       was = was;
       empty = λ l. c.requires.empty c.in-Some.key l was;
       links = LosesLink-after old mid _ _ names.what c.lose_any_link.ensures.what;
@@ -25,7 +29,8 @@ dropped c =
 
 pub lose_any_link-requires-clause-positive : goal.lose_any_link-requires-clause-positive
 lose_any_link-requires-clause-positive c k is =
-    positive_target (rows_of c.self.inside.nodes) (rows_of c.unset_child.new.nodes) c.self.invariant c.unset_child.ensures.names.what c.args.directory c.args.name.now k (sym c.in-Some.ensures ∙ is)
+    positive_target (rows_of c.self.inside.nodes) (rows_of c.unset_child.new.nodes) c.self.invariant
+    c.unset_child.ensures.names.what c.args.directory c.args.name.now k (sym c.in-Some.ensures ∙ is)
 
 pub invariant_of-self : goal.invariant_of-self
 invariant_of-self c = IsTable-drop (dropped c) c.requires.directory.path c.requires.directory.there
@@ -35,4 +40,5 @@ returns-clause-path c = drop-DropsPath (dropped c)
 
 pub returns-clause-world : goal.returns-clause-world
 returns-clause-world c w p stands there =
-    Stands-without_path (SameFiles-loses _ _ _ (dropped c).links) stands (IsTable-drop (dropped c) c.requires.directory.path c.requires.directory.there) _ (drop-DropsPath (dropped c) p there)
+    Stands-without_path (SameFiles-loses _ _ _ (dropped c).links) stands
+    (IsTable-drop (dropped c) c.requires.directory.path c.requires.directory.there) _ (drop-DropsPath (dropped c) p there)

@@ -14,7 +14,9 @@ removed c =
     record {
       table = subst IsTable same c.self.invariant;
       lost = c.requires.lost;
-      gone = subst (λ rs. SetsRow rs (rows_of c.remove_node.new.nodes) c.args.key None) same (SetsRow-from_updates c.self.inside.nodes c.remove_node.new.nodes c.args.key None c.remove_node.ensures.updates);
+      gone =
+          subst (λ rs. SetsRow rs (rows_of c.remove_node.new.nodes) c.args.key None) same
+          (SetsRow-from_updates c.self.inside.nodes c.remove_node.new.nodes c.args.key None c.remove_node.ensures.updates);
     }
 
 pub invariant_of-self : goal.invariant_of-self
@@ -28,4 +30,5 @@ returns-clause-others c = remove-others (removed c)
 
 pub returns-clause-world : goal.returns-clause-world
 returns-clause-world c w v stands was =
-    Stands-without_file stands (IsTable-remove (removed c)) c.args.key v was (ap (option_map shown) (removed c).gone.here) c.requires.lost (remove-others (removed c)) (remove-paths (removed c))
+    Stands-without_file stands (IsTable-remove (removed c)) c.args.key v was
+    (ap (option_map shown) (removed c).gone.here) c.requires.lost (remove-others (removed c)) (remove-paths (removed c))

@@ -7,4 +7,5 @@ use Rattle.inode_table.proofs.table.Table.kind.Goals as goal
 
 pub returns : goal.returns
 returns c =
-    subst (λ o. IsSomeAnd o (λ (f : world.File). f.kind ≡ c.kind.result)) (sym (file-under c.rows_law.ensures.stands c.args.key (row_of c.node.result.now) c.node.ensures)) (sym c.kind.ensures)
+    subst (λ o. IsSomeAnd o (λ (f : world.File). f.kind ≡ c.kind.result))
+    (sym (file-under c.rows_law.ensures.stands c.args.key (row_of c.node.result.now) c.node.ensures)) (sym c.kind.ensures)

@@ -7,4 +7,5 @@ use Rattle.inode_table.proofs.table.Table.mode.Goals as goal
 
 pub returns : goal.returns
 returns c =
-    subst (λ o. IsSomeAnd o (λ (f : world.File). f.mode ≡ c.node.result.now.mode)) (sym (file-under c.rows_law.ensures.stands c.args.key (row_of c.node.result.now) c.node.ensures)) (refl)
+    subst (λ o. IsSomeAnd o (λ (f : world.File). f.mode ≡ c.node.result.now.mode))
+    (sym (file-under c.rows_law.ensures.stands c.args.key (row_of c.node.result.now) c.node.ensures)) (refl)

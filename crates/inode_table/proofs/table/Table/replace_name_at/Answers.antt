@@ -7,14 +7,17 @@ use Rattle.inode_table.proofs.StandsLemmas.{SameFiles-loses, Stands-with_move}
 use Rattle.inode_table.proofs.table.Table.replace_name_at.Goals as goal
 use Rattle.inode_table.proofs.table.Table.replace_name_at.Goals.{After-lose_any_link}
 
-moved : (c : After-lose_any_link) → MovesRow c.args.self.now.rows (rows_of c.lose_any_link.new.nodes) c.args.directory c.args.name.now c.args.other_directory c.args.other_name c.in-Some.key
+moved : (c : After-lose_any_link)
+    → MovesRow c.args.self.now.rows (rows_of c.lose_any_link.new.nodes) c.args.directory c.args.name.now c.args.other_directory
+    c.args.other_name c.in-Some.key
 moved c =
     let old = c.args.self.now.rows in
     let first = rows_of c.set_child.new.nodes in
     let same : rows_of c.self.inside.nodes ≡ old = ap (λ t. t.rows) c.self.view_is in
     let from = c.requires.directory in
     let to = c.requires.other_directory in
-    MovesRow-from old first (rows_of c.unset_child.new.nodes) _ c.args.directory c.args.name.now c.args.other_directory c.args.other_name c.in-Some.key c.child-replaced.result
+    MovesRow-from old first (rows_of c.unset_child.new.nodes) _ c.args.directory c.args.name.now c.args.other_directory
+    c.args.other_name c.in-Some.key c.child-replaced.result
     (subst IsTable same c.self.invariant) from.kind to.kind from.path to.path from.there to.there
     (c.requires.apart from.path to.path from.there to.there)
     (ap (λ rs. child rs c.args.directory c.args.name.now) (sym same) ∙ sym c.in-Some.ensures)
@@ -43,4 +46,5 @@ returns-clause-paths c p q to_p to_q = move-MovesPath (moved c) p q to_p to_q (c
 pub returns-clause-world : goal.returns-clause-world
 returns-clause-world c w p q stands to_p to_q =
     let apart = c.requires.apart p q to_p to_q in
-    Stands-with_move (SameFiles-loses _ _ _ (moved c).links) stands (IsTable-move (moved c) p q to_p to_q apart) _ _ apart (move-empty (moved c) p q to_p to_q apart) (move-MovesPath (moved c) p q to_p to_q apart)
+    Stands-with_move (SameFiles-loses _ _ _ (moved c).links) stands (IsTable-move (moved c) p q to_p to_q apart) _ _ apart
+    (move-empty (moved c) p q to_p to_q apart) (move-MovesPath (moved c) p q to_p to_q apart)

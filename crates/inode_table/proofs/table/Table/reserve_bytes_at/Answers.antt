@@ -10,15 +10,18 @@ use Rattle.inode_table.proofs.table.Table.reserve_bytes_at.Goals as goal
 use Rattle.inode_table.proofs.table.Table.reserve_bytes_at.Goals.{After-reserve_bytes}
 
 pub invariant_of-self : goal.invariant_of-self
-invariant_of-self c = IsTable-same (rows_of c.self.inside.nodes) (rows_of c.reserve_bytes.new.nodes) c.self.invariant c.reserve_bytes.ensures.child c.reserve_bytes.ensures.what
+invariant_of-self c =
+    IsTable-same (rows_of c.self.inside.nodes) (rows_of c.reserve_bytes.new.nodes) c.self.invariant c.reserve_bytes.ensures.child c.reserve_bytes.ensures.what
 
 same : (c : After-reserve_bytes) → rows_of c.self.inside.nodes ≡ c.args.self.now.rows
 same c = ap (λ t. t.rows) c.self.view_is
 
 pub returns-clause-world : goal.returns-clause-world
 returns-clause-world c w stands =
-    let children : (k : ℕ) (l : Label) → child (rows_of c.reserve_bytes.new.nodes) k l ≡ child c.args.self.now.rows k l = subst (λ rs. (k : ℕ) (l : Label) → child (rows_of c.reserve_bytes.new.nodes) k l ≡ child rs k l) (same c) c.reserve_bytes.ensures.child in
-    Stands-same (IsTable-same (rows_of c.self.inside.nodes) (rows_of c.reserve_bytes.new.nodes) c.self.invariant c.reserve_bytes.ensures.child c.reserve_bytes.ensures.what)
+    let children : (k : ℕ) (l : Label) → child (rows_of c.reserve_bytes.new.nodes) k l ≡ child c.args.self.now.rows k l =
+    subst (λ rs. (k : ℕ) (l : Label) → child (rows_of c.reserve_bytes.new.nodes) k l ≡ child rs k l) (same c) c.reserve_bytes.ensures.child in
+    Stands-same (IsTable-same (rows_of c.self.inside.nodes) (rows_of c.reserve_bytes.new.nodes) c.self.invariant
+    c.reserve_bytes.ensures.child c.reserve_bytes.ensures.what)
     (λ p i. walk (λ k l. children k l i) 0 p)
     (subst (λ rs. (k : ℕ) → what (rows_of c.reserve_bytes.new.nodes) k ≡ what rs k) (same c) c.reserve_bytes.ensures.what) stands
 

@@ -11,7 +11,9 @@ pub returns-in-Some : goal.returns-in-Some
 returns-in-Some c p there =
     let t = c.args.self.now in
     found-at t c.rows_law.ensures.table (p ++ c.args.name.now ∷ []) c.in-Some.key c.of.result
-    (walk_end (child t.rows) c.args.directory p c.args.name.now there ∙ ap (λ (s : Tree). child s.rows c.args.directory c.args.name.now) (sym c.self.view_is) ∙ sym c.in-Some.ensures) c.of.ensures
+    (walk_end (child t.rows) c.args.directory p c.args.name.now there
+    ∙ ap (λ (s : Tree). child s.rows c.args.directory c.args.name.now) (sym c.self.view_is) ∙ sym c.in-Some.ensures)
+    c.of.ensures
 
 pub returns-in-None : goal.returns-in-None
 returns-in-None c p there =
@@ -24,6 +26,8 @@ returns-in-None c p there =
       key = c.args.directory;
       cut = refl;
       there = there;
-      missing = walk_end (child t.rows) c.args.directory p c.args.name.now there ∙ ap (λ (s : Tree). child s.rows c.args.directory c.args.name.now) (sym c.self.view_is) ∙ sym c.in-None.ensures;
+      missing =
+          walk_end (child t.rows) c.args.directory p c.args.name.now there
+          ∙ ap (λ (s : Tree). child s.rows c.args.directory c.args.name.now) (sym c.self.view_is) ∙ sym c.in-None.ensures;
       answer = c.refusal_at.ensures ∙ ap (λ (s : Tree). cond (is_directory s.rows c.args.directory) Enoent Enotdir) c.self.view_is;
     }

@@ -9,12 +9,18 @@ use Rattle.inode_table.proofs.ChangeLemmas.{IsTable-change, none-map}
 use Rattle.inode_table.proofs.table.Table.set_len_at.Goals as goal
 
 pub invariant_of-self : goal.invariant_of-self
-invariant_of-self c = IsTable-change c.set_len.ensures.what (record { number = λ w. refl; kind = λ w e. none-map _ w.bytes }) c.self.invariant c.set_len.ensures.child (λ w. refl)
+invariant_of-self c =
+    IsTable-change c.set_len.ensures.what (record { number = λ w. refl; kind = λ w e. none-map _ w.bytes }) c.self.invariant
+    c.set_len.ensures.child (λ w. refl)
 
 pub returns-clause-world : goal.returns-clause-world
 returns-clause-world c w v stands was =
     let same : rows_of c.self.inside.nodes ≡ c.args.self.now.rows = ap (λ t. t.rows) c.self.view_is in
-    let changes : ChangesWhat c.args.self.now.rows (rows_of c.set_len.new.nodes) c.args.key (with_len c.args.len) = subst (λ rs. ChangesWhat rs (rows_of c.set_len.new.nodes) c.args.key (with_len c.args.len)) same c.set_len.ensures.what in
-    let children : (k : ℕ) (l : Label) → child (rows_of c.set_len.new.nodes) k l ≡ child c.args.self.now.rows k l = subst (λ rs. (k : ℕ) (l : Label) → child (rows_of c.set_len.new.nodes) k l ≡ child rs k l) same c.set_len.ensures.child in
-    let table = IsTable-change c.set_len.ensures.what (record { number = λ u. refl; kind = λ u e. none-map _ u.bytes }) c.self.invariant c.set_len.ensures.child (λ u. refl) in
-    Stands-with_content stands table c.args.key v (with_len c.args.len v) was (changes.here ∙ ap (option_map (with_len c.args.len)) was) refl changes.others (λ p i. walk (λ k l. children k l i) 0 p)
+    let changes : ChangesWhat c.args.self.now.rows (rows_of c.set_len.new.nodes) c.args.key (with_len c.args.len) =
+    subst (λ rs. ChangesWhat rs (rows_of c.set_len.new.nodes) c.args.key (with_len c.args.len)) same c.set_len.ensures.what in
+    let children : (k : ℕ) (l : Label) → child (rows_of c.set_len.new.nodes) k l ≡ child c.args.self.now.rows k l =
+    subst (λ rs. (k : ℕ) (l : Label) → child (rows_of c.set_len.new.nodes) k l ≡ child rs k l) same c.set_len.ensures.child in
+    let table = IsTable-change c.set_len.ensures.what (record { number = λ u. refl; kind = λ u e. none-map _ u.bytes })
+    c.self.invariant c.set_len.ensures.child (λ u. refl) in
+    Stands-with_content stands table c.args.key v (with_len c.args.len v) was
+    (changes.here ∙ ap (option_map (with_len c.args.len)) was) refl changes.others (λ p i. walk (λ k l. children k l i) 0 p)

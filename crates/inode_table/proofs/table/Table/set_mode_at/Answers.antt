@@ -9,11 +9,17 @@ use Rattle.inode_table.proofs.ChangeLemmas.{IsTable-change}
 use Rattle.inode_table.proofs.table.Table.set_mode_at.Goals as goal
 
 pub invariant_of-self : goal.invariant_of-self
-invariant_of-self c = IsTable-change c.set_mode.ensures.what (record { number = λ w. refl; kind = λ w e. refl }) c.self.invariant c.set_mode.ensures.child (λ w. refl)
+invariant_of-self c =
+    IsTable-change c.set_mode.ensures.what (record { number = λ w. refl; kind = λ w e. refl }) c.self.invariant c.set_mode.ensures.child (λ w. refl)
 
 pub returns-clause-world : goal.returns-clause-world
 returns-clause-world c w v stands was =
     let same : rows_of c.self.inside.nodes ≡ c.args.self.now.rows = ap (λ t. t.rows) c.self.view_is in
-    let changes : ChangesWhat c.args.self.now.rows (rows_of c.set_mode.new.nodes) c.args.key (with_mode c.args.mode) = subst (λ rs. ChangesWhat rs (rows_of c.set_mode.new.nodes) c.args.key (with_mode c.args.mode)) same c.set_mode.ensures.what in
-    let children : (k : ℕ) (l : Label) → child (rows_of c.set_mode.new.nodes) k l ≡ child c.args.self.now.rows k l = subst (λ rs. (k : ℕ) (l : Label) → child (rows_of c.set_mode.new.nodes) k l ≡ child rs k l) same c.set_mode.ensures.child in
-    Stands-with_content stands (IsTable-change c.set_mode.ensures.what (record { number = λ w. refl; kind = λ w e. refl }) c.self.invariant c.set_mode.ensures.child (λ w. refl)) c.args.key v (with_mode c.args.mode v) was (changes.here ∙ ap (option_map (with_mode c.args.mode)) was) refl changes.others (λ p i. walk (λ k l. children k l i) 0 p)
+    let changes : ChangesWhat c.args.self.now.rows (rows_of c.set_mode.new.nodes) c.args.key (with_mode c.args.mode) =
+    subst (λ rs. ChangesWhat rs (rows_of c.set_mode.new.nodes) c.args.key (with_mode c.args.mode)) same c.set_mode.ensures.what in
+    let children : (k : ℕ) (l : Label) → child (rows_of c.set_mode.new.nodes) k l ≡ child c.args.self.now.rows k l =
+    subst (λ rs. (k : ℕ) (l : Label) → child (rows_of c.set_mode.new.nodes) k l ≡ child rs k l) same c.set_mode.ensures.child in
+    Stands-with_content stands
+    (IsTable-change c.set_mode.ensures.what (record { number = λ w. refl; kind = λ w e. refl }) c.self.invariant c.set_mode.ensures.child (λ w. refl))
+    c.args.key v (with_mode c.args.mode v) was (changes.here ∙ ap (option_map (with_mode c.args.mode)) was) refl changes.others
+    (λ p i. walk (λ k l. children k l i) 0 p)

@@ -10,7 +10,9 @@ use Rattle.inode_table.proofs.SwapLemmas.{Stands-with_swap}
 use Rattle.inode_table.proofs.table.Table.swap_names_at.Goals as goal
 use Rattle.inode_table.proofs.table.Table.swap_names_at.Goals.{After-point_child-2}
 
-swapped : (c : After-point_child-2) → SwapsRow c.args.self.now.rows (rows_of c.point_child-2.new.nodes) c.args.directory c.args.name.now c.args.other_directory c.args.other_name.now c.in-Some.key c.in-Some-child.other_key
+swapped : (c : After-point_child-2)
+    → SwapsRow c.args.self.now.rows (rows_of c.point_child-2.new.nodes) c.args.directory c.args.name.now c.args.other_directory
+    c.args.other_name.now c.in-Some.key c.in-Some-child.other_key
 swapped c =
     let old = c.args.self.now.rows in
     let first = rows_of c.point_child.new.nodes in
@@ -29,7 +31,8 @@ pub invariant_of-self : goal.invariant_of-self
 invariant_of-self c =
     let from = c.requires.directory in
     let to = c.requires.other_directory in
-    IsTable-swap (swapped c) from.path to.path from.there to.there (c.requires.below from.path to.path from.there to.there) (c.requires.above from.path to.path from.there to.there)
+    IsTable-swap (swapped c) from.path to.path from.there to.there (c.requires.below from.path to.path from.there to.there)
+    (c.requires.above from.path to.path from.there to.there)
 
 pub returns-in-Some-child-clause-paths : goal.returns-in-Some-child-clause-paths
 returns-in-Some-child-clause-paths c p q to_p to_q = swap-SwapsPaths (swapped c) p q to_p to_q (c.requires.below p q to_p to_q) (c.requires.above p q to_p to_q)

@@ -13,18 +13,23 @@ use Rattle.inode_table.proofs.table.Table.walk.Goals.{Joined-name}
 pub loop-next-preserved : goal.loop-next-preserved
 loop-next-preserved c =
     let rows = rows_of c.self.inside.nodes in
-    walks-on (child rows) (c.args.first ∷ c.args.behind) c.loop-next.name c.in-Some.next c.loop-next.names c.next.new.self c.loop-next.directory c.in-Some-child.key
+    walks-on (child rows) (c.args.first ∷ c.args.behind) c.loop-next.name c.in-Some.next c.loop-next.names c.next.new.self
+    c.loop-next.directory c.in-Some-child.key
     c.loop-next.invariant c.in-Some.ensures (ap (child rows c.loop-next.directory) (sym c.as_name.ensures) ∙ sym c.in-Some-child.ensures)
 
-stops : (c : Joined-name) → IsFound c.args.self.now (c.args.first ∷ c.args.behind) (Err c.refusal_at-refusal.result) × IsFound c.args.self.now (parent_of (c.args.first ∷ c.args.behind)) (Err c.refusal_at-refusal.result)
+stops : (c : Joined-name)
+    → IsFound c.args.self.now (c.args.first ∷ c.args.behind) (Err c.refusal_at-refusal.result)
+    × IsFound c.args.self.now (parent_of (c.args.first ∷ c.args.behind)) (Err c.refusal_at-refusal.result)
 stops c =
     let t = c.args.self.now in
     let whole = c.args.first ∷ c.args.behind in
     let key = c.loop-next.directory in
     let name = c.loop-next.name in
-    let walks : WalksTo (child t.rows) whole name c.loop-next.names key = subst (λ (s : Tree). WalksTo (child s.rows) whole name c.loop-next.names key) c.self.view_is c.loop-next.invariant in
+    let walks : WalksTo (child t.rows) whole name c.loop-next.names key =
+    subst (λ (s : Tree). WalksTo (child s.rows) whole name c.loop-next.names key) c.self.view_is c.loop-next.invariant in
     walk-stops t c.rows_law.ensures.table whole name c.in-Some.next c.loop-next.names c.next.new.self key c.refusal_at-refusal.result walks c.in-Some.ensures
-    (ap (λ (s : Tree). child s.rows key name) (sym c.self.view_is) ∙ ap (child (rows_of c.self.inside.nodes) key) (sym c.as_name.ensures) ∙ sym c.in-None.ensures)
+    (ap (λ (s : Tree). child s.rows key name) (sym c.self.view_is)
+    ∙ ap (child (rows_of c.self.inside.nodes) key) (sym c.as_name.ensures) ∙ sym c.in-None.ensures)
     (c.refusal_at-refusal.ensures ∙ ap (λ (s : Tree). cond (is_directory s.rows key) Enoent Enotdir) c.self.view_is)
 
 pub returns-in-None-clause-directory : goal.returns-in-None-clause-directory
@@ -55,4 +60,5 @@ returns-clause-here c =
     let whole = c.args.first ∷ c.args.behind in
     let walks : WalksTo (child t.rows) whole c.loop-next.name c.loop-next.names c.loop-next.directory =
     subst (λ (s : Tree). WalksTo (child s.rows) whole c.loop-next.name c.loop-next.names c.loop-next.directory) c.self.view_is c.loop-next.invariant in
-    walk-here t c.rows_law.ensures.table whole c.loop-next.name c.as_name-2.result.now c.loop-next.names c.loop-next.directory c.resolve_in.result walks c.in_default.ensures.0 c.as_name-2.ensures c.resolve_in.ensures
+    walk-here t c.rows_law.ensures.table whole c.loop-next.name c.as_name-2.result.now c.loop-next.names c.loop-next.directory
+    c.resolve_in.result walks c.in_default.ensures.0 c.as_name-2.ensures c.resolve_in.ensures

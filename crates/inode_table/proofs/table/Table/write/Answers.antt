@@ -20,8 +20,11 @@ returns-clause-world c =
     (
     let t = c.args.self.now in
     let v = is_value (what_at t c.key_at-key.result) (live-there t c.rows_law.ensures.table c.args.path.now.names c.key_at-key.result c.key_at-key.ensures) in
-    let regular = file-regular t c.args.path.now.names c.key_at-key.result v.0 c.key_at-key.ensures v.1 (ap (λ l. is_directory_seen (l c.args.path.now.names)) (sym c.rows_law.ensures.looks) ∙ c.requires.regular) in
+    let regular = file-regular t c.args.path.now.names c.key_at-key.result v.0 c.key_at-key.ensures v.1
+    (ap (λ l. is_directory_seen (l c.args.path.now.names)) (sym c.rows_law.ensures.looks) ∙ c.requires.regular) in
     subst (Stands c.write_bytes_at.new.self)
-    (ap (with_content w v.0.number) (file-mapped (written c.args.offset c.args.bytes.now) v.0 regular) ∙ sym (changed-is stands c.args.path.now.names c.key_at-key.result v.0 c.key_at-key.ensures v.1 (λ f. record f { bytes = written c.args.offset c.args.bytes.now f.bytes })))
+    (ap (with_content w v.0.number) (file-mapped (written c.args.offset c.args.bytes.now) v.0 regular)
+    ∙ sym (changed-is stands c.args.path.now.names c.key_at-key.result v.0 c.key_at-key.ensures v.1
+    (λ f. record f { bytes = written c.args.offset c.args.bytes.now f.bytes })))
     (c.write_bytes_at.ensures.world w v.0 stands v.1)
     )

@@ -8,4 +8,5 @@ use Rattle.inode_table.proofs.table.files.all_files.Given as goal
 
 abbrev pub invariant-loop-node : goal.invariant-loop-node
 invariant-loop-node l =
-    l.files.items ++ map (λ (e : ℕ × Node). row_shown (shown (row_of e.1))) l.node-iterator ≡ map (λ (e : ℕ × Node). row_shown (shown (row_of e.1))) (entries l.nodes)
+    l.files.items ++ map (λ (e : ℕ × Node). row_shown (shown (row_of e.1))) l.node-iterator
+    ≡ map (λ (e : ℕ × Node). row_shown (shown (row_of e.1))) (entries l.nodes)

@@ -9,12 +9,14 @@ loop-path-init c = walk-start (rows_of c.args.nodes.now) c.in_ok-found.found.ite
 
 pub visit-requires : goal.visit-requires
 visit-requires c =
-    walk-live (rows_of c.args.nodes.now) c.loop-path.found.items c.loop-path.pending.items c.pop.new.self.items c.in-Some.path c.in-Some.key c.loop-path.invariant
+    walk-live (rows_of c.args.nodes.now) c.loop-path.found.items c.loop-path.pending.items c.pop.new.self.items c.in-Some.path
+    c.in-Some.key c.loop-path.invariant
     c.in-Some.ensures.items
 
 pub loop-path-preserved : goal.loop-path-preserved
 loop-path-preserved c =
-    walk-turn (rows_of c.args.nodes.now) c.requires c.loop-path.found.items c.push-in-Some.new.self.items c.loop-path.pending.items c.pop.new.self.items c.visit.new.pending.items
+    walk-turn (rows_of c.args.nodes.now) c.requires c.loop-path.found.items c.push-in-Some.new.self.items
+    c.loop-path.pending.items c.pop.new.self.items c.visit.new.pending.items
     c.in-Some.path c.in-Some.key c.in_ok-number.number c.loop-path.invariant c.in-Some.ensures.items c.in_ok-number.ensures c.in_ok-push-2.ensures.items
 
 pub loop-path-smaller : goal.loop-path-smaller
@@ -27,5 +29,6 @@ pub returns : goal.returns
 returns c =
     walk-end (rows_of c.args.nodes.now) c.loop-path.found.items
     (subst (λ es. IsWalked (rows_of c.args.nodes.now) c.loop-path.found.items (reverse es))
-    (end-of c.loop-path.pending.items c.pop.new.self.items (vec_len c.loop-path.pending) c.in_default.ensures.cases.0 c.in_default.ensures.items c.in_default.ensures.rest)
+    (end-of c.loop-path.pending.items c.pop.new.self.items (vec_len c.loop-path.pending) c.in_default.ensures.cases.0
+    c.in_default.ensures.items c.in_default.ensures.rest)
     c.loop-path.invariant)

@@ -6,7 +6,8 @@ use Rattle.inode_table.proofs.table.flat.put_off.Goals as goal
 
 pub loop-name-preserved : goal.loop-name-preserved
 loop-name-preserved c =
-    stack-turn c.args.path.now c.loop-name.pending.items c.push.new.self.items _ (rev_source c.loop-name.name-iterator) (rev_source c.next.new.self) c.in-Some.name.now
+    stack-turn c.args.path.now c.loop-name.pending.items c.push.new.self.items _ (rev_source c.loop-name.name-iterator)
+    (rev_source c.next.new.self) c.in-Some.name.now
     c.in-Some.child.now c.loop-name.invariant c.in-Some.ensures.steps
     (c.in_ok-push.ensures.items ∙ ap (λ p. c.loop-name.pending.items ++ (p, c.in-Some.child.now) ∷ []) c.in_ok-child.ensures)
 

@@ -13,7 +13,8 @@ use Rattle.inode_table.proofs.SeenLemmas.{is_value}
 use Rattle.inode_table.proofs.TableWorldLemmas.{Stands-world_of}
 use Rattle.inode_table.proofs.table.tests.has_below.Goals as goal
 
-below : (nodes : Slab Node) (number : ℕ) → ((k : ℕ) (n : Node) → get nodes k ≡ Some n → n.number < number) → (k : ℕ) (v : What) → what (rows_of nodes) k ≡ Some v → v.number < number
+below : (nodes : Slab Node) (number : ℕ) → ((k : ℕ) (n : Node) → get nodes k ≡ Some n → n.number < number) → (k : ℕ) (v : What)
+    → what (rows_of nodes) k ≡ Some v → v.number < number
 below nodes number all k v found =
     by (get nodes k) (sym (ap (option_map shown) (row-rows_of nodes k)) ∙ found) (all k)
   where
@@ -27,4 +28,5 @@ returns c all n there =
     let stands = Stands-world_of t (subst (λ u. IsTable u.rows) c.table.view_is c.table.invariant) in
     let f = is_value (finmap.get (world_of t).files n) there in
     let found = stands.no_more n f.0 f.1 in
-    subst (λ m. m < c.args.number) found.3 (below c.table.inside.nodes c.args.number (c.are_below.ensures all) found.0 found.1 (ap (λ u. what_at u found.0) c.table.view_is ∙ found.2))
+    subst (λ m. m < c.args.number) found.3
+    (below c.table.inside.nodes c.args.number (c.are_below.ensures all) found.0 found.1 (ap (λ u. what_at u found.0) c.table.view_is ∙ found.2))

@@ -29,7 +29,10 @@ below-added w p n f below m there =
 pub returns : goal.returns
 returns c =
     subst (λ w. HasNumbersBelow w (c.args.number + 1)) (sym c.in_ok-add_node.ensures.world)
-    (below-added (world_of c.reserve_node.new.self) _ c.args.number _ (subst (λ rs. HasNumbersBelow (world_in rs) c.args.number) (sym c.in_ok-reserve_node.ensures.rows) c.requires))
+    (below-added (world_of c.reserve_node.new.self) _ c.args.number _
+    (subst (λ rs. HasNumbersBelow (world_in rs) c.args.number) (sym c.in_ok-reserve_node.ensures.rows) c.requires))
 
 pub add_node-requires-clause-unused : goal.add_node-requires-clause-unused
-add_node-requires-clause-unused c = unused (world_of c.reserve_node.new.self) c.args.number (subst (λ rs. HasNumbersBelow (world_in rs) c.args.number) (sym c.in_ok-reserve_node.ensures.rows) c.requires)
+add_node-requires-clause-unused c =
+    unused (world_of c.reserve_node.new.self) c.args.number
+    (subst (λ rs. HasNumbersBelow (world_in rs) c.args.number) (sym c.in_ok-reserve_node.ensures.rows) c.requires)
