@@ -30,12 +30,17 @@ bytes-of w p bytes h = by (file_at w p) h
 number-seen : (w : World) → IsWorld w → (p : List (List ℕ)) → finmap.get w.paths p ≡ option_map (λ (s : Seen). s.number) (look w p)
 unfolding look seen_as
 number-seen w is p =
-    elim (finmap.get w.paths p) as (λ o. finmap.get w.paths p ≡ o → o ≡ option_map (λ (s : Seen). s.number) (option_and_then (λ n. option_map (seen_as w p n) (finmap.get w.files n)) o)) [
+    elim (finmap.get w.paths p) as (λ o. finmap.get w.paths p ≡ o
+    → o ≡ option_map (λ (s : Seen). s.number) (option_and_then (λ n. option_map (seen_as w p n) (finmap.get w.files n)) o)) [
       | None ↦ λ _. refl
-      | Some n ↦ λ there. let f = is_value (finmap.get w.files n) (is.files p n there) in sym (ap (λ o. option_map (λ (s : Seen). s.number) (option_map (seen_as w p n) o)) f.1)
+      | Some n ↦
+          λ there.
+          let f = is_value (finmap.get w.files n) (is.files p n there) in
+          sym (ap (λ o. option_map (λ (s : Seen). s.number) (option_map (seen_as w p n) o)) f.1)
     ] refl
 
-pub same-file : (w : World) → IsWorld w → (old new : List (List ℕ)) → are_same (finmap.get w.paths old) (finmap.get w.paths new) ≡ are_same_seen (look w old) (look w new)
+pub same-file : (w : World) → IsWorld w → (old new : List (List ℕ))
+    → are_same (finmap.get w.paths old) (finmap.get w.paths new) ≡ are_same_seen (look w old) (look w new)
 same-file w is old new = (λ i. are_same (number-seen w is old i) (number-seen w is new i)) ∙ by (look w old) (look w new)
   where
     by : (o p : Option Seen) → are_same (option_map (λ (s : Seen). s.number) o) (option_map (λ (s : Seen). s.number) p) ≡ are_same_seen o p
@@ -47,7 +52,8 @@ pub renamed-nothing : (w : World) → IsWorld w → (old new : List (List ℕ)) 
 unfolding after_rename
 renamed-nothing w is old new e = ap (λ b. if b then w else without_lost (with_move w old new) (finmap.get w.paths new)) (same-file w is old new ∙ e)
 
-pub renamed-moved : (w : World) → IsWorld w → (old new : List (List ℕ)) → are_same_seen (look w old) (look w new) ≡ false → after_rename w old new ≡ without_lost (with_move w old new) (finmap.get w.paths new)
+pub renamed-moved : (w : World) → IsWorld w → (old new : List (List ℕ)) → are_same_seen (look w old) (look w new) ≡ false
+    → after_rename w old new ≡ without_lost (with_move w old new) (finmap.get w.paths new)
 unfolding after_rename
 renamed-moved w is old new e = ap (λ b. if b then w else without_lost (with_move w old new) (finmap.get w.paths new)) (same-file w is old new ∙ e)
 
@@ -55,7 +61,8 @@ pub exchanged-nothing : (w : World) → IsWorld w → (old new : List (List ℕ)
 unfolding after_exchange
 exchanged-nothing w is old new e = ap (λ b. if b then w else with_swap w old new) (same-file w is old new ∙ e)
 
-pub exchanged-swapped : (w : World) → IsWorld w → (old new : List (List ℕ)) → are_same_seen (look w old) (look w new) ≡ false → after_exchange w old new ≡ with_swap w old new
+pub exchanged-swapped : (w : World) → IsWorld w → (old new : List (List ℕ)) → are_same_seen (look w old) (look w new) ≡ false
+    → after_exchange w old new ≡ with_swap w old new
 unfolding after_exchange
 exchanged-swapped w is old new e = ap (λ b. if b then w else with_swap w old new) (same-file w is old new ∙ e)
 
@@ -71,9 +78,12 @@ other-paths at old new there off same = by (at old) there (ap (λ p. are_same_se
 
 nameless : (w : World) → IsWorld w → (p : List (List ℕ)) → is_directory_seen (look w p) ≡ false → has_names w p ≡ false
 unfolding has_names
-nameless w is p regular = keys-none path_total path_exact (λ q. is_below q p) w.paths (λ q found. is_below-false p q (λ l s e. regular-seen w p regular (is.fronts p l s (ap (λ x. is_some (finmap.get w.paths x)) (sym e) ∙ found))))
+nameless w is p regular =
+    keys-none path_total path_exact (λ q. is_below q p) w.paths
+    (λ q found. is_below-false p q (λ l s e. regular-seen w p regular (is.fronts p l s (ap (λ x. is_some (finmap.get w.paths x)) (sym e) ∙ found))))
 
-pub nameless-seen : (w : World) → IsWorld w → (p : List (List ℕ)) → IsSome (look w p) → is_directory_seen (look w p) ≡ false → IsSomeAnd (look w p) (λ (s : Seen). s.has_names ≡ false)
+pub nameless-seen : (w : World) → IsWorld w → (p : List (List ℕ)) → IsSome (look w p) → is_directory_seen (look w p) ≡ false
+    → IsSomeAnd (look w p) (λ (s : Seen). s.has_names ≡ false)
 unfolding seen_as
 nameless-seen w is p there regular =
     let s = is_value (look w p) there in
@@ -81,7 +91,9 @@ nameless-seen w is p there regular =
     subst (λ o. IsSomeAnd o (λ (r : Seen). r.has_names ≡ false)) (sym s.1) (ap (λ (r : Seen). r.has_names) (sym at.seen) ∙ nameless w is p regular)
 
 pub regular-named : (w : World) → IsWorld w → (p : List (List ℕ)) → is_directory_seen (look w p) ≡ false → p ≢ []
-regular-named w is p regular e = let yes : is_directory_seen (look w p) ≡ true = ap (λ q. is_directory_seen (look w q)) e ∙ seen-directory w [] is.root_directory in let clash : true ≡ false = sym yes ∙ regular in cc
+regular-named w is p regular e =
+    let yes : is_directory_seen (look w p) ≡ true = ap (λ q. is_directory_seen (look w q)) e ∙ seen-directory w [] is.root_directory in
+    let clash : true ≡ false = sym yes ∙ regular in cc
 
 pub empty-seen : (o : Option Seen) → IsSome o → has_names_seen o ≡ false → IsSomeAnd o (λ s. s.has_names ≡ false)
 empty-seen None there e = absurd (cc)

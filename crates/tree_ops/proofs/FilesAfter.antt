@@ -61,7 +61,8 @@ made w p n f used k one h = elim (new-file w p n f k h) [ inl was ↦ inl was | 
 changed : (w : World) (p : List Label) (change : File → File) (k : ℕ) → IsThere (changed_at w p change) k → IsThere w k
 changed w p change k h = sym (numbers-changed w p change k) ∙ h
 
-pub files-numbered : (w : World) (counts : Counts) (call : FileCall) (k : ℕ) → IsThere (after w counts call) k → IsThere w k ⊎ ((k ≡ counts.next_number) × (numbers_of call ≡ 1))
+pub files-numbered : (w : World) (counts : Counts) (call : FileCall) (k : ℕ) → IsThere (after w counts call) k
+    → IsThere w k ⊎ ((k ≡ counts.next_number) × (numbers_of call ≡ 1))
 files-numbered w counts (Create p mode) k h = made w p counts.next_number _ (numbers_of (Create p mode)) k refl h
 files-numbered w counts (Mkdir p mode) k h = made w p counts.next_number _ (numbers_of (Mkdir p mode)) k refl h
 files-numbered w counts (Write p offset bytes) k h = inl (changed w p (λ f. record f { bytes = written offset bytes f.bytes }) k h)
@@ -72,7 +73,8 @@ files-numbered w counts (Link old new) k h = inl (new-path w new (finmap.get w.p
 files-numbered w counts (Unlink p) k h = inl (after-unlink w p k h)
 files-numbered w counts (Rmdir p) k h = inl (after-unlink w p k h)
 files-numbered w counts (Rename old new) k h = inl (after-rename w old new k h)
-files-numbered w counts (Rename2 old new flags) k h = inl (by-flags (λ v. IsThere v k → IsThere w k) w old new flags (λ _. after-exchange w old new k) (λ _. after-rename w old new k) h)
+files-numbered w counts (Rename2 old new flags) k h =
+    inl (by-flags (λ v. IsThere v k → IsThere w k) w old new flags (λ _. after-exchange w old new k) (λ _. after-rename w old new k) h)
 files-numbered w counts (Status p) k h = inl h
 files-numbered w counts (Listed p) k h = inl h
 
@@ -83,7 +85,8 @@ pub record IsAlone (w : World) (p : List Label) (n : ℕ) : Type 0 where
   pub there : finmap.get w.paths p ≡ Some n
   pub links : links w n ≡ 1
 
-alone : (w v : World) (p : List Label) (n : ℕ) → finmap.get w.paths p ≡ Some n → ((q : List Label) → finmap.get w.paths q ≡ Some n → q ≢ p → (r : List Label) × (finmap.get v.paths r ≡ Some n)) → links v n ≡ 0 → links w n ≡ 1
+alone : (w v : World) (p : List Label) (n : ℕ) → finmap.get w.paths p ≡ Some n
+    → ((q : List Label) → finmap.get w.paths q ≡ Some n → q ≢ p → (r : List Label) × (finmap.get v.paths r ≡ Some n)) → links v n ≡ 0 → links w n ≡ 1
 unfolding links
 alone w v p n at others gone =
     let only : (q : List Label) → finmap.get w.paths q ≡ Some n → q ≡ p = λ q to. elim (decide_path q p) [
@@ -98,7 +101,8 @@ IsAlone-unlink w p n h gone =
     let lost = lost-is (without_path w p) (finmap.get w.paths p) n (subst (λ fs. IsSome (finmap.get fs n)) (sym (files-left w p)) h) gone in
     record { there = lost.0; links = alone w (without_path w p) p n lost.0 (λ q to off. (q, dropped-other w p q off ∙ to)) lost.1 }
 
-pub IsAlone-rename : (w : World) → IsWorld w → (old new : List Label) (n : ℕ) → RenameKnown (look w) old new → IsThere w n → finmap.get (after_rename w old new).files n ≡ None
+pub IsAlone-rename : (w : World) → IsWorld w → (old new : List Label) (n : ℕ) → RenameKnown (look w) old new → IsThere w n
+    → finmap.get (after_rename w old new).files n ≡ None
     → (are_same_seen (look w old) (look w new) ≡ false) × IsAlone w new n
 IsAlone-rename w is old new n known h =
     by-same (λ v. finmap.get v.files n ≡ None → (are_same_seen (look w old) (look w new) ≡ false) × IsAlone w new n) w old new
@@ -117,7 +121,8 @@ unfolding with_file
 stays-made w p n f k h gone =
     elim (cases_eq k n) [
       | inl e ↦ some_none gone (ap (finmap.get (finmap.insert w.files n f)) e ∙ get-insert_here nat_cmp_total nat_cmp-IsAntisymmetric w.files n f)
-      | inr off ↦ let g = is_value (finmap.get w.files k) h in some_none (sym (get-insert_other nat_cmp_total nat_cmp-IsAntisymmetric w.files n f k off) ∙ gone) g.1
+      | inr off ↦
+          let g = is_value (finmap.get w.files k) h in some_none (sym (get-insert_other nat_cmp_total nat_cmp-IsAntisymmetric w.files n f k off) ∙ gone) g.1
     ]
 
 there-none : (o : Option File) → IsSome o → o ≢ None
@@ -144,7 +149,8 @@ Goes w (Rename old new) n = (are_same_seen (look w old) (look w new) ≡ false) 
 Goes w (Rename2 old new flags) n = ((flags == RENAME_EXCHANGE) ≡ false) × (are_same_seen (look w old) (look w new) ≡ false) × IsAlone w new n
 Goes w _ n = ⊥
 
-pub gone-goes : (w : World) → IsWorld w → (limits : Limits) (counts : Counts) (call : FileCall) (n : ℕ) → refused w limits counts call ≡ None → IsThere w n → finmap.get (after w counts call).files n ≡ None → Goes w call n
+pub gone-goes : (w : World) → IsWorld w → (limits : Limits) (counts : Counts) (call : FileCall) (n : ℕ)
+    → refused w limits counts call ≡ None → IsThere w n → finmap.get (after w counts call).files n ≡ None → Goes w call n
 unfolding refusal_seen
 gone-goes w is limits counts (Create p mode) n e h gone = stays-made w p counts.next_number _ n h gone
 gone-goes w is limits counts (Mkdir p mode) n e h gone = stays-made w p counts.next_number _ n h gone

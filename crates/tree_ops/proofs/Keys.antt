@@ -33,7 +33,8 @@ module _ {K : Type 0} {R : K → K → Ordering} (total : IsTotalOrder R) (exact
   ]
 
 -- what is under a key after a removal was there
-pub get-remove_was : {K : Type 0} {R : K → K → Ordering} (total : IsTotalOrder R) {X : Type 0} (m : FinMap R X) (k q : K) (x : X) → finmap.get (finmap.remove m k) q ≡ Some x → finmap.get m q ≡ Some x
+pub get-remove_was : {K : Type 0} {R : K → K → Ordering} (total : IsTotalOrder R) {X : Type 0} (m : FinMap R X) (k q : K) (x : X)
+    → finmap.get (finmap.remove m k) q ≡ Some x → finmap.get m q ≡ Some x
 get-remove_was {R = R} total m k q x e = by (eq_by_cmp R q k) (sym (get-remove total m k q) ∙ e)
   where
     by : (b : Bool) → cond b None (finmap.get m q) ≡ Some x → finmap.get m q ≡ Some x

@@ -25,10 +25,12 @@ stays true f e = refl
 stays false true e = absurd (cc)
 stays false false e = absurd (cc)
 
-pub rename-stays : (w : World) → IsWorld w → (counts : Counts) (old new : List (List ℕ)) → moves_of w (Rename old new) ≡ Nothing → after w counts (Rename old new) ≡ w
+pub rename-stays : (w : World) → IsWorld w → (counts : Counts) (old new : List (List ℕ)) → moves_of w (Rename old new) ≡ Nothing
+    → after w counts (Rename old new) ≡ w
 rename-stays w is counts old new e = renamed-nothing w is old new (stays (are_same_seen (look w old) (look w new)) false e)
 
-pub rename2-stays : (w : World) → IsWorld w → (counts : Counts) (old new : List (List ℕ)) (flags : ℕ) → moves_of w (Rename2 old new flags) ≡ Nothing → after w counts (Rename2 old new flags) ≡ w
+pub rename2-stays : (w : World) → IsWorld w → (counts : Counts) (old new : List (List ℕ)) (flags : ℕ)
+    → moves_of w (Rename2 old new flags) ≡ Nothing → after w counts (Rename2 old new flags) ≡ w
 rename2-stays w is counts old new flags e = by (flags == RENAME_EXCHANGE)
   where
     same : are_same_seen (look w old) (look w new) ≡ true
@@ -50,7 +52,8 @@ pub record MoveKnown (at : Look) (old new : List (List ℕ)) : Type 0 where
   pub apart : are_same_seen (at old) (at new) ≡ false
   pub known : RenameKnown at old new
 
-pub moves-known : (at : Look) (limits : Limits) (counts : Counts) (call : FileCall) → first_row (rows_of at limits counts call) ≡ None → moves_seen at call ≡ Move → MoveKnown at (path_of call) (other_path_of call)
+pub moves-known : (at : Look) (limits : Limits) (counts : Counts) (call : FileCall) → first_row (rows_of at limits counts call) ≡ None
+    → moves_seen at call ≡ Move → MoveKnown at (path_of call) (other_path_of call)
 moves-known at limits counts (Rename old new) none e =
     record { apart = (moved (are_same_seen (at old) (at new)) false e).0; known = rename-known at limits counts old new none }
 moves-known at limits counts (Rename2 old new flags) none e =
@@ -78,14 +81,16 @@ pub record SwapKnown (at : Look) (old new : List (List ℕ)) : Type 0 where
   pub apart : are_same_seen (at old) (at new) ≡ false
   pub known : ExchangeKnown at old new
 
-pub swaps-known : (at : Look) (limits : Limits) (counts : Counts) (call : FileCall) → first_row (rows_of at limits counts call) ≡ None → moves_seen at call ≡ Exchange → SwapKnown at (path_of call) (other_path_of call)
+pub swaps-known : (at : Look) (limits : Limits) (counts : Counts) (call : FileCall) → first_row (rows_of at limits counts call) ≡ None
+    → moves_seen at call ≡ Exchange → SwapKnown at (path_of call) (other_path_of call)
 swaps-known at limits counts (Rename old new) none e = absurd (let no = (exchanged (are_same_seen (at old) (at new)) false e).1 in cc)
 swaps-known at limits counts (Rename2 old new flags) none e =
     let is = exchanged (are_same_seen (at old) (at new)) (flags == RENAME_EXCHANGE) e in
     record { apart = is.0; known = exchange-known at limits counts old new flags none is.1 }
 swaps-known at limits counts _ none e = absurd (cc)
 
-pub swaps-world : (w : World) → IsWorld w → (counts : Counts) (call : FileCall) → moves_of w call ≡ Exchange → after w counts call ≡ with_swap w (path_of call) (other_path_of call)
+pub swaps-world : (w : World) → IsWorld w → (counts : Counts) (call : FileCall) → moves_of w call ≡ Exchange
+    → after w counts call ≡ with_swap w (path_of call) (other_path_of call)
 swaps-world w is counts (Rename old new) e = absurd (let no = (exchanged (are_same_seen (look w old) (look w new)) false e).1 in cc)
 swaps-world w is counts (Rename2 old new flags) e =
     let known = exchanged (are_same_seen (look w old) (look w new)) (flags == RENAME_EXCHANGE) e in

@@ -19,7 +19,8 @@ use Rattle.tree_ops.specs.After.{names_in, in_order, marked, only_name}
 find-marked : (ls : List Label) (q : Label) → find (slice_cmp nat_cmp) q (marked ls) ≡ cond (list_any (eq_by_cmp (slice_cmp nat_cmp) q) ls) (Some tt) None
 find-marked [] q = refl
 find-marked (l ∷ ls) q =
-    elim (eq_by_cmp (slice_cmp nat_cmp) q l) as (λ b. cond b (Some tt) (find (slice_cmp nat_cmp) q (marked ls)) ≡ cond (b || list_any (eq_by_cmp (slice_cmp nat_cmp) q) ls) (Some tt) None) [
+    elim (eq_by_cmp (slice_cmp nat_cmp) q l) as (λ b. cond b (Some tt) (find (slice_cmp nat_cmp) q (marked ls))
+    ≡ cond (b || list_any (eq_by_cmp (slice_cmp nat_cmp) q) ls) (Some tt) None) [
       | true ↦ refl
       | false ↦ find-marked ls q
     ]
@@ -30,19 +31,22 @@ both false b x y = x
 
 below-marked : (x : Label) (ks : List Label) → AllByRecursion (λ y. slice_cmp nat_cmp x y ≡ Less) ks → T (below_all (slice_cmp nat_cmp) x (marked ks))
 below-marked x [] h = tt
-below-marked x (k ∷ ks) h = both (is_lt (slice_cmp nat_cmp x k)) (below_all (slice_cmp nat_cmp) x (marked ks)) (subst (λ o. T (is_lt o)) (sym h.0) tt) (below-marked x ks h.1)
+below-marked x (k ∷ ks) h =
+    both (is_lt (slice_cmp nat_cmp x k)) (below_all (slice_cmp nat_cmp) x (marked ks)) (subst (λ o. T (is_lt o)) (sym h.0) tt) (below-marked x ks h.1)
 
 sorted-marked : (ks : List Label) → IsStrictlySortedBy (slice_cmp nat_cmp) ks → T (is_sorted (slice_cmp nat_cmp) (marked ks))
 unfolding IsStrictlySortedBy
 sorted-marked [] h = tt
-sorted-marked (k ∷ ks) h = both (below_all (slice_cmp nat_cmp) k (marked ks)) (is_sorted (slice_cmp nat_cmp) (marked ks)) (below-marked k ks h.0) (sorted-marked ks h.1)
+sorted-marked (k ∷ ks) h =
+    both (below_all (slice_cmp nat_cmp) k (marked ks)) (is_sorted (slice_cmp nat_cmp) (marked ks)) (below-marked k ks h.0) (sorted-marked ks h.1)
 
 keys-marked : (ks : List Label) → map (λ (e : Label × Unit {0}). e.0) (marked ks) ≡ ks
 keys-marked [] = refl
 keys-marked (k ∷ ks) = ap (λ l. k ∷ l) (keys-marked ks)
 
 -- the names of a list in order are the list that is in order and has the same ones
-in_order-is : (ls ks : List Label) → IsStrictlySortedBy (slice_cmp nat_cmp) ks → ((q : Label) → list_any (eq_by_cmp (slice_cmp nat_cmp) q) ls ≡ list_any (eq_by_cmp (slice_cmp nat_cmp) q) ks) → in_order ls ≡ ks
+in_order-is : (ls ks : List Label) → IsStrictlySortedBy (slice_cmp nat_cmp) ks
+    → ((q : Label) → list_any (eq_by_cmp (slice_cmp nat_cmp) q) ls ≡ list_any (eq_by_cmp (slice_cmp nat_cmp) q) ks) → in_order ls ≡ ks
 in_order-is ls ks sorted same =
     let order = sorted-marked ks sorted in
     let one = finmap.from_entries {R = slice_cmp nat_cmp} (marked ls) in
@@ -71,10 +75,13 @@ name-at : (p : List Label) (q : Label) → only_name (rest_after p (p ++ q ∷ [
 name-at p q = ap only_name (rest_after-append p (q ∷ []))
 
 -- a name is among those of the paths in the directory where its path is among the paths
-among : (p : List Label) (q : Label) (ps : List (List Label)) → list_any (eq_by_cmp (slice_cmp nat_cmp) q) (filter_map (λ r. only_name (rest_after p r)) ps) ≡ list_any (eq_by_cmp path_cmp (p ++ q ∷ [])) ps
+among : (p : List Label) (q : Label) (ps : List (List Label))
+    → list_any (eq_by_cmp (slice_cmp nat_cmp) q) (filter_map (λ r. only_name (rest_after p r)) ps) ≡ list_any (eq_by_cmp path_cmp (p ++ q ∷ [])) ps
 among p q [] = refl
 among p q (r ∷ ps) =
-    elim (only_name (rest_after p r)) as (λ o. only_name (rest_after p r) ≡ o → list_any (eq_by_cmp (slice_cmp nat_cmp) q) (cons_option o (filter_map (λ r. only_name (rest_after p r)) ps)) ≡ (eq_by_cmp path_cmp (p ++ q ∷ []) r || list_any (eq_by_cmp path_cmp (p ++ q ∷ [])) ps)) [
+    elim (only_name (rest_after p r)) as (λ o. only_name (rest_after p r) ≡ o
+    → list_any (eq_by_cmp (slice_cmp nat_cmp) q) (cons_option o (filter_map (λ r. only_name (rest_after p r)) ps))
+    ≡ (eq_by_cmp path_cmp (p ++ q ∷ []) r || list_any (eq_by_cmp path_cmp (p ++ q ∷ [])) ps)) [
       | None ↦ λ e.
           let off : eq_by_cmp path_cmp (p ++ q ∷ []) r ≡ false = elim (tie path_total path_exact (p ++ q ∷ []) r) [
             | inl w ↦ absurd (let clash : None ≡ Some q = sym e ∙ ap (λ x. only_name (rest_after p x)) (sym w.0) ∙ name-at p q in cc)
@@ -85,7 +92,9 @@ among p q (r ∷ ps) =
           let is : r ≡ p ++ m ∷ [] = name-of p r m e in
           let here : eq_by_cmp (slice_cmp nat_cmp) q m ≡ eq_by_cmp path_cmp (p ++ q ∷ []) r = same-test _ _
           (λ t. itself path_total path_exact (p ++ q ∷ []) r (ap (λ x. p ++ x ∷ []) (tested nat_list_cmp_total name_exact q m t) ∙ sym is))
-          (λ t. let names : Some q ≡ Some m = sym (name-at p q) ∙ ap (λ x. only_name (rest_after p x)) (tested path_total path_exact (p ++ q ∷ []) r t) ∙ e in itself nat_list_cmp_total name_exact q m (cc)) in
+          (λ t.
+          let names : Some q ≡ Some m = sym (name-at p q) ∙ ap (λ x. only_name (rest_after p x)) (tested path_total path_exact (p ++ q ∷ []) r t) ∙ e in
+          itself nat_list_cmp_total name_exact q m (cc)) in
           (λ i. here i || among p q ps i)
     ] refl
 

@@ -77,7 +77,8 @@ below-unlink w p next h = below-lost (without_path w p) (finmap.get w.paths p) n
 below-rename : (w : World) (old new : List (List ℕ)) (next : ℕ) → Below w next → Below (after_rename w old new) next
 unfolding after_rename
 below-rename w old new next h =
-    elim (are_same (finmap.get w.paths old) (finmap.get w.paths new)) as (λ b. Below (if b then w else without_lost (with_move w old new) (finmap.get w.paths new)) next) [
+    elim (are_same (finmap.get w.paths old) (finmap.get w.paths new))
+    as (λ b. Below (if b then w else without_lost (with_move w old new) (finmap.get w.paths new)) next) [
       | true ↦ h
       | false ↦ below-lost (with_move w old new) (finmap.get w.paths new) next (below-moved w old new next h)
     ]
@@ -94,7 +95,8 @@ below-exchange w old new next h =
       | false ↦ below-swapped w old new next h
     ]
 
-below-rename2 : (b : Bool) (w : World) (old new : List (List ℕ)) (next : ℕ) → Below w next → Below (if b then after_exchange w old new else after_rename w old new) next
+below-rename2 : (b : Bool) (w : World) (old new : List (List ℕ)) (next : ℕ) → Below w next
+    → Below (if b then after_exchange w old new else after_rename w old new) next
 below-rename2 true w old new next h = below-exchange w old new next h
 below-rename2 false w old new next h = below-rename w old new next h
 
@@ -108,15 +110,18 @@ below-after w counts (Write p offset bytes) h = none (after w counts (Write p of
 below-after w counts (ReadFile p offset count) h = none (after w counts (ReadFile p offset count)) counts.next_number h
 below-after w counts (Truncate p len) h = none (after w counts (Truncate p len)) counts.next_number (below-changed w p _ counts.next_number h)
 below-after w counts (Chmod p mode) h = none (after w counts (Chmod p mode)) counts.next_number (below-changed w p _ counts.next_number h)
-below-after w counts (Link old new) h = none (after w counts (Link old new)) counts.next_number (below-linked w new (finmap.get w.paths old) counts.next_number h)
+below-after w counts (Link old new) h =
+    none (after w counts (Link old new)) counts.next_number (below-linked w new (finmap.get w.paths old) counts.next_number h)
 below-after w counts (Unlink p) h = none (after w counts (Unlink p)) counts.next_number (below-unlink w p counts.next_number h)
 below-after w counts (Rmdir p) h = none (after w counts (Rmdir p)) counts.next_number (below-unlink w p counts.next_number h)
 below-after w counts (Rename old new) h = none (after w counts (Rename old new)) counts.next_number (below-rename w old new counts.next_number h)
-below-after w counts (Rename2 old new flags) h = none (after w counts (Rename2 old new flags)) counts.next_number (below-rename2 (flags == RENAME_EXCHANGE) w old new counts.next_number h)
+below-after w counts (Rename2 old new flags) h =
+    none (after w counts (Rename2 old new flags)) counts.next_number (below-rename2 (flags == RENAME_EXCHANGE) w old new counts.next_number h)
 below-after w counts (Status p) h = none (after w counts (Status p)) counts.next_number h
 below-after w counts (Listed p) h = none (after w counts (Listed p)) counts.next_number h
 
-pub numbers-after : (w : World) (counts : Counts) (call : FileCall) → HasNumbersBelow w counts.next_number → HasNumbersBelow (after w counts call) (counts.next_number + numbers_of call)
+pub numbers-after : (w : World) (counts : Counts) (call : FileCall) → HasNumbersBelow w counts.next_number
+    → HasNumbersBelow (after w counts call) (counts.next_number + numbers_of call)
 numbers-after w counts call h n there =
     let f = is_value (finmap.get (after w counts call).files n) there in
     below-after w counts call (λ m g e. h m (ap is_some e)) n f.0 f.1

@@ -32,7 +32,8 @@ row-false false r e = refl
 pub found-some : (at : Look) (p : List (List ℕ)) → find at p ≡ None → is_some (at p) ≡ true
 unfolding find
 found-some at p e =
-    elim (is_some (at p)) as (λ b. (if b then None else (if is_directory_seen (at (longest_there at p (length p))) then Some Enoent else Some Enotdir)) ≡ None → b ≡ true) [
+    elim (is_some (at p)) as (λ b.
+    (if b then None else (if is_directory_seen (at (longest_there at p (length p))) then Some Enoent else Some Enotdir)) ≡ None → b ≡ true) [
       | true ↦ λ _. refl
       | false ↦ λ f. by (is_directory_seen (at (longest_there at p (length p)))) f
     ] e
@@ -72,7 +73,8 @@ pub record MakeKnown (at : Look) (p : List (List ℕ)) : Type 0 where
   pub free : at p ≡ None
   pub named : p ≢ []
 
-pub make-known : (at : Look) (limits : Limits) (counts : Counts) (p : List (List ℕ)) (mode : ℕ) → first_row (make_rows at limits counts p mode) ≡ None → MakeKnown at p
+pub make-known : (at : Look) (limits : Limits) (counts : Counts) (p : List (List ℕ)) (mode : ℕ)
+    → first_row (make_rows at limits counts p mode) ≡ None → MakeKnown at p
 unfolding make_rows
 make-known at limits counts p mode e =
     let h = each-none (make_rows at limits counts p mode) e in
@@ -87,12 +89,14 @@ pub record FileKnown (at : Look) (p : List (List ℕ)) : Type 0 where
   pub there : is_some (at p) ≡ true
   pub regular : is_directory_seen (at p) ≡ false
 
-file-known : (at : Look) (p : List (List ℕ)) (r : Refusal) (rows : List (Option Refusal)) → first_row (find at p ∷ row (is_directory_seen (at p)) r ∷ rows) ≡ None → FileKnown at p
+file-known : (at : Look) (p : List (List ℕ)) (r : Refusal) (rows : List (Option Refusal))
+    → first_row (find at p ∷ row (is_directory_seen (at p)) r ∷ rows) ≡ None → FileKnown at p
 file-known at p r rows e =
     let h = each-none (find at p ∷ row (is_directory_seen (at p)) r ∷ rows) e in
     record { there = found-some at p h.0; regular = row-false (is_directory_seen (at p)) r h.1.0 }
 
-pub write-known : (at : Look) (limits : Limits) (p : List (List ℕ)) (offset count : ℕ) → first_row (write_rows at limits p offset count) ≡ None → FileKnown at p × ((nat_lt 0 count && nat_lt limits.file_bytes (offset + count)) ≡ false)
+pub write-known : (at : Look) (limits : Limits) (p : List (List ℕ)) (offset count : ℕ) → first_row (write_rows at limits p offset count) ≡ None
+    → FileKnown at p × ((nat_lt 0 count && nat_lt limits.file_bytes (offset + count)) ≡ false)
 unfolding write_rows
 write-known at limits p offset count e =
     let big = nat_lt 0 count && nat_lt limits.file_bytes (offset + count) in
@@ -161,11 +165,13 @@ move-empty : (limits : Limits) (counts : Counts) (old new : Option Seen) → fir
 unfolding move_rows
 move-empty limits counts old new e = row-false (has_names_seen new) Enotempty (each-none (move_rows limits counts old new) e).1.1.0
 
-pub rename-known : (at : Look) (limits : Limits) (counts : Counts) (old new : List (List ℕ)) → first_row (rename_rows at limits counts old new) ≡ None → RenameKnown at old new
+pub rename-known : (at : Look) (limits : Limits) (counts : Counts) (old new : List (List ℕ))
+    → first_row (rename_rows at limits counts old new) ≡ None → RenameKnown at old new
 unfolding rename_rows
 rename-known at limits counts old new e =
     let last = if are_same_seen (at old) (at new) then [] else move_rows limits counts (at old) (at new) in
-    let a = no-row (row ((length old == 0) || (length new == 0)) Ebusy) (find at old ∷ row (is_directory_seen (at old) && is_below new old) Einval ∷ parent at new ∷ last) e in
+    let a = no-row (row ((length old == 0) || (length new == 0)) Ebusy)
+    (find at old ∷ row (is_directory_seen (at old) && is_below new old) Einval ∷ parent at new ∷ last) e in
     let b = no-row (find at old) (row (is_directory_seen (at old) && is_below new old) Einval ∷ parent at new ∷ last) a.1 in
     let c = no-row (row (is_directory_seen (at old) && is_below new old) Einval) (parent at new ∷ last) b.1 in
     let d = no-row (parent at new) last c.1 in
@@ -180,7 +186,8 @@ rename-known at limits counts old new e =
     }
 
 -- what is known where nothing stands at the new path
-noreplace-known : (at : Look) (limits : Limits) (counts : Counts) (old new : List (List ℕ)) → first_row (noreplace_rows at limits counts old new) ≡ None → RenameKnown at old new
+noreplace-known : (at : Look) (limits : Limits) (counts : Counts) (old new : List (List ℕ))
+    → first_row (noreplace_rows at limits counts old new) ≡ None → RenameKnown at old new
 unfolding noreplace_rows
 noreplace-known at limits counts old new e =
     let h = each-none (noreplace_rows at limits counts old new) e in
@@ -202,13 +209,16 @@ pub record ExchangeKnown (at : Look) (old new : List (List ℕ)) : Type 0 where
   pub below : are_same_seen (at old) (at new) ≡ false → (is_directory_seen (at old) && is_below new old) ≡ false
   pub above : are_same_seen (at old) (at new) ≡ false → (is_directory_seen (at new) && is_below old new) ≡ false
 
-swap-apart : (limits : Limits) (counts : Counts) (old new : List (List ℕ)) (one other : Option Seen) → first_row (swap_rows limits counts old new one other) ≡ None
+swap-apart : (limits : Limits) (counts : Counts) (old new : List (List ℕ)) (one other : Option Seen)
+    → first_row (swap_rows limits counts old new one other) ≡ None
     → ((is_directory_seen one && is_below new old) ≡ false) × ((is_directory_seen other && is_below old new) ≡ false)
 unfolding swap_rows
 swap-apart limits counts old new one other e =
-    neither (is_directory_seen one && is_below new old) (is_directory_seen other && is_below old new) (row-false _ Einval (each-none (swap_rows limits counts old new one other) e).0)
+    neither (is_directory_seen one && is_below new old) (is_directory_seen other && is_below old new)
+    (row-false _ Einval (each-none (swap_rows limits counts old new one other) e).0)
 
-exchanged-known : (at : Look) (limits : Limits) (counts : Counts) (old new : List (List ℕ)) → first_row (exchange_rows at limits counts old new) ≡ None → ExchangeKnown at old new
+exchanged-known : (at : Look) (limits : Limits) (counts : Counts) (old new : List (List ℕ))
+    → first_row (exchange_rows at limits counts old new) ≡ None → ExchangeKnown at old new
 unfolding exchange_rows
 exchanged-known at limits counts old new e =
     let last = if are_same_seen (at old) (at new) then [] else swap_rows limits counts old new (at old) (at new) in
@@ -216,8 +226,10 @@ exchanged-known at limits counts old new e =
     let b = no-row (find at old) (find at new ∷ last) a.1 in
     let c = no-row (find at new) last b.1 in
     let names = neither (length old == 0) (length new == 0) (row-false ((length old == 0) || (length new == 0)) Ebusy a.0) in
-    let apart : are_same_seen (at old) (at new) ≡ false → ((is_directory_seen (at old) && is_below new old) ≡ false) × ((is_directory_seen (at new) && is_below old new) ≡ false) =
-    λ f. swap-apart limits counts old new (at old) (at new) (ap (λ b. first_row (if b then [] else swap_rows limits counts old new (at old) (at new))) (sym f) ∙ c.1) in
+    let apart : are_same_seen (at old) (at new) ≡ false
+    → ((is_directory_seen (at old) && is_below new old) ≡ false) × ((is_directory_seen (at new) && is_below old new) ≡ false) =
+    λ f. swap-apart limits counts old new (at old) (at new)
+    (ap (λ b. first_row (if b then [] else swap_rows limits counts old new (at old) (at new))) (sym f) ∙ c.1) in
     record {
       named = named-by old names.0;
       other_named = named-by new names.1;
@@ -248,7 +260,8 @@ module _ (at : Look) (limits : Limits) (counts : Counts) (old new : List (List �
   move-known flags e off = moves-if (flags == 0) (flags == RENAME_NOREPLACE) (flags == RENAME_EXCHANGE) e off
 
   -- an exchange
-  pub exchange-known : (flags : ℕ) → first_row (rename2_rows at limits counts old new flags) ≡ None → (flags == RENAME_EXCHANGE) ≡ true → ExchangeKnown at old new
+  pub exchange-known : (flags : ℕ) → first_row (rename2_rows at limits counts old new flags) ≡ None
+      → (flags == RENAME_EXCHANGE) ≡ true → ExchangeKnown at old new
   unfolding rename2_rows
   exchange-known flags e is =
       let two : flags ≡ RENAME_EXCHANGE = eqb-true flags RENAME_EXCHANGE is in

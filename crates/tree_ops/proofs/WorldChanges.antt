@@ -27,7 +27,8 @@ IsBlank f = f.kind ≡ Directory → f.bytes ≡ []
 
 -- ---- other files under the same paths
 
-module _ (w : World) (is : IsWorld w) (fs : FinMap nat_cmp File) (same : (p : List Label) (n : ℕ) → finmap.get w.paths p ≡ Some n → kind_in (finmap.get fs n) ≡ kind_in (finmap.get w.files n)) where
+module _ (w : World) (is : IsWorld w) (fs : FinMap nat_cmp File)
+    (same : (p : List Label) (n : ℕ) → finmap.get w.paths p ≡ Some n → kind_in (finmap.get fs n) ≡ kind_in (finmap.get w.files n)) where
   abbrev filed : World
   filed = record w { files = fs }
 
@@ -41,7 +42,8 @@ module _ (w : World) (is : IsWorld w) (fs : FinMap nat_cmp File) (same : (p : Li
   kind-same None (Some f) e h = absurd (cc)
   kind-same (Some g) (Some f) e h = same_some g.kind f.kind e ∙ h
 
-  at-same : (p : List Label) → (o : Option ℕ) → finmap.get w.paths p ≡ o → kind_in (option_and_then (finmap.get fs) o) ≡ kind_in (option_and_then (finmap.get w.files) o)
+  at-same : (p : List Label) → (o : Option ℕ) → finmap.get w.paths p ≡ o
+      → kind_in (option_and_then (finmap.get fs) o) ≡ kind_in (option_and_then (finmap.get w.files) o)
   at-same p None e = refl
   at-same p (Some n) e = same p n e
 
@@ -84,14 +86,16 @@ module _ (w : World) (p : List Label) (n : ℕ) where
   unfolding with_path
   directory-from x y e h = subst (λ o. IsSomeAnd (option_and_then (finmap.get w.files) o) (λ (f : File). f.kind ≡ Directory)) e h
 
-  directory-file : (x : List Label) → finmap.get (with_path w p n).paths x ≡ Some n → IsDirectoryAt (with_path w p n) x → (f : File) × (finmap.get w.files n ≡ Some f) × (f.kind ≡ Directory)
+  directory-file : (x : List Label) → finmap.get (with_path w p n).paths x ≡ Some n → IsDirectoryAt (with_path w p n) x
+      → (f : File) × (finmap.get w.files n ≡ Some f) × (f.kind ≡ Directory)
   unfolding with_path
   directory-file x at h =
       let d = directory-of (with_path w p n) x h in
       let number : d.number ≡ n = same_some d.number n (sym d.there ∙ at) in
       (d.file, ap (finmap.get w.files) (sym number) ∙ d.is, d.kind)
 
-  module _ (is : IsWorld w) (free : finmap.get w.paths p ≡ None) (q : List Label) (l : Label) (parts : p ≡ q ++ l ∷ []) (directory : IsDirectoryAt w q) (there : IsSome (finmap.get w.files n))
+  module _ (is : IsWorld w) (free : finmap.get w.paths p ≡ None) (q : List Label) (l : Label) (parts : p ≡ q ++ l ∷ [])
+      (directory : IsDirectoryAt w q) (there : IsSome (finmap.get w.files n))
       (alone : (f : File) → finmap.get w.files n ≡ Some f → f.kind ≡ Directory → (x : List Label) → finmap.get w.paths x ≢ Some n) where
     kept : (x : List Label) → IsDirectoryAt w x → IsDirectoryAt (with_path w p n) x
     kept x h = directory-moved x x (off-path x (λ e. directory-there w x h (ap (finmap.get w.paths) e ∙ free))) h
@@ -136,11 +140,14 @@ module _ (w : World) (p : List Label) (n : ℕ) where
       no_bytes = λ k f at. is.no_bytes k f (ap (λ fs. finmap.get fs k) (sym same-files) ∙ at);
     }
 
-  pub IsWhole-with_path : finmap.get w.paths p ≡ None → ((k : ℕ) → IsSome (finmap.get w.files k) → k ≢ n → (x : List Label) × (finmap.get w.paths x ≡ Some k)) → IsWhole (with_path w p n)
+  pub IsWhole-with_path : finmap.get w.paths p ≡ None
+      → ((k : ℕ) → IsSome (finmap.get w.files k) → k ≢ n → (x : List Label) × (finmap.get w.paths x ≡ Some k)) → IsWhole (with_path w p n)
   IsWhole-with_path free whole k h =
       elim (cases_eq k n) [
         | inl here ↦ (p, at-path ∙ ap Some (sym here))
-        | inr off ↦ let x = whole k (subst (λ fs. IsSome (finmap.get fs k)) same-files h) off in (x.0, off-path x.0 (λ e. some_none (ap (finmap.get w.paths) e ∙ free) x.1) ∙ x.1)
+        | inr off ↦
+            let x = whole k (subst (λ fs. IsSome (finmap.get fs k)) same-files h) off in
+            (x.0, off-path x.0 (λ e. some_none (ap (finmap.get w.paths) e ∙ free) x.1) ∙ x.1)
       ]
 
 -- ---- a new file
@@ -168,12 +175,14 @@ module _ (w : World) (is : IsWorld w) (n : ℕ) (unused : finmap.get w.files n �
   unfolding with_content
   filled blank = IsWorld-files w is (finmap.insert w.files n f) (λ p k at. ap kind_in (content-other k (λ e. unled p (at ∙ ap Some e)))) (filled-blank blank)
 
-  pub IsWorld-with_file : IsBlank f → (p : List Label) → finmap.get w.paths p ≡ None → (q : List Label) (l : Label) → p ≡ q ++ l ∷ [] → IsDirectoryAt w q → IsWorld (with_file w p n f)
+  pub IsWorld-with_file : IsBlank f → (p : List Label) → finmap.get w.paths p ≡ None → (q : List Label) (l : Label)
+      → p ≡ q ++ l ∷ [] → IsDirectoryAt w q → IsWorld (with_file w p n f)
   unfolding with_file with_path with_content
   IsWorld-with_file blank p free q l parts directory =
       let d = directory-of w q directory in
       IsWorld-with_path (with_content w n f) p n (filled blank) free q l parts
-      (directory-by (with_content w n f) q d.number d.file d.there (content-other d.number (λ e. some_none unused (ap (finmap.get w.files) (sym e) ∙ d.is)) ∙ d.is) d.kind)
+      (directory-by (with_content w n f) q d.number d.file d.there
+      (content-other d.number (λ e. some_none unused (ap (finmap.get w.files) (sym e) ∙ d.is)) ∙ d.is) d.kind)
       (ap is_some content-here) (λ g at kind x. unled x)
 
   pub IsWhole-with_file : IsWhole w → (p : List Label) → finmap.get w.paths p ≡ None → IsWhole (with_file w p n f)
@@ -183,7 +192,8 @@ module _ (w : World) (is : IsWorld w) (n : ℕ) (unused : finmap.get w.files n �
 
 -- ---- another content
 
-pub IsWorld-changed : (w : World) → IsWorld w → (p : List Label) (change : File → File) → ((f : File) → (change f).kind ≡ f.kind) → ((f : File) → file_at w p ≡ Some f → IsBlank f → IsBlank (change f)) → IsWorld (changed_at w p change)
+pub IsWorld-changed : (w : World) → IsWorld w → (p : List Label) (change : File → File) → ((f : File) → (change f).kind ≡ f.kind)
+    → ((f : File) → file_at w p ≡ Some f → IsBlank f → IsBlank (change f)) → IsWorld (changed_at w p change)
 unfolding changed_at with_content
 IsWorld-changed w is p change keeps blank =
     elim (finmap.get w.paths p) as (λ o. finmap.get w.paths p ≡ o → IsWorld (content_by w change o (option_and_then (finmap.get w.files) o))) [
@@ -196,7 +206,10 @@ IsWorld-changed w is p change keeps blank =
               ∙ ap Some (keeps f) ∙ sym (ap kind_in (ap (finmap.get w.files) e ∙ at))
           | inr off ↦ ap kind_in (get-insert_other nat_cmp_total nat_cmp-IsAntisymmetric w.files n (change f) k off)
         ]) (λ k g is_there. elim (cases_eq k n) [
-          | inl e ↦ subst IsBlank (same_some (change f) g (sym (get-insert_here nat_cmp_total nat_cmp-IsAntisymmetric w.files n (change f)) ∙ sym (ap (finmap.get (finmap.insert w.files n (change f))) e) ∙ is_there))
+          | inl e ↦
+              subst IsBlank (same_some (change f) g
+              (sym (get-insert_here nat_cmp_total nat_cmp-IsAntisymmetric w.files n (change f))
+              ∙ sym (ap (finmap.get (finmap.insert w.files n (change f))) e) ∙ is_there))
               (blank f (ap (option_and_then (finmap.get w.files)) there ∙ at) (is.no_bytes n f at))
           | inr off ↦ is.no_bytes k g (sym (get-insert_other nat_cmp_total nat_cmp-IsAntisymmetric w.files n (change f) k off) ∙ is_there)
         ])
@@ -204,20 +217,23 @@ IsWorld-changed w is p change keeps blank =
     ] refl
 
 -- a change keeps the numbers of files, and all paths
-pub numbers-changed : (w : World) (p : List Label) (change : File → File) (k : ℕ) → is_some (finmap.get (changed_at w p change).files k) ≡ is_some (finmap.get w.files k)
+pub numbers-changed : (w : World) (p : List Label) (change : File → File) (k : ℕ)
+    → is_some (finmap.get (changed_at w p change).files k) ≡ is_some (finmap.get w.files k)
 unfolding changed_at with_content
 numbers-changed w p change k =
-    elim (finmap.get w.paths p) as (λ o. is_some (finmap.get (content_by w change o (option_and_then (finmap.get w.files) o)).files k) ≡ is_some (finmap.get w.files k)) [
+    elim (finmap.get w.paths p) as (λ o. is_some (finmap.get (content_by w change o (option_and_then (finmap.get w.files) o)).files k)
+    ≡ is_some (finmap.get w.files k)) [
       | None ↦ refl
-      | Some n ↦ elim (finmap.get w.files n) as (λ o. finmap.get w.files n ≡ o → is_some (finmap.get (content_by w change (Some n) o).files k) ≡ is_some (finmap.get w.files k)) [
-        | None ↦ λ _. refl
-        | Some f ↦ λ at. elim (cases_eq k n) [
-          | inl e ↦
-              ap is_some (ap (finmap.get (finmap.insert w.files n (change f))) e ∙ get-insert_here nat_cmp_total nat_cmp-IsAntisymmetric w.files n (change f))
-              ∙ sym (ap is_some (ap (finmap.get w.files) e ∙ at))
-          | inr off ↦ ap is_some (get-insert_other nat_cmp_total nat_cmp-IsAntisymmetric w.files n (change f) k off)
-        ]
-      ] refl
+      | Some n ↦ elim (finmap.get w.files n) as (λ o. finmap.get w.files n ≡ o
+          → is_some (finmap.get (content_by w change (Some n) o).files k) ≡ is_some (finmap.get w.files k)) [
+            | None ↦ λ _. refl
+            | Some f ↦ λ at. elim (cases_eq k n) [
+              | inl e ↦
+                  ap is_some (ap (finmap.get (finmap.insert w.files n (change f))) e ∙ get-insert_here nat_cmp_total nat_cmp-IsAntisymmetric w.files n (change f))
+                  ∙ sym (ap is_some (ap (finmap.get w.files) e ∙ at))
+              | inr off ↦ ap is_some (get-insert_other nat_cmp_total nat_cmp-IsAntisymmetric w.files n (change f) k off)
+            ]
+          ] refl
     ]
 
 pub paths-changed : (w : World) (p : List Label) (change : File → File) → (changed_at w p change).paths ≡ w.paths
@@ -255,11 +271,15 @@ module _ (w : World) (p : List Label) where
 
   directory-left : (x : List Label) → x ≢ p → IsDirectoryAt w x → IsDirectoryAt (without_path w p) x
   unfolding without_path
-  directory-left x off h = subst (λ o. IsSomeAnd (option_and_then (finmap.get w.files) o) (λ (f : File). f.kind ≡ Directory)) (sym (get-remove_other path_total path_exact w.paths p x off)) h
+  directory-left x off h =
+      subst (λ o. IsSomeAnd (option_and_then (finmap.get w.files) o) (λ (f : File). f.kind ≡ Directory))
+      (sym (get-remove_other path_total path_exact w.paths p x off)) h
 
   left-directory : (x : List Label) → x ≢ p → IsDirectoryAt (without_path w p) x → IsDirectoryAt w x
   unfolding without_path
-  left-directory x off h = subst (λ o. IsSomeAnd (option_and_then (finmap.get w.files) o) (λ (f : File). f.kind ≡ Directory)) (get-remove_other path_total path_exact w.paths p x off) h
+  left-directory x off h =
+      subst (λ o. IsSomeAnd (option_and_then (finmap.get w.files) o) (λ (f : File). f.kind ≡ Directory))
+      (get-remove_other path_total path_exact w.paths p x off) h
 
   pub files-left : (without_path w p).files ≡ w.files
   unfolding without_path
@@ -340,12 +360,15 @@ IsWorld-lost w (Some n) is =
       | inr off ↦ subst IsWorld (sym (lost-not w n off)) is
     ]
 
-pub IsWhole-lost : (w : World) (o : Option ℕ) → ((k : ℕ) → IsSome (finmap.get w.files k) → o ≢ Some k → (p : List Label) × (finmap.get w.paths p ≡ Some k)) → IsWhole (without_lost w o)
+pub IsWhole-lost : (w : World) (o : Option ℕ)
+    → ((k : ℕ) → IsSome (finmap.get w.files k) → o ≢ Some k → (p : List Label) × (finmap.get w.paths p ≡ Some k)) → IsWhole (without_lost w o)
 IsWhole-lost w None whole = subst IsWhole (sym (lost-none w)) (λ k h. whole k h (λ e. some_none refl e))
 IsWhole-lost w (Some n) whole =
     elim (cases_eq (links w n) 0) [
       | inl e ↦ subst IsWhole (sym (lost-here w n e)) (λ k h.
-          let off : k ≢ n = λ is. let g = is_value (finmap.get (without_file w n).files k) h in some_none (ap (finmap.get (without_file w n).files) is ∙ removed-here w n) g.1 in
+          let off : k ≢ n = λ is.
+          let g = is_value (finmap.get (without_file w n).files k) h in
+          some_none (ap (finmap.get (without_file w n).files) is ∙ removed-here w n) g.1 in
           let p = whole k (subst (λ o. IsSome o) (removed-other w n k off) h) (λ is. off (sym (same_some n k is))) in
           (p.0, ap (λ m. finmap.get m p.0) (removed-paths w n) ∙ p.1))
       | inr off ↦ subst IsWhole (sym (lost-not w n off)) (λ k h. elim (cases_eq k n) [
@@ -362,14 +385,17 @@ numbers-lost w (Some n) k h =
       | inl e ↦
           let g : IsSome (finmap.get (without_file w n).files k) = subst (λ v. IsSome (finmap.get v.files k)) (lost-here w n e) h in
           elim (cases_eq k n) [
-            | inl is ↦ let f = is_value (finmap.get (without_file w n).files k) g in absurd (some_none (ap (finmap.get (without_file w n).files) is ∙ removed-here w n) f.1)
+            | inl is ↦
+                let f = is_value (finmap.get (without_file w n).files k) g in
+                absurd (some_none (ap (finmap.get (without_file w n).files) is ∙ removed-here w n) f.1)
             | inr off ↦ subst (λ o. IsSome o) (removed-other w n k off) g
           ]
       | inr off ↦ subst (λ v. IsSome (finmap.get v.files k)) (lost-not w n off) h
     ]
 
 pub lost-is : (w : World) (o : Option ℕ) (k : ℕ) → IsSome (finmap.get w.files k) → finmap.get (without_lost w o).files k ≡ None → (o ≡ Some k) × (links w k ≡ 0)
-lost-is w None k h gone = let f = is_value (finmap.get w.files k) h in absurd (some_none (ap (λ (v : World). finmap.get v.files k) (sym (lost-none w)) ∙ gone) f.1)
+lost-is w None k h gone =
+    let f = is_value (finmap.get w.files k) h in absurd (some_none (ap (λ (v : World). finmap.get v.files k) (sym (lost-none w)) ∙ gone) f.1)
 lost-is w (Some n) k h gone =
     let f = is_value (finmap.get w.files k) h in
     elim (cases_eq (links w n) 0) [

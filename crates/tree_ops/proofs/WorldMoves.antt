@@ -42,7 +42,8 @@ module _ (w : World) (from to : List Label) (apart : Avoids from to) (empty : (l
   unfolding with_move
   directory-moved x y e h = subst (λ o. IsSomeAnd (option_and_then (finmap.get w.files) o) (λ (f : File). f.kind ≡ Directory)) (sym e) h
 
-  came : (x : List Label) (n : ℕ) → now x ≡ Some n → ((s : List Label) × (x ≡ to ++ s) × (finmap.get w.paths (from ++ s) ≡ Some n)) ⊎ (Avoids from x × (finmap.get w.paths x ≡ Some n))
+  came : (x : List Label) (n : ℕ) → now x ≡ Some n
+      → ((s : List Label) × (x ≡ to ++ s) × (finmap.get w.paths (from ++ s) ≡ Some n)) ⊎ (Avoids from x × (finmap.get w.paths x ≡ Some n))
   came x n at = origin decide_label moves x n at
 
   -- a file that is not written over has a path still
@@ -57,7 +58,8 @@ module _ (w : World) (from to : List Label) (apart : Avoids from to) (empty : (l
       past [] e = off (e ∙ append-nil to)
       past (l ∷ s) e = some_none (ap (finmap.get w.paths) e ∙ empty l s) at
 
-  module _ (is : IsWorld w) (from_named : from ≢ []) (to_named : to ≢ []) (q : List Label) (k : Label) (parts : to ≡ q ++ k ∷ []) (directory : IsDirectoryAt w q) where
+  module _ (is : IsWorld w) (from_named : from ≢ []) (to_named : to ≢ []) (q : List Label) (k : Label) (parts : to ≡ q ++ k ∷ [])
+      (directory : IsDirectoryAt w q) where
     -- a directory that is above what moves and what it moves to stays where it is
     stays : (x : List Label) → IsDirectoryAt w x → Avoids from x → Avoids to x → IsDirectoryAt (with_move w from to) x
     stays x h off_from off_to = directory-moved x x (moves.others x off_from off_to) h
@@ -65,12 +67,14 @@ module _ (w : World) (from to : List Label) (apart : Avoids from to) (empty : (l
     longer-off : (front x : List Label) (l : Label) (s : List Label) → Avoids front (x ++ l ∷ s) → Avoids front x
     longer-off front x l s off r e = off (r ++ l ∷ s) (ap (λ y. y ++ l ∷ s) e ∙ append_assoc front r (l ∷ s))
 
-    fronts-to : (x : List Label) (l : Label) (s t : List Label) (n : ℕ) → x ++ l ∷ s ≡ to ++ t → finmap.get w.paths (from ++ t) ≡ Some n → IsDirectoryAt (with_move w from to) x
+    fronts-to : (x : List Label) (l : Label) (s t : List Label) (n : ℕ) → x ++ l ∷ s ≡ to ++ t
+        → finmap.get w.paths (from ++ t) ≡ Some n → IsDirectoryAt (with_move w from to) x
     fronts-to x l s t n e at =
         elim (begins to x) [
           | inl c ↦
               let rest : c.0 ++ l ∷ s ≡ t = append-cancel to (c.0 ++ l ∷ s) t (sym (append_assoc to c.0 (l ∷ s)) ∙ sym (ap (λ y. y ++ l ∷ s) c.1) ∙ e) in
-              let there : finmap.get w.paths ((from ++ c.0) ++ l ∷ s) ≡ Some n = ap (finmap.get w.paths) (append_assoc from c.0 (l ∷ s) ∙ ap (λ y. from ++ y) rest) ∙ at in
+              let there : finmap.get w.paths ((from ++ c.0) ++ l ∷ s) ≡ Some n =
+              ap (finmap.get w.paths) (append_assoc from c.0 (l ∷ s) ∙ ap (λ y. from ++ y) rest) ∙ at in
               directory-moved x (from ++ c.0) (ap now c.1 ∙ moves.moved c.0) (is.fronts (from ++ c.0) l s (ap is_some there))
           | inr off ↦ above x l s t off e
         ]
@@ -96,7 +100,8 @@ module _ (w : World) (from to : List Label) (apart : Avoids from to) (empty : (l
         beyond (m ∷ r) l s = ap (finmap.get w.paths) (append_assoc to (m ∷ r) (l ∷ s)) ∙ empty m (r ++ l ∷ s)
 
     -- a directory had one path
-    one : (n : ℕ) (f : File) → finmap.get w.files n ≡ Some f → f.kind ≡ Directory → (x y : List Label) → finmap.get w.paths x ≡ Some n → finmap.get w.paths y ≡ Some n → x ≡ y
+    one : (n : ℕ) (f : File) → finmap.get w.files n ≡ Some f → f.kind ≡ Directory → (x y : List Label)
+        → finmap.get w.paths x ≡ Some n → finmap.get w.paths y ≡ Some n → x ≡ y
     one n f file kind x y at_x at_y = is.one_path x y (directory-by w x n f at_x file kind) (at_x ∙ sym at_y)
 
     one_path : (x y : List Label) → IsDirectoryAt (with_move w from to) x → now x ≡ now y → x ≡ y

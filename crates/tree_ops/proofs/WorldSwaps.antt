@@ -49,9 +49,11 @@ module _ (w : World) (one other : List Label) (below : Avoids one other) (above 
       let x = whole n (subst (λ fs. IsSome (finmap.get fs n)) (swapped-files w one other) h) in
       (turn x.0, led (turn x.0) ∙ ap (finmap.get w.paths) (twice x.0) ∙ x.1)
 
-  module _ (is : IsWorld w) (named : one ≢ []) (other_named : other ≢ []) (there : IsSome (finmap.get w.paths one)) (other_there : IsSome (finmap.get w.paths other)) where
+  module _ (is : IsWorld w) (named : one ≢ []) (other_named : other ≢ []) (there : IsSome (finmap.get w.paths one))
+      (other_there : IsSome (finmap.get w.paths other)) where
     -- what is above a path that is there is a directory
-    over : (p : List Label) → IsSome (finmap.get w.paths p) → (x : List Label) (l : Label) (s t : List Label) → Avoids p x → x ++ l ∷ s ≡ p ++ t → IsDirectoryAt w x
+    over : (p : List Label) → IsSome (finmap.get w.paths p) → (x : List Label) (l : Label) (s t : List Label) → Avoids p x
+        → x ++ l ∷ s ≡ p ++ t → IsDirectoryAt w x
     over p at x l s t off e =
         let u = under x p l s t off e in
         is.fronts x u.0 u.1 (subst (λ q. IsSome (finmap.get w.paths q)) u.2 at)
@@ -61,24 +63,32 @@ module _ (w : World) (one other : List Label) (below : Avoids one other) (above 
         let was : IsSome (finmap.get w.paths (turn (x ++ l ∷ s))) = subst (λ o. IsSome o) (led (x ++ l ∷ s)) h in
         directory-swapped x (elim (begins one x) [
           | inl c ↦
-              let path : turn (x ++ l ∷ s) ≡ (other ++ c.0) ++ l ∷ s = ap turn (ap (λ y. y ++ l ∷ s) c.1 ∙ append_assoc one c.0 (l ∷ s)) ∙ from-one one other below above apart (c.0 ++ l ∷ s) ∙ sym (append_assoc other c.0 (l ∷ s)) in
-              subst (IsDirectoryAt w) (sym (ap turn c.1 ∙ from-one one other below above apart c.0)) (is.fronts (other ++ c.0) l s (subst (λ q. IsSome (finmap.get w.paths q)) path was))
+              let path : turn (x ++ l ∷ s) ≡ (other ++ c.0) ++ l ∷ s =
+              ap turn (ap (λ y. y ++ l ∷ s) c.1 ∙ append_assoc one c.0 (l ∷ s))
+              ∙ from-one one other below above apart (c.0 ++ l ∷ s) ∙ sym (append_assoc other c.0 (l ∷ s)) in
+              subst (IsDirectoryAt w) (sym (ap turn c.1 ∙ from-one one other below above apart c.0))
+              (is.fronts (other ++ c.0) l s (subst (λ q. IsSome (finmap.get w.paths q)) path was))
           | inr off_one ↦ elim (begins other x) [
             | inl c ↦
-                let path : turn (x ++ l ∷ s) ≡ (one ++ c.0) ++ l ∷ s = ap turn (ap (λ y. y ++ l ∷ s) c.1 ∙ append_assoc other c.0 (l ∷ s)) ∙ from-other one other below above apart (c.0 ++ l ∷ s) ∙ sym (append_assoc one c.0 (l ∷ s)) in
-                subst (IsDirectoryAt w) (sym (ap turn c.1 ∙ from-other one other below above apart c.0)) (is.fronts (one ++ c.0) l s (subst (λ q. IsSome (finmap.get w.paths q)) path was))
+                let path : turn (x ++ l ∷ s) ≡ (one ++ c.0) ++ l ∷ s =
+                ap turn (ap (λ y. y ++ l ∷ s) c.1 ∙ append_assoc other c.0 (l ∷ s))
+                ∙ from-other one other below above apart (c.0 ++ l ∷ s) ∙ sym (append_assoc one c.0 (l ∷ s)) in
+                subst (IsDirectoryAt w) (sym (ap turn c.1 ∙ from-other one other below above apart c.0))
+                (is.fronts (one ++ c.0) l s (subst (λ q. IsSome (finmap.get w.paths q)) path was))
             | inr off_other ↦ subst (IsDirectoryAt w) (sym (elsewhere one other below above apart x off_one off_other)) (outside x l s off_one off_other was)
           ]
         ])
       where
         -- a path that begins with neither
-        outside : (x : List Label) (l : Label) (s : List Label) → Avoids one x → Avoids other x → IsSome (finmap.get w.paths (turn (x ++ l ∷ s))) → IsDirectoryAt w x
+        outside : (x : List Label) (l : Label) (s : List Label) → Avoids one x → Avoids other x
+            → IsSome (finmap.get w.paths (turn (x ++ l ∷ s))) → IsDirectoryAt w x
         outside x l s off_one off_other was =
             elim (begins one (x ++ l ∷ s)) [
               | inl c ↦ over one there x l s c.0 off_one c.1
               | inr past_one ↦ elim (begins other (x ++ l ∷ s)) [
                 | inl c ↦ over other other_there x l s c.0 off_other c.1
-                | inr past_other ↦ is.fronts x l s (subst (λ q. IsSome (finmap.get w.paths q)) (elsewhere one other below above apart (x ++ l ∷ s) past_one past_other) was)
+                | inr past_other ↦
+                    is.fronts x l s (subst (λ q. IsSome (finmap.get w.paths q)) (elsewhere one other below above apart (x ++ l ∷ s) past_one past_other) was)
               ]
             ]
 

@@ -46,7 +46,8 @@ pub record DirectoryAt (w : World) (p : List Label) : Type 0 where
 
 pub directory-of : (w : World) (p : List Label) → IsDirectoryAt w p → DirectoryAt w p
 directory-of w p h =
-    elim (finmap.get w.paths p) as (λ o. finmap.get w.paths p ≡ o → IsSomeAnd (option_and_then (finmap.get w.files) o) (λ (f : File). f.kind ≡ Directory) → DirectoryAt w p) [
+    elim (finmap.get w.paths p) as (λ o. finmap.get w.paths p ≡ o
+    → IsSomeAnd (option_and_then (finmap.get w.files) o) (λ (f : File). f.kind ≡ Directory) → DirectoryAt w p) [
       | None ↦ λ _ g. absurd g
       | Some n ↦ λ there g. elim (finmap.get w.files n) as (λ o. finmap.get w.files n ≡ o → IsSomeAnd o (λ (f : File). f.kind ≡ Directory) → DirectoryAt w p) [
         | None ↦ λ _ k. absurd k
@@ -54,7 +55,8 @@ directory-of w p h =
       ] refl g
     ] refl h
 
-pub directory-by : (w : World) (p : List Label) (n : ℕ) (f : File) → finmap.get w.paths p ≡ Some n → finmap.get w.files n ≡ Some f → f.kind ≡ Directory → IsDirectoryAt w p
+pub directory-by : (w : World) (p : List Label) (n : ℕ) (f : File) → finmap.get w.paths p ≡ Some n → finmap.get w.files n ≡ Some f
+    → f.kind ≡ Directory → IsDirectoryAt w p
 directory-by w p n f there is kind =
     subst (λ o. IsSomeAnd o (λ (g : File). g.kind ≡ Directory)) (sym (ap (option_and_then (finmap.get w.files)) there ∙ is)) kind
 
@@ -79,7 +81,8 @@ pub record StandsAt (w : World) (p : List Label) (s : Seen) : Type 0 where
 pub standing : (w : World) (p : List Label) (s : Seen) → look w p ≡ Some s → StandsAt w p s
 unfolding look
 standing w p s h =
-    elim (finmap.get w.paths p) as (λ o. finmap.get w.paths p ≡ o → option_and_then (λ n. option_map (seen_as w p n) (finmap.get w.files n)) o ≡ Some s → StandsAt w p s) [
+    elim (finmap.get w.paths p) as (λ o. finmap.get w.paths p ≡ o
+    → option_and_then (λ n. option_map (seen_as w p n) (finmap.get w.files n)) o ≡ Some s → StandsAt w p s) [
       | None ↦ λ _ g. absurd (some_none refl g)
       | Some n ↦ λ there g. elim (finmap.get w.files n) as (λ o. finmap.get w.files n ≡ o → option_map (seen_as w p n) o ≡ Some s → StandsAt w p s) [
         | None ↦ λ _ k. absurd (some_none refl k)
@@ -87,7 +90,8 @@ standing w p s h =
       ] refl g
     ] refl h
 
-pub look-is : (w : World) (p : List Label) (n : ℕ) (f : File) → finmap.get w.paths p ≡ Some n → finmap.get w.files n ≡ Some f → look w p ≡ Some (seen_as w p n f)
+pub look-is : (w : World) (p : List Label) (n : ℕ) (f : File) → finmap.get w.paths p ≡ Some n → finmap.get w.files n ≡ Some f
+    → look w p ≡ Some (seen_as w p n f)
 unfolding look
 look-is w p n f there is = ap (option_and_then (λ n. option_map (seen_as w p n) (finmap.get w.files n))) there ∙ ap (option_map (seen_as w p n)) is
 
@@ -130,14 +134,17 @@ pub regular-seen : (w : World) (p : List Label) → is_directory_seen (look w p)
 regular-seen w p e h = let yes = seen-directory w p h in cc
 
 -- nothing is below what has no names
-pub nothing-below : (w : World) → IsWorld w → (p : List Label) → has_names_seen (look w p) ≡ false → (l : Label) (s : List Label) → finmap.get w.paths (p ++ l ∷ s) ≡ None
+pub nothing-below : (w : World) → IsWorld w → (p : List Label) → has_names_seen (look w p) ≡ false → (l : Label) (s : List Label)
+    → finmap.get w.paths (p ++ l ∷ s) ≡ None
 unfolding seen_as has_names
 nothing-below w is p none l s =
     elim (finmap.get w.paths (p ++ l ∷ s)) as (λ o. finmap.get w.paths (p ++ l ∷ s) ≡ o → o ≡ None) [
       | None ↦ λ _. refl
       | Some n ↦ λ there.
           let d = directory-of w p (is.fronts p l s (ap is_some there)) in
-          let yes : has_names_seen (look w p) ≡ true = ap has_names_seen (look-is w p d.number d.file d.there d.is) ∙ keys-any path_total path_exact (λ q. is_below q p) w.paths (p ++ l ∷ s) (ap is_some there) (is_below-rest p (p ++ l ∷ s) l s refl) in
+          let yes : has_names_seen (look w p) ≡ true =
+          ap has_names_seen (look-is w p d.number d.file d.there d.is)
+          ∙ keys-any path_total path_exact (λ q. is_below q p) w.paths (p ++ l ∷ s) (ap is_some there) (is_below-rest p (p ++ l ∷ s) l s refl) in
           absurd (cc)
     ] refl
 
@@ -150,7 +157,8 @@ nothing-under w is p off l s =
     ] refl
 
 -- a path in a directory does not begin with another path that it is not, but for a directory above it
-pub apart-from : (w : World) → IsWorld w → (old new q : List Label) (l : Label) → new ≡ q ++ l ∷ [] → IsDirectoryAt w q → old ≢ new → (is_directory_seen (look w old) && is_below new old) ≡ false → Avoids old new
+pub apart-from : (w : World) → IsWorld w → (old new q : List Label) (l : Label) → new ≡ q ++ l ∷ [] → IsDirectoryAt w q
+    → old ≢ new → (is_directory_seen (look w old) && is_below new old) ≡ false → Avoids old new
 apart-from w is old new q l parts directory other below [] e = other (sym (e ∙ append-nil old))
 apart-from w is old new q l parts directory other below (m ∷ s) e =
     let r = front-past q old l m s (sym parts ∙ e) in

@@ -140,7 +140,8 @@ number-seen w is p =
       | Some s ↦ λ e. let a = standing w p s e in a.there ∙ ap (λ (x : Seen). Some x.number) a.seen
     ] refl
 
-pub same-file : (w : World) → IsWorld w → (old new : List Label) → are_same (finmap.get w.paths old) (finmap.get w.paths new) ≡ are_same_seen (look w old) (look w new)
+pub same-file : (w : World) → IsWorld w → (old new : List Label)
+    → are_same (finmap.get w.paths old) (finmap.get w.paths new) ≡ are_same_seen (look w old) (look w new)
 same-file w is old new = (λ i. are_same (number-seen w is old i) (number-seen w is new i)) ∙ by (look w old) (look w new)
   where
     by : (o p : Option Seen) → are_same (number_in o) (number_in p) ≡ are_same_seen o p
@@ -167,7 +168,8 @@ pub record Moving (w : World) (old new : List Label) : Type 0 where
   pub parts : new ≡ parent_of new ++ name ∷ []
   pub directory : IsDirectoryAt w (parent_of new)
 
-pub moving : (w : World) → IsWorld w → (old new : List Label) → RenameKnown (look w) old new → are_same (finmap.get w.paths old) (finmap.get w.paths new) ≡ false → Moving w old new
+pub moving : (w : World) → IsWorld w → (old new : List Label) → RenameKnown (look w) old new
+    → are_same (finmap.get w.paths old) (finmap.get w.paths new) ≡ false → Moving w old new
 moving w is old new known off =
     let m = parted new known.other_named in
     let directory = directory-seen w (parent_of new) known.directory in
@@ -182,10 +184,14 @@ moving w is old new known off =
     }
 
 -- what a rename leaves: the same world, or the one after a move
-pub by-same : (P : World → Type 0) (w : World) (old new : List Label) → P w → (are_same (finmap.get w.paths old) (finmap.get w.paths new) ≡ false → P (without_lost (with_move w old new) (finmap.get w.paths new))) → P (after_rename w old new)
+pub by-same : (P : World → Type 0) (w : World) (old new : List Label) → P w
+    → (are_same (finmap.get w.paths old) (finmap.get w.paths new) ≡ false → P (without_lost (with_move w old new) (finmap.get w.paths new)))
+    → P (after_rename w old new)
 unfolding after_rename
 by-same P w old new here moved =
-    elim (are_same (finmap.get w.paths old) (finmap.get w.paths new)) as (λ b. are_same (finmap.get w.paths old) (finmap.get w.paths new) ≡ b → P (if b then w else without_lost (with_move w old new) (finmap.get w.paths new))) [
+    elim (are_same (finmap.get w.paths old) (finmap.get w.paths new))
+    as (λ b. are_same (finmap.get w.paths old) (finmap.get w.paths new) ≡ b
+    → P (if b then w else without_lost (with_move w old new) (finmap.get w.paths new))) [
       | true ↦ λ _. here
       | false ↦ λ e. moved e
     ] refl
@@ -215,12 +221,14 @@ record Swapping (w : World) (old new : List Label) : Type 0 where
   other_there : IsSome (finmap.get w.paths new)
 
 -- a path in a directory avoids one that stands elsewhere, and is no directory above it
-avoiding : (w : World) → IsWorld w → (old new : List Label) → new ≢ [] → IsSome (finmap.get w.paths new) → old ≢ new → (is_directory_seen (look w old) && is_below new old) ≡ false → Avoids old new
+avoiding : (w : World) → IsWorld w → (old new : List Label) → new ≢ [] → IsSome (finmap.get w.paths new) → old ≢ new
+    → (is_directory_seen (look w old) && is_below new old) ≡ false → Avoids old new
 avoiding w is old new named there other below =
     let m = parted new named in
     apart-from w is old new (parent_of new) m.0 m.1 (is.fronts (parent_of new) m.0 [] (subst (λ p. IsSome (finmap.get w.paths p)) m.1 there)) other below
 
-swapping : (w : World) → IsWorld w → (old new : List Label) → ExchangeKnown (look w) old new → are_same (finmap.get w.paths old) (finmap.get w.paths new) ≡ false → Swapping w old new
+swapping : (w : World) → IsWorld w → (old new : List Label) → ExchangeKnown (look w) old new
+    → are_same (finmap.get w.paths old) (finmap.get w.paths new) ≡ false → Swapping w old new
 swapping w is old new known off =
     let there = ap is_some (seen-some w old known.there).1.there in
     let other_there = ap is_some (seen-some w new known.other_there).1.there in
@@ -234,10 +242,12 @@ swapping w is old new known off =
     }
 
 -- what an exchange leaves: the same world, or the one after it
-pub by-other : (P : World → Type 0) (w : World) (old new : List Label) → P w → (are_same (finmap.get w.paths old) (finmap.get w.paths new) ≡ false → P (with_swap w old new)) → P (after_exchange w old new)
+pub by-other : (P : World → Type 0) (w : World) (old new : List Label) → P w
+    → (are_same (finmap.get w.paths old) (finmap.get w.paths new) ≡ false → P (with_swap w old new)) → P (after_exchange w old new)
 unfolding after_exchange
 by-other P w old new here swapped =
-    elim (are_same (finmap.get w.paths old) (finmap.get w.paths new)) as (λ b. are_same (finmap.get w.paths old) (finmap.get w.paths new) ≡ b → P (if b then w else with_swap w old new)) [
+    elim (are_same (finmap.get w.paths old) (finmap.get w.paths new))
+    as (λ b. are_same (finmap.get w.paths old) (finmap.get w.paths new) ≡ b → P (if b then w else with_swap w old new)) [
       | true ↦ λ _. here
       | false ↦ λ e. swapped e
     ] refl
@@ -255,7 +265,8 @@ IsWhole-exchanged w is whole old new known =
     IsWhole-with_swap w old new s.apart s.above whole)
 
 -- a rename by flags is an exchange, or moves as a rename does
-pub by-flags : (P : World → Type 0) (w : World) (old new : List Label) (flags : ℕ) → ((flags == RENAME_EXCHANGE) ≡ true → P (after_exchange w old new)) → ((flags == RENAME_EXCHANGE) ≡ false → P (after_rename w old new))
+pub by-flags : (P : World → Type 0) (w : World) (old new : List Label) (flags : ℕ)
+    → ((flags == RENAME_EXCHANGE) ≡ true → P (after_exchange w old new)) → ((flags == RENAME_EXCHANGE) ≡ false → P (after_rename w old new))
     → P (if flags == RENAME_EXCHANGE then after_exchange w old new else after_rename w old new)
 by-flags P w old new flags exchange move =
     elim (flags == RENAME_EXCHANGE) as (λ b. (flags == RENAME_EXCHANGE) ≡ b → P (if b then after_exchange w old new else after_rename w old new)) [
@@ -265,7 +276,8 @@ by-flags P w old new flags exchange move =
 
 -- ---- one path more
 
-linking : (w : World) → IsWorld w → (limits : Limits) (old new : List Label) → LinkKnown (look w) limits old new → IsWorld (linked w new (finmap.get w.paths old))
+linking : (w : World) → IsWorld w → (limits : Limits) (old new : List Label) → LinkKnown (look w) limits old new
+    → IsWorld (linked w new (finmap.get w.paths old))
 linking w is limits old new known =
     let s = (seen-some w old known.file.there).1 in
     let path = link-path w is limits old new known in
@@ -273,7 +285,8 @@ linking w is limits old new known =
     (IsWorld-with_path w new s.number is path.free (parent_of new) path.name path.parts path.directory (ap is_some s.is)
     (λ f at kind. absurd (regular-seen w old known.file.regular (directory-by w old s.number f s.there at kind))))
 
-linking-whole : (w : World) → IsWorld w → IsWhole w → (limits : Limits) (old new : List Label) → LinkKnown (look w) limits old new → IsWhole (linked w new (finmap.get w.paths old))
+linking-whole : (w : World) → IsWorld w → IsWhole w → (limits : Limits) (old new : List Label) → LinkKnown (look w) limits old new
+    → IsWhole (linked w new (finmap.get w.paths old))
 linking-whole w is whole limits old new known =
     let s = (seen-some w old known.file.there).1 in
     subst (λ o. IsWhole (linked w new o)) (sym s.there) (IsWhole-with_path w new s.number (link-path w is limits old new known).free (λ k h off. whole k h))
@@ -281,7 +294,8 @@ linking-whole w is whole limits old new known =
 -- ---- another content
 
 -- a file that is no directory may get bytes
-writing : (w : World) (p : List Label) → FileKnown (look w) p → (change : File → File) (f : File) → file_at w p ≡ Some f → f.kind ≡ Directory → (change f).bytes ≡ []
+writing : (w : World) (p : List Label) → FileKnown (look w) p → (change : File → File) (f : File) → file_at w p ≡ Some f
+    → f.kind ≡ Directory → (change f).bytes ≡ []
 writing w p known change f at kind = absurd (regular-seen w p known.regular (subst (λ o. IsSomeAnd o (λ (g : File). g.kind ≡ Directory)) (sym at) kind))
 
 -- ---- every call
@@ -289,8 +303,12 @@ writing w p known change f at kind = absurd (regular-seen w p known.regular (sub
 module _ (w : World) (limits : Limits) (counts : Counts) (is : IsWorld w) where
   pub IsWorld-after : (call : FileCall) → refused w limits counts call ≡ None → finmap.get w.files counts.next_number ≡ None → IsWorld (after w counts call)
   unfolding refusal_seen
-  IsWorld-after (Create p mode) e unused = let k = new-path w is p (make-known (look w) limits counts p mode e) in IsWorld-with_file w is counts.next_number unused _ (λ _. refl) p k.free (parent_of p) k.name k.parts k.directory
-  IsWorld-after (Mkdir p mode) e unused = let k = new-path w is p (make-known (look w) limits counts p mode e) in IsWorld-with_file w is counts.next_number unused _ (λ _. refl) p k.free (parent_of p) k.name k.parts k.directory
+  IsWorld-after (Create p mode) e unused =
+      let k = new-path w is p (make-known (look w) limits counts p mode e) in
+      IsWorld-with_file w is counts.next_number unused _ (λ _. refl) p k.free (parent_of p) k.name k.parts k.directory
+  IsWorld-after (Mkdir p mode) e unused =
+      let k = new-path w is p (make-known (look w) limits counts p mode e) in
+      IsWorld-with_file w is counts.next_number unused _ (λ _. refl) p k.free (parent_of p) k.name k.parts k.directory
   IsWorld-after (Write p offset bytes) e unused =
       IsWorld-changed w is p (λ f. record f { bytes = written offset bytes f.bytes }) (λ f. refl)
       (λ f at _. writing w p (write-known (look w) limits p offset (length bytes) e).0 (λ f. record f { bytes = written offset bytes f.bytes }) f at)
@@ -310,10 +328,13 @@ module _ (w : World) (limits : Limits) (counts : Counts) (is : IsWorld w) where
   IsWorld-after (Status p) e unused = is
   IsWorld-after (Listed p) e unused = is
 
-  pub IsWhole-after : IsWhole w → (call : FileCall) → refused w limits counts call ≡ None → finmap.get w.files counts.next_number ≡ None → IsWhole (after w counts call)
+  pub IsWhole-after : IsWhole w → (call : FileCall) → refused w limits counts call ≡ None
+      → finmap.get w.files counts.next_number ≡ None → IsWhole (after w counts call)
   unfolding refusal_seen
-  IsWhole-after whole (Create p mode) e unused = IsWhole-with_file w is counts.next_number unused _ whole p (new-path w is p (make-known (look w) limits counts p mode e)).free
-  IsWhole-after whole (Mkdir p mode) e unused = IsWhole-with_file w is counts.next_number unused _ whole p (new-path w is p (make-known (look w) limits counts p mode e)).free
+  IsWhole-after whole (Create p mode) e unused =
+      IsWhole-with_file w is counts.next_number unused _ whole p (new-path w is p (make-known (look w) limits counts p mode e)).free
+  IsWhole-after whole (Mkdir p mode) e unused =
+      IsWhole-with_file w is counts.next_number unused _ whole p (new-path w is p (make-known (look w) limits counts p mode e)).free
   IsWhole-after whole (Write p offset bytes) e unused = IsWhole-changed w whole p (λ f. record f { bytes = written offset bytes f.bytes })
   IsWhole-after whole (ReadFile p offset count) e unused = whole
   IsWhole-after whole (Truncate p len) e unused = IsWhole-changed w whole p (λ f. record f { bytes = resized len f.bytes })

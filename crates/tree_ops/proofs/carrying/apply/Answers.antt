@@ -25,15 +25,19 @@ new-name r is = ap (λ (x : ResolvedPath). x.names) is ∙ r.other_names
 moves-by : {t : Tree} {plan view : PlanValue} {moves : Moves} (r : IsReady t plan) → view ≡ plan → view.moves ≡ moves → plan.moves ≡ moves
 moves-by r view_is is = sym (ap (λ (x : PlanValue). x.moves) view_is) ∙ is
 
-move-at : (t : Tree) (plan : PlanValue) (r : IsReady t plan) → plan.moves ≡ Move → (old new : List (List ℕ)) → old ≡ path_of plan.call → new ≡ other_path_of plan.call → MoveKnown (look (world_of t)) old new
+move-at : (t : Tree) (plan : PlanValue) (r : IsReady t plan) → plan.moves ≡ Move → (old new : List (List ℕ))
+    → old ≡ path_of plan.call → new ≡ other_path_of plan.call → MoveKnown (look (world_of t)) old new
 unfolding refusal_seen
 move-at t plan r is old new o n =
-    subst (λ (x : List (List ℕ) × List (List ℕ)). MoveKnown (look (world_of t)) x.0 x.1) (λ i. (sym o i, sym n i)) (moves-known (look (world_of t)) r.limits plan.counts plan.call r.accepted (sym r.moves ∙ is))
+    subst (λ (x : List (List ℕ) × List (List ℕ)). MoveKnown (look (world_of t)) x.0 x.1) (λ i. (sym o i, sym n i))
+    (moves-known (look (world_of t)) r.limits plan.counts plan.call r.accepted (sym r.moves ∙ is))
 
-swap-at : (t : Tree) (plan : PlanValue) (r : IsReady t plan) → plan.moves ≡ Exchange → (old new : List (List ℕ)) → old ≡ path_of plan.call → new ≡ other_path_of plan.call → SwapKnown (look (world_of t)) old new
+swap-at : (t : Tree) (plan : PlanValue) (r : IsReady t plan) → plan.moves ≡ Exchange → (old new : List (List ℕ))
+    → old ≡ path_of plan.call → new ≡ other_path_of plan.call → SwapKnown (look (world_of t)) old new
 unfolding refusal_seen
 swap-at t plan r is old new o n =
-    subst (λ (x : List (List ℕ) × List (List ℕ)). SwapKnown (look (world_of t)) x.0 x.1) (λ i. (sym o i, sym n i)) (swaps-known (look (world_of t)) r.limits plan.counts plan.call r.accepted (sym r.moves ∙ is))
+    subst (λ (x : List (List ℕ) × List (List ℕ)). SwapKnown (look (world_of t)) x.0 x.1) (λ i. (sym o i, sym n i))
+    (swaps-known (look (world_of t)) r.limits plan.counts plan.call r.accepted (sym r.moves ∙ is))
 
 nameless : (o : Option Seen) → has_names_seen o ≡ false → IfSome o (λ s. s.has_names ≡ false)
 nameless None e = tt
@@ -44,7 +48,8 @@ replace_name-requires c =
     let at = look (world_of c.args.table.now) in
     let old = c.plan.inside.path.names in
     let new = c.other_path.result.now.names in
-    let m = move-at c.args.table.now c.args.plan.now c.requires.ready (moves-by c.requires.ready c.plan.view_is c.in-Move.is) old new (old-name c.requires.ready c.plan.view_is) (new-name c.requires.ready c.other_path.ensures) in
+    let m = move-at c.args.table.now c.args.plan.now c.requires.ready (moves-by c.requires.ready c.plan.view_is c.in-Move.is)
+    old new (old-name c.requires.ready c.plan.view_is) (new-name c.requires.ready c.other_path.ensures) in
     record {
       resolved = subst (λ (x : PlanValue). IsResolved c.args.table.now x.path) (sym c.plan.view_is) c.requires.ready.path;
       other_resolved = subst (IsResolved c.args.table.now) (sym c.other_path.ensures) c.requires.ready.other_path;
@@ -62,7 +67,8 @@ swap_names-requires c =
     let at = look (world_of c.args.table.now) in
     let old = c.plan.inside.path.names in
     let new = c.other_path-in-Exchange.result.now.names in
-    let m = swap-at c.args.table.now c.args.plan.now c.requires.ready (moves-by c.requires.ready c.plan.view_is c.in-Exchange.is) old new (old-name c.requires.ready c.plan.view_is) (new-name c.requires.ready c.other_path-in-Exchange.ensures) in
+    let m = swap-at c.args.table.now c.args.plan.now c.requires.ready (moves-by c.requires.ready c.plan.view_is c.in-Exchange.is) old new
+    (old-name c.requires.ready c.plan.view_is) (new-name c.requires.ready c.other_path-in-Exchange.ensures) in
     record {
       resolved = subst (λ (x : PlanValue). IsResolved c.args.table.now x.path) (sym c.plan.view_is) c.requires.ready.path;
       other_resolved = subst (IsResolved c.args.table.now) (sym c.other_path-in-Exchange.ensures) c.requires.ready.other_path;
@@ -79,7 +85,8 @@ returns-in_ok-replace_name-in-Move-clause-world c =
     let o = old-name c.requires.ready c.plan.view_is in
     let n = new-name c.requires.ready c.other_path.ensures in
     let is = sym c.requires.ready.moves ∙ moves-by c.requires.ready c.plan.view_is c.in-Move.is in
-    c.in_ok-replace_name-in-Move.ensures.world ∙ (λ i. without_lost (with_move w (o i) (n i)) (finmap.get w.paths (n i))) ∙ sym (moves-world w c.law.ensures.world c.args.plan.now.counts c.args.plan.now.call is)
+    c.in_ok-replace_name-in-Move.ensures.world ∙ (λ i. without_lost (with_move w (o i) (n i)) (finmap.get w.paths (n i)))
+    ∙ sym (moves-world w c.law.ensures.world c.args.plan.now.counts c.args.plan.now.call is)
 
 pub returns-in-Exchange-clause-world : goal.returns-in-Exchange-clause-world
 returns-in-Exchange-clause-world c =

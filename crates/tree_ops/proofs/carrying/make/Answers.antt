@@ -11,7 +11,8 @@ pub add_node-requires-clause-resolved : goal.add_node-requires-clause-resolved
 add_node-requires-clause-resolved c = c.reserve_node.ensures.resolved c.args.path.now c.requires.resolved
 
 pub add_node-requires-clause-directory : goal.add_node-requires-clause-directory
-add_node-requires-clause-directory c = ap (λ rs. is_directory_seen (look (world_in rs) (parent_of c.args.path.now.names))) c.reserve_node.ensures.rows ∙ c.requires.directory
+add_node-requires-clause-directory c =
+    ap (λ rs. is_directory_seen (look (world_in rs) (parent_of c.args.path.now.names))) c.reserve_node.ensures.rows ∙ c.requires.directory
 
 pub add_node-requires-clause-free : goal.add_node-requires-clause-free
 add_node-requires-clause-free c = ap (λ rs. look (world_in rs) c.args.path.now.names) c.reserve_node.ensures.rows ∙ c.requires.free
@@ -22,7 +23,8 @@ add_node-requires-clause-unused c = ap (λ rs. finmap.get (world_in rs).files c.
 pub returns-clause-world : goal.returns-clause-world
 returns-clause-world c =
     c.in_ok-add_node.ensures.world
-    ∙ ap (λ rs. with_file (world_in rs) c.args.path.now.names c.args.number (record { kind = c.args.kind; mode = c.args.mode; bytes = [] })) c.reserve_node.ensures.rows
+    ∙ ap (λ rs. with_file (world_in rs) c.args.path.now.names c.args.number (record { kind = c.args.kind; mode = c.args.mode; bytes = [] }))
+    c.reserve_node.ensures.rows
 
 pub returns-in_err-add_node-clause-err : goal.returns-in_err-add_node-clause-err
 returns-in_err-add_node-clause-err c =

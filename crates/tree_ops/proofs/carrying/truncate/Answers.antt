@@ -17,4 +17,6 @@ pub set_len-requires-clause-reserved : goal.set_len-requires-clause-reserved
 set_len-requires-clause-reserved c = c.in_ok-reserve_content.ensures.reserved
 
 pub returns-clause-world : goal.returns-clause-world
-returns-clause-world c = c.set_len.ensures.world ∙ ap (λ w. changed_at w c.args.path.now.names (λ f. record f { bytes = resized c.args.len f.bytes })) c.reserve_content.ensures.world
+returns-clause-world c =
+    c.set_len.ensures.world
+    ∙ ap (λ w. changed_at w c.args.path.now.names (λ f. record f { bytes = resized c.args.len f.bytes })) c.reserve_content.ensures.world

@@ -14,4 +14,6 @@ pub write-requires-clause-regular : goal.write-requires-clause-regular
 write-requires-clause-regular c = ap (λ w. is_directory_seen (look w c.args.path.now.names)) c.reserve.ensures.world ∙ c.requires.regular
 
 pub returns-clause-world : goal.returns-clause-world
-returns-clause-world c = c.write.ensures.world ∙ ap (λ w. changed_at w c.args.path.now.names (λ f. record f { bytes = written c.args.offset c.args.bytes.now f.bytes })) c.reserve.ensures.world
+returns-clause-world c =
+    c.write.ensures.world
+    ∙ ap (λ w. changed_at w c.args.path.now.names (λ f. record f { bytes = written c.args.offset c.args.bytes.now f.bytes })) c.reserve.ensures.world

@@ -24,7 +24,8 @@ returns-in_err-check_list-clause-err c = λ limits counts.
     let p = c.args.path.now in
     let fails = c.in_err-check_list.ensures ∙ (λ i. first_row (list_rows (look (world_of (c.new-path.ensures.tree i))) (c.new-path.ensures.path i).names)) in
     let failed = err_from_is_err_and c.from_residual.result c.from_residual.ensures.1 in
-    rw (failed.1, failed.2) (inl (sym (by-refusal w limits counts (Listed p) _ (list-row w limits counts p c.resolve-path.result.names _ c.resolve-path.ensures.names fails))))
+    rw (failed.1, failed.2) (inl
+    (sym (by-refusal w limits counts (Listed p) _ (list-row w limits counts p c.resolve-path.result.names _ c.resolve-path.ensures.names fails))))
 
 pub returns-clause-ok : goal.returns-clause-ok
 returns-clause-ok c = λ limits counts.
@@ -32,5 +33,8 @@ returns-clause-ok c = λ limits counts.
     let p = c.args.path.now in
     let q = c.resolve-path.result.names in
     let passes = c.in_ok-check_list.ensures ∙ (λ i. first_row (list_rows (look (world_of (c.new-path.ensures.tree i))) (c.new-path.ensures.path i).names)) in
-    let listed = c.in_ok-list.ensures ∙ (λ i. names_in (world_of (c.new-path.ensures.tree i)) (c.new-path.ensures.path i).names) ∙ ap (names_in w) c.resolve-path.ensures.names in
-    sym (by-refusal w limits counts (Listed p) None (list-row w limits counts p q None c.resolve-path.ensures.names passes)) ∙ ap (λ names. Ok (Names names)) (sym listed)
+    let listed =
+    c.in_ok-list.ensures ∙ (λ i. names_in (world_of (c.new-path.ensures.tree i)) (c.new-path.ensures.path i).names)
+    ∙ ap (names_in w) c.resolve-path.ensures.names in
+    sym (by-refusal w limits counts (Listed p) None (list-row w limits counts p q None c.resolve-path.ensures.names passes))
+    ∙ ap (λ names. Ok (Names names)) (sym listed)

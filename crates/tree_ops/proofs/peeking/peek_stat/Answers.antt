@@ -19,12 +19,14 @@ returns-in_err-check_found c = λ limits counts.
     let p = c.args.path.now in
     let fails = c.in_err-check_found.ensures ∙ (λ i. find (look (world_of (c.new-path.ensures.tree i))) (c.new-path.ensures.path i).names) in
     let failed = err_from_is_err_and c.from_residual.result c.from_residual.ensures.1 in
-    rw (failed.1, failed.2) (by-refusal w limits counts (Stat p) _ (stat-row w limits counts p c.resolve-path.result.names _ c.resolve-path.ensures.names fails))
+    rw (failed.1, failed.2) (by-refusal w limits counts (Stat p) _
+    (stat-row w limits counts p c.resolve-path.result.names _ c.resolve-path.ensures.names fails))
 
 pub returns : goal.returns
 returns c = λ limits counts.
     let w = world_of c.args.table.now in
     let p = c.args.path.now in
     let passes = c.in_ok-check_found.ensures ∙ (λ i. find (look (world_of (c.new-path.ensures.tree i))) (c.new-path.ensures.path i).names) in
-    ap Ok (c.stat.ensures ∙ (λ i. stat_of (world_of (c.new-path.ensures.tree i)) (c.new-path.ensures.path i).names) ∙ ap (stat_of w) c.resolve-path.ensures.names)
+    ap Ok (c.stat.ensures ∙ (λ i. stat_of (world_of (c.new-path.ensures.tree i)) (c.new-path.ensures.path i).names)
+    ∙ ap (stat_of w) c.resolve-path.ensures.names)
     ∙ by-refusal w limits counts (Stat p) None (stat-row w limits counts p c.resolve-path.result.names None c.resolve-path.ensures.names passes)

@@ -12,5 +12,6 @@ pub returns : goal.returns
 returns c =
     let w = world_of c.self.inside.table.now in
     let p = c.self.inside.path.now.names in
-    let content = subst (λ o. IsSomeAnd o (λ (f : world.File). f.bytes ≡ c.content.result.now)) (ap (option_and_then (finmap.get w.files)) c.key.ensures.found) c.content.ensures in
+    let content = subst (λ o. IsSomeAnd o (λ (f : world.File). f.bytes ≡ c.content.result.now))
+    (ap (option_and_then (finmap.get w.files)) c.key.ensures.found) c.content.ensures in
     sym (bytes-of w p c.content.result.now content) ∙ ap (λ (l : LookupValue). bytes_at (world_of l.tree) l.path.names) c.self.view_is
