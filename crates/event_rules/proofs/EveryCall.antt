@@ -76,7 +76,8 @@ module _ (P : Notice → Type 0) (holds : HoldsOfLines P) where
 
   lost-by : (kind : Kind) (number links : ℕ) → All P (lost_told kind number links)
   lost-by Regular number links =
-      All-cons P (Told number IN_ATTRIB NO_COOKIE None) (if links == 1 then deleted_told number else []) (holds.attrib Regular number None) (deleted-by (links == 1) number)
+      All-cons P (Told number IN_ATTRIB NO_COOKIE None) (if links == 1 then deleted_told number else [])
+      (holds.attrib Regular number None) (deleted-by (links == 1) number)
   lost-by Directory number links = deleted number
 
   pub lost : (s : Option Seen) → All P (path_lost s)
@@ -92,7 +93,8 @@ module _ (P : Notice → Type 0) (holds : HoldsOfLines P) where
   unfolding create_told
   create at p =
       both (to_dir at p Regular IN_CREATE NO_COOKIE ++ to_dir at p Regular IN_OPEN NO_COOKIE) (to_dir at p Regular IN_CLOSE_WRITE NO_COOKIE)
-      (both (to_dir at p Regular IN_CREATE NO_COOKIE) (to_dir at p Regular IN_OPEN NO_COOKIE) (dir at p Regular IN_CREATE NO_COOKIE holds.create) (dir at p Regular IN_OPEN NO_COOKIE holds.opened))
+      (both (to_dir at p Regular IN_CREATE NO_COOKIE) (to_dir at p Regular IN_OPEN NO_COOKIE)
+      (dir at p Regular IN_CREATE NO_COOKIE holds.create) (dir at p Regular IN_OPEN NO_COOKIE holds.opened))
       (dir at p Regular IN_CLOSE_WRITE NO_COOKIE holds.close_write)
 
   pub mkdir : (at : Look) (p : List (List ℕ)) → All P (mkdir_told at p)
@@ -139,7 +141,8 @@ module _ (P : Notice → Type 0) (holds : HoldsOfLines P) where
     -- both directories of a move
     dirs : (at : Look) (p q : List (List ℕ)) (kind : Kind) (given : ℕ) → All P (to_dir at p kind IN_MOVED_FROM given ++ to_dir at q kind IN_MOVED_TO given)
     dirs at p q kind given =
-        both (to_dir at p kind IN_MOVED_FROM given) (to_dir at q kind IN_MOVED_TO given) (dir at p kind IN_MOVED_FROM given (from given)) (dir at q kind IN_MOVED_TO given (to given))
+        both (to_dir at p kind IN_MOVED_FROM given) (to_dir at q kind IN_MOVED_TO given)
+        (dir at p kind IN_MOVED_FROM given (from given)) (dir at q kind IN_MOVED_TO given (to given))
 
     move : (at : Look) (old new : List (List ℕ)) → All P (move_told at old new cookie)
     unfolding move_told

@@ -40,11 +40,13 @@ not_ended watch bits asked =
 
 module _ (n : Notice) (watch : Watch) where
   said-told : (number bits cookie : ℕ) (name : Option (List ℕ)) (b c : Bool) → asks_for watch bits ≡ b
-      → filter says_ended ((if b then record { wd = watch.0; mask = bits; cookie = cookie; name = name } ∷ [] else []) ++ (if b && c then ignored watch.0 ∷ [] else []))
+      → filter says_ended ((if b then record { wd = watch.0; mask = bits; cookie = cookie; name = name } ∷ [] else [])
+      ++ (if b && c then ignored watch.0 ∷ [] else []))
       ≡ map ignored (if b && c then watch.0 ∷ [] else [])
   said-told number bits cookie name false c is = refl
   said-told number bits cookie name true true is =
-      ap (λ b. if b then record { wd = watch.0; mask = bits; cookie = cookie; name = name } ∷ ignored watch.0 ∷ [] else ignored watch.0 ∷ []) (not_ended watch bits is)
+      ap (λ b. if b then record { wd = watch.0; mask = bits; cookie = cookie; name = name } ∷ ignored watch.0 ∷ [] else ignored watch.0 ∷ [])
+      (not_ended watch bits is)
   said-told number bits cookie name true false is =
       ap (λ b. if b then record { wd = watch.0; mask = bits; cookie = cookie; name = name } ∷ [] else []) (not_ended watch bits is)
 
@@ -78,7 +80,8 @@ module _ (ending : Ending) where
   events_of-HasEnded w [] wd sound h = All-nil (λ (e : Event). e.wd ≢ wd)
   events_of-HasEnded w (n ∷ ns) wd sound h =
       All-append (λ (e : Event). e.wd ≢ wd) (raised w n) (events_of (left w n) ns)
-      (raised-All (λ x. x ≢ wd) w n (λ watch is same. some_none h.unwatched ((ending.known.tells w wd (told_number n) sound).1 (wd-of w (told_number n) watch is ∙ ap Some same))))
+      (raised-All (λ x. x ≢ wd) w n
+      (λ watch is same. some_none h.unwatched ((ending.known.tells w wd (told_number n) sound).1 (wd-of w (told_number n) watch is ∙ ap Some same))))
       (events_of-HasEnded (left w n) ns wd (left-IsSound ending.known w n sound) (HasEnded-left ending w n wd h))
 
   -- ---- the watches that end are not left
@@ -89,7 +92,8 @@ module _ (ending : Ending) where
     where
       by : (b : Bool) → All (HasEnded (if b then dropped w (told_number n) else w)) (if b then watch.0 ∷ [] else [])
       by true =
-          All-cons (HasEnded (dropped w (told_number n))) watch.0 [] (ending.ends w watch.0 (told_number n) sound (wd-of w (told_number n) watch is)) (All-nil (HasEnded (dropped w (told_number n))))
+          All-cons (HasEnded (dropped w (told_number n))) watch.0 []
+          (ending.ends w watch.0 (told_number n) sound (wd-of w (told_number n) watch is)) (All-nil (HasEnded (dropped w (told_number n))))
       by false = All-nil (HasEnded w)
 
   ended-HasEnded : (w : Watching) (n : Notice) → IsSound w → All (HasEnded (left w n)) (ended w n)
@@ -100,7 +104,8 @@ module _ (ending : Ending) where
   wds_ended-HasEnded w [] sound = All-nil (HasEnded w)
   wds_ended-HasEnded w (n ∷ ns) sound =
       All-append (HasEnded (watches_after (left w n) ns)) (ended w n) (wds_ended (left w n) ns)
-      (All-weaker (HasEnded (left w n)) (HasEnded (watches_after (left w n) ns)) (λ wd. HasEnded-after ending (left w n) ns wd) (ended w n) (ended-HasEnded w n sound))
+      (All-weaker (HasEnded (left w n)) (HasEnded (watches_after (left w n) ns)) (λ wd. HasEnded-after ending (left w n) ns wd)
+      (ended w n) (ended-HasEnded w n sound))
       (wds_ended-HasEnded (left w n) ns (left-IsSound ending.known w n sound))
 
 -- ---- in one list
@@ -116,7 +121,8 @@ quiet-behind (x ∷ before) after e q said = quiet-behind before after e q.1 sai
 
 quiet-told : (watch : Watch) (bits cookie : ℕ) (name : Option (List ℕ)) (rest : List Event) (b c : Bool) → asks_for watch bits ≡ b → Quiet rest
     → ((b && c) ≡ true → TellsNothing watch.0 rest)
-    → Quiet (((if b then record { wd = watch.0; mask = bits; cookie = cookie; name = name } ∷ [] else []) ++ (if b && c then ignored watch.0 ∷ [] else [])) ++ rest)
+    → Quiet (((if b then record { wd = watch.0; mask = bits; cookie = cookie; name = name } ∷ [] else []) ++ (if b && c then ignored watch.0 ∷ [] else []))
+    ++ rest)
 quiet-told watch bits cookie name rest false c is q over = q
 quiet-told watch bits cookie name rest true true is q over = (λ said. absurd (true_false said (not_ended watch bits is)), (λ said. over refl, q))
 quiet-told watch bits cookie name rest true false is q over = (λ said. absurd (true_false said (not_ended watch bits is)), q)
@@ -126,11 +132,13 @@ module _ (ending : Ending) where
       → ((wd : ℤ) → HasEnded (left_by w n o) wd → TellsNothing wd rest) → Quiet (raised_at n o ++ rest)
   quiet-by w n None rest sound is q over = q
   quiet-by w (Told number bits cookie name) (Some watch) rest sound is q over =
-      quiet-told watch bits cookie name rest (asks_for watch bits) (is_oneshot watch) refl q (λ both. over watch.0 (subst (λ b. HasEnded (if b then dropped w number else w) watch.0) (sym both)
+      quiet-told watch bits cookie name rest (asks_for watch bits) (is_oneshot watch) refl q
+      (λ both. over watch.0 (subst (λ b. HasEnded (if b then dropped w number else w) watch.0) (sym both)
       (ending.ends w watch.0 number sound (wd-of w number watch is))))
   quiet-by w (Gone number) (Some watch) rest sound is q over = (λ said. over watch.0 (ending.ends w watch.0 number sound (wd-of w number watch is)), q)
 
-  quiet-one : (w : Watching) (n : Notice) (rest : List Event) → IsSound w → Quiet rest → ((wd : ℤ) → HasEnded (left w n) wd → TellsNothing wd rest) → Quiet (raised w n ++ rest)
+  quiet-one : (w : Watching) (n : Notice) (rest : List Event) → IsSound w → Quiet rest
+      → ((wd : ℤ) → HasEnded (left w n) wd → TellsNothing wd rest) → Quiet (raised w n ++ rest)
   unfolding raised left
   quiet-one w n rest sound q over = quiet-by w n (watch_of w (told_number n)) rest sound refl q over
 

@@ -32,14 +32,20 @@ module _ (at other_at : Look) (old new : List (List ℕ)) (cookie : ℕ) (moved 
       let kind_is : kind ≡ kind_seen (at old) = is_kind ∙ ap kind_seen is_moved in
       let replaced_is : replaced ≡ at new = is_replaced ∙ ap (λ a. a new) same in
       let begun : from ≡ to_dir at old (kind_seen (at old)) IN_MOVED_FROM cookie = begins ∙ (λ i. opens i ++ to_dir at old (kind_is i) IN_MOVED_FROM cookie) in
-      ends ∙ ap (λ l. l ++ to_self moved IN_MOVE_SELF) (loses ∙ ap (λ l. l ++ path_lost replaced) (arrives ∙ ap (λ l. l ++ to_dir other_at new kind IN_MOVED_TO cookie) begun))
-      ∙ (λ i. to_dir at old (kind_seen (at old)) IN_MOVED_FROM cookie ++ to_dir (same i) new (kind_is i) IN_MOVED_TO cookie ++ path_lost (replaced_is i) ++ to_self (is_moved i) IN_MOVE_SELF)
+      ends
+      ∙ ap (λ l. l ++ to_self moved IN_MOVE_SELF)
+      (loses ∙ ap (λ l. l ++ path_lost replaced) (arrives ∙ ap (λ l. l ++ to_dir other_at new kind IN_MOVED_TO cookie) begun))
+      ∙ (λ i. to_dir at old (kind_seen (at old)) IN_MOVED_FROM cookie ++ to_dir (same i) new (kind_is i) IN_MOVED_TO cookie
+      ++ path_lost (replaced_is i) ++ to_self (is_moved i) IN_MOVE_SELF)
 
 -- the lists after each line of an exchange of two files
 module _ (at other_at : Look) (old new : List (List ℕ)) (cookie : ℕ) (one other : Option Seen) (kind other_kind : Kind) where
-  pub swap_told-lines : (none from to itself back_from back_to all : List Notice) → other_at ≡ at → one ≡ at old → other ≡ other_at new → kind ≡ kind_seen one → other_kind ≡ kind_seen other
-      → none ≡ [] → from ≡ none ++ to_dir at old kind IN_MOVED_FROM cookie → to ≡ from ++ to_dir other_at new kind IN_MOVED_TO cookie → itself ≡ to ++ to_self one IN_MOVE_SELF
-      → back_from ≡ itself ++ to_dir other_at new other_kind IN_MOVED_FROM (cookie + 1) → back_to ≡ back_from ++ to_dir at old other_kind IN_MOVED_TO (cookie + 1)
+  pub swap_told-lines : (none from to itself back_from back_to all : List Notice) → other_at ≡ at → one ≡ at old
+      → other ≡ other_at new → kind ≡ kind_seen one → other_kind ≡ kind_seen other
+      → none ≡ [] → from ≡ none ++ to_dir at old kind IN_MOVED_FROM cookie
+      → to ≡ from ++ to_dir other_at new kind IN_MOVED_TO cookie → itself ≡ to ++ to_self one IN_MOVE_SELF
+      → back_from ≡ itself ++ to_dir other_at new other_kind IN_MOVED_FROM (cookie + 1)
+      → back_to ≡ back_from ++ to_dir at old other_kind IN_MOVED_TO (cookie + 1)
       → all ≡ back_to ++ to_self other IN_MOVE_SELF → all ≡ swap_told at old new cookie
   unfolding swap_told
   swap_told-lines none from to itself back_from back_to all same is_one is_other is_kind is_other_kind opens begins arrives turns leaves returns ends =
@@ -48,7 +54,11 @@ module _ (at other_at : Look) (old new : List (List ℕ)) (cookie : ℕ) (one ot
       let other_is : other_kind ≡ kind_seen (at new) = is_other_kind ∙ ap kind_seen other_seen in
       let begun : from ≡ to_dir at old (kind_seen (at old)) IN_MOVED_FROM cookie = begins ∙ (λ i. opens i ++ to_dir at old (kind_is i) IN_MOVED_FROM cookie) in
       let went = turns ∙ ap (λ l. l ++ to_self one IN_MOVE_SELF) (arrives ∙ ap (λ l. l ++ to_dir other_at new kind IN_MOVED_TO cookie) begun) in
-      let came = returns ∙ ap (λ l. l ++ to_dir at old other_kind IN_MOVED_TO (cookie + 1)) (leaves ∙ ap (λ l. l ++ to_dir other_at new other_kind IN_MOVED_FROM (cookie + 1)) went) in
+      let came =
+      returns
+      ∙ ap (λ l. l ++ to_dir at old other_kind IN_MOVED_TO (cookie + 1))
+      (leaves ∙ ap (λ l. l ++ to_dir other_at new other_kind IN_MOVED_FROM (cookie + 1)) went) in
       ends ∙ ap (λ l. l ++ to_self other IN_MOVE_SELF) came
       ∙ (λ i. to_dir at old (kind_seen (at old)) IN_MOVED_FROM cookie ++ to_dir (same i) new (kind_is i) IN_MOVED_TO cookie ++ to_self (is_one i) IN_MOVE_SELF
-      ++ to_dir (same i) new (other_is i) IN_MOVED_FROM (cookie + 1) ++ to_dir at old (other_is i) IN_MOVED_TO (cookie + 1) ++ to_self (other_seen i) IN_MOVE_SELF)
+      ++ to_dir (same i) new (other_is i) IN_MOVED_FROM (cookie + 1) ++ to_dir at old (other_is i) IN_MOVED_TO (cookie + 1)
+      ++ to_self (other_seen i) IN_MOVE_SELF)

@@ -25,7 +25,8 @@ use Rattle.event_rules.proofs.Others.{part-after}
 
 lost-told : (kind : Kind) (number count : ℕ) → count ≡ 1 → Contains (lost_told kind number count) (Gone number)
 lost-told Regular number count e =
-    subst (λ b. Contains (Told number IN_ATTRIB NO_COOKIE None ∷ (if b then deleted_told number else [])) (Gone number)) (sym (ap (λ k. k == 1) e)) (2, lit< tt, refl)
+    subst (λ b. Contains (Told number IN_ATTRIB NO_COOKIE None ∷ (if b then deleted_told number else [])) (Gone number))
+    (sym (ap (λ k. k == 1) e)) (2, lit< tt, refl)
 lost-told Directory number count e = (1, lit< tt, refl)
 
 path-lost : (w : World) (p : List Label) (n : ℕ) → IsThere w n → IsAlone w p n → Contains (path_lost (look w p)) (Gone n)
@@ -34,7 +35,8 @@ path-lost w p n h is =
     let f = is_value _ h in
     subst (λ o. Contains (path_lost o) (Gone n)) (sym (look-is w p n f.0 is.there f.1)) (lost-told f.0.kind n (links w n) is.links)
 
-removed-told : (w : World) (p : List Label) (kind : Kind) (n : ℕ) → IsThere w n → IsAlone w p n → Contains (path_lost (look w p) ++ to_dir (look w) p kind IN_DELETE NO_COOKIE) (Gone n)
+removed-told : (w : World) (p : List Label) (kind : Kind) (n : ℕ) → IsThere w n → IsAlone w p n
+    → Contains (path_lost (look w p) ++ to_dir (look w) p kind IN_DELETE NO_COOKIE) (Gone n)
 removed-told w p kind n h is = Contains-append_left (path_lost (look w p)) (to_dir (look w) p kind IN_DELETE NO_COOKIE) (Gone n) (path-lost w p n h is)
 
 moved-told : (w : World) (old new : List Label) (cookie n : ℕ) → IsThere w n → IsAlone w new n → Contains (move_told (look w) old new cookie) (Gone n)

@@ -59,7 +59,8 @@ moves_in-append [] ns = refl
 moves_in-append (m ∷ ms) ns = by (is_move m) (moves_in-append ms ns)
   where
     by : (b : Bool) → moves_in (ms ++ ns) ≡ moves_in ms ++ moves_in ns
-        → (if b then (event_bit m.0, m.1) ∷ moves_in (ms ++ ns) else moves_in (ms ++ ns)) ≡ (if b then (event_bit m.0, m.1) ∷ moves_in ms else moves_in ms) ++ moves_in ns
+        → (if b then (event_bit m.0, m.1) ∷ moves_in (ms ++ ns) else moves_in (ms ++ ns))
+        ≡ (if b then (event_bit m.0, m.1) ∷ moves_in ms else moves_in ms) ++ moves_in ns
     by true e = ap (λ (xs : List Mark). (event_bit m.0, m.1) ∷ xs) e
     by false e = e
 
@@ -127,14 +128,17 @@ lost-tied s = tied-still (path_lost s) (every.lost IsStill still_lines s)
 -- one event of a move
 from-one : (kind : Kind) (cookie : ℕ) → AreTied ((IN_MOVED_FROM, cookie) ∷ []) ((about kind IN_MOVED_FROM, cookie) ∷ [])
 from-one Regular cookie = record { among = inl (refl, tt); others = All-cons IsTied (IN_MOVED_FROM, cookie) [] (λ e. absurd (cc)) (All-nil IsTied) }
-from-one Directory cookie = record { among = inl (refl, tt); others = All-cons IsTied (about Directory IN_MOVED_FROM, cookie) [] (λ e. absurd (cc)) (All-nil IsTied) }
+from-one Directory cookie =
+    record { among = inl (refl, tt); others = All-cons IsTied (about Directory IN_MOVED_FROM, cookie) [] (λ e. absurd (cc)) (All-nil IsTied) }
 
 to-one : (kind : Kind) (cookie : ℕ) → AreTied ((IN_MOVED_TO, cookie) ∷ []) ((about kind IN_MOVED_TO, cookie) ∷ [])
 to-one Regular cookie = record { among = inl (refl, tt); others = All-cons IsTied (IN_MOVED_TO, cookie) [] (λ e. absurd (cc)) (All-nil IsTied) }
-to-one Directory cookie = record { among = inl (refl, tt); others = All-cons IsTied (about Directory IN_MOVED_TO, cookie) [] (λ e. absurd (cc)) (All-nil IsTied) }
+to-one Directory cookie =
+    record { among = inl (refl, tt); others = All-cons IsTied (about Directory IN_MOVED_TO, cookie) [] (λ e. absurd (cc)) (All-nil IsTied) }
 
 -- its directory is notified of it, if there is one
-dir-tied : (at : Look) (p : List (List ℕ)) (kind : Kind) (event cookie : ℕ) (moves : List Mark) → AreTied moves ((about kind event, cookie) ∷ []) → AreTied moves (marks_told (to_dir at p kind event cookie))
+dir-tied : (at : Look) (p : List (List ℕ)) (kind : Kind) (event cookie : ℕ) (moves : List Mark)
+    → AreTied moves ((about kind event, cookie) ∷ []) → AreTied moves (marks_told (to_dir at p kind event cookie))
 unfolding to_dir
 dir-tied at p kind event cookie moves h = by (at (parent_of p)) (last_or None p)
   where
@@ -156,7 +160,8 @@ move-tied at old new cookie =
     let n : List Mark = (IN_MOVED_TO, cookie) ∷ [] in
     tied-both ((m ++ n) ++ []) [] (from ++ to ++ path_lost (at new)) (to_self (at old) IN_MOVE_SELF)
     (tied-both (m ++ n) [] (from ++ to) (path_lost (at new))
-    (tied-both m n from to (dir-tied at old kind IN_MOVED_FROM cookie m (from-one kind cookie)) (dir-tied at new kind IN_MOVED_TO cookie n (to-one kind cookie)))
+    (tied-both m n from to (dir-tied at old kind IN_MOVED_FROM cookie m (from-one kind cookie))
+    (dir-tied at new kind IN_MOVED_TO cookie n (to-one kind cookie)))
     (lost-tied (at new)))
     (self-tied (at old))
 
@@ -203,12 +208,14 @@ rename2-tied false at old new cookie = rename-tied (are_same_seen (at old) (at n
 
 -- ---- every call
 
-pub notices-tied : (w : World) (call : FileCall) (cookie : ℕ) → AreTied (moves_with (cookies_from cookie (cookies_of w call))) (marks_told (notices_of w call cookie))
+pub notices-tied : (w : World) (call : FileCall) (cookie : ℕ)
+    → AreTied (moves_with (cookies_from cookie (cookies_of w call))) (marks_told (notices_of w call cookie))
 unfolding rename_told
 notices-tied w (Create p mode) cookie = tied-still _ (every.create IsStill still_lines (look w) p)
 notices-tied w (Mkdir p mode) cookie = tied-still _ (every.mkdir IsStill still_lines (look w) p)
 notices-tied w (Write p offset bytes) cookie = tied-still _ (every.write IsStill still_lines (look w) p (has_byte bytes))
-notices-tied w (ReadFile p offset count) cookie = tied-still _ (every.read IsStill still_lines (look w) p (answers_byte (answer_of w no_counts (ReadFile p offset count))))
+notices-tied w (ReadFile p offset count) cookie =
+    tied-still _ (every.read IsStill still_lines (look w) p (answers_byte (answer_of w no_counts (ReadFile p offset count))))
 notices-tied w (Truncate p len) cookie = tied-still _ (every.truncate IsStill still_lines (look w) p)
 notices-tied w (Chmod p mode) cookie = tied-still _ (every.chmod IsStill still_lines (look w) p)
 notices-tied w (Link old new) cookie = tied-still _ (every.link IsStill still_lines (look w) old new)

@@ -14,18 +14,22 @@ use Rattle.inode_table.specs.declared.seen.Kind.TheVariants.{Regular}
 use Rattle.record_codec.specs.declared.bits.TheConstants.{IN_ATTRIB, IN_CREATE}
 use Rattle.event_rules.specs.declared.notice.TheConstants.{NO_COOKIE}
 
-rename-by : (w : World) (old new : List (List ℕ)) (cookie : ℕ) (b : Bool) → are_same_seen (look w old) (look w new) ≡ b → rename_told (look w) old new cookie ≡ (if b then [] else move_told (look w) old new cookie)
+rename-by : (w : World) (old new : List (List ℕ)) (cookie : ℕ) (b : Bool) → are_same_seen (look w old) (look w new) ≡ b
+    → rename_told (look w) old new cookie ≡ (if b then [] else move_told (look w) old new cookie)
 unfolding rename_told
 rename-by w old new cookie b e = ap (λ c. if c then [] else move_told (look w) old new cookie) e
 
-exchange-by : (w : World) (old new : List (List ℕ)) (cookie : ℕ) (b : Bool) → are_same_seen (look w old) (look w new) ≡ b → exchange_told (look w) old new cookie ≡ (if b then [] else swap_told (look w) old new cookie)
+exchange-by : (w : World) (old new : List (List ℕ)) (cookie : ℕ) (b : Bool) → are_same_seen (look w old) (look w new) ≡ b
+    → exchange_told (look w) old new cookie ≡ (if b then [] else swap_told (look w) old new cookie)
 unfolding exchange_told
 exchange-by w old new cookie b e = ap (λ c. if c then [] else swap_told (look w) old new cookie) e
 
-pub rename-tells-nothing : (w : World) (old new : List (List ℕ)) (cookie : ℕ) → moves_of w (Rename old new) ≡ Nothing → notices_of w (Rename old new) cookie ≡ []
+pub rename-tells-nothing : (w : World) (old new : List (List ℕ)) (cookie : ℕ) → moves_of w (Rename old new) ≡ Nothing
+    → notices_of w (Rename old new) cookie ≡ []
 rename-tells-nothing w old new cookie e = rename-by w old new cookie true (stays (are_same_seen (look w old) (look w new)) false e)
 
-pub rename2-tells-nothing : (w : World) (old new : List (List ℕ)) (flags cookie : ℕ) → moves_of w (Rename2 old new flags) ≡ Nothing → notices_of w (Rename2 old new flags) cookie ≡ []
+pub rename2-tells-nothing : (w : World) (old new : List (List ℕ)) (flags cookie : ℕ)
+    → moves_of w (Rename2 old new flags) ≡ Nothing → notices_of w (Rename2 old new flags) cookie ≡ []
 rename2-tells-nothing w old new flags cookie e = by (flags == RENAME_EXCHANGE)
   where
     same : are_same_seen (look w old) (look w new) ≡ true
@@ -35,14 +39,16 @@ rename2-tells-nothing w old new flags cookie e = by (flags == RENAME_EXCHANGE)
     by true = exchange-by w old new cookie true same
     by false = rename-by w old new cookie true same
 
-pub moves-tell : (w : World) (call : FileCall) (cookie : ℕ) → moves_of w call ≡ Move → notices_of w call cookie ≡ move_told (look w) (path_of call) (other_path_of call) cookie
+pub moves-tell : (w : World) (call : FileCall) (cookie : ℕ) → moves_of w call ≡ Move
+    → notices_of w call cookie ≡ move_told (look w) (path_of call) (other_path_of call) cookie
 moves-tell w (Rename old new) cookie e = rename-by w old new cookie false (moved (are_same_seen (look w old) (look w new)) false e).0
 moves-tell w (Rename2 old new flags) cookie e =
     let is = moved (are_same_seen (look w old) (look w new)) (flags == RENAME_EXCHANGE) e in
     ap (λ f. if f then exchange_told (look w) old new cookie else rename_told (look w) old new cookie) is.1 ∙ rename-by w old new cookie false is.0
 moves-tell w _ cookie e = absurd (cc)
 
-pub swaps-tell : (w : World) (call : FileCall) (cookie : ℕ) → moves_of w call ≡ Exchange → notices_of w call cookie ≡ swap_told (look w) (path_of call) (other_path_of call) cookie
+pub swaps-tell : (w : World) (call : FileCall) (cookie : ℕ) → moves_of w call ≡ Exchange
+    → notices_of w call cookie ≡ swap_told (look w) (path_of call) (other_path_of call) cookie
 swaps-tell w (Rename old new) cookie e = absurd (let no = (exchanged (are_same_seen (look w old) (look w new)) false e).1 in cc)
 swaps-tell w (Rename2 old new flags) cookie e =
     let is = exchanged (are_same_seen (look w old) (look w new)) (flags == RENAME_EXCHANGE) e in
@@ -60,4 +66,5 @@ pub link-tells : (w : World) (call : FileCall) (cookie : ℕ) (old new : List (L
     → notices_of w call cookie ≡ to_self (look w (path_of call)) IN_ATTRIB ++ to_dir (look w) (other_path_of call) Regular IN_CREATE NO_COOKIE
 unfolding link_told
 link-tells w call cookie old new is =
-    subst (λ (x : FileCall). notices_of w x cookie ≡ to_self (look w (path_of x)) IN_ATTRIB ++ to_dir (look w) (other_path_of x) Regular IN_CREATE NO_COOKIE) (sym is) refl
+    subst (λ (x : FileCall). notices_of w x cookie ≡ to_self (look w (path_of x)) IN_ATTRIB ++ to_dir (look w) (other_path_of x) Regular IN_CREATE NO_COOKIE)
+    (sym is) refl

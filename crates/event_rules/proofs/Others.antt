@@ -73,7 +73,8 @@ pub part-after : (w : Watching) (ns : List Notice) → IsPartOf (watches_after w
 part-after w [] = part-itself w
 part-after w (n ∷ ns) = part-part (watches_after (left w n) ns) (left w n) w (part-after (left w n) ns) (part-left w n)
 
-pub after-IsSound : ((w : Watching) (number : ℕ) → IsSound w → IsSound (dropped w number)) → (w : Watching) (ns : List Notice) → IsSound w → IsSound (watches_after w ns)
+pub after-IsSound : ((w : Watching) (number : ℕ) → IsSound w → IsSound (dropped w number)) → (w : Watching) (ns : List Notice)
+    → IsSound w → IsSound (watches_after w ns)
 after-IsSound by_drop w [] sound = sound
 after-IsSound by_drop w (n ∷ ns) sound = after-IsSound by_drop (left w n) ns (left-either IsSound w n sound (by_drop w (told_number n) sound))
 
@@ -122,7 +123,9 @@ module _ (P : ℤ → Type 0) (watch : Watch) (holds : P watch.0) where
   told-All (Gone number) = All-nil (λ (x : Event). P x.wd)
 
   pub raised_at-All : (n : Notice) → All (λ (x : Event). P x.wd) (raised_at n (Some watch))
-  raised_at-All n = All-append (λ (x : Event). P x.wd) (event_told n watch) (where_ended n watch (ignored watch.0 ∷ [])) (told-All n) (if-All (ends_watch n watch) (ignored watch.0) holds)
+  raised_at-All n =
+      All-append (λ (x : Event). P x.wd) (event_told n watch) (where_ended n watch (ignored watch.0 ∷ [])) (told-All n)
+      (if-All (ends_watch n watch) (ignored watch.0) holds)
 
 module _ (P : ℤ → Type 0) (w : Watching) (n : Notice) where
   raised-All-by : (o : Option Watch) → ((watch : Watch) → o ≡ Some watch → P watch.0) → All (λ (x : Event). P x.wd) (raised_at n o)
@@ -147,4 +150,5 @@ events_of-HasWatch w [] = All-nil (λ (e : Event). HasWatch w e.wd)
 events_of-HasWatch w (n ∷ ns) =
     All-append (λ (e : Event). HasWatch w e.wd) (raised w n) (events_of (left w n) ns)
     (raised-All (HasWatch w) w n (λ watch is. (told_number n, wd-of w (told_number n) watch is)))
-    (All-weaker (λ (e : Event). HasWatch (left w n) e.wd) (λ (e : Event). HasWatch w e.wd) (λ e h. HasWatch-part (left w n) w e.wd (part-left w n) h) (events_of (left w n) ns) (events_of-HasWatch (left w n) ns))
+    (All-weaker (λ (e : Event). HasWatch (left w n) e.wd) (λ (e : Event). HasWatch w e.wd)
+    (λ e h. HasWatch-part (left w n) w e.wd (part-left w n) h) (events_of (left w n) ns) (events_of-HasWatch (left w n) ns))

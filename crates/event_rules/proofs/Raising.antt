@@ -72,7 +72,8 @@ keeps w (n ∷ ns) h =
     let all = subst (All IsTied) parts h in
     let first = keeps-one w n (All-first (marks_told (n ∷ [])) (marks_told ns) all) in
     let rest = keeps (left w n) ns (All-second (marks_told (n ∷ [])) (marks_told ns) all) in
-    let joined = tied-append (moves_in (marks_told (n ∷ []))) (moves_in (marks_told ns)) (marks_of (raised w n)) (marks_of (events_of (left w n) ns)) first rest in
+    let joined = tied-append (moves_in (marks_told (n ∷ []))) (moves_in (marks_told ns)) (marks_of (raised w n))
+    (marks_of (events_of (left w n) ns)) first rest in
     subst (λ l. AreTied l (marks_of (raised w n ++ events_of (left w n) ns))) (sym (ap moves_in parts ∙ moves_in-append (marks_told (n ∷ [])) (marks_told ns)))
     (subst (AreTied (moves_in (marks_told (n ∷ [])) ++ moves_in (marks_told ns))) (sym (marks_of-append (raised w n) (events_of (left w n) ns))) joined)
 

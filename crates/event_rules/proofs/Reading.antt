@@ -10,7 +10,8 @@ use Rattle.event_rules.specs.Table.{has_byte}
 pub bytes-none : (w : World) (p : List (List ℕ)) → look w p ≡ None → bytes_at w p ≡ []
 unfolding look
 bytes-none w p none =
-    elim (finmap.get w.paths p) as (λ o. option_and_then (λ n. option_map (seen_as w p n) (finmap.get w.files n)) o ≡ None → unwrap_or (option_map (λ (f : File). f.bytes) (option_and_then (finmap.get w.files) o)) [] ≡ []) [
+    elim (finmap.get w.paths p) as (λ o. option_and_then (λ n. option_map (seen_as w p n) (finmap.get w.files n)) o ≡ None
+    → unwrap_or (option_map (λ (f : File). f.bytes) (option_and_then (finmap.get w.files) o)) [] ≡ []) [
       | None ↦ λ _. refl
       | Some n ↦ λ e. elim (finmap.get w.files n) as (λ o. option_map (seen_as w p n) o ≡ None → unwrap_or (option_map (λ (f : File). f.bytes) o) [] ≡ []) [
         | None ↦ λ _. refl

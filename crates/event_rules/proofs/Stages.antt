@@ -11,11 +11,15 @@ use Rattle.event_rules.specs.Staging.{staged_event}
 
 events_of-push : (w : Watching) (ns : List Notice) (n : Notice) → events_of w (ns ++ n ∷ []) ≡ events_of w ns ++ raised (watches_after w ns) n
 events_of-push w [] n = append-nil (raised w n)
-events_of-push w (m ∷ ms) n = ap (λ es. raised w m ++ es) (events_of-push (left w m) ms n) ∙ sym (append_assoc (raised w m) (events_of (left w m) ms) (raised (watches_after (left w m) ms) n))
+events_of-push w (m ∷ ms) n =
+    ap (λ es. raised w m ++ es) (events_of-push (left w m) ms n)
+    ∙ sym (append_assoc (raised w m) (events_of (left w m) ms) (raised (watches_after (left w m) ms) n))
 
 wds_ended-push : (w : Watching) (ns : List Notice) (n : Notice) → wds_ended w (ns ++ n ∷ []) ≡ wds_ended w ns ++ ended (watches_after w ns) n
 wds_ended-push w [] n = append-nil (ended w n)
-wds_ended-push w (m ∷ ms) n = ap (λ es. ended w m ++ es) (wds_ended-push (left w m) ms n) ∙ sym (append_assoc (ended w m) (wds_ended (left w m) ms) (ended (watches_after (left w m) ms) n))
+wds_ended-push w (m ∷ ms) n =
+    ap (λ es. ended w m ++ es) (wds_ended-push (left w m) ms n)
+    ∙ sym (append_assoc (ended w m) (wds_ended (left w m) ms) (ended (watches_after (left w m) ms) n))
 
 -- the step of a loop over notices, which knows the watches that are left by the descriptors of those that ended
 module _ (w : Watching) (left_by_removals : (ns : List Notice) → fold removed w (wds_ended w ns) ≡ watches_after w ns)
@@ -26,7 +30,8 @@ module _ (w : Watching) (left_by_removals : (ns : List Notice) → fold removed 
   more : take (i + 1) ns ≡ take i ns ++ n ∷ []
   more = take_more ns i d within ∙ ap (λ m. take i ns ++ m ∷ []) at
 
-  pub events_more : (events new : List Event) → events ≡ events_of w (take i ns) → new ≡ events ++ raised (fold removed w wds) n → new ≡ events_of w (take (i + 1) ns)
+  pub events_more : (events new : List Event) → events ≡ events_of w (take i ns) → new ≡ events ++ raised (fold removed w wds) n
+      → new ≡ events_of w (take (i + 1) ns)
   events_more events new so_far is =
       is ∙ (λ j. so_far j ++ raised (there j) n) ∙ sym (ap (events_of w) more ∙ events_of-push w (take i ns) n)
 
@@ -45,8 +50,10 @@ ended_with w n o is = ap (ended_by n) is
 
 -- the events of a notice that ends the watch
 pub heard_ended : (id : ℕ) (n : Notice) (watch : Watch) (was told new : List StagedEvent) → ends_watch n watch ≡ true
-    → told ≡ was ++ map (staged_event id) (event_told n watch) → new ≡ told ++ staged_event id (ignored watch.0) ∷ [] → new ≡ was ++ map (staged_event id) (raised_at n (Some watch))
+    → told ≡ was ++ map (staged_event id) (event_told n watch) → new ≡ told ++ staged_event id (ignored watch.0) ∷ []
+    → new ≡ was ++ map (staged_event id) (raised_at n (Some watch))
 heard_ended id n watch was told new ends so_far is =
-    is ∙ ap (λ hs. hs ++ staged_event id (ignored watch.0) ∷ []) so_far ∙ append_assoc was (map (staged_event id) (event_told n watch)) (staged_event id (ignored watch.0) ∷ [])
+    is ∙ ap (λ hs. hs ++ staged_event id (ignored watch.0) ∷ []) so_far
+    ∙ append_assoc was (map (staged_event id) (event_told n watch)) (staged_event id (ignored watch.0) ∷ [])
     ∙ ap (λ hs. was ++ hs) (sym (map-append (staged_event id) (event_told n watch) (ignored watch.0 ∷ []))
     ∙ ap (λ b. map (staged_event id) (event_told n watch ++ (if b then ignored watch.0 ∷ [] else []))) (sym ends))

@@ -28,16 +28,21 @@ loop-notice-preserved c =
     let more = raised (fold removed w c.loop-notice.wds.items) c.notice-item.result in
     let left = fold removed w c.loop-notice.wds.items in
     let n = c.notice-item.result in
-    let at : c.watch_left-watch.result ≡ watch_of left (told_number n) = c.watch_left-watch.ensures.watch ∙ (λ k. watch_of (fold removed w (c.deref.ensures.value k)) (c.number-in-loop-notice.ensures k)) in
+    let at : c.watch_left-watch.result ≡ watch_of left (told_number n) =
+    c.watch_left-watch.ensures.watch ∙ (λ k. watch_of (fold removed w (c.deref.ensures.value k)) (c.number-in-loop-notice.ensures k)) in
     let raises = raised_with left n c.watch_left-watch.result at in
     let ends = ended_with left n c.watch_left-watch.result at in
     record {
       events =
-          c.in_ok-raise_one.ensures.events ∙ ap (λ es. c.loop-notice.events.items ++ map heard es) raises ∙ ap (λ es. es ++ map heard more) c.loop-notice.invariant.events ∙ append_assoc was (map heard before) (map heard more)
+          c.in_ok-raise_one.ensures.events ∙ ap (λ es. c.loop-notice.events.items ++ map heard es) raises
+          ∙ ap (λ es. es ++ map heard more) c.loop-notice.invariant.events ∙ append_assoc was (map heard before) (map heard more)
           ∙ ap (λ es. was ++ es) (sym (map-append heard before more)
-          ∙ ap (map heard) (events_more w left_by_removals c.args.notices.now c.loop-notice.notice-index c.notice-item.result c.notice-item.result c.loop-notice.wds.items within (sym c.notice-item.is)
+          ∙ ap (map heard) (events_more w left_by_removals c.args.notices.now c.loop-notice.notice-index c.notice-item.result
+          c.notice-item.result c.loop-notice.wds.items within (sym c.notice-item.is)
           c.loop-notice.invariant.ended before (before ++ more) refl refl));
-      ended = wds_more w left_by_removals c.args.notices.now c.loop-notice.notice-index c.notice-item.result c.notice-item.result c.loop-notice.wds.items within (sym c.notice-item.is)
+      ended =
+          wds_more w left_by_removals c.args.notices.now c.loop-notice.notice-index c.notice-item.result c.notice-item.result
+          c.loop-notice.wds.items within (sym c.notice-item.is)
           c.loop-notice.invariant.ended c.raise_one.new.wds.items (c.in_ok-raise_one.ensures.ended ∙ ap (λ ds. c.loop-notice.wds.items ++ ds) ends);
       found = c.watch_left-watch.ensures.found;
     }

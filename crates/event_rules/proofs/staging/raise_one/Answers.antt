@@ -7,5 +7,6 @@ pub returns-in_ok-push-clause-events : goal.returns-in_ok-push-clause-events
 returns-in_ok-push-clause-events c =
     let n = c.args.notice.now in
     let ends : ends_watch n c.in-Some.watch ≡ true = search rules in
-    let raised = heard_ended c.args.id n c.in-Some.watch c.args.events.now.items c.raise_told.new.events.items c.push_back.new.self.items ends c.in_ok-raise_told.ensures (search rules) in
+    let raised = heard_ended c.args.id n c.in-Some.watch c.args.events.now.items c.raise_told.new.events.items
+    c.push_back.new.self.items ends c.in_ok-raise_told.ensures (search rules) in
     search rules

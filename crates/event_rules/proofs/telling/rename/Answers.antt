@@ -7,7 +7,8 @@ use Rattle.event_rules.proofs.telling.rename.Goals as goal
 
 pub returns : goal.returns
 returns c =
-    move_told-lines (look (world_of c.args.old.now.tree)) (look (world_of c.args.new.now.tree)) c.args.old.now.path.names c.args.new.now.path.names c.args.cookie c.object-moved.result c.object.result c.kind_seen-kind.result
+    move_told-lines (look (world_of c.args.old.now.tree)) (look (world_of c.args.new.now.tree)) c.args.old.now.path.names
+    c.args.new.now.path.names c.args.cookie c.object-moved.result c.object.result c.kind_seen-kind.result
     c.args.told.now c.tell_dir.new.self c.tell_dir-2.new.self c.tell_path_lost.new.self c.tell_self.new.self
     (ap (λ (t : Tree). look (world_of t)) c.requires.same) c.object-moved.ensures c.object.ensures c.kind_seen-kind.ensures
     c.requires.empty c.in_ok-tell_dir.ensures c.in_ok-tell_dir-2.ensures c.in_ok-tell_path_lost.ensures c.in_ok-tell_self.ensures

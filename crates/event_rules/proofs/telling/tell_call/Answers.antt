@@ -6,7 +6,8 @@ use Rattle.event_rules.proofs.Moving.{moves-tell, swaps-tell, next-fits}
 use Rattle.event_rules.proofs.telling.tell_call.Goals as goal
 
 pub exchange-requires-clause-next : goal.exchange-requires-clause-next
-exchange-requires-clause-next c = next-fits (world_of c.args.ready.now.tree) c.args.ready.now.plan.call c.args.cookie (sym c.moves.ensures ∙ c.in-Exchange.is) c.requires.cookies
+exchange-requires-clause-next c =
+    next-fits (world_of c.args.ready.now.tree) c.args.ready.now.plan.call c.args.cookie (sym c.moves.ensures ∙ c.in-Exchange.is) c.requires.cookies
 
 pub returns-in-Move : goal.returns-in-Move
 returns-in-Move c =
@@ -14,7 +15,8 @@ returns-in-Move c =
     let old = c.at_path-old.ensures in
     let new = c.at_other_path.ensures in
     subst (λ ns. OnOk c.rename.result (c.rename.new.told ≡ ns))
-    ((λ i. move_told (look (world_of (old.tree i))) (old.names i) (new.names i) c.args.cookie) ∙ sym (moves-tell (world_of c.args.ready.now.tree) call c.args.cookie (sym c.moves.ensures ∙ c.in-Move.is)))
+    ((λ i. move_told (look (world_of (old.tree i))) (old.names i) (new.names i) c.args.cookie)
+    ∙ sym (moves-tell (world_of c.args.ready.now.tree) call c.args.cookie (sym c.moves.ensures ∙ c.in-Move.is)))
     c.rename.ensures
 
 pub returns-in-Exchange : goal.returns-in-Exchange
@@ -23,5 +25,6 @@ returns-in-Exchange c =
     let old = c.at_path-old-in-Exchange.ensures in
     let new = c.at_other_path-in-Exchange.ensures in
     subst (λ ns. OnOk c.exchange.result (c.exchange.new.told ≡ ns))
-    ((λ i. swap_told (look (world_of (old.tree i))) (old.names i) (new.names i) c.args.cookie) ∙ sym (swaps-tell (world_of c.args.ready.now.tree) call c.args.cookie (sym c.moves.ensures ∙ c.in-Exchange.is)))
+    ((λ i. swap_told (look (world_of (old.tree i))) (old.names i) (new.names i) c.args.cookie)
+    ∙ sym (swaps-tell (world_of c.args.ready.now.tree) call c.args.cookie (sym c.moves.ensures ∙ c.in-Exchange.is)))
     c.exchange.ensures
