@@ -24,23 +24,30 @@ use Rattle.instance_table.proofs.Indexed.{changed-there, changed-none, changed-n
 
 -- ---- what an instance is after a change
 
-pub get-changed : (m : Instances) (id : ℕ) (change : Instance → Instance) (q : ℕ) → instance_of (changed m id change) q ≡ cond (eqb q id) (option_map change (instance_of m q)) (instance_of m q)
+pub get-changed : (m : Instances) (id : ℕ) (change : Instance → Instance) (q : ℕ)
+    → instance_of (changed m id change) q ≡ cond (eqb q id) (option_map change (instance_of m q)) (instance_of m q)
 get-changed m id change q =
-    elim (instance_of m id) as (λ o. instance_of m id ≡ o → instance_of (changed m id change) q ≡ cond (eqb q id) (option_map change (instance_of m q)) (instance_of m q)) [
-      | None ↦ λ e. ap (λ x. instance_of x q) (changed-none m id change e) ∙ elim (eqb q id) as (λ t. eqb q id ≡ t → instance_of m q ≡ cond t (option_map change (instance_of m q)) (instance_of m q)) [
-        | true ↦ λ t. let none : instance_of m q ≡ None = ap (instance_of m) (is-same q id t) ∙ e in none ∙ ap (option_map change) (sym none)
-        | false ↦ λ t. refl
-      ] refl
-      | Some i ↦ λ e. ap (λ x. instance_of x q) (changed-there m id change i e) ∙ get-put m id (change i) q ∙ elim (eqb q id) as (λ t. eqb q id ≡ t → cond t (Some (change i)) (instance_of m q) ≡ cond t (option_map change (instance_of m q)) (instance_of m q)) [
-        | true ↦ λ t. ap (option_map change) (sym (ap (instance_of m) (is-same q id t) ∙ e))
-        | false ↦ λ t. refl
-      ] refl
+    elim (instance_of m id) as (λ o. instance_of m id ≡ o
+    → instance_of (changed m id change) q ≡ cond (eqb q id) (option_map change (instance_of m q)) (instance_of m q)) [
+      | None ↦ λ e. ap (λ x. instance_of x q) (changed-none m id change e)
+          ∙ elim (eqb q id) as (λ t. eqb q id ≡ t → instance_of m q ≡ cond t (option_map change (instance_of m q)) (instance_of m q)) [
+            | true ↦ λ t. let none : instance_of m q ≡ None = ap (instance_of m) (is-same q id t) ∙ e in none ∙ ap (option_map change) (sym none)
+            | false ↦ λ t. refl
+          ] refl
+      | Some i ↦ λ e. ap (λ x. instance_of x q) (changed-there m id change i e) ∙ get-put m id (change i) q
+          ∙ elim (eqb q id) as (λ t. eqb q id ≡ t
+          → cond t (Some (change i)) (instance_of m q) ≡ cond t (option_map change (instance_of m q)) (instance_of m q)) [
+            | true ↦ λ t. ap (option_map change) (sym (ap (instance_of m) (is-same q id t) ∙ e))
+            | false ↦ λ t. refl
+          ] refl
     ] refl
 
-find-mapped : (change : Instance → Instance) (es : List (ℕ × Instance)) (q : ℕ) → find nat_cmp q (map (λ (e : ℕ × Instance). (e.0, change e.1)) es) ≡ option_map change (find nat_cmp q es)
+find-mapped : (change : Instance → Instance) (es : List (ℕ × Instance)) (q : ℕ)
+    → find nat_cmp q (map (λ (e : ℕ × Instance). (e.0, change e.1)) es) ≡ option_map change (find nat_cmp q es)
 find-mapped change [] q = refl
 find-mapped change (e ∷ es) q =
-    elim (eq_by_cmp nat_cmp q e.0) as (λ t. cond t (Some (change e.1)) (find nat_cmp q (map (λ (e : ℕ × Instance). (e.0, change e.1)) es)) ≡ option_map change (cond t (Some e.1) (find nat_cmp q es))) [
+    elim (eq_by_cmp nat_cmp q e.0) as (λ t. cond t (Some (change e.1)) (find nat_cmp q (map (λ (e : ℕ × Instance). (e.0, change e.1)) es))
+    ≡ option_map change (cond t (Some e.1) (find nat_cmp q es))) [
       | true ↦ refl
       | false ↦ find-mapped change es q
     ]
@@ -55,7 +62,8 @@ get-all_changed m change q =
 
 module _ {X : Type 0} (id_of : X → ℕ) (act : X → Instance → Instance) where
   get-steps : (xs : List X) (m : Instances) (q : ℕ)
-      → instance_of (fold (λ m x. changed m (id_of x) (act x)) m xs) q ≡ option_map (λ i. fold (λ i x. act x i) i (filter (λ x. eqb q (id_of x)) xs)) (instance_of m q)
+      → instance_of (fold (λ m x. changed m (id_of x) (act x)) m xs) q
+      ≡ option_map (λ i. fold (λ i x. act x i) i (filter (λ x. eqb q (id_of x)) xs)) (instance_of m q)
   get-steps [] m q = same (instance_of m q)
     where
       same : (o : Option Instance) → o ≡ option_map (λ i. i) o
@@ -65,24 +73,30 @@ module _ {X : Type 0} (id_of : X → ℕ) (act : X → Instance → Instance) wh
       let rest : List X = filter (λ x. eqb q (id_of x)) xs in
       get-steps xs (changed m (id_of x) (act x)) q
       ∙ ap (option_map (λ i. fold (λ i x. act x i) i rest)) (get-changed m (id_of x) (act x) q)
-      ∙ elim (eqb q (id_of x)) as (λ t. option_map (λ i. fold (λ i x. act x i) i rest) (cond t (option_map (act x) (instance_of m q)) (instance_of m q)) ≡ option_map (λ i. fold (λ i x. act x i) i (cond t (x ∷ rest) rest)) (instance_of m q)) [
+      ∙ elim (eqb q (id_of x)) as (λ t. option_map (λ i. fold (λ i x. act x i) i rest) (cond t (option_map (act x) (instance_of m q)) (instance_of m q))
+      ≡ option_map (λ i. fold (λ i x. act x i) i (cond t (x ∷ rest) rest)) (instance_of m q)) [
         | true ↦ twice (instance_of m q)
         | false ↦ refl
       ]
     where
-      twice : (o : Option Instance) → option_map (λ i. fold (λ i x. act x i) i (filter (λ x. eqb q (id_of x)) xs)) (option_map (act x) o) ≡ option_map (λ i. fold (λ i x. act x i) i (x ∷ filter (λ x. eqb q (id_of x)) xs)) o
+      twice : (o : Option Instance)
+          → option_map (λ i. fold (λ i x. act x i) i (filter (λ x. eqb q (id_of x)) xs)) (option_map (act x) o)
+          ≡ option_map (λ i. fold (λ i x. act x i) i (x ∷ filter (λ x. eqb q (id_of x)) xs)) o
       twice None = refl
       twice (Some i) = refl
 
-fold-hears : (hs : List StagedEvent) (i : Instance) → fold (λ i h. hears h i) i hs ≡ record i { queue = fold after_offer i.queue (map (λ (h : StagedEvent). h.event) hs) }
+fold-hears : (hs : List StagedEvent) (i : Instance)
+    → fold (λ i h. hears h i) i hs ≡ record i { queue = fold after_offer i.queue (map (λ (h : StagedEvent). h.event) hs) }
 fold-hears [] i = refl
 fold-hears (h ∷ hs) i = fold-hears hs (hears h i)
 
-fold-ends : (ds : List StagedEnd) (i : Instance) → fold (λ i d. ends d i) i ds ≡ record i { watches = fold removed i.watches (map (λ (d : StagedEnd). d.wd) ds) }
+fold-ends : (ds : List StagedEnd) (i : Instance)
+    → fold (λ i d. ends d i) i ds ≡ record i { watches = fold removed i.watches (map (λ (d : StagedEnd). d.wd) ds) }
 fold-ends [] i = refl
 fold-ends (d ∷ ds) i = fold-ends ds (ends d i)
 
-pub heard-told : (s : Staging) (m : Instances) (ns : List Notice) → IsStaged m ns s → ended_all (heard_all m s.staged.events.items) s.staged.drops.items ≡ all_changed m (told ns)
+pub heard-told : (s : Staging) (m : Instances) (ns : List Notice) → IsStaged m ns s
+    → ended_all (heard_all m s.staged.events.items) s.staged.drops.items ≡ all_changed m (told ns)
 heard-told s m ns staged =
     same_map nat_cmp_total nat_cmp-IsAntisymmetric (ended_all (heard_all m hs) ds) (all_changed m (told ns)) (λ q.
     get-steps (λ (d : StagedEnd). d.id) ends ds (heard_all m hs) q
@@ -96,7 +110,9 @@ heard-told s m ns staged =
     ds = s.staged.drops.items
 
     both : (q : ℕ) (o : Option Instance) → instance_of m q ≡ o
-        → option_map (λ i. fold (λ i d. ends d i) i (filter (λ (d : StagedEnd). eqb q d.id) ds)) (option_map (λ i. fold (λ i h. hears h i) i (filter (λ (h : StagedEvent). eqb q h.id) hs)) o) ≡ option_map (told ns) o
+        → option_map (λ i. fold (λ i d. ends d i) i (filter (λ (d : StagedEnd). eqb q d.id) ds))
+        (option_map (λ i. fold (λ i h. hears h i) i (filter (λ (h : StagedEvent). eqb q h.id) hs)) o)
+        ≡ option_map (told ns) o
     both q None e = refl
     both q (Some i) e =
         let mine : List StagedEvent = filter (λ (h : StagedEvent). eqb q h.id) hs in
@@ -107,7 +123,8 @@ heard-told s m ns staged =
 
 -- ---- where no file is watched
 
-module _ (quiet : (w : Watching) (ns : List Notice) → All (λ n. watch_of w (told_number n) ≡ None) ns → events_of w ns ≡ []) (kept : (w : Watching) (ns : List Notice) → All (λ n. watch_of w (told_number n) ≡ None) ns → watches_after w ns ≡ w) where
+module _ (quiet : (w : Watching) (ns : List Notice) → All (λ n. watch_of w (told_number n) ≡ None) ns → events_of w ns ≡ [])
+    (kept : (w : Watching) (ns : List Notice) → All (λ n. watch_of w (told_number n) ≡ None) ns → watches_after w ns ≡ w) where
   pub unwatched-stay : (m : Instances) (ns : List Notice) → NobodyWatches m → all_changed m (told ns) ≡ m
   unwatched-stay m ns nobody =
       same_map nat_cmp_total nat_cmp-IsAntisymmetric (all_changed m (told ns)) m (λ q. get-all_changed m (told ns) q ∙ by q (instance_of m q) refl)
@@ -119,12 +136,15 @@ module _ (quiet : (w : Watching) (ns : List Notice) → All (λ n. watch_of w (t
       by : (q : ℕ) (o : Option Instance) → instance_of m q ≡ o → option_map (told ns) o ≡ o
       by q None e = refl
       by q (Some i) e =
-          let all : All (λ n. watch_of i.watches (told_number n) ≡ None) ns = (λ k d p. none-of (watch_of i.watches (told_number (get_or ns k d))) (ap (watches_file (told_number (get_or ns k d))) (sym e) ∙ nobody (told_number (get_or ns k d)) q)) in
+          let all : All (λ n. watch_of i.watches (told_number n) ≡ None) ns =
+          (λ k d p. none-of (watch_of i.watches (told_number (get_or ns k d)))
+          (ap (watches_file (told_number (get_or ns k d))) (sym e) ∙ nobody (told_number (get_or ns k d)) q)) in
           ap Some (λ k. record i { watches = kept i.watches ns all k; queue = fold after_offer i.queue (quiet i.watches ns all k) })
 
 -- ---- a run of events that one instance receives
 
-fold-more : (b : Rattle.event_queue.specs.Backlogs.Backlog) (es : List Event) (e : Event) → after_offer (fold after_offer b es) e ≡ fold after_offer b (es ++ e ∷ [])
+fold-more : (b : Rattle.event_queue.specs.Backlogs.Backlog) (es : List Event) (e : Event)
+    → after_offer (fold after_offer b es) e ≡ fold after_offer b (es ++ e ∷ [])
 fold-more b [] e = refl
 fold-more b (x ∷ es) e = fold-more (after_offer b x) es e
 
@@ -138,18 +158,25 @@ hears-all es i = record i { queue = fold after_offer i.queue es }
 heard-run : (id : ℕ) (es : List Event) (m : Instances) → heard_all m (map (staged_event id) es) ≡ changed m id (hears-all es)
 unfolding hears-all
 heard-run id [] m = sym (changed-not m id)
-heard-run id (e ∷ es) m = heard-run id es (changed m id (hears (staged_event id e))) ∙ changed-twice m id (hears (staged_event id e)) (hears-all es) (hears-all (e ∷ es)) (λ i. refl)
+heard-run id (e ∷ es) m =
+    heard-run id es (changed m id (hears (staged_event id e)))
+    ∙ changed-twice m id (hears (staged_event id e)) (hears-all es) (hears-all (e ∷ es)) (λ i. refl)
 
 -- the instances after a run, and then the others
-pub run-heard : (m n : Instances) (id : ℕ) (es : List Event) (all rest : List StagedEvent) → all ≡ map (staged_event id) es ++ rest → n ≡ changed m id (λ i. record i { queue = fold after_offer i.queue es }) → heard_all n rest ≡ heard_all m all
+pub run-heard : (m n : Instances) (id : ℕ) (es : List Event) (all rest : List StagedEvent) → all ≡ map (staged_event id) es ++ rest
+    → n ≡ changed m id (λ i. record i { queue = fold after_offer i.queue es }) → heard_all n rest ≡ heard_all m all
 unfolding hears-all
-run-heard m n id es all rest is so = ap (λ x. heard_all x rest) (so ∙ sym (heard-run id es m)) ∙ sym (heard-append (map (staged_event id) es) rest m) ∙ ap (heard_all m) (sym is)
+run-heard m n id es all rest is so =
+    ap (λ x. heard_all x rest) (so ∙ sym (heard-run id es m)) ∙ sym (heard-append (map (staged_event id) es) rest m) ∙ ap (heard_all m) (sym is)
 
 -- one event more of a run
-pub run-more : (id : ℕ) (es : List Event) (h : StagedEvent) (all rest more : List StagedEvent) → eqb h.id id ≡ true → all ≡ map (staged_event id) es ++ rest → rest ≡ h ∷ more → all ≡ map (staged_event id) (es ++ h.event ∷ []) ++ more
+pub run-more : (id : ℕ) (es : List Event) (h : StagedEvent) (all rest more : List StagedEvent) → eqb h.id id ≡ true
+    → all ≡ map (staged_event id) es ++ rest → rest ≡ h ∷ more → all ≡ map (staged_event id) (es ++ h.event ∷ []) ++ more
 run-more id es h all rest more same is next =
-    is ∙ ap (λ hs. map (staged_event id) es ++ hs) (next ∙ ap (λ (n : ℕ). record h { id = n } ∷ more) (is-same h.id id same)) ∙ sym (append_assoc (map (staged_event id) es) (staged_event id h.event ∷ []) more)
+    is ∙ ap (λ hs. map (staged_event id) es ++ hs) (next ∙ ap (λ (n : ℕ). record h { id = n } ∷ more) (is-same h.id id same))
+    ∙ sym (append_assoc (map (staged_event id) es) (staged_event id h.event ∷ []) more)
     ∙ ap (λ hs. hs ++ more) (sym (map-append (staged_event id) es (h.event ∷ [])))
 
-pub queue-more : (b now new : Rattle.event_queue.specs.Backlogs.Backlog) (es : List Event) (e : Event) → now ≡ fold after_offer b es → new ≡ after_offer now e → new ≡ fold after_offer b (es ++ e ∷ [])
+pub queue-more : (b now new : Rattle.event_queue.specs.Backlogs.Backlog) (es : List Event) (e : Event)
+    → now ≡ fold after_offer b es → new ≡ after_offer now e → new ≡ fold after_offer b (es ++ e ∷ [])
 queue-more b now new es e so is = is ∙ ap (λ q. after_offer q e) so ∙ fold-more b es e

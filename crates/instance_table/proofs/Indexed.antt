@@ -26,7 +26,8 @@ use Rattle.std.specs.List.Sorted.{IsStrictlySortedBy}
 
 -- ---- one instance changes
 
-pub changed-there : (m : Instances) (id : ℕ) (change : Instance → Instance) (i : Instance) → instance_of m id ≡ Some i → changed m id change ≡ map.insert m id (change i)
+pub changed-there : (m : Instances) (id : ℕ) (change : Instance → Instance) (i : Instance) → instance_of m id ≡ Some i
+    → changed m id change ≡ map.insert m id (change i)
 unfolding changed
 changed-there m id change i h = ap (Rattle.instance_table.specs.Instances.changed_by m id change) h
 
@@ -52,10 +53,13 @@ put-same m id i h = same_map nat_cmp_total nat_cmp-IsAntisymmetric _ _ (λ q.
     ] refl)
 
 -- who watches a file where an instance has other watches
-pub watched-put : (m : Instances) (id : ℕ) (i : Instance) (n q : ℕ) → watches_file n (instance_of (map.insert m id i) q) ≡ cond (eqb q id) (is_some (watch_of i.watches n)) (watches_file n (instance_of m q))
+pub watched-put : (m : Instances) (id : ℕ) (i : Instance) (n q : ℕ)
+    → watches_file n (instance_of (map.insert m id i) q) ≡ cond (eqb q id) (is_some (watch_of i.watches n)) (watches_file n (instance_of m q))
 watched-put m id i n q =
     ap (watches_file n) (get-put m id i q)
-    ∙ elim (eqb q id) as (λ t. watches_file n (cond t (Some i) (instance_of m q)) ≡ cond t (is_some (watch_of i.watches n)) (watches_file n (instance_of m q))) [ true ↦ refl | false ↦ refl ]
+    ∙ elim (eqb q id) as (λ t. watches_file n (cond t (Some i) (instance_of m q))
+    ≡ cond t (is_some (watch_of i.watches n)) (watches_file n (instance_of m q)))
+    [ true ↦ refl | false ↦ refl ]
 
 pub watched-cut : (m : Instances) (id n q : ℕ) → watches_file n (instance_of (map.remove m id) q) ≡ cond (eqb q id) false (watches_file n (instance_of m q))
 watched-cut m id n q =
@@ -68,14 +72,19 @@ is_some-cut false o = refl
 
 pub watched-dropped : (w : Watching) (number n : ℕ) → is_some (watch_of (dropped w number) n) ≡ (not (eqb n number) && is_some (watch_of w n))
 unfolding dropped
-watched-dropped w number n = ap is_some (get-remove nat_cmp_total w.watches number n) ∙ is_some-cut (eq_by_cmp nat_cmp n number) (watch_of w n) ∙ ap (λ t. not t && is_some (watch_of w n)) (unsigned_tied n number)
+watched-dropped w number n =
+    ap is_some (get-remove nat_cmp_total w.watches number n) ∙ is_some-cut (eq_by_cmp nat_cmp n number) (watch_of w n)
+    ∙ ap (λ t. not t && is_some (watch_of w n)) (unsigned_tied n number)
 
 is_some-put : {A : Type 0} (b : Bool) (x : A) (o : Option A) → is_some (cond b (Some x) o) ≡ (b || is_some o)
 is_some-put true x o = refl
 is_some-put false x o = refl
 
-watched-inserted : (m : map.FinMap nat_cmp Watch) (number n : ℕ) (x : Watch) → is_some (map.get (map.insert m number x) n) ≡ (eqb n number || is_some (map.get m n))
-watched-inserted m number n x = ap is_some (get-insert nat_cmp_total m number x n) ∙ is_some-put (eq_by_cmp nat_cmp n number) x (map.get m n) ∙ ap (λ t. t || is_some (map.get m n)) (unsigned_tied n number)
+watched-inserted : (m : map.FinMap nat_cmp Watch) (number n : ℕ) (x : Watch)
+    → is_some (map.get (map.insert m number x) n) ≡ (eqb n number || is_some (map.get m n))
+watched-inserted m number n x =
+    ap is_some (get-insert nat_cmp_total m number x n) ∙ is_some-put (eq_by_cmp nat_cmp n number) x (map.get m n)
+    ∙ ap (λ t. t || is_some (map.get m n)) (unsigned_tied n number)
 
 pub watched-added : (w : Watching) (number mask n : ℕ) → is_some (watch_of (added w number mask) n) ≡ (eqb n number || is_some (watch_of w n))
 unfolding added
@@ -106,7 +115,8 @@ waiting-cut m id all q = subst (λ o. AreEvents (waiting_of o)) (sym (get-cut m 
 module _ (rows : List Opened) (id place : ℕ) (rising : IsStrictlySortedBy nat_cmp (ids_of rows)) (at : IsPlace (ids_of rows) id (Ok place)) where
   -- the instance at the index of a number
   pub instance-at : (row : Opened) → row ≡ get_or rows place row → instance_of (by_number rows) id ≡ Some row.instance
-  instance-at row e = get-at (λ (o : Opened). o.id) (λ (o : Opened). o.instance) rows place id row rising at.0 at.1 ∙ ap (λ (o : Opened). Some o.instance) (sym e)
+  instance-at row e =
+      get-at (λ (o : Opened). o.id) (λ (o : Opened). o.instance) rows place id row rising at.0 at.1 ∙ ap (λ (o : Opened). Some o.instance) (sym e)
 
   -- another instance at the index of a number
   module _ (row : Opened) (same : row.id ≡ id) where
@@ -114,19 +124,24 @@ module _ (rows : List Opened) (id place : ℕ) (rising : IsStrictlySortedBy nat_
     numbered = at.1 ∙ sym same
 
     pub rows-set : by_number (set rows place row) ≡ map.insert (by_number rows) id row.instance
-    rows-set = map-set (λ (o : Opened). o.id) (λ (o : Opened). o.instance) rows place row rising at.0 numbered ∙ ap (λ n. map.insert (by_number rows) n row.instance) same
+    rows-set =
+        map-set (λ (o : Opened). o.id) (λ (o : Opened). o.instance) rows place row rising at.0 numbered
+        ∙ ap (λ n. map.insert (by_number rows) n row.instance) same
 
     pub numbers-set : IsStrictlySortedBy nat_cmp (ids_of (set rows place row))
     numbers-set = rises-set (λ (o : Opened). o.id) (λ (o : Opened). o.instance) rows place row rising numbered
 
   pub number-at : (row : Opened) → row ≡ get_or rows place row → row.id ≡ id
-  number-at row e = ap (λ (o : Opened). o.id) e ∙ sym (get_or-map (λ (o : Opened). o.id) rows place row 0 (omega (arith, at.0, length-keys (λ (o : Opened). o.id) rows))) ∙ at.1
+  number-at row e =
+      ap (λ (o : Opened). o.id) e
+      ∙ sym (get_or-map (λ (o : Opened). o.id) rows place row 0 (omega (arith, at.0, length-keys (λ (o : Opened). o.id) rows))) ∙ at.1
 
   pub rows-cut : by_number (take place rows ++ drop (suc place) rows) ≡ map.remove (by_number rows) id
   rows-cut = map-cut (λ (o : Opened). o.id) (λ (o : Opened). o.instance) rows place id rising at.0 at.1
 
 -- there is an instance at the index of a number
-some-at : (rows : List Opened) (id place : ℕ) → IsStrictlySortedBy nat_cmp (ids_of rows) → IsPlace (ids_of rows) id (Ok place) → instance_of (by_number rows) id ≡ None → ⊥
+some-at : (rows : List Opened) (id place : ℕ) → IsStrictlySortedBy nat_cmp (ids_of rows) → IsPlace (ids_of rows) id (Ok place)
+    → instance_of (by_number rows) id ≡ None → ⊥
 some-at [] id place rising at free = omega (arith, at.0)
 some-at (row ∷ rows) id place rising at free =
     false≢true (ap is_some (sym free ∙ get-at (λ (o : Opened). o.id) (λ (o : Opened). o.instance) (row ∷ rows) place id row rising at.0 at.1))
@@ -148,7 +163,9 @@ module _ (a : Inside) (whole : NotesEveryWatch a) (id : ℕ) (i : Instance) (was
   noted-dropped number w e index cut n q =
       cut n q
       ∙ elim (eqb q id) as (λ t. eqb q id ≡ t → (not (eqb n number && t) && is_noted a.index n q) ≡ cond t (is_some (watch_of w n)) (is_noted a.index n q)) [
-        | true ↦ λ t. ap (λ b. not (eqb n number && true) && b) (here n q t) ∙ both (eqb n number) (is_some (watch_of i.watches n)) ∙ sym (watched-dropped i.watches number n) ∙ ap (λ x. is_some (watch_of x n)) (sym e)
+        | true ↦
+            λ t. ap (λ b. not (eqb n number && true) && b) (here n q t) ∙ both (eqb n number) (is_some (watch_of i.watches n))
+            ∙ sym (watched-dropped i.watches number n) ∙ ap (λ x. is_some (watch_of x n)) (sym e)
         | false ↦ λ t. alone (eqb n number) (is_noted a.index n q)
       ] refl
     where
@@ -162,7 +179,8 @@ module _ (a : Inside) (whole : NotesEveryWatch a) (id : ℕ) (i : Instance) (was
 
   -- nothing has changed
   pub noted-same : (w : Watching) → w ≡ i.watches → (index : Index)
-      → ((n q : ℕ) → is_noted index n q ≡ is_noted a.index n q) → (n q : ℕ) → is_noted index n q ≡ cond (eqb q id) (is_some (watch_of w n)) (is_noted a.index n q)
+      → ((n q : ℕ) → is_noted index n q ≡ is_noted a.index n q) → (n q : ℕ)
+      → is_noted index n q ≡ cond (eqb q id) (is_some (watch_of w n)) (is_noted a.index n q)
   noted-same w e index same n q =
       same n q
       ∙ elim (eqb q id) as (λ t. eqb q id ≡ t → is_noted a.index n q ≡ cond t (is_some (watch_of w n)) (is_noted a.index n q)) [
@@ -177,7 +195,9 @@ module _ (a : Inside) (whole : NotesEveryWatch a) (id : ℕ) (i : Instance) (was
   noted-added number mask w e index put n q =
       put n q
       ∙ elim (eqb q id) as (λ t. eqb q id ≡ t → ((eqb n number && t) || is_noted a.index n q) ≡ cond t (is_some (watch_of w n)) (is_noted a.index n q)) [
-        | true ↦ λ t. ap (λ b. (eqb n number && true) || b) (here n q t) ∙ both (eqb n number) (is_some (watch_of i.watches n)) ∙ sym (watched-added i.watches number mask n) ∙ ap (λ x. is_some (watch_of x n)) (sym e)
+        | true ↦
+            λ t. ap (λ b. (eqb n number && true) || b) (here n q t) ∙ both (eqb n number) (is_some (watch_of i.watches n))
+            ∙ sym (watched-added i.watches number mask n) ∙ ap (λ x. is_some (watch_of x n)) (sym e)
         | false ↦ λ t. alone (eqb n number) (is_noted a.index n q)
       ] refl
     where
@@ -201,7 +221,8 @@ module _ (a : Inside) (whole : NotesEveryWatch a) (id : ℕ) (i : Instance) (was
 
 module _ (a b : Inside) (whole : NotesEveryWatch a) (rising : IsStrictlySortedBy nat_cmp (ids_of b.opened.items)) (rows : HasNoEmptyRow b.index) where
   -- one instance has changed
-  module _ (id : ℕ) (i j : Instance) (was : instance_of (instances_of a) id ≡ Some i) (put : instances_of b ≡ map.insert (instances_of a) id j) (events : AreEvents j.queue.waiting) where
+  module _ (id : ℕ) (i j : Instance) (was : instance_of (instances_of a) id ≡ Some i)
+      (put : instances_of b ≡ map.insert (instances_of a) id j) (events : AreEvents j.queue.waiting) where
     -- its watches have changed as the index has
     pub IsIndexed-changed : ((n q : ℕ) → is_noted b.index n q ≡ cond (eqb q id) (is_some (watch_of j.watches n)) (is_noted a.index n q)) → NotesEveryWatch b
     IsIndexed-changed noted = record {
@@ -226,7 +247,8 @@ module _ (a b : Inside) (whole : NotesEveryWatch a) (rising : IsStrictlySortedBy
     noted = λ n q.
         ap (λ x. is_noted x n q) index ∙ whole.noted n q
         ∙ sym (ap (λ x. watches_file n (instance_of x q)) put ∙ watched-put (instances_of a) id i n q
-        ∙ elim (eqb q id) as (λ t. eqb q id ≡ t → cond t (is_some (watch_of i.watches n)) (watches_file n (instance_of (instances_of a) q)) ≡ watches_file n (instance_of (instances_of a) q)) [
+        ∙ elim (eqb q id) as (λ t. eqb q id ≡ t
+        → cond t (is_some (watch_of i.watches n)) (watches_file n (instance_of (instances_of a) q)) ≡ watches_file n (instance_of (instances_of a) q)) [
           | true ↦ λ t. ap is_some (none n) ∙ ap (watches_file n) (sym free) ∙ ap (λ x. watches_file n (instance_of (instances_of a) x)) (sym (is-same q id t))
           | false ↦ λ t. refl
         ] refl);
@@ -242,9 +264,12 @@ module _ (a b : Inside) (whole : NotesEveryWatch a) (rising : IsStrictlySortedBy
     noted = λ n q.
         forgotten n q
         ∙ ap (λ b. not (is_some (watch_of i.watches n) && eqb q id) && b) (whole.noted n q)
-        ∙ elim (eqb q id) as (λ t. eqb q id ≡ t → (not (is_some (watch_of i.watches n) && t) && watches_file n (instance_of (instances_of a) q)) ≡ cond t false (watches_file n (instance_of (instances_of a) q))) [
+        ∙ elim (eqb q id) as (λ t. eqb q id ≡ t
+        → (not (is_some (watch_of i.watches n) && t) && watches_file n (instance_of (instances_of a) q))
+        ≡ cond t false (watches_file n (instance_of (instances_of a) q))) [
           | true ↦ λ t.
-              let here : watches_file n (instance_of (instances_of a) q) ≡ is_some (watch_of i.watches n) = ap (λ x. watches_file n (instance_of (instances_of a) x)) (is-same q id t) ∙ ap (watches_file n) was in
+              let here : watches_file n (instance_of (instances_of a) q) ≡ is_some (watch_of i.watches n) =
+              ap (λ x. watches_file n (instance_of (instances_of a) x)) (is-same q id t) ∙ ap (watches_file n) was in
               ap (λ b. not (is_some (watch_of i.watches n) && true) && b) here ∙ off (is_some (watch_of i.watches n))
           | false ↦ λ t. on (is_some (watch_of i.watches n)) (watches_file n (instance_of (instances_of a) q))
         ] refl
@@ -262,7 +287,8 @@ module _ (a b : Inside) (whole : NotesEveryWatch a) (rising : IsStrictlySortedBy
 
 -- ---- the entries of the map are the rows
 
-pub entries-opened : (a : Inside) → NotesEveryWatch a → map.entries (instances_of a) ≡ Rattle.std.proofs.Common.map (λ (o : Opened). (o.id, o.instance)) a.opened.items
+pub entries-opened : (a : Inside) → NotesEveryWatch a
+    → map.entries (instances_of a) ≡ Rattle.std.proofs.Common.map (λ (o : Opened). (o.id, o.instance)) a.opened.items
 entries-opened a whole = entries-rising (λ (o : Opened). o.id) (λ (o : Opened). o.instance) a.opened.items whole.rising
 
 -- ---- the instance of a number, at its index
@@ -304,28 +330,34 @@ module _ (a : Inside) (whole : NotesEveryWatch a) (id : ℕ) (seen : List Opened
         still-rising = numbers-set a.opened.items id place whole.rising at-rows (record row { instance = j }) same-number
 
         -- the instances after a change of it
-        pub instances_of-changed : (m : Instances) → instances_of a ≡ m → (change : Instance → Instance) → change row.instance ≡ j → instances_of with_instance ≡ changed m id change
+        pub instances_of-changed : (m : Instances) → instances_of a ≡ m → (change : Instance → Instance) → change row.instance ≡ j
+            → instances_of with_instance ≡ changed m id change
         instances_of-changed m view change e =
-            put ∙ ap (map.insert (instances_of a) id) (sym e) ∙ sym (changed-there (instances_of a) id change row.instance there) ∙ ap (λ x. changed x id change) view
+            put ∙ ap (map.insert (instances_of a) id) (sym e) ∙ sym (changed-there (instances_of a) id change row.instance there)
+            ∙ ap (λ x. changed x id change) view
 
         -- it watches the same files
         pub NotesEveryWatch-kept : j.watches ≡ row.instance.watches → AreEvents j.queue.waiting → NotesEveryWatch with_instance
         NotesEveryWatch-kept same events = IsIndexed-kept a with_instance whole still-rising whole.rows id row.instance j there put events refl same
 
         -- its watches change as the index does
-        pub NotesEveryWatch-changed : (index : Index) → ((n q : ℕ) → is_noted index n q ≡ cond (eqb q id) (is_some (watch_of j.watches n)) (is_noted a.index n q)) → HasNoEmptyRow index → j.queue ≡ row.instance.queue
+        pub NotesEveryWatch-changed : (index : Index)
+            → ((n q : ℕ) → is_noted index n q ≡ cond (eqb q id) (is_some (watch_of j.watches n)) (is_noted a.index n q))
+            → HasNoEmptyRow index → j.queue ≡ row.instance.queue
             → NotesEveryWatch (record with_instance { index = index })
         NotesEveryWatch-changed index noted rows queue =
             IsIndexed-changed a (record with_instance { index = index }) whole still-rising rows id row.instance j there put
             (subst (λ (q : Backlog). AreEvents q.waiting) (sym queue) (events-at a whole id row.instance there)) noted
 
   -- a new one, at its index
-  module _ (i : ℕ) (place : IsPlace (ids_of seen) id (Err i)) (j : Instance) (b : Inside) (with : b.opened.items ≡ take i a.opened.items ++ record { id = id; instance = j } ∷ drop i a.opened.items) where
+  module _ (i : ℕ) (place : IsPlace (ids_of seen) id (Err i)) (j : Instance) (b : Inside)
+      (with : b.opened.items ≡ take i a.opened.items ++ record { id = id; instance = j } ∷ drop i a.opened.items) where
     free-place : IsPlace (ids_of a.opened.items) id (Err i)
     free-place = subst (λ rows. IsPlace (ids_of rows) id (Err i)) is place
 
     pub instances_of-new : instances_of b ≡ map.insert (instances_of a) id j
-    instances_of-new = ap by_number with ∙ map-put (λ (o : Opened). o.id) (λ (o : Opened). o.instance) a.opened.items i (record { id = id; instance = j }) free-place
+    instances_of-new =
+        ap by_number with ∙ map-put (λ (o : Opened). o.id) (λ (o : Opened). o.instance) a.opened.items i (record { id = id; instance = j }) free-place
 
     pub NotesEveryWatch-new : b.index ≡ a.index → ((n : ℕ) → watch_of j.watches n ≡ None) → AreEvents j.queue.waiting → NotesEveryWatch b
     NotesEveryWatch-new index none events =
@@ -335,15 +367,18 @@ module _ (a : Inside) (whole : NotesEveryWatch a) (id : ℕ) (seen : List Opened
         (subst HasNoEmptyRow (sym index) whole.rows) id j instances_of-new (absent i place) none events index
 
   -- one less
-  module _ (place : ℕ) (at : IsPlace (ids_of seen) id (Ok place)) (b : Inside) (cut : b.opened.items ≡ take place a.opened.items ++ drop (suc place) a.opened.items) where
+  module _ (place : ℕ) (at : IsPlace (ids_of seen) id (Ok place)) (b : Inside)
+      (cut : b.opened.items ≡ take place a.opened.items ++ drop (suc place) a.opened.items) where
     pub instances_of-closed : (m : Instances) → instances_of a ≡ m → instances_of b ≡ map.remove m id
     instances_of-closed m view = ap by_number cut ∙ rows-cut a.opened.items id place whole.rising (at-rows place at) ∙ ap (λ x. map.remove x id) view
 
     pub NotesEveryWatch-closed : (row : Opened) → row ≡ get_or a.opened.items place row
-        → ((n q : ℕ) → is_noted b.index n q ≡ (not (is_some (watch_of row.instance.watches n) && eqb q id) && is_noted a.index n q)) → HasNoEmptyRow b.index → NotesEveryWatch b
+        → ((n q : ℕ) → is_noted b.index n q ≡ (not (is_some (watch_of row.instance.watches n) && eqb q id) && is_noted a.index n q))
+        → HasNoEmptyRow b.index → NotesEveryWatch b
     NotesEveryWatch-closed row e forgotten rows =
         IsIndexed-closed a b whole
-        (subst (λ rows. IsStrictlySortedBy nat_cmp (ids_of rows)) (sym cut) (rises-cut (λ (o : Opened). o.id) (λ (o : Opened). o.instance) a.opened.items place whole.rising))
+        (subst (λ rows. IsStrictlySortedBy nat_cmp (ids_of rows)) (sym cut)
+        (rises-cut (λ (o : Opened). o.id) (λ (o : Opened). o.instance) a.opened.items place whole.rising))
         rows id row.instance (instances_of-closed (instances_of a) refl) (there place at row e) forgotten
 
 -- the same rows
@@ -356,13 +391,15 @@ NotesEveryWatch-same a b whole rows index = record {
 }
 
 -- two changes of one instance, one after the other
-pub changed-twice : (m : Instances) (id : ℕ) (first second both : Instance → Instance) → ((i : Instance) → second (first i) ≡ both i) → changed (changed m id first) id second ≡ changed m id both
+pub changed-twice : (m : Instances) (id : ℕ) (first second both : Instance → Instance)
+    → ((i : Instance) → second (first i) ≡ both i) → changed (changed m id first) id second ≡ changed m id both
 changed-twice m id first second both is =
     elim (instance_of m id) as (λ o. instance_of m id ≡ o → changed (changed m id first) id second ≡ changed m id both) [
       | None ↦ λ e. ap (λ x. changed x id second) (changed-none m id first e) ∙ changed-none m id second e ∙ sym (changed-none m id both e)
       | Some i ↦ λ e.
           let once : changed m id first ≡ map.insert m id (first i) = changed-there m id first i e in
-          let here : instance_of (map.insert m id (first i)) id ≡ Some (first i) = get-put m id (first i) id ∙ ap (λ t. cond t (Some (first i)) (instance_of m id)) (Rattle.std.proofs.lemmas.Bool.eq-eqb id id refl) in
+          let here : instance_of (map.insert m id (first i)) id ≡ Some (first i) =
+          get-put m id (first i) id ∙ ap (λ t. cond t (Some (first i)) (instance_of m id)) (Rattle.std.proofs.lemmas.Bool.eq-eqb id id refl) in
           ap (λ x. changed x id second) once ∙ changed-there (map.insert m id (first i)) id second (first i) here ∙ put-twice m id (first i) (second (first i))
           ∙ ap (map.insert m id) (is i) ∙ sym (changed-there m id both i e)
     ] refl
@@ -370,7 +407,8 @@ changed-twice m id first second both is =
     put-twice : (m : Instances) (id : ℕ) (i j : Instance) → map.insert (map.insert m id i) id j ≡ map.insert m id j
     put-twice m id i j =
         same_map nat_cmp_total nat_cmp-IsAntisymmetric _ _ (λ q.
-        get-put (map.insert m id i) id j q ∙ ap (cond (eqb q id) (Some j)) (get-put m id i q) ∙ twice (eqb q id) (Some j) (Some i) (instance_of m q) ∙ sym (get-put m id j q))
+        get-put (map.insert m id i) id j q ∙ ap (cond (eqb q id) (Some j)) (get-put m id i q)
+        ∙ twice (eqb q id) (Some j) (Some i) (instance_of m q) ∙ sym (get-put m id j q))
       where
         twice : (t : Bool) (x y z : Option Instance) → cond t x (cond t y z) ≡ cond t x z
         twice true x y z = refl

@@ -31,7 +31,8 @@ is_some-cut : (b : Bool) (o : Option (Unit {0})) → is_some (cond b None o) ≡
 is_some-cut true o = refl
 is_some-cut false o = refl
 
-module _ (a b : Index) (number : ℕ) (w : Option IdSet) (h : (n : ℕ) → tree.get nat_cmp b.watchers n ≡ cond (eq_by_cmp nat_cmp number n) w (tree.get nat_cmp a.watchers n)) where
+module _ (a b : Index) (number : ℕ) (w : Option IdSet)
+    (h : (n : ℕ) → tree.get nat_cmp b.watchers n ≡ cond (eq_by_cmp nat_cmp number n) w (tree.get nat_cmp a.watchers n)) where
   under : (n : ℕ) → tree.get nat_cmp b.watchers n ≡ cond (eqb n number) w (tree.get nat_cmp a.watchers n)
   under n = h n ∙ ap (λ t. cond t w (tree.get nat_cmp a.watchers n)) ((eq_by_cmp_equiv nat_cmp_total).symm number n ∙ unsigned_tied n number)
 
@@ -44,31 +45,38 @@ module _ (a b : Index) (number : ℕ) (w : Option IdSet) (h : (n : ℕ) → tree
       ] (sym (under n) ∙ e)
 
   -- the entry has one number more
-  pub noted-put : (id : ℕ) → unwrap_or w map.empty ≡ map.insert (ids_under a number) id tt → (n q : ℕ) → is_noted b n q ≡ ((eqb n number && eqb q id) || is_noted a n q)
+  pub noted-put : (id : ℕ) → unwrap_or w map.empty ≡ map.insert (ids_under a number) id tt → (n q : ℕ)
+      → is_noted b n q ≡ ((eqb n number && eqb q id) || is_noted a n q)
   noted-put id e n q =
       ap (λ o. is_some (map.get (unwrap_or o map.empty) q)) (under n)
-      ∙ elim (eqb n number) as (λ t. eqb n number ≡ t → is_some (map.get (unwrap_or (cond t w (tree.get nat_cmp a.watchers n)) map.empty) q) ≡ ((t && eqb q id) || is_noted a n q)) [
+      ∙ elim (eqb n number) as (λ t. eqb n number ≡ t
+      → is_some (map.get (unwrap_or (cond t w (tree.get nat_cmp a.watchers n)) map.empty) q) ≡ ((t && eqb q id) || is_noted a n q)) [
         | true ↦ λ t.
             let same : n ≡ number = Rattle.std.proofs.lemmas.Bool.eqb-true n number t in
-            ap (λ ids. is_some (map.get ids q)) e ∙ ap is_some (get-insert nat_cmp_total (ids_under a number) id tt q) ∙ is_some-put (eq_by_cmp nat_cmp q id) (map.get (ids_under a number) q)
+            ap (λ ids. is_some (map.get ids q)) e ∙ ap is_some (get-insert nat_cmp_total (ids_under a number) id tt q)
+            ∙ is_some-put (eq_by_cmp nat_cmp q id) (map.get (ids_under a number) q)
             ∙ ap (λ x. x || is_noted a number q) (unsigned_tied q id) ∙ ap (λ m. eqb q id || is_noted a m q) (sym same)
         | false ↦ λ t. refl
       ] refl
 
   -- the entry has one number less
-  pub noted-cut : (id : ℕ) → unwrap_or w map.empty ≡ map.remove (ids_under a number) id → (n q : ℕ) → is_noted b n q ≡ (not (eqb n number && eqb q id) && is_noted a n q)
+  pub noted-cut : (id : ℕ) → unwrap_or w map.empty ≡ map.remove (ids_under a number) id → (n q : ℕ)
+      → is_noted b n q ≡ (not (eqb n number && eqb q id) && is_noted a n q)
   noted-cut id e n q =
       ap (λ o. is_some (map.get (unwrap_or o map.empty) q)) (under n)
-      ∙ elim (eqb n number) as (λ t. eqb n number ≡ t → is_some (map.get (unwrap_or (cond t w (tree.get nat_cmp a.watchers n)) map.empty) q) ≡ (not (t && eqb q id) && is_noted a n q)) [
+      ∙ elim (eqb n number) as (λ t. eqb n number ≡ t
+      → is_some (map.get (unwrap_or (cond t w (tree.get nat_cmp a.watchers n)) map.empty) q) ≡ (not (t && eqb q id) && is_noted a n q)) [
         | true ↦ λ t.
             let same : n ≡ number = Rattle.std.proofs.lemmas.Bool.eqb-true n number t in
-            ap (λ ids. is_some (map.get ids q)) e ∙ ap is_some (get-remove nat_cmp_total (ids_under a number) id q) ∙ is_some-cut (eq_by_cmp nat_cmp q id) (map.get (ids_under a number) q)
+            ap (λ ids. is_some (map.get ids q)) e ∙ ap is_some (get-remove nat_cmp_total (ids_under a number) id q)
+            ∙ is_some-cut (eq_by_cmp nat_cmp q id) (map.get (ids_under a number) q)
             ∙ ap (λ x. not x && is_noted a number q) (unsigned_tied q id) ∙ ap (λ m. not (eqb q id) && is_noted a m q) (sym same)
         | false ↦ λ t. refl
       ] refl
 
 -- a file that has no entry has no watcher to take out
-pub noted-off : (a b : Index) (number id : ℕ) → tree.get nat_cmp a.watchers number ≡ None → ((n q : ℕ) → is_noted b n q ≡ is_noted a n q) → (n q : ℕ) → is_noted b n q ≡ (not (eqb n number && eqb q id) && is_noted a n q)
+pub noted-off : (a b : Index) (number id : ℕ) → tree.get nat_cmp a.watchers number ≡ None
+    → ((n q : ℕ) → is_noted b n q ≡ is_noted a n q) → (n q : ℕ) → is_noted b n q ≡ (not (eqb n number && eqb q id) && is_noted a n q)
 noted-off a b number id h same n q =
     same n q
     ∙ elim (eqb n number) as (λ t. eqb n number ≡ t → is_noted a n q ≡ (not (t && eqb q id) && is_noted a n q)) [
@@ -85,8 +93,10 @@ noted-off a b number id h same n q =
 -- a set with a number in it is not empty
 pub put-not-empty : (ids : IdSet) (id : ℕ) → map.insert ids id tt ≢ map.empty
 put-not-empty ids id e =
-    Rattle.std.proofs.lemmas.Bool.false≢true (sym (empty_not id) ∙ ap (λ (m : IdSet). is_some (map.get m id)) (sym e) ∙ ap is_some (get-insert nat_cmp_total ids id tt id)
-    ∙ is_some-put (eq_by_cmp nat_cmp id id) (map.get ids id) ∙ ap (λ b. b || is_some (map.get ids id)) (unsigned_tied id id ∙ Rattle.std.proofs.lemmas.Bool.eq-eqb id id refl))
+    Rattle.std.proofs.lemmas.Bool.false≢true
+    (sym (empty_not id) ∙ ap (λ (m : IdSet). is_some (map.get m id)) (sym e) ∙ ap is_some (get-insert nat_cmp_total ids id tt id)
+    ∙ is_some-put (eq_by_cmp nat_cmp id id) (map.get ids id)
+    ∙ ap (λ b. b || is_some (map.get ids id)) (unsigned_tied id id ∙ Rattle.std.proofs.lemmas.Bool.eq-eqb id id refl))
 
 -- a row that is this set
 pub row-is : (ids : IdSet) → ids ≢ map.empty → (row : IdSet) → Some ids ≡ Some row → row ≢ map.empty
@@ -96,7 +106,8 @@ pub no-row : (row : IdSet) → ◌≡◌ {A = Option IdSet} None (Some row) → 
 no-row row e = absurd (Rattle.std.proofs.lemmas.Bool.false≢true (ap is_some e))
 
 -- a row to which a number was to be added
-pub row-added : {E : Type 0} (r : Rattle.std.specs.Prelude.Result (Unit {0}) E) (was now : IdSet) (id : ℕ) → Rattle.std.specs.Prelude.OnOk r (now ≡ map.insert was id tt) → Rattle.std.specs.Prelude.OnErr r (now ≡ was) → was ≢ map.empty → now ≢ map.empty
+pub row-added : {E : Type 0} (r : Rattle.std.specs.Prelude.Result (Unit {0}) E) (was now : IdSet) (id : ℕ)
+    → Rattle.std.specs.Prelude.OnOk r (now ≡ map.insert was id tt) → Rattle.std.specs.Prelude.OnErr r (now ≡ was) → was ≢ map.empty → now ≢ map.empty
 row-added (Rattle.std.specs.Prelude.Ok x) was now id ok err full none = put-not-empty was id (sym ok ∙ none)
 row-added (Rattle.std.specs.Prelude.Err x) was now id ok err full none = full (sym err ∙ none)
 
@@ -119,6 +130,10 @@ noted-nothing index rows none = by index.watchers.entries refl
     by : (es : List (ℕ × IdSet)) → index.watchers.entries ≡ es → length index.watchers.entries ≡ 0
     by [] e = ap length e
     by (x ∷ es) e =
-        let there : tree.get nat_cmp index.watchers x.0 ≡ Some x.1 = ap (find nat_cmp x.0) e ∙ ap (λ b. cond b (Some x.1) (find nat_cmp x.0 es)) (unsigned_tied x.0 x.0 ∙ Rattle.std.proofs.lemmas.Bool.eq-eqb x.0 x.0 refl) in
-        let empty : x.1 ≡ map.empty = same_map nat_cmp_total nat_cmp-IsAntisymmetric x.1 map.empty (λ q. none-in (map.get x.1 q) (ap (λ ids. is_some (map.get ids q)) (sym (ids-some index x.0 x.1 there)) ∙ none x.0 q) ∙ sym (get-empty nat_cmp q)) in
+        let there : tree.get nat_cmp index.watchers x.0 ≡ Some x.1 =
+        ap (find nat_cmp x.0) e
+        ∙ ap (λ b. cond b (Some x.1) (find nat_cmp x.0 es)) (unsigned_tied x.0 x.0 ∙ Rattle.std.proofs.lemmas.Bool.eq-eqb x.0 x.0 refl) in
+        let empty : x.1 ≡ map.empty = same_map nat_cmp_total nat_cmp-IsAntisymmetric x.1 map.empty
+        (λ q. none-in (map.get x.1 q) (ap (λ ids. is_some (map.get ids q)) (sym (ids-some index x.0 x.1 there)) ∙ none x.0 q)
+        ∙ sym (get-empty nat_cmp q)) in
         absurd (rows x.0 x.1 there empty)

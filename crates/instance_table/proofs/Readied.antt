@@ -37,7 +37,8 @@ ids-append [] ss = refl
 ids-append (r ∷ rs) ss = ap (λ ids. r.id ∷ ids) (ids-append rs ss)
 
 -- the rows up to and with the one at an index
-pub rows-next : (rs : List Opened) (k : ℕ) (r : Opened) → k < length rs → r ≡ get_or rs k r → ready_rows (take (k + 1) rs) ≡ ready_rows (take k rs) ++ ready_rows (r ∷ [])
+pub rows-next : (rs : List Opened) (k : ℕ) (r : Opened) → k < length rs → r ≡ get_or rs k r
+    → ready_rows (take (k + 1) rs) ≡ ready_rows (take k rs) ++ ready_rows (r ∷ [])
 rows-next rs k r h is =
     ap ready_rows (take_more rs k r h ∙ ap (λ x. take k rs ++ x ∷ []) (sym is))
     ∙ ap ids_of (filter-append has_record (take k rs) (r ∷ []))
@@ -77,7 +78,9 @@ over-full xs old x h =
     ∙ ap (λ t. t ++ drop (length (xs ++ x ∷ [])) old) (sym (take-append-le (length old) xs (x ∷ []) h))
 
 pub length-over : (xs old : List ℕ) → length (written_over xs old) ≡ length old
-length-over xs old = let a = length-append (take (length old) xs) (drop (length xs) old) in let b = length-take (length old) xs in let d = length-drop (length xs) old in omega (arith, a, b, d)
+length-over xs old =
+    let a = length-append (take (length old) xs) (drop (length xs) old) in
+    let b = length-take (length old) xs in let d = length-drop (length xs) old in omega (arith, a, b, d)
 
 pub over-none : (old : List ℕ) → written_over [] old ≡ old
 over-none old = ap (λ (t : List ℕ). t ++ old) (take_all (length old) [] (omega arith))
@@ -87,13 +90,15 @@ over-none old = ap (λ (t : List ℕ). t ++ old) (take_all (length old) [] (omeg
 abbrev waits : Instances → ℕ → Bool
 waits m id = nat_lt 0 (length (waiting_of (instance_of m id)))
 
-by-rows : (m : Instances) (rs : List Opened) → ((k : ℕ) (d : Opened) → k < length rs → instance_of m (get_or rs k d).id ≡ Some (get_or rs k d).instance) → filter (waits m) (ids_of rs) ≡ ready_rows rs
+by-rows : (m : Instances) (rs : List Opened) → ((k : ℕ) (d : Opened) → k < length rs → instance_of m (get_or rs k d).id ≡ Some (get_or rs k d).instance)
+    → filter (waits m) (ids_of rs) ≡ ready_rows rs
 by-rows m [] at = refl
 by-rows m (r ∷ rs) at =
     let here : waits m r.id ≡ has_record r = ap (λ o. nat_lt 0 (length (waiting_of o))) (at 0 r (omega arith)) in
     let rest = by-rows m rs (λ k d h. at (suc k) d (omega arith)) in
     ap (λ b. cond b (r.id ∷ filter (waits m) (ids_of rs)) (filter (waits m) (ids_of rs))) here
-    ∙ elim (has_record r) as (λ b. cond b (r.id ∷ filter (waits m) (ids_of rs)) (filter (waits m) (ids_of rs)) ≡ ids_of (cond b (r ∷ filter has_record rs) (filter has_record rs))) [
+    ∙ elim (has_record r) as (λ b. cond b (r.id ∷ filter (waits m) (ids_of rs)) (filter (waits m) (ids_of rs))
+    ≡ ids_of (cond b (r ∷ filter has_record rs) (filter has_record rs))) [
       | true ↦ ap (λ ids. r.id ∷ ids) rest
       | false ↦ rest
     ]

@@ -39,14 +39,16 @@ above-all : (x y : ℕ) (ys : List ℕ) → x < y → AllByRecursion (λ z. nat_
 above-all x y [] h all = tt
 above-all x y (z ∷ ys) h all = (nat_cmp_total.trans x y z (less x y h) all.0, above-all x y ys h all.1)
 
-all-put : (y x : ℕ) (xs : List ℕ) (i : ℕ) → nat_cmp y x ≡ Less → AllByRecursion (λ z. nat_cmp y z ≡ Less) xs → AllByRecursion (λ z. nat_cmp y z ≡ Less) (take i xs ++ x ∷ drop i xs)
+all-put : (y x : ℕ) (xs : List ℕ) (i : ℕ) → nat_cmp y x ≡ Less → AllByRecursion (λ z. nat_cmp y z ≡ Less) xs
+    → AllByRecursion (λ z. nat_cmp y z ≡ Less) (take i xs ++ x ∷ drop i xs)
 all-put y x [] zero h all = (h, tt)
 all-put y x [] (suc i) h all = (h, tt)
 all-put y x (z ∷ xs) zero h all = (h, all)
 all-put y x (z ∷ xs) (suc i) h all = (all.0, all-put y x xs i h all.1)
 
 -- a number is put in after those below it and before those above
-pub numbers-put : (xs : List ℕ) (i x : ℕ) → IsStrictlySortedBy nat_cmp xs → ((k : ℕ) → k < i → k < length xs → get_or xs k 0 < x) → ((k : ℕ) → i ≤ k → k < length xs → x < get_or xs k 0)
+pub numbers-put : (xs : List ℕ) (i x : ℕ) → IsStrictlySortedBy nat_cmp xs → ((k : ℕ) → k < i → k < length xs → get_or xs k 0 < x)
+    → ((k : ℕ) → i ≤ k → k < length xs → x < get_or xs k 0)
     → IsStrictlySortedBy nat_cmp (take i xs ++ x ∷ drop i xs)
 unfolding IsStrictlySortedBy
 numbers-put [] zero x h below above = (tt, tt)
@@ -95,7 +97,9 @@ place-last xs x h last = ((omega arith), (λ k p. below k p), (λ k p q. absurd 
     below : (k : ℕ) → k < length xs → get_or xs k 0 < x
     below k p = elim (Rattle.std.proofs.lemmas.Bool.cases_order k (length xs - 1)) [
       | inl same ↦ let e : get_or xs k 0 ≡ get_or xs (length xs - 1) 0 = ap (λ j. get_or xs j 0) same in let l = last (omega arith) in omega (arith, e, l)
-      | inr (inl under) ↦ let e : get_or xs k 0 < get_or xs (length xs - 1) 0 = below_from_sorted xs k (length xs - 1) 0 h under (omega arith) in let l = last (omega arith) in omega (arith, e, l)
+      | inr (inl under) ↦
+          let e : get_or xs k 0 < get_or xs (length xs - 1) 0 = below_from_sorted xs k (length xs - 1) 0 h under (omega arith) in
+          let l = last (omega arith) in omega (arith, e, l)
       | inr (inr above) ↦ absurd (omega arith)
     ]
 
@@ -107,16 +111,19 @@ module _ {R : Type 0} (key : R → ℕ) where
   length-keys (r ∷ rs) = ap suc (length-keys rs)
 
   -- what a binary search by the number found
-  pub found-row : (rs : List R) (x : ℕ) (r : Result ℕ ℕ) → IsStrictlySortedBy nat_cmp (map key rs) → IsSearchInRange r (length rs) → IsBinarySearchResult (λ y. nat_cmp (key y) x) rs r → IsPlace (map key rs) x r
+  pub found-row : (rs : List R) (x : ℕ) (r : Result ℕ ℕ) → IsStrictlySortedBy nat_cmp (map key rs) → IsSearchInRange r (length rs)
+      → IsBinarySearchResult (λ y. nat_cmp (key y) x) rs r → IsPlace (map key rs) x r
   found-row [] x (Ok i) h bound position = absurd (omega arith)
   found-row [] x (Err i) h bound position = (omega arith, (λ k p. absurd (omega arith)), λ k p q. absurd (omega arith))
-  found-row (y ∷ rs) x (Ok i) h bound position = found (map key (y ∷ rs)) x (Ok i) h (λ d. ap (λ k. nat_cmp k x) (get_or-map key (y ∷ rs) i y d bound) ∙ position y)
+  found-row (y ∷ rs) x (Ok i) h bound position =
+      found (map key (y ∷ rs)) x (Ok i) h (λ d. ap (λ k. nat_cmp k x) (get_or-map key (y ∷ rs) i y d bound) ∙ position y)
   found-row (y ∷ rs) x (Err i) h bound position = found (map key (y ∷ rs)) x (Err i) h (λ up.
       let parted = position (λ a b d le lt.
       let first : get_or (map key (y ∷ rs)) a 0 ≡ key (get_or (y ∷ rs) a d) = get_or-map key (y ∷ rs) a d 0 (omega arith) in
       let second : get_or (map key (y ∷ rs)) b 0 ≡ key (get_or (y ∷ rs) b d) = get_or-map key (y ∷ rs) b d 0 lt in
       subst (λ k. ordering_index (nat_cmp k x) ≤ ordering_index (nat_cmp (key (get_or (y ∷ rs) b d)) x)) first
-      (subst (λ k. ordering_index (nat_cmp (get_or (map key (y ∷ rs)) a 0) x) ≤ ordering_index (nat_cmp k x)) second (up a b 0 le (omega (arith, length-keys (y ∷ rs)))))) in (
+      (subst (λ k. ordering_index (nat_cmp (get_or (map key (y ∷ rs)) a 0) x) ≤ ordering_index (nat_cmp k x)) second
+      (up a b 0 le (omega (arith, length-keys (y ∷ rs)))))) in (
         (λ k d low under. ap (λ n. nat_cmp n x) (get_or-map key (y ∷ rs) k y d (omega arith)) ∙ parted.0 k y low under),
         λ k d low under.
             let within : k < length (y ∷ rs) = omega (arith, length-keys (y ∷ rs)) in
@@ -184,7 +191,8 @@ module _ {R X : Type 0} (key : R → ℕ) (value : R → X) where
   entries-rising rs h =
       let order = sorted-rows rs h in
       let other : FinMap nat_cmp X = finmap.from_sorted {R = nat_cmp} (pairs rs) in
-      let alike : map_of rs ≡ other = same_map nat_cmp_total nat_cmp-IsAntisymmetric (map_of rs) other (λ q. get-rows rs q ∙ sym (get-from_sorted nat_cmp (pairs rs) q order)) in
+      let alike : map_of rs ≡ other = same_map nat_cmp_total nat_cmp-IsAntisymmetric (map_of rs) other
+      (λ q. get-rows rs q ∙ sym (get-from_sorted nat_cmp (pairs rs) q order)) in
       ap (λ (m : FinMap nat_cmp X). finmap.entries m) alike ∙ entries-from_sorted nat_cmp (pairs rs) order
 
   -- ---- one row more
@@ -209,7 +217,8 @@ module _ {R X : Type 0} (key : R → ℕ) (value : R → X) where
       ∙ swapped (eq_by_cmp nat_cmp q (key x)) (eq_by_cmp nat_cmp q (key r)) (Some (value x)) (Some (value r)) (find nat_cmp q (pairs rs))
       (λ t. ap (λ y. eq_by_cmp nat_cmp y (key r)) (is-same q (key x) t) ∙ apart (key x) (key r) (less (key x) (key r) first))
 
-  pub map-put : (rs : List R) (i : ℕ) (r : R) → IsPlace (map key rs) (key r) (Err i) → map_of (take i rs ++ r ∷ drop i rs) ≡ finmap.insert (map_of rs) (key r) (value r)
+  pub map-put : (rs : List R) (i : ℕ) (r : R) → IsPlace (map key rs) (key r) (Err i)
+      → map_of (take i rs ++ r ∷ drop i rs) ≡ finmap.insert (map_of rs) (key r) (value r)
   map-put rs i r place =
       same_map nat_cmp_total nat_cmp-IsAntisymmetric (map_of (take i rs ++ r ∷ drop i rs)) (finmap.insert (map_of rs) (key r) (value r)) (λ q.
       get-rows (take i rs ++ r ∷ drop i rs) q ∙ find-put rs i r q (omega (arith, length-keys key rs, place.0)) place.1
@@ -243,15 +252,18 @@ module _ {R X : Type 0} (key : R → ℕ) (value : R → X) where
   unfolding IsStrictlySortedBy
   find-cut [] i q h p = absurd (omega arith)
   find-cut (x ∷ rs) zero q h p =
-      elim (eq_by_cmp nat_cmp q (key x)) as (λ b. eq_by_cmp nat_cmp q (key x) ≡ b → find nat_cmp q (pairs rs) ≡ cond b None (cond b (Some (value x)) (find nat_cmp q (pairs rs)))) [
+      elim (eq_by_cmp nat_cmp q (key x)) as (λ b. eq_by_cmp nat_cmp q (key x) ≡ b
+      → find nat_cmp q (pairs rs) ≡ cond b None (cond b (Some (value x)) (find nat_cmp q (pairs rs)))) [
         | true ↦ λ e. ap (λ y. find nat_cmp y (pairs rs)) (is-same q (key x) e) ∙ find-below (key x) rs h.0
         | false ↦ λ e. refl
       ] refl
   find-cut (x ∷ rs) (suc i) q h p =
       ap (cond (eq_by_cmp nat_cmp q (key x)) (Some (value x))) (find-cut rs i q h.1 (omega arith))
-      ∙ swapped (eq_by_cmp nat_cmp q (key x)) (eq_by_cmp nat_cmp q (get_or (map key rs) i 0)) (Some (value x)) None (find nat_cmp q (pairs rs)) (behind x rs i q h.0 (omega arith))
+      ∙ swapped (eq_by_cmp nat_cmp q (key x)) (eq_by_cmp nat_cmp q (get_or (map key rs) i 0)) (Some (value x)) None
+      (find nat_cmp q (pairs rs)) (behind x rs i q h.0 (omega arith))
 
-  pub map-cut : (rs : List R) (i x : ℕ) → IsRising rs → i < length (map key rs) → get_or (map key rs) i 0 ≡ x → map_of (take i rs ++ drop (suc i) rs) ≡ finmap.remove (map_of rs) x
+  pub map-cut : (rs : List R) (i x : ℕ) → IsRising rs → i < length (map key rs) → get_or (map key rs) i 0 ≡ x
+      → map_of (take i rs ++ drop (suc i) rs) ≡ finmap.remove (map_of rs) x
   map-cut rs i x h p e =
       same_map nat_cmp_total nat_cmp-IsAntisymmetric (map_of (take i rs ++ drop (suc i) rs)) (finmap.remove (map_of rs) x) (λ q.
       get-rows (take i rs ++ drop (suc i) rs) q ∙ find-cut rs i q h p ∙ ap (λ y. cond (eq_by_cmp nat_cmp q y) None (find nat_cmp q (pairs rs))) e
@@ -264,7 +276,8 @@ module _ {R X : Type 0} (key : R → ℕ) (value : R → X) where
   unfolding IsStrictlySortedBy
   find-set [] i r q h p e = absurd (omega arith)
   find-set (x ∷ rs) zero r q h p e =
-      hidden (eq_by_cmp nat_cmp q (key r)) (eq_by_cmp nat_cmp q (key x)) (Some (value r)) (Some (value x)) (find nat_cmp q (pairs rs)) (ap (eq_by_cmp nat_cmp q) (sym e))
+      hidden (eq_by_cmp nat_cmp q (key r)) (eq_by_cmp nat_cmp q (key x)) (Some (value r)) (Some (value x))
+      (find nat_cmp q (pairs rs)) (ap (eq_by_cmp nat_cmp q) (sym e))
     where
       hidden : (a b : Bool) (x y z : Option X) → a ≡ b → cond a x z ≡ cond a x (cond b y z)
       hidden true b x y z e = refl
@@ -274,7 +287,8 @@ module _ {R X : Type 0} (key : R → ℕ) (value : R → X) where
       ∙ swapped (eq_by_cmp nat_cmp q (key x)) (eq_by_cmp nat_cmp q (key r)) (Some (value x)) (Some (value r)) (find nat_cmp q (pairs rs))
       (λ t. ap (eq_by_cmp nat_cmp q) (sym e) ∙ behind x rs i q h.0 (omega arith) t)
 
-  pub map-set : (rs : List R) (i : ℕ) (r : R) → IsRising rs → i < length (map key rs) → get_or (map key rs) i 0 ≡ key r → map_of (set rs i r) ≡ finmap.insert (map_of rs) (key r) (value r)
+  pub map-set : (rs : List R) (i : ℕ) (r : R) → IsRising rs → i < length (map key rs) → get_or (map key rs) i 0 ≡ key r
+      → map_of (set rs i r) ≡ finmap.insert (map_of rs) (key r) (value r)
   map-set rs i r h p e =
       same_map nat_cmp_total nat_cmp-IsAntisymmetric (map_of (set rs i r)) (finmap.insert (map_of rs) (key r) (value r)) (λ q.
       get-rows (set rs i r) q ∙ find-set rs i r q h p e
@@ -291,7 +305,8 @@ module _ {R X : Type 0} (key : R → ℕ) (value : R → X) where
 
   -- ---- what a map has at a number
 
-  find-at : (rs : List R) (i : ℕ) (d : R) → IsRising rs → i < length (map key rs) → find nat_cmp (get_or (map key rs) i 0) (pairs rs) ≡ Some (value (get_or rs i d))
+  find-at : (rs : List R) (i : ℕ) (d : R) → IsRising rs → i < length (map key rs)
+      → find nat_cmp (get_or (map key rs) i 0) (pairs rs) ≡ Some (value (get_or rs i d))
   unfolding IsStrictlySortedBy
   find-at [] i d h p = absurd (omega arith)
   find-at (x ∷ rs) zero d h p = ap (λ b. cond b (Some (value x)) (find nat_cmp (key x) (pairs rs))) (itself (key x))
@@ -300,17 +315,21 @@ module _ {R X : Type 0} (key : R → ℕ) (value : R → X) where
       let here : nat_cmp (key x) id ≡ Less = at-place (λ z. nat_cmp (key x) z ≡ Less) (map key rs) i h.0 (omega arith) in
       ap (λ b. cond b (Some (value x)) (find nat_cmp id (pairs rs))) (apart_back id (key x) here) ∙ find-at rs i d h.1 (omega arith)
 
-  pub get-at : (rs : List R) (i x : ℕ) (d : R) → IsRising rs → i < length (map key rs) → get_or (map key rs) i 0 ≡ x → finmap.get (map_of rs) x ≡ Some (value (get_or rs i d))
+  pub get-at : (rs : List R) (i x : ℕ) (d : R) → IsRising rs → i < length (map key rs) → get_or (map key rs) i 0 ≡ x
+      → finmap.get (map_of rs) x ≡ Some (value (get_or rs i d))
   get-at rs i x d h p e = get-rows rs x ∙ ap (λ y. find nat_cmp y (pairs rs)) (sym e) ∙ find-at rs i d h p
 
-  find-absent : (rs : List R) (i x : ℕ) → ((k : ℕ) → k < i → get_or (map key rs) k 0 < x) → ((k : ℕ) → i ≤ k → k < length (map key rs) → x < get_or (map key rs) k 0) → find nat_cmp x (pairs rs) ≡ None
+  find-absent : (rs : List R) (i x : ℕ) → ((k : ℕ) → k < i → get_or (map key rs) k 0 < x)
+      → ((k : ℕ) → i ≤ k → k < length (map key rs) → x < get_or (map key rs) k 0) → find nat_cmp x (pairs rs) ≡ None
   find-absent [] i x below above = refl
   find-absent (r ∷ rs) zero x below above =
       let first : x < key r = above 0 (omega arith) (omega arith) in
-      ap (λ b. cond b (Some (value r)) (find nat_cmp x (pairs rs))) (apart x (key r) (less x (key r) first)) ∙ find-absent rs zero x (λ k p. absurd (omega arith)) (λ k p q. above (suc k) (omega arith) (omega arith))
+      ap (λ b. cond b (Some (value r)) (find nat_cmp x (pairs rs))) (apart x (key r) (less x (key r) first))
+      ∙ find-absent rs zero x (λ k p. absurd (omega arith)) (λ k p q. above (suc k) (omega arith) (omega arith))
   find-absent (r ∷ rs) (suc i) x below above =
       let first : key r < x = below 0 (omega arith) in
-      ap (λ b. cond b (Some (value r)) (find nat_cmp x (pairs rs))) (apart_back x (key r) (less (key r) x first)) ∙ find-absent rs i x (λ k p. below (suc k) (omega arith)) (λ k p q. above (suc k) (omega arith) (omega arith))
+      ap (λ b. cond b (Some (value r)) (find nat_cmp x (pairs rs))) (apart_back x (key r) (less (key r) x first))
+      ∙ find-absent rs i x (λ k p. below (suc k) (omega arith)) (λ k p q. above (suc k) (omega arith) (omega arith))
 
   pub get-absent : (rs : List R) (i x : ℕ) → IsPlace (map key rs) x (Err i) → finmap.get (map_of rs) x ≡ None
   get-absent rs i x place = get-rows rs x ∙ find-absent rs i x place.1 place.2
@@ -331,7 +350,8 @@ mark b = cond b (Some tt) None
 
 -- sets where each number is in both or in none
 pub same-set : (ks : List ℕ) (m : IdSet) → ((q : ℕ) → mark (list_any (eq_by_cmp nat_cmp q) ks) ≡ finmap.get m q) → set_of ks ≡ m
-same-set ks m same = same_map nat_cmp_total nat_cmp-IsAntisymmetric (set_of ks) m (λ q. get-from_entries nat_cmp_total (marked ks) q ∙ find-marked ks q ∙ same q)
+same-set ks m same =
+    same_map nat_cmp_total nat_cmp-IsAntisymmetric (set_of ks) m (λ q. get-from_entries nat_cmp_total (marked ks) q ∙ find-marked ks q ∙ same q)
 
 as-rows : (ks : List ℕ) → IsStrictlySortedBy nat_cmp ks → IsStrictlySortedBy nat_cmp (map (λ (k : ℕ). k) ks)
 as-rows ks h = subst (IsStrictlySortedBy nat_cmp) (sym (map-id ks)) h
@@ -350,11 +370,13 @@ items-rising ks h = ap (map (λ (e : ℕ × Unit {0}). e.0)) (entries-rising (λ
 pub set-put : (ks : List ℕ) (i x : ℕ) → IsPlace ks x (Err i) → set_of (take i ks ++ x ∷ drop i ks) ≡ finmap.insert (set_of ks) x tt
 set-put ks i x place = map-put (λ (k : ℕ). k) (λ _. tt) ks i x (place-of-row ks x (Err i) place)
 
-pub set-cut : (ks : List ℕ) (i x : ℕ) → IsStrictlySortedBy nat_cmp ks → IsPlace ks x (Ok i) → set_of (take i ks ++ drop (suc i) ks) ≡ finmap.remove (set_of ks) x
+pub set-cut : (ks : List ℕ) (i x : ℕ) → IsStrictlySortedBy nat_cmp ks → IsPlace ks x (Ok i)
+    → set_of (take i ks ++ drop (suc i) ks) ≡ finmap.remove (set_of ks) x
 set-cut ks i x h place = let at = place-of-row ks x (Ok i) place in map-cut (λ (k : ℕ). k) (λ _. tt) ks i x (as-rows ks h) at.0 at.1
 
 pub set-there : (ks : List ℕ) (i x : ℕ) → IsStrictlySortedBy nat_cmp ks → IsPlace ks x (Ok i) → set_of ks ≡ finmap.insert (set_of ks) x tt
-set-there ks i x h place = let at = place-of-row ks x (Ok i) place in sym (put-there (set_of ks) x tt (get-at (λ (k : ℕ). k) (λ _. tt) ks i x 0 (as-rows ks h) at.0 at.1))
+set-there ks i x h place =
+    let at = place-of-row ks x (Ok i) place in sym (put-there (set_of ks) x tt (get-at (λ (k : ℕ). k) (λ _. tt) ks i x 0 (as-rows ks h) at.0 at.1))
 
 pub set-absent : (ks : List ℕ) (i x : ℕ) → IsPlace ks x (Err i) → set_of ks ≡ finmap.remove (set_of ks) x
 set-absent ks i x place = sym (cut-absent (set_of ks) x (get-absent (λ (k : ℕ). k) (λ _. tt) ks i x (place-of-row ks x (Err i) place)))

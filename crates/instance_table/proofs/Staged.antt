@@ -42,15 +42,19 @@ right : (a b : Bool) → (a || b) ≡ false → b ≡ false
 right true b h = absurd (Rattle.std.proofs.lemmas.Bool.false≢true (sym h))
 right false b h = h
 
-unwatched : (w : Watching) (ns : List Notice) → list_any (λ (n : Notice). is_some (watch_of w (told_number n))) ns ≡ false → All (λ n. watch_of w (told_number n) ≡ None) ns
+unwatched : (w : Watching) (ns : List Notice) → list_any (λ (n : Notice). is_some (watch_of w (told_number n))) ns ≡ false
+    → All (λ n. watch_of w (told_number n) ≡ None) ns
 unwatched w [] h k d p = absurd (omega arith)
-unwatched w (n ∷ ns) h zero d p = none-of (watch_of w (told_number n)) (left (is_some (watch_of w (told_number n))) (list_any (λ (n : Notice). is_some (watch_of w (told_number n))) ns) h)
-unwatched w (n ∷ ns) h (suc k) d p = unwatched w ns (right (is_some (watch_of w (told_number n))) (list_any (λ (n : Notice). is_some (watch_of w (told_number n))) ns) h) k d (omega arith)
+unwatched w (n ∷ ns) h zero d p =
+    none-of (watch_of w (told_number n)) (left (is_some (watch_of w (told_number n))) (list_any (λ (n : Notice). is_some (watch_of w (told_number n))) ns) h)
+unwatched w (n ∷ ns) h (suc k) d p =
+    unwatched w ns (right (is_some (watch_of w (told_number n))) (list_any (λ (n : Notice). is_some (watch_of w (told_number n))) ns) h) k d (omega arith)
 
 -- ---- what is for one of several
 
 flip : (a b : ℕ) → eqb b a ≡ false → eqb a b ≡ false
-flip a b e = Rattle.std.proofs.lemmas.Bool.ne_eqb a b (λ is. Rattle.std.proofs.lemmas.Bool.false≢true (sym e ∙ Rattle.std.proofs.lemmas.Bool.eq-eqb b a (sym is)))
+flip a b e =
+    Rattle.std.proofs.lemmas.Bool.ne_eqb a b (λ is. Rattle.std.proofs.lemmas.Bool.false≢true (sym e ∙ Rattle.std.proofs.lemmas.Bool.eq-eqb b a (sym is)))
 
 above-at : (x : ℕ) (ys : List ℕ) (k : ℕ) → AllByRecursion (λ y. nat_cmp x y ≡ Less) ys → k < length ys → nat_cmp x (get_or ys k 0) ≡ Less
 above-at x [] k all h = absurd (omega arith)
@@ -67,14 +71,16 @@ once (x ∷ ids) (suc k) sorted h =
     let apart : eqb id x ≡ false = flip id x (sym (unsigned_tied x id) ∙ ap is_eq (above-at x ids k sorted.0 (omega arith))) in
     ap (λ b. b || list_any (λ y. eqb id y) (take k ids)) apart ∙ once ids k sorted.1 (omega arith)
 
-module _ {X Y : Type 0} (id_of : X → ℕ) (what : X → Y) (label : ℕ → Y → X) (named : (id : ℕ) (y : Y) → id_of (label id y) ≡ id) (same : (id : ℕ) (y : Y) → what (label id y) ≡ y) where
+module _ {X Y : Type 0} (id_of : X → ℕ) (what : X → Y) (label : ℕ → Y → X) (named : (id : ℕ) (y : Y) → id_of (label id y) ≡ id)
+    (same : (id : ℕ) (y : Y) → what (label id y) ≡ y) where
   abbrev pub to : ℕ → List X → List Y
   to q xs = map what (filter (λ x. eqb q (id_of x)) xs)
 
   to-append : (q : ℕ) (xs ys : List X) → to q (xs ++ ys) ≡ to q xs ++ to q ys
   to-append q [] ys = refl
   to-append q (x ∷ xs) ys =
-      elim (eqb q (id_of x)) as (λ t. map what (cond t (x ∷ filter (λ x. eqb q (id_of x)) (xs ++ ys)) (filter (λ x. eqb q (id_of x)) (xs ++ ys))) ≡ map what (cond t (x ∷ filter (λ x. eqb q (id_of x)) xs) (filter (λ x. eqb q (id_of x)) xs)) ++ to q ys) [
+      elim (eqb q (id_of x)) as (λ t. map what (cond t (x ∷ filter (λ x. eqb q (id_of x)) (xs ++ ys)) (filter (λ x. eqb q (id_of x)) (xs ++ ys)))
+      ≡ map what (cond t (x ∷ filter (λ x. eqb q (id_of x)) xs) (filter (λ x. eqb q (id_of x)) xs)) ++ to q ys) [
         | true ↦ ap (λ zs. what x ∷ zs) (to-append q xs ys)
         | false ↦ to-append q xs ys
       ]
@@ -93,7 +99,8 @@ module _ {X Y : Type 0} (id_of : X → ℕ) (what : X → Y) (label : ℕ → Y 
       ] (labelled q id ys)
 
   -- all of it for one more
-  pub step : (q id : ℕ) (xs : List X) (ys all : List Y) (b : Bool) → to q xs ≡ cond b all [] → (eqb q id ≡ true → (b ≡ false) × (ys ≡ all)) → to q (xs ++ map (label id) ys) ≡ cond (b || eqb q id) all []
+  pub step : (q id : ℕ) (xs : List X) (ys all : List Y) (b : Bool) → to q xs ≡ cond b all []
+      → (eqb q id ≡ true → (b ≡ false) × (ys ≡ all)) → to q (xs ++ map (label id) ys) ≡ cond (b || eqb q id) all []
   step q id xs ys all b was new =
       to-append q xs (map (label id) ys) ∙ (λ k. was k ++ labelled q id ys k)
       ∙ elim (eqb q id) as (λ t. eqb q id ≡ t → (cond b all [] ++ cond t ys []) ≡ cond (b || t) all []) [
@@ -106,19 +113,23 @@ module _ {X Y : Type 0} (id_of : X → ℕ) (what : X → Y) (label : ℕ → Y 
 
 -- ---- all of them
 
-module _ (m : Instances) (ns : List Notice) (ids : IdSet) (hear : (q : ℕ) → is_some (finmap.get ids q) ≡ list_any (λ (n : Notice). watches_file (told_number n) (instance_of m q)) ns)
+module _ (m : Instances) (ns : List Notice) (ids : IdSet)
+    (hear : (q : ℕ) → is_some (finmap.get ids q) ≡ list_any (λ (n : Notice). watches_file (told_number n) (instance_of m q)) ns)
     (items : List ℕ) (k : ℕ) (is : items ≡ finmap.keys ids) (done : length items ≤ k) where
-  hearing : (q : ℕ) (i : Instance) → instance_of m q ≡ Some i → list_any (λ id. eqb q id) (take k items) ≡ list_any (λ (n : Notice). is_some (watch_of i.watches (told_number n))) ns
+  hearing : (q : ℕ) (i : Instance) → instance_of m q ≡ Some i
+      → list_any (λ id. eqb q id) (take k items) ≡ list_any (λ (n : Notice). is_some (watch_of i.watches (told_number n))) ns
   hearing q i e =
       ap (list_any (λ id. eqb q id)) (take_all k items done ∙ is) ∙ same-tests q (finmap.keys ids) ∙ sym (contains_key-keys ids q) ∙ hear q
       ∙ ap (λ o. list_any (λ (n : Notice). watches_file (told_number n) o) ns) e
 
   -- where there is nothing for the others, what is staged for the recipients is all there is
-  pub all-staged : {A : Type 0} (q : ℕ) (i : Instance) (mine all : List A) → instance_of m q ≡ Some i → mine ≡ cond (list_any (λ id. eqb q id) (take k items)) all []
+  pub all-staged : {A : Type 0} (q : ℕ) (i : Instance) (mine all : List A) → instance_of m q ≡ Some i
+      → mine ≡ cond (list_any (λ id. eqb q id) (take k items)) all []
       → (All (λ n. watch_of i.watches (told_number n) ≡ None) ns → all ≡ []) → mine ≡ all
   all-staged q i mine all e so none =
       so ∙ ap (λ b. cond b all []) (hearing q i e)
-      ∙ elim (list_any (λ (n : Notice). is_some (watch_of i.watches (told_number n))) ns) as (λ b. list_any (λ (n : Notice). is_some (watch_of i.watches (told_number n))) ns ≡ b → cond b all [] ≡ all) [
+      ∙ elim (list_any (λ (n : Notice). is_some (watch_of i.watches (told_number n))) ns)
+      as (λ b. list_any (λ (n : Notice). is_some (watch_of i.watches (told_number n))) ns ≡ b → cond b all [] ≡ all) [
         | true ↦ λ h. refl
         | false ↦ λ h. sym (none (unwatched i.watches ns h))
       ] refl
@@ -126,10 +137,12 @@ module _ (m : Instances) (ns : List Notice) (ids : IdSet) (hear : (q : ℕ) → 
   -- the watches that are left
   pub all-left : (q : ℕ) (i : Instance) (wds ended : List ℤ) → instance_of m q ≡ Some i → wds ≡ cond (list_any (λ id. eqb q id) (take k items)) ended []
       → (list_any (λ id. eqb q id) (take k items) ≡ true → fold removed i.watches ended ≡ watches_after i.watches ns)
-      → (All (λ n. watch_of i.watches (told_number n) ≡ None) ns → watches_after i.watches ns ≡ i.watches) → fold removed i.watches wds ≡ watches_after i.watches ns
+      → (All (λ n. watch_of i.watches (told_number n) ≡ None) ns → watches_after i.watches ns ≡ i.watches)
+      → fold removed i.watches wds ≡ watches_after i.watches ns
   all-left q i wds ended e so left none =
       ap (fold removed i.watches) so
-      ∙ elim (list_any (λ id. eqb q id) (take k items)) as (λ b. list_any (λ id. eqb q id) (take k items) ≡ b → fold removed i.watches (cond b ended []) ≡ watches_after i.watches ns) [
+      ∙ elim (list_any (λ id. eqb q id) (take k items)) as (λ b.
+      list_any (λ id. eqb q id) (take k items) ≡ b → fold removed i.watches (cond b ended []) ≡ watches_after i.watches ns) [
         | true ↦ left
         | false ↦ λ h. sym (none (unwatched i.watches ns (sym (hearing q i e) ∙ h)))
       ] refl

@@ -33,19 +33,24 @@ less Greater p = absurd p
 
 above : {X : Type 0} (k : ℕ) (es : List (ℕ × X)) → T (below_all nat_cmp k es) → AllByRecursion (λ y. nat_cmp k y ≡ Less) (map (λ (e : ℕ × X). e.0) es)
 above k [] h = tt
-above k (e ∷ es) h = (less (nat_cmp k e.0) (first (is_lt (nat_cmp k e.0)) (below_all nat_cmp k es) h), above k es (second (is_lt (nat_cmp k e.0)) (below_all nat_cmp k es) h))
+above k (e ∷ es) h =
+    (less (nat_cmp k e.0) (first (is_lt (nat_cmp k e.0)) (below_all nat_cmp k es) h), above k es (second (is_lt (nat_cmp k e.0)) (below_all nat_cmp k es) h))
 
 pub rising : {X : Type 0} (es : List (ℕ × X)) → T (is_sorted nat_cmp es) → IsStrictlySortedBy nat_cmp (map (λ (e : ℕ × X). e.0) es)
 unfolding IsStrictlySortedBy
 rising [] h = tt
-rising (e ∷ es) h = (above e.0 es (first (below_all nat_cmp e.0 es) (is_sorted nat_cmp es) h), rising es (second (below_all nat_cmp e.0 es) (is_sorted nat_cmp es) h))
+rising (e ∷ es) h =
+    (above e.0 es (first (below_all nat_cmp e.0 es) (is_sorted nat_cmp es) h), rising es (second (below_all nat_cmp e.0 es) (is_sorted nat_cmp es) h))
 
 -- a number is among those that pass a test where it is among all and passes it
 any-filter : (p : ℕ → Bool) (q : ℕ) (ks : List ℕ) → list_any (eq_by_cmp nat_cmp q) (filter p ks) ≡ (list_any (eq_by_cmp nat_cmp q) ks && p q)
 any-filter p q [] = refl
 any-filter p q (k ∷ ks) =
-    elim (p k) as (λ b. p k ≡ b → list_any (eq_by_cmp nat_cmp q) (cond b (k ∷ filter p ks) (filter p ks)) ≡ ((eq_by_cmp nat_cmp q k || list_any (eq_by_cmp nat_cmp q) ks) && p q)) [
-      | true ↦ λ pk. ap (λ b. eq_by_cmp nat_cmp q k || b) (any-filter p q ks) ∙ passes (eq_by_cmp nat_cmp q k) (list_any (eq_by_cmp nat_cmp q) ks) (p q) (λ t. ap p (is-same q k t) ∙ pk)
+    elim (p k) as (λ b. p k ≡ b
+    → list_any (eq_by_cmp nat_cmp q) (cond b (k ∷ filter p ks) (filter p ks)) ≡ ((eq_by_cmp nat_cmp q k || list_any (eq_by_cmp nat_cmp q) ks) && p q)) [
+      | true ↦
+          λ pk. ap (λ b. eq_by_cmp nat_cmp q k || b) (any-filter p q ks)
+          ∙ passes (eq_by_cmp nat_cmp q k) (list_any (eq_by_cmp nat_cmp q) ks) (p q) (λ t. ap p (is-same q k t) ∙ pk)
       | false ↦ λ pk. any-filter p q ks ∙ fails (eq_by_cmp nat_cmp q k) (list_any (eq_by_cmp nat_cmp q) ks) (p q) (λ t. ap p (is-same q k t) ∙ pk)
     ] refl
   where
@@ -77,7 +82,9 @@ watchers-noted a whole number =
     let ks = filter p (finmap.keys m) in
     let sorted : IsStrictlySortedBy nat_cmp ks = IsStrictlySortedBy-filter nat_cmp p (finmap.keys m) (rising (entries m) (entries_sorted m)) in
     let same : set_of ks ≡ ids_under a.index number = same-set ks (ids_under a.index number) (λ q.
-    ap mark (any-filter p q (finmap.keys m) ∙ ap (λ b. b && p q) (sym (contains_key-keys m q)) ∙ watches-there number (instance_of m q) ∙ sym (whole.noted number q)) ∙ marks (finmap.get (ids_under a.index number) q)) in
+    ap mark (any-filter p q (finmap.keys m) ∙ ap (λ b. b && p q) (sym (contains_key-keys m q))
+    ∙ watches-there number (instance_of m q) ∙ sym (whole.noted number q))
+    ∙ marks (finmap.get (ids_under a.index number) q)) in
     ap (λ (s : IdSet). finmap.keys s) (sym same) ∙ items-rising ks sorted
 
 pub same-tests : (q : ℕ) (ks : List ℕ) → list_any (λ id. eqb q id) ks ≡ list_any (eq_by_cmp nat_cmp q) ks

@@ -10,6 +10,7 @@ returns-in-Some c = found c.args.ids.now c.args.id c.binary_search.result c.requ
 pub returns-in_default : goal.returns-in_default
 returns-in_default c =
     let xs = c.args.ids.now in
-    let last : get_or xs (length xs - 1) 0 ≡ c.in-Some.last.now = get_or_from_slice_get xs (length xs - 1) c.in-Some.last.now 0 (sym c.last.ensures.value ∙ ap option_copied c.in-Some.is) in
+    let last : get_or xs (length xs - 1) 0 ≡ c.in-Some.last.now =
+    get_or_from_slice_get xs (length xs - 1) c.in-Some.last.now 0 (sym c.last.ensures.value ∙ ap option_copied c.in-Some.is) in
     let under = c.if-id-last.false in
     place-last xs c.args.id c.requires (λ there. omega (arith, last, under))

@@ -9,7 +9,10 @@ one-more (suc k) [] = refl
 one-more (suc k) (e ∷ es) = one-more k es
 
 pub loop-preserved : goal.loop-preserved
-loop-preserved c = c.take.ensures.queue ∙ ap after_take c.loop.invariant ∙ ap (λ es. record c.args.queue.now { waiting = es }) (one-more c.loop.counter c.args.queue.now.waiting ∙ ap (λ n. drop n c.args.queue.now.waiting) (next c.loop.counter))
+loop-preserved c =
+    c.take.ensures.queue ∙ ap after_take c.loop.invariant
+    ∙ ap (λ es. record c.args.queue.now { waiting = es })
+    (one-more c.loop.counter c.args.queue.now.waiting ∙ ap (λ n. drop n c.args.queue.now.waiting) (next c.loop.counter))
   where
     next : (n : ℕ) → suc n ≡ n + 1
     next n = omega arith

@@ -14,8 +14,10 @@ same-tests n (k ∷ ks) = ap (λ b. b || list_any (eqb n) ks) (sym (unsigned_tie
 
 pub returns-clause-noted : goal.returns-clause-noted
 returns-clause-noted c n q =
-    let yielded = iter_end deref _ c.loop-number.yielded _ _ _ _ c.into_iter-number-iterator.ensures.into_iter_gives c.loop-number.yielded_by c.in-None.is c.next.ensures.steps in
+    let yielded = iter_end deref _ c.loop-number.yielded _ _ _ _ c.into_iter-number-iterator.ensures.into_iter_gives
+    c.loop-number.yielded_by c.in-None.is c.next.ensures.steps in
     let ks = finmap.keys c.args.watches.now.watches in
     let all : map deref c.loop-number.yielded ≡ ks = yielded.0 ∙ c.numbers-number-items.ensures.rest in
     c.loop-number.invariant.noted n q
-    ∙ ap (λ b. not (b && eqb q c.args.id) && is_noted c.args.index.now n q) (ap (list_any (eqb n)) all ∙ same-tests n ks ∙ sym (finmap.contains_key-keys c.args.watches.now.watches n))
+    ∙ ap (λ b. not (b && eqb q c.args.id) && is_noted c.args.index.now n q)
+    (ap (list_any (eqb n)) all ∙ same-tests n ks ∙ sym (finmap.contains_key-keys c.args.watches.now.watches n))

@@ -39,27 +39,36 @@ pub returns-in_default-clause-queue : goal.returns-in_default-clause-queue
 returns-in_default-clause-queue c =
     let waiting = c.args.queue.now.waiting in
     let k = c.loop.counter in
-    let none : slice_get (drop k waiting) 0 ≡ None = ap (λ q. slice_get q.waiting 0) (sym c.loop.invariant.queue) ∙ sym c.take.ensures.record ∙ c.in_default.is in
+    let none : slice_get (drop k waiting) 0 ≡ None =
+    ap (λ q. slice_get q.waiting 0) (sym c.loop.invariant.queue) ∙ sym c.take.ensures.record ∙ c.in_default.is in
     c.take.ensures.queue ∙ ap after_take c.loop.invariant.queue
-    ∙ ap (λ es. record c.args.queue.now { waiting = es }) (drop-next k waiting ∙ drop-spent k (suc k) waiting (omega arith) none ∙ sym (drop-spent k c.args.count waiting (omega (arith, c.loop-test.true)) none))
+    ∙ ap (λ es. record c.args.queue.now { waiting = es })
+    (drop-next k waiting ∙ drop-spent k (suc k) waiting (omega arith) none
+    ∙ sym (drop-spent k c.args.count waiting (omega (arith, c.loop-test.true)) none))
 
 pub returns-in_default-clause-records : goal.returns-in_default-clause-records
 returns-in_default-clause-records c =
     let waiting = c.args.queue.now.waiting in
     let k = c.loop.counter in
-    let none : slice_get (drop k waiting) 0 ≡ None = ap (λ q. slice_get q.waiting 0) (sym c.loop.invariant.queue) ∙ sym c.take.ensures.record ∙ c.in_default.is in
+    let none : slice_get (drop k waiting) 0 ≡ None =
+    ap (λ q. slice_get q.waiting 0) (sym c.loop.invariant.queue) ∙ sym c.take.ensures.record ∙ c.in_default.is in
     c.loop.invariant.records ∙ ap (λ es. c.args.records.now.items ++ es) (sym (take-spent k c.args.count waiting (omega (arith, c.loop-test.true)) none))
 
 pub loop-preserved : goal.loop-preserved
 loop-preserved c =
     let waiting = c.args.queue.now.waiting in
     let k = c.loop.counter in
-    let there : slice_get (drop k waiting) 0 ≡ Some c.in-Some.event = ap (λ q. slice_get q.waiting 0) (sym c.loop.invariant.queue) ∙ sym c.take.ensures.record ∙ c.in-Some.is in
+    let there : slice_get (drop k waiting) 0 ≡ Some c.in-Some.event =
+    ap (λ q. slice_get q.waiting 0) (sym c.loop.invariant.queue) ∙ sym c.take.ensures.record ∙ c.in-Some.is in
     record {
-      queue = c.take.ensures.queue ∙ ap after_take c.loop.invariant.queue ∙ ap (λ es. record c.args.queue.now { waiting = es }) (drop-next k waiting ∙ ap (λ n. drop n waiting) (next k));
+      queue =
+          c.take.ensures.queue ∙ ap after_take c.loop.invariant.queue
+          ∙ ap (λ es. record c.args.queue.now { waiting = es }) (drop-next k waiting ∙ ap (λ n. drop n waiting) (next k));
       records =
           c.push_reserved.ensures.items ∙ ap (λ es. es ++ c.in-Some.event ∷ []) c.loop.invariant.records
           ∙ append_assoc c.args.records.now.items (take k waiting) (c.in-Some.event ∷ [])
           ∙ ap (λ es. c.args.records.now.items ++ es) (sym (take-next k waiting c.in-Some.event there) ∙ ap (λ n. take n waiting) (next k));
-      room = let len = c.push_reserved.ensures.len in let capacity = c.push_reserved.ensures.capacity in let room = c.loop.invariant.room in let test = c.loop-test.true in omega arith;
+      room =
+          let len = c.push_reserved.ensures.len in
+          let capacity = c.push_reserved.ensures.capacity in let room = c.loop.invariant.room in let test = c.loop-test.true in omega arith;
     }

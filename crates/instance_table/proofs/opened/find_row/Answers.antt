@@ -22,6 +22,9 @@ returns-in_default c =
     let under = c.if-id-last.false in
     subst (λ n. IsPlace (ids_of rows) c.args.id (Err n)) same
     (place-last (ids_of rows) c.args.id c.requires (λ there.
-    let last : get_or rows (length rows - 1) c.in-Some.last.now ≡ c.in-Some.last.now = get_or_from_slice_get rows (length rows - 1) c.in-Some.last.now _ (sym c.last.ensures.value ∙ ap option_copied c.in-Some.is) in
-    let number : get_or (ids_of rows) (length (ids_of rows) - 1) 0 ≡ c.in-Some.last.now.id = ap (λ n. get_or (ids_of rows) (n - 1) 0) same ∙ get_or-map (λ (o : Opened). o.id) rows (length rows - 1) c.in-Some.last.now 0 (omega arith) ∙ ap (λ (o : Opened). o.id) last in
+    let last : get_or rows (length rows - 1) c.in-Some.last.now ≡ c.in-Some.last.now =
+    get_or_from_slice_get rows (length rows - 1) c.in-Some.last.now _ (sym c.last.ensures.value ∙ ap option_copied c.in-Some.is) in
+    let number : get_or (ids_of rows) (length (ids_of rows) - 1) 0 ≡ c.in-Some.last.now.id =
+    ap (λ n. get_or (ids_of rows) (n - 1) 0) same
+    ∙ get_or-map (λ (o : Opened). o.id) rows (length rows - 1) c.in-Some.last.now 0 (omega arith) ∙ ap (λ (o : Opened). o.id) last in
     omega (arith, number, under)))

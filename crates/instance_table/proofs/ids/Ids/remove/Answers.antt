@@ -13,13 +13,15 @@ invariant_of-self c = subst (IsStrictlySortedBy nat_cmp) (sym c.remove.ensures.i
 pub returns-in-Ok : goal.returns-in-Ok
 returns-in-Ok c =
     let xs = c.self.inside.ids.items in
-    let at : IsBinarySearchResult (λ y. nat_cmp y c.args.id) xs (Ok c.in-Ok.place) = subst (λ ys. IsBinarySearchResult (λ y. nat_cmp y c.args.id) ys (Ok c.in-Ok.place)) c.deref.ensures.value c.in-Ok.ensures.position in
+    let at : IsBinarySearchResult (λ y. nat_cmp y c.args.id) xs (Ok c.in-Ok.place) =
+    subst (λ ys. IsBinarySearchResult (λ y. nat_cmp y c.args.id) ys (Ok c.in-Ok.place)) c.deref.ensures.value c.in-Ok.ensures.position in
     let place = found xs c.args.id (Ok c.in-Ok.place) c.self.invariant at in
     ap set_of c.remove.ensures.items ∙ set-cut xs c.in-Ok.place c.args.id c.self.invariant place ∙ ap (λ s. finmap.remove s c.args.id) c.self.view_is
 
 pub returns-in_default : goal.returns-in_default
 returns-in_default c =
     let xs = c.self.inside.ids.items in
-    let at : IsBinarySearchResult (λ y. nat_cmp y c.args.id) xs (Err c.in_default.field-0) = subst (λ ys. IsBinarySearchResult (λ y. nat_cmp y c.args.id) ys (Err c.in_default.field-0)) c.deref.ensures.value c.in_default.ensures.position in
+    let at : IsBinarySearchResult (λ y. nat_cmp y c.args.id) xs (Err c.in_default.field-0) =
+    subst (λ ys. IsBinarySearchResult (λ y. nat_cmp y c.args.id) ys (Err c.in_default.field-0)) c.deref.ensures.value c.in_default.ensures.position in
     let place = found xs c.args.id (Err c.in_default.field-0) c.self.invariant at in
     sym c.self.view_is ∙ set-absent xs c.in_default.field-0 c.args.id place ∙ ap (λ s. finmap.remove s c.args.id) c.self.view_is

@@ -13,7 +13,9 @@ twice true x y = refl
 twice false x y = refl
 
 pub returns-in_default-clause-noted : goal.returns-in_default-clause-noted
-returns-in_default-clause-noted c = noted-off c.args.self.now (record c.args.self.now { watchers = c.get_mut.follows.lender-at-none }) c.args.number c.args.id (sym c.in_default.ensures.value) (λ n q. ap (λ m. is_noted (record c.args.self.now { watchers = m }) n q) c.get_mut.follows.holds-at-none)
+returns-in_default-clause-noted c =
+    noted-off c.args.self.now (record c.args.self.now { watchers = c.get_mut.follows.lender-at-none }) c.args.number c.args.id
+    (sym c.in_default.ensures.value) (λ n q. ap (λ m. is_noted (record c.args.self.now { watchers = m }) n q) c.get_mut.follows.holds-at-none)
 
 pub returns-else-is_empty-clause-noted : goal.returns-else-is_empty-clause-noted
 returns-else-is_empty-clause-noted c =
@@ -31,7 +33,9 @@ returns-then-is_empty-clause-noted c =
     let put = (c.get_mut.follows.holds c.remove.new.self).3 (subst (λ o. IsSome o) (sym there) refl) in
     let dropped = c.remove-then-is_empty.ensures.updates in
     noted-cut a (record a { watchers = c.remove-then-is_empty.new.self }) number None
-    (λ n. dropped.0 n ∙ ap (cond (eq_by_cmp nat_cmp number n) None) (put.0 n) ∙ twice (eq_by_cmp nat_cmp number n) (Some c.remove.new.self) (tree.get nat_cmp a.watchers n)) c.args.id
+    (λ n. dropped.0 n ∙ ap (cond (eq_by_cmp nat_cmp number n) None) (put.0 n)
+    ∙ twice (eq_by_cmp nat_cmp number n) (Some c.remove.new.self) (tree.get nat_cmp a.watchers n))
+    c.args.id
     (sym (c.is_empty.ensures.0 c.if-is_empty.true) ∙ c.remove.ensures ∙ ap (λ ids. map.remove ids c.args.id) (sym (ids-some a number c.in-Some.ids.now there)))
 
 pub returns-in_default-clause-rows : goal.returns-in_default-clause-rows
@@ -53,4 +57,6 @@ returns-then-is_empty-clause-rows c rows =
     let put = (c.get_mut.follows.holds c.remove.new.self).3 (subst (λ o. IsSome o) (sym there) refl) in
     let dropped = c.remove-then-is_empty.ensures.updates in
     rows-kept a (record a { watchers = c.remove-then-is_empty.new.self }) number None
-    (λ n. dropped.0 n ∙ ap (cond (eq_by_cmp nat_cmp number n) None) (put.0 n) ∙ twice (eq_by_cmp nat_cmp number n) (Some c.remove.new.self) (tree.get nat_cmp a.watchers n)) no-row rows
+    (λ n. dropped.0 n ∙ ap (cond (eq_by_cmp nat_cmp number n) None) (put.0 n)
+    ∙ twice (eq_by_cmp nat_cmp number n) (Some c.remove.new.self) (tree.get nat_cmp a.watchers n))
+    no-row rows

@@ -14,11 +14,15 @@ abbrev hears : Option Instance → Notice → Bool
 hears o n = watches_file (told_number n) o
 
 -- an instance that watches a file is a recipient of notices if one of them is for that file
-told-hears : (number : ℕ) (o : Option Instance) (ns : List Notice) → list_any (λ (n : Notice). eqb (told_number n) number) ns ≡ true → (watches_file number o || list_any (hears o) ns) ≡ list_any (hears o) ns
+told-hears : (number : ℕ) (o : Option Instance) (ns : List Notice) → list_any (λ (n : Notice). eqb (told_number n) number) ns ≡ true
+    → (watches_file number o || list_any (hears o) ns) ≡ list_any (hears o) ns
 told-hears number o [] told = absurd (Rattle.std.proofs.lemmas.Bool.false≢true told)
 told-hears number o (n ∷ ns) told =
-    elim (eqb (told_number n) number) as (λ b. eqb (told_number n) number ≡ b → (b || list_any (λ (x : Notice). eqb (told_number x) number) ns) ≡ true → (watches_file number o || (hears o n || list_any (hears o) ns)) ≡ (hears o n || list_any (hears o) ns)) [
-      | true ↦ λ same _. ap (λ k. watches_file k o || (hears o n || list_any (hears o) ns)) (sym (is-same (told_number n) number same)) ∙ twice (hears o n) (list_any (hears o) ns)
+    elim (eqb (told_number n) number) as (λ b. eqb (told_number n) number ≡ b → (b || list_any (λ (x : Notice). eqb (told_number x) number) ns) ≡ true
+    → (watches_file number o || (hears o n || list_any (hears o) ns)) ≡ (hears o n || list_any (hears o) ns)) [
+      | true ↦
+          λ same _. ap (λ k. watches_file k o || (hears o n || list_any (hears o) ns)) (sym (is-same (told_number n) number same))
+          ∙ twice (hears o n) (list_any (hears o) ns)
       | false ↦ λ _ rest. past (watches_file number o) (hears o n) (list_any (hears o) ns) (told-hears number o ns rest)
     ] refl told
   where
@@ -34,7 +38,8 @@ told-hears number o (n ∷ ns) told =
 pub returns-then-is_told_of_late : goal.returns-then-is_told_of_late
 returns-then-is_told_of_late c q =
     let o = instance_of c.args.self.now q in
-    c.requires q ∙ sym (told-hears c.args.number o c.args.told.now (c.is_told_of_late.ensures c.if-is_told_of_late.true)) ∙ ap (λ b. watches_file c.args.number o || b) (sym (c.requires q))
+    c.requires q ∙ sym (told-hears c.args.number o c.args.told.now (c.is_told_of_late.ensures c.if-is_told_of_late.true))
+    ∙ ap (λ b. watches_file c.args.number o || b) (sym (c.requires q))
 
 OnOk-then : {T E : Type 0} {P Q : Type 0} (r : Result T E) → (P → Q) → OnOk r P → OnOk r Q
 OnOk-then (Ok x) f h = f h
@@ -43,5 +48,7 @@ OnOk-then (Err e) f h = h
 pub returns : goal.returns
 returns c =
     OnOk-then c.add_all.result
-    (λ puts q. puts q ∙ ap (λ b. b || is_some (map.get c.args.ids.now q)) (ap (list_any (λ id. eqb q id)) c.watchers.ensures ∙ any-watchers c.args.self.now c.args.number q))
+    (λ puts q. puts q
+    ∙ ap (λ b. b || is_some (map.get c.args.ids.now q))
+    (ap (list_any (λ id. eqb q id)) c.watchers.ensures ∙ any-watchers c.args.self.now c.args.number q))
     c.add_all.ensures

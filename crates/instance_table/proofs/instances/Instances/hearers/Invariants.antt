@@ -7,4 +7,5 @@ use Rattle.instance_table.specs.Instances.{instance_of, watches_file}
 use Rattle.instance_table.proofs.instances.Instances.hearers.Given as goal
 
 abbrev pub invariant-loop-place : goal.invariant-loop-place
-invariant-loop-place l = (q : ℕ) → is_some (map.get l.ids q) ≡ list_any (λ (n : Notice). watches_file (told_number n) (instance_of l.self q)) (take l.place l.notices)
+invariant-loop-place l =
+    (q : ℕ) → is_some (map.get l.ids q) ≡ list_any (λ (n : Notice). watches_file (told_number n) (instance_of l.self q)) (take l.place l.notices)

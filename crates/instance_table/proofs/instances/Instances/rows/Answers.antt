@@ -10,6 +10,7 @@ pub returns-clause-rows : goal.returns-clause-rows
 returns-clause-rows c =
     let items = c.deref-row-items.result.now in
     c.loop-row.invariant
-    ∙ ap (λ os. map instance_row (map (λ (o : Opened). (o.id, o.instance)) os)) (take_all c.loop-row.row-index items c.loop-row-test.false ∙ c.deref-row-items.ensures.value)
+    ∙ ap (λ os. map instance_row (map (λ (o : Opened). (o.id, o.instance)) os))
+    (take_all c.loop-row.row-index items c.loop-row-test.false ∙ c.deref-row-items.ensures.value)
     ∙ ap (map instance_row) (sym (entries-opened c.self.inside c.self.invariant))
     ∙ ap (λ m. map instance_row (finmap.entries m)) c.self.view_is

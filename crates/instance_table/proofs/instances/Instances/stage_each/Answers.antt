@@ -53,34 +53,43 @@ loop-id-preserved c =
     let id = get_or items k 0 in
     let here : Instance = c.in-Some.instance.now in
     let before : ℕ → Bool = λ q. list_any (λ y. eqb q y) (take k items) in
-    let sorted : IsStrictlySortedBy nat_cmp items = subst (IsStrictlySortedBy nat_cmp) (sym c.as_slice-id-items.ensures) (rising (entries c.args.hearers.now) (entries_sorted c.args.hearers.now)) in
+    let sorted : IsStrictlySortedBy nat_cmp items =
+    subst (IsStrictlySortedBy nat_cmp) (sym c.as_slice-id-items.ensures) (rising (entries c.args.hearers.now) (entries_sorted c.args.hearers.now)) in
     let new : (q : ℕ) → eqb q id ≡ true → before q ≡ false = λ q t. ap before (is-same q id t) ∙ once items k sorted c.loop-id-test.true in
-    let same : (q : ℕ) (i : Instance) → instance_of m q ≡ Some i → eqb q id ≡ true → here ≡ i = λ q i e t. same-some here i (c.in-Some.ensures ∙ sym (ap (instance_of m) (is-same q id t)) ∙ e) in
-    let more : (q : ℕ) → (before q || eqb q id) ≡ list_any (λ y. eqb q y) (take (k + 1) items) = λ q. sym (list_any_more (λ y. eqb q y) items k 0 c.loop-id-test.true) in
+    let same : (q : ℕ) (i : Instance) → instance_of m q ≡ Some i → eqb q id ≡ true → here ≡ i =
+    λ q i e t. same-some here i (c.in-Some.ensures ∙ sym (ap (instance_of m) (is-same q id t)) ∙ e) in
+    let more : (q : ℕ) → (before q || eqb q id) ≡ list_any (λ y. eqb q y) (take (k + 1) items) =
+    λ q. sym (list_any_more (λ y. eqb q y) items k 0 c.loop-id-test.true) in
     record {
       events = λ q i e.
           ap (events_to q) c.in_ok-stage.ensures.events
-          ∙ step (λ (h : StagedEvent). h.id) (λ (h : StagedEvent). h.event) staged_event (λ id y. refl) (λ id y. refl) q id c.loop-id.staged.events.items (events_of here.watches ns) (events_of i.watches ns) (before q) (c.loop-id.invariant.events q i e)
+          ∙ step (λ (h : StagedEvent). h.id) (λ (h : StagedEvent). h.event) staged_event (λ id y. refl) (λ id y. refl) q id
+          c.loop-id.staged.events.items (events_of here.watches ns) (events_of i.watches ns) (before q) (c.loop-id.invariant.events q i e)
           (λ t. (new q t, ap (λ (x : Instance). events_of x.watches ns) (same q i e t)))
           ∙ ap (λ b. cond b (events_of i.watches ns) []) (more q);
       drops = λ q i e.
           ap (wds_to q) c.in_ok-stage.ensures.drops
-          ∙ step (λ (d : StagedEnd). d.id) (λ (d : StagedEnd). d.wd) staged_end (λ id y. refl) (λ id y. refl) q id c.loop-id.staged.drops.items (wds_ended here.watches ns) (wds_ended i.watches ns) (before q) (c.loop-id.invariant.drops q i e)
+          ∙ step (λ (d : StagedEnd). d.id) (λ (d : StagedEnd). d.wd) staged_end (λ id y. refl) (λ id y. refl) q id c.loop-id.staged.drops.items
+          (wds_ended here.watches ns) (wds_ended i.watches ns) (before q) (c.loop-id.invariant.drops q i e)
           (λ t. (new q t, ap (λ (x : Instance). wds_ended x.watches ns) (same q i e t)))
           ∙ ap (λ b. cond b (wds_ended i.watches ns) []) (more q);
       left = λ q i e h.
-          or-true (before q) (eqb q id) (fold removed i.watches (wds_ended i.watches ns) ≡ watches_after i.watches ns) (more q ∙ h) (c.loop-id.invariant.left q i e)
-          (λ t. subst (λ (x : Instance). fold removed x.watches (wds_ended x.watches ns) ≡ watches_after x.watches ns) (same q i e t) c.in_ok-stage.ensures.left);
+          or-true (before q) (eqb q id) (fold removed i.watches (wds_ended i.watches ns) ≡ watches_after i.watches ns)
+          (more q ∙ h) (c.loop-id.invariant.left q i e)
+          (λ t. subst (λ (x : Instance). fold removed x.watches (wds_ended x.watches ns) ≡ watches_after x.watches ns)
+          (same q i e t) c.in_ok-stage.ensures.left);
     }
 
 pub returns-clause-events : goal.returns-clause-events
 returns-clause-events c q i e =
-    all-staged c.args.self.now c.args.notices.now c.args.hearers.now c.requires c.as_slice-id-items.result.now c.loop-id.id-index c.as_slice-id-items.ensures c.loop-id-test.false q i
+    all-staged c.args.self.now c.args.notices.now c.args.hearers.now c.requires c.as_slice-id-items.result.now c.loop-id.id-index
+    c.as_slice-id-items.ensures c.loop-id-test.false q i
     (events_to q c.loop-id.staged.events.items) (events_of i.watches c.args.notices.now) e (c.loop-id.invariant.events q i e)
     (c.unwatched_files_raise_nothing.ensures.events i.watches c.args.notices.now)
 
 pub returns-clause-drops : goal.returns-clause-drops
 returns-clause-drops c q i e =
-    all-left c.args.self.now c.args.notices.now c.args.hearers.now c.requires c.as_slice-id-items.result.now c.loop-id.id-index c.as_slice-id-items.ensures c.loop-id-test.false q i
+    all-left c.args.self.now c.args.notices.now c.args.hearers.now c.requires c.as_slice-id-items.result.now c.loop-id.id-index
+    c.as_slice-id-items.ensures c.loop-id-test.false q i
     (wds_to q c.loop-id.staged.drops.items) (wds_ended i.watches c.args.notices.now) e (c.loop-id.invariant.drops q i e) (c.loop-id.invariant.left q i e)
     (c.unwatched_files_raise_nothing.ensures.watches i.watches c.args.notices.now)

@@ -10,7 +10,10 @@ use Rattle.instance_table.proofs.instances.Instances.stage_each.Given as goal
 
 abbrev pub invariant-loop-id : goal.invariant-loop-id
 invariant-loop-id l = record {
-  events : (q : ℕ) (i : Instance) → instance_of l.self q ≡ Some i → events_to q l.staged.events.items ≡ cond (list_any (λ id. eqb q id) (take l.id-index l.id-items)) (events_of i.watches l.notices) [];
-  drops : (q : ℕ) (i : Instance) → instance_of l.self q ≡ Some i → wds_to q l.staged.drops.items ≡ cond (list_any (λ id. eqb q id) (take l.id-index l.id-items)) (wds_ended i.watches l.notices) [];
-  left : (q : ℕ) (i : Instance) → instance_of l.self q ≡ Some i → list_any (λ id. eqb q id) (take l.id-index l.id-items) ≡ true → fold removed i.watches (wds_ended i.watches l.notices) ≡ watches_after i.watches l.notices;
+  events : (q : ℕ) (i : Instance) → instance_of l.self q ≡ Some i
+      → events_to q l.staged.events.items ≡ cond (list_any (λ id. eqb q id) (take l.id-index l.id-items)) (events_of i.watches l.notices) [];
+  drops : (q : ℕ) (i : Instance) → instance_of l.self q ≡ Some i
+      → wds_to q l.staged.drops.items ≡ cond (list_any (λ id. eqb q id) (take l.id-index l.id-items)) (wds_ended i.watches l.notices) [];
+  left : (q : ℕ) (i : Instance) → instance_of l.self q ≡ Some i → list_any (λ id. eqb q id) (take l.id-index l.id-items) ≡ true
+      → fold removed i.watches (wds_ended i.watches l.notices) ≡ watches_after i.watches l.notices;
 }

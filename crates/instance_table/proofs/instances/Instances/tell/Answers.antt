@@ -5,4 +5,6 @@ use Rattle.instance_table.proofs.instances.Instances.tell.Goals as goal
 
 pub returns : goal.returns
 returns c =
-    c.end_each.ensures ∙ ap (ended_all c.hear_each.new.self) c.deref.ensures.value ∙ ap (λ m. ended_all m c.args.staging.now.staged.drops.items) c.hear_each.ensures ∙ heard-told c.args.staging.now c.args.self.now c.args.notices.now c.requires
+    c.end_each.ensures ∙ ap (ended_all c.hear_each.new.self) c.deref.ensures.value
+    ∙ ap (λ m. ended_all m c.args.staging.now.staged.drops.items) c.hear_each.ensures
+    ∙ heard-told c.args.staging.now c.args.self.now c.args.notices.now c.requires

@@ -16,5 +16,6 @@ returns c =
     let second : Instance → Instance = λ i. record i { queue = after_offer i.queue (ignored c.args.wd) } in
     c.offer.ensures
     ∙ ap (λ e. changed c.end_watch.new.self c.args.id (λ i. record i { queue = after_offer i.queue e })) (c.ignored.ensures ∙ ap ignored same)
-    ∙ ap (λ m. changed m c.args.id second) (c.end_watch.ensures ∙ ap (λ z. changed c.args.self.now c.args.id (λ i. record i { watches = removed i.watches z })) same)
+    ∙ ap (λ m. changed m c.args.id second)
+    (c.end_watch.ensures ∙ ap (λ z. changed c.args.self.now c.args.id (λ i. record i { watches = removed i.watches z })) same)
     ∙ changed-twice c.args.self.now c.args.id first second (unwatching c.args.wd) (λ i. refl)

@@ -14,9 +14,13 @@ loop-row-preserved c =
     let next = rows-next rows k c.row-item.result c.loop-row-test.true c.row-item.is in
     let one = c.put_row-count.ensures in
     record {
-      count = one.count ∙ ap (λ n. n + length (ready_rows (c.row-item.result ∷ []))) c.loop-row.invariant.count ∙ sym (length-append (ready_rows (take k rows)) (ready_rows (c.row-item.result ∷ []))) ∙ ap length (sym next);
+      count =
+          one.count ∙ ap (λ n. n + length (ready_rows (c.row-item.result ∷ []))) c.loop-row.invariant.count
+          ∙ sym (length-append (ready_rows (take k rows)) (ready_rows (c.row-item.result ∷ []))) ∙ ap length (sym next);
       within = omega (arith, one.within);
-      ids = one.ids (ready_rows (take k rows)) c.args.out.now c.loop-row.invariant.count c.loop-row.invariant.ids ∙ ap (λ ids. written_over ids c.args.out.now) (sym next);
+      ids =
+          one.ids (ready_rows (take k rows)) c.args.out.now c.loop-row.invariant.count c.loop-row.invariant.ids
+          ∙ ap (λ ids. written_over ids c.args.out.now) (sym next);
     }
 
 pub returns : goal.returns
