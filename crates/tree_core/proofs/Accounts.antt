@@ -41,7 +41,8 @@ have-fates law [] = All-nil (λ (r : Raised). HasFate r.queue r.event (fate r))
 have-fates law (r ∷ rs) = All-cons (λ (r : Raised). HasFate r.queue r.event (fate r)) r rs (law r.queue r.event) (have-fates law rs)
 
 -- one more of one of three kinds
-counted-more : (o : Offered) (n k m l : ℕ) → n ≡ k + (m + l) → suc n ≡ cond (is_keeping o) 1 0 + k + (cond (is_merging o) 1 0 + m + (cond (is_losing o) 1 0 + l))
+counted-more : (o : Offered) (n k m l : ℕ) → n ≡ k + (m + l)
+    → suc n ≡ cond (is_keeping o) 1 0 + k + (cond (is_merging o) 1 0 + m + (cond (is_losing o) 1 0 + l))
 counted-more Kept n k m l e = omega arith
 counted-more Merged n k m l e = omega arith
 counted-more Marked n k m l e = omega arith
@@ -50,10 +51,12 @@ counted-more Lost n k m l e = omega arith
 count-cons : (p : Offered → Bool) (r : Raised) (rs : List Raised) → count_by (λ x. p (fate x)) (r ∷ rs) ≡ cond (p (fate r)) 1 0 + count_by (λ x. p (fate x)) rs
 count-cons p r rs = sum_by-cons (λ (x : Raised). cond (p (fate x)) 1 0) r rs
 
-are-counted : (rs : List Raised) → length rs ≡ count_by (λ r. is_keeping (fate r)) rs + (count_by (λ r. is_merging (fate r)) rs + count_by (λ r. is_losing (fate r)) rs)
+are-counted : (rs : List Raised)
+    → length rs ≡ count_by (λ r. is_keeping (fate r)) rs + (count_by (λ r. is_merging (fate r)) rs + count_by (λ r. is_losing (fate r)) rs)
 are-counted [] = refl
 are-counted (r ∷ rs) =
-    counted-more (fate r) (length rs) (count_by (λ x. is_keeping (fate x)) rs) (count_by (λ x. is_merging (fate x)) rs) (count_by (λ x. is_losing (fate x)) rs) (are-counted rs)
+    counted-more (fate r) (length rs) (count_by (λ x. is_keeping (fate x)) rs) (count_by (λ x. is_merging (fate x)) rs)
+    (count_by (λ x. is_losing (fate x)) rs) (are-counted rs)
     ∙ sym (λ i. count-cons is_keeping r rs i + (count-cons is_merging r rs i + count-cons is_losing r rs i))
 
 -- ---- of events that are no marks
@@ -68,7 +71,9 @@ abbrev unmarked : List Event → List Event
 unmarked es = filter (λ e. not (is_mark e)) es
 
 module _ (r : Raised) (rs : List Raised) (plain : IsNoMark r.event) (rest : unmarked (joined rs) ≡ kept rs) where
-  kept-more : (o : Offered) → unmarked (joining o r.event ++ joined rs) ≡ events (cond (is_keeping o) (r ∷ filter (λ x. is_keeping (fate x)) rs) (filter (λ x. is_keeping (fate x)) rs))
+  kept-more : (o : Offered)
+      → unmarked (joining o r.event ++ joined rs)
+      ≡ events (cond (is_keeping o) (r ∷ filter (λ x. is_keeping (fate x)) rs) (filter (λ x. is_keeping (fate x)) rs))
   kept-more Kept = ap (λ b. cond (not b) (r.event ∷ unmarked (joined rs)) (unmarked (joined rs))) plain ∙ ap (λ (es : List Event). r.event ∷ es) rest
   kept-more Merged = rest
   kept-more Marked = ap (λ b. cond (not b) (overflow_mark ∷ unmarked (joined rs)) (unmarked (joined rs))) is_mark-mark ∙ rest
@@ -76,7 +81,9 @@ module _ (r : Raised) (rs : List Raised) (plain : IsNoMark r.event) (rest : unma
 
 are-in-order : (rs : List Raised) → AreNoMarks rs → unmarked (joined rs) ≡ kept rs
 are-in-order [] plain = refl
-are-in-order (r ∷ rs) plain = kept-more r rs (All-head (λ (x : Raised). IsNoMark x.event) r rs plain) (are-in-order rs (All-tail (λ (x : Raised). IsNoMark x.event) r rs plain)) (fate r)
+are-in-order (r ∷ rs) plain =
+    kept-more r rs (All-head (λ (x : Raised). IsNoMark x.event) r rs plain)
+    (are-in-order rs (All-tail (λ (x : Raised). IsNoMark x.event) r rs plain)) (fate r)
 
 -- ---- of events that watches raise
 
@@ -115,7 +122,8 @@ module _ (laws : RaisedLaws) (t : Tree) (id : ℕ) (i : Instance) (is : instance
   abbrev IsWatched : Event → Type 0
   IsWatched e = HasWatch i.watches e.wd
 
-  ignored-watched : (from : ℕ) (wd : ℤ) (b : Bool) → (from == id) ≡ b → refusal_of t (call.RmWatch from wd) ≡ None → All IsWatched (if b then ignored wd ∷ [] else [])
+  ignored-watched : (from : ℕ) (wd : ℤ) (b : Bool) → (from == id) ≡ b → refusal_of t (call.RmWatch from wd) ≡ None
+      → All IsWatched (if b then ignored wd ∷ [] else [])
   ignored-watched from wd true same e =
       let there : instance_of t.instances from ≡ Some i = ap (instance_of t.instances) (eqb-true from id same) ∙ is in
       All-cons IsWatched (ignored wd) [] (ended wd (ap (λ (o : Option Instance). first_row (rm_watch_rows wd o)) (sym there) ∙ e)) (All-nil IsWatched)
@@ -137,7 +145,8 @@ module _ (laws : RaisedLaws) (t : Tree) (id : ℕ) (i : Instance) (is : instance
 raised_to-plain : (b : Backlog) (es : List Event) → All IsNoMark es → AreNoMarks (raised_to b es)
 raised_to-plain b [] h = All-nil (λ (r : Raised). IsNoMark r.event)
 raised_to-plain b (e ∷ es) h =
-    All-cons (λ (r : Raised). IsNoMark r.event) (record { queue = b; event = e }) (raised_to (after_offer b e) es) (All-head IsNoMark e es h) (raised_to-plain (after_offer b e) es (All-tail IsNoMark e es h))
+    All-cons (λ (r : Raised). IsNoMark r.event) (record { queue = b; event = e }) (raised_to (after_offer b e) es)
+    (All-head IsNoMark e es h) (raised_to-plain (after_offer b e) es (All-tail IsNoMark e es h))
 
 module _ (laws : RaisedLaws) (id : ℕ) where
   plain-by : (t : Tree) (c : Call) (r : Option Refusal) (o : Option Instance) → refusal_of t c ≡ r → instance_of t.instances id ≡ o → HasSoundWatches o

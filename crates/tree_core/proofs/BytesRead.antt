@@ -32,13 +32,16 @@ refused-bytes id (call.Pump from count) r = none-of-none (from == id)
 refused-bytes id (call.Close from) r = refl
 
 -- what a read of one instance answers, and what is read of the other
-answered : (m : Bool) (bytes : ℕ) (o : Option Instance) → (if m then bytes_in (read_answer bytes o) else []) ≡ spelling (where_open None o (λ i. if m then oldest bytes i else []))
+answered : (m : Bool) (bytes : ℕ) (o : Option Instance)
+    → (if m then bytes_in (read_answer bytes o) else []) ≡ spelling (where_open None o (λ i. if m then oldest bytes i else []))
 answered true bytes None = refl
 answered true bytes (Some i) = refl
 answered false bytes None = refl
 answered false bytes (Some i) = refl
 
-same-answer : (t : Tree) (from id bytes : ℕ) (m : Bool) → (from == id) ≡ m → (if m then bytes_in (read_answer bytes (instance_of t.instances from)) else []) ≡ (if m then bytes_in (read_answer bytes (instance_of t.instances id)) else [])
+same-answer : (t : Tree) (from id bytes : ℕ) (m : Bool) → (from == id) ≡ m
+    → (if m then bytes_in (read_answer bytes (instance_of t.instances from)) else [])
+    ≡ (if m then bytes_in (read_answer bytes (instance_of t.instances id)) else [])
 same-answer t from id bytes true e = ap (λ (n : ℕ). bytes_in (read_answer bytes (instance_of t.instances n))) (eqb-true from id e)
 same-answer t from id bytes false e = refl
 
@@ -46,7 +49,8 @@ nothing-read : (o : Option Instance) → [] ≡ spelling (where_open None o (λ 
 nothing-read None = refl
 nothing-read (Some i) = refl
 
-accepted-bytes : (t : Tree) (c : Call) (id : ℕ) → bytes_of id c (accepted_reply t c) ≡ spelling (where_open None (instance_of t.instances id) (records_for c id))
+accepted-bytes : (t : Tree) (c : Call) (id : ℕ)
+    → bytes_of id c (accepted_reply t c) ≡ spelling (where_open None (instance_of t.instances id) (records_for c id))
 accepted-bytes t (call.File f) id = nothing-read (instance_of t.instances id)
 accepted-bytes t (call.Init limit is_piped) id = nothing-read (instance_of t.instances id)
 accepted-bytes t (call.AddWatch from p mask) id = nothing-read (instance_of t.instances id)
@@ -55,7 +59,8 @@ accepted-bytes t (call.Read from bytes) id = same-answer t from id bytes (from =
 accepted-bytes t (call.Pump from bytes) id = same-answer t from id bytes (from == id) refl ∙ answered (from == id) bytes (instance_of t.instances id)
 accepted-bytes t (call.Close from) id = nothing-read (instance_of t.instances id)
 
-by-refusal : (t : Tree) (c : Call) (id : ℕ) (o : Option Refusal) → bytes_of id c (reply_by o (accepted_reply t c)) ≡ spelling (where_open o (instance_of t.instances id) (records_for c id))
+by-refusal : (t : Tree) (c : Call) (id : ℕ) (o : Option Refusal)
+    → bytes_of id c (reply_by o (accepted_reply t c)) ≡ spelling (where_open o (instance_of t.instances id) (records_for c id))
 by-refusal t c id (Some r) = refused-bytes id c r
 by-refusal t c id None = accepted-bytes t c id
 

@@ -28,12 +28,17 @@ use Rattle.tree_core.proofs.Turns.{Step, gives-many, gives-none, same-number}
 
 -- ---- an accepted call uses the next cookies
 
-file-cookies : (t : Tree) (f : FileCall) → refused t.world t.limits (counts_of t) f ≡ None → Step t.next_cookie (t.next_cookie + cookies_of t.world f) (cookies_taken (cookies_of t.world f) t.next_cookie)
+file-cookies : (t : Tree) (f : FileCall) → refused t.world t.limits (counts_of t) f ≡ None
+    → Step t.next_cookie (t.next_cookie + cookies_of t.world f) (cookies_taken (cookies_of t.world f) t.next_cookie)
 file-cookies t f none = by (cookies-there t.world t.limits (counts_of t) t.next_cookie refl f none)
   where
-    by : HasRoom t.limits t.next_cookie (cookies_of t.world f) → Step t.next_cookie (t.next_cookie + cookies_of t.world f) (cookies_taken (cookies_of t.world f) t.next_cookie)
-    by (inl unused) = gives-none _ _ _ (ap (cookies_from (cookie_now t.next_cookie)) unused) (ap (λ (n : ℕ). t.next_cookie + n) unused ∙ same-number t.next_cookie)
-    by (inr room) = subst (λ (n : ℕ). Step t.next_cookie (t.next_cookie + cookies_of t.world f) (cookies_from n (cookies_of t.world f))) (sym room.1) (gives-many t.next_cookie (cookies_of t.world f))
+    by : HasRoom t.limits t.next_cookie (cookies_of t.world f)
+        → Step t.next_cookie (t.next_cookie + cookies_of t.world f) (cookies_taken (cookies_of t.world f) t.next_cookie)
+    by (inl unused) =
+        gives-none _ _ _ (ap (cookies_from (cookie_now t.next_cookie)) unused) (ap (λ (n : ℕ). t.next_cookie + n) unused ∙ same-number t.next_cookie)
+    by (inr room) =
+        subst (λ (n : ℕ). Step t.next_cookie (t.next_cookie + cookies_of t.world f) (cookies_from n (cookies_of t.world f)))
+        (sym room.1) (gives-many t.next_cookie (cookies_of t.world f))
 
 accepted-cookies : (t : Tree) (c : Call) → refusal_of t c ≡ None → Step t.next_cookie (accepted t c).next_cookie (cookies_by None t c)
 unfolding after_file after_init after_add_watch after_rm_watch after_accepted_read after_close
@@ -82,7 +87,8 @@ end-tied false wd = nothing-tied []
 module _ (laws : CookieLaws) where
   events_for-tied : (t : Tree) (c : Call) (id : ℕ) (i : Instance) → AreTied (moves_with (cookies_by None t c)) (marks_of (events_for t c id i))
   events_for-tied t (call.File f) id i =
-      laws.raised i.watches (notices_of t.world f (cookie_now t.next_cookie)) (moves_with (cookies_taken (cookies_of t.world f) t.next_cookie)) (laws.told t.world f (cookie_now t.next_cookie))
+      laws.raised i.watches (notices_of t.world f (cookie_now t.next_cookie))
+      (moves_with (cookies_taken (cookies_of t.world f) t.next_cookie)) (laws.told t.world f (cookie_now t.next_cookie))
   events_for-tied t (call.Init limit is_piped) id i = nothing-tied []
   events_for-tied t (call.AddWatch from p mask) id i = nothing-tied []
   events_for-tied t (call.RmWatch from wd) id i = end-tied (from == id) wd
@@ -95,7 +101,8 @@ module _ (laws : CookieLaws) where
   open-tied t c id (Some r) there = nothing-tied []
   open-tied t c id None None = nothing-tied (moves_with (cookies_by None t c))
   open-tied t c id None (Some i) =
-      subst (λ (es : List Event). AreTied (moves_with (cookies_by None t c)) (marks_of es)) (sym (events-raised_to i.queue (events_for t c id i))) (events_for-tied t c id i)
+      subst (λ (es : List Event). AreTied (moves_with (cookies_by None t c)) (marks_of es))
+      (sym (events-raised_to i.queue (events_for t c id i))) (events_for-tied t c id i)
 
   pub cookies-tie-moves : CookiesTieMoves
   unfolding raised_by

@@ -48,16 +48,20 @@ row-passes false r e = refl
 
 -- ---- numbers of files
 
-make-left : (at : Look) (limits : Limits) (counts : Counts) (p : List (List ℕ)) (mode : ℕ) → first_row (make_rows at limits counts p mode) ≡ None → counts.next_number ≤ limits.numbers
+make-left : (at : Look) (limits : Limits) (counts : Counts) (p : List (List ℕ)) (mode : ℕ)
+    → first_row (make_rows at limits counts p mode) ≡ None → counts.next_number ≤ limits.numbers
 unfolding make_rows
 make-left at limits counts p mode none =
     let each = each-passes (make_rows at limits counts p mode) none in
     ltb-false limits.numbers counts.next_number (row-passes (nat_lt limits.numbers counts.next_number) NumbersSpent each.1.1.1.1.0)
 
-numbers-left : (t : Tree) (f : FileCall) → refused t.world t.limits (counts_of t) f ≡ None → t.next_number ≤ t.limits.numbers + 1 → t.next_number + numbers_of f ≤ t.limits.numbers + 1
+numbers-left : (t : Tree) (f : FileCall) → refused t.world t.limits (counts_of t) f ≡ None → t.next_number ≤ t.limits.numbers + 1
+    → t.next_number + numbers_of f ≤ t.limits.numbers + 1
 unfolding refusal_seen
-numbers-left t (Create p mode) none few = let last : t.next_number ≤ t.limits.numbers = make-left (look t.world) t.limits (counts_of t) p mode none in omega arith
-numbers-left t (Mkdir p mode) none few = let last : t.next_number ≤ t.limits.numbers = make-left (look t.world) t.limits (counts_of t) p mode none in omega arith
+numbers-left t (Create p mode) none few =
+    let last : t.next_number ≤ t.limits.numbers = make-left (look t.world) t.limits (counts_of t) p mode none in omega arith
+numbers-left t (Mkdir p mode) none few =
+    let last : t.next_number ≤ t.limits.numbers = make-left (look t.world) t.limits (counts_of t) p mode none in omega arith
 numbers-left t (Write p offset bytes) none few = omega arith
 numbers-left t (ReadFile p offset count) none few = omega arith
 numbers-left t (Truncate p len) none few = omega arith
@@ -79,18 +83,22 @@ HasRoom limits next used = (used ≡ 0) ⊎ ((next + used ≤ limits.cookies + 1
 one-room : (limits : Limits) (counts : Counts) (next : ℕ) → counts.next_cookie ≡ cookie_now next → cookies_row limits counts ≡ None → HasRoom limits next 1
 one-room limits counts next now none =
     inr (by (nat_le next most_cookies)
-    (ap (λ (c : ℕ). (c == 0) || nat_lt limits.cookies c) (sym now) ∙ row-passes ((counts.next_cookie == 0) || nat_lt limits.cookies counts.next_cookie) CookiesSpent none))
+    (ap (λ (c : ℕ). (c == 0) || nat_lt limits.cookies c) (sym now)
+    ∙ row-passes ((counts.next_cookie == 0) || nat_lt limits.cookies counts.next_cookie) CookiesSpent none))
   where
-    by : (b : Bool) → (((if b then next else 0) == 0) || nat_lt limits.cookies (if b then next else 0)) ≡ false → (next + 1 ≤ limits.cookies + 1) × ((if b then next else 0) ≡ next)
+    by : (b : Bool) → (((if b then next else 0) == 0) || nat_lt limits.cookies (if b then next else 0)) ≡ false
+        → (next + 1 ≤ limits.cookies + 1) × ((if b then next else 0) ≡ next)
     by true e = (let last : next ≤ limits.cookies = ltb-false limits.cookies next (or_parts (next == 0) (nat_lt limits.cookies next) e).1 in omega arith, refl)
     by false e = absurd (true≢false e)
 
 two-room : (limits : Limits) (counts : Counts) (next : ℕ) → counts.next_cookie ≡ cookie_now next → two_cookies_row limits counts ≡ None → HasRoom limits next 2
 two-room limits counts next now none =
     inr (by (nat_le next most_cookies)
-    (ap (λ (c : ℕ). (c == 0) || nat_lt limits.cookies (c + 1)) (sym now) ∙ row-passes ((counts.next_cookie == 0) || nat_lt limits.cookies (counts.next_cookie + 1)) CookiesSpent none))
+    (ap (λ (c : ℕ). (c == 0) || nat_lt limits.cookies (c + 1)) (sym now)
+    ∙ row-passes ((counts.next_cookie == 0) || nat_lt limits.cookies (counts.next_cookie + 1)) CookiesSpent none))
   where
-    by : (b : Bool) → (((if b then next else 0) == 0) || nat_lt limits.cookies ((if b then next else 0) + 1)) ≡ false → (next + 2 ≤ limits.cookies + 1) × ((if b then next else 0) ≡ next)
+    by : (b : Bool) → (((if b then next else 0) == 0) || nat_lt limits.cookies ((if b then next else 0) + 1)) ≡ false
+        → (next + 2 ≤ limits.cookies + 1) × ((if b then next else 0) ≡ next)
     by true e = (let last : next + 1 ≤ limits.cookies = ltb-false limits.cookies (next + 1) (or_parts (next == 0) (nat_lt limits.cookies (next + 1)) e).1 in omega arith, refl)
     by false e = absurd (true≢false e)
 
@@ -98,7 +106,8 @@ move-left : (limits : Limits) (counts : Counts) (old new : Option Seen) → Each
 unfolding move_rows
 move-left limits counts old new each = each.1.1.1.0
 
-swap-left : (limits : Limits) (counts : Counts) (old new : List (List ℕ)) (one other : Option Seen) → Each (swap_rows limits counts old new one other) → two_cookies_row limits counts ≡ None
+swap-left : (limits : Limits) (counts : Counts) (old new : List (List ℕ)) (one other : Option Seen)
+    → Each (swap_rows limits counts old new one other) → two_cookies_row limits counts ≡ None
 unfolding swap_rows
 swap-left limits counts old new one other each = each.1.0
 
@@ -108,7 +117,8 @@ module _ (at : Look) (limits : Limits) (counts : Counts) (next : ℕ) (now : cou
   room-else true made h = inl refl
   room-else false made h = h refl
 
-  rename-room : first_row (rename_rows at limits counts old new) ≡ None → HasRoom limits next (cookies_for (if are_same_seen (at old) (at new) then Nothing else Move))
+  rename-room : first_row (rename_rows at limits counts old new) ≡ None
+      → HasRoom limits next (cookies_for (if are_same_seen (at old) (at new) then Nothing else Move))
   unfolding rename_rows
   rename-room none = by (are_same_seen (at old) (at new)) (each-passes (rename_rows at limits counts old new) none).1.1.1.1
     where
@@ -116,16 +126,20 @@ module _ (at : Look) (limits : Limits) (counts : Counts) (next : ℕ) (now : cou
       by true each = inl refl
       by false each = one-room limits counts next now (move-left limits counts (at old) (at new) each)
 
-  noreplace-room : first_row (noreplace_rows at limits counts old new) ≡ None → HasRoom limits next (cookies_for (if are_same_seen (at old) (at new) then Nothing else Move))
+  noreplace-room : first_row (noreplace_rows at limits counts old new) ≡ None
+      → HasRoom limits next (cookies_for (if are_same_seen (at old) (at new) then Nothing else Move))
   unfolding noreplace_rows
   noreplace-room none =
-      room-else (are_same_seen (at old) (at new)) Move (λ _. one-room limits counts next now (each-passes (noreplace_rows at limits counts old new) none).1.1.1.1.1.0)
+      room-else (are_same_seen (at old) (at new)) Move
+      (λ _. one-room limits counts next now (each-passes (noreplace_rows at limits counts old new) none).1.1.1.1.1.0)
 
-  exchange-room : first_row (exchange_rows at limits counts old new) ≡ None → HasRoom limits next (cookies_for (if are_same_seen (at old) (at new) then Nothing else Exchange))
+  exchange-room : first_row (exchange_rows at limits counts old new) ≡ None
+      → HasRoom limits next (cookies_for (if are_same_seen (at old) (at new) then Nothing else Exchange))
   unfolding exchange_rows
   exchange-room none = by (are_same_seen (at old) (at new)) (each-passes (exchange_rows at limits counts old new) none).1.1.1
     where
-      by : (b : Bool) → Each (if b then [] else swap_rows limits counts old new (at old) (at new)) → HasRoom limits next (cookies_for (if b then Nothing else Exchange))
+      by : (b : Bool) → Each (if b then [] else swap_rows limits counts old new (at old) (at new))
+          → HasRoom limits next (cookies_for (if b then Nothing else Exchange))
       by true each = inl refl
       by false each = two-room limits counts next now (swap-left limits counts old new (at old) (at new) each)
 
@@ -137,23 +151,29 @@ module _ (at : Look) (limits : Limits) (counts : Counts) (next : ℕ) (now : cou
       else if exchange then exchange_rows at limits counts old new
       else Some Einval ∷ []
 
-  no-exchange : (plain noreplace : Bool) → first_row (rows_if plain noreplace false) ≡ None → HasRoom limits next (cookies_for (if are_same_seen (at old) (at new) then Nothing else Move))
+  no-exchange : (plain noreplace : Bool) → first_row (rows_if plain noreplace false) ≡ None
+      → HasRoom limits next (cookies_for (if are_same_seen (at old) (at new) then Nothing else Move))
   no-exchange true noreplace none = rename-room none
   no-exchange false true none = noreplace-room none
   no-exchange false false none = absurd (cc)
 
-  rename2-room : (flags : ℕ) → first_row (rename2_rows at limits counts old new flags) ≡ None → HasRoom limits next (cookies_for (if are_same_seen (at old) (at new) then Nothing else moves_for flags))
+  rename2-room : (flags : ℕ) → first_row (rename2_rows at limits counts old new flags) ≡ None
+      → HasRoom limits next (cookies_for (if are_same_seen (at old) (at new) then Nothing else moves_for flags))
   unfolding rename2_rows
   rename2-room flags none =
-      elim (flags == RENAME_EXCHANGE) as (λ b. (flags == RENAME_EXCHANGE) ≡ b → HasRoom limits next (cookies_for (if are_same_seen (at old) (at new) then Nothing else (if b then Exchange else Move)))) [
+      elim (flags == RENAME_EXCHANGE) as (λ b. (flags == RENAME_EXCHANGE) ≡ b
+      → HasRoom limits next (cookies_for (if are_same_seen (at old) (at new) then Nothing else (if b then Exchange else Move)))) [
         | true ↦ λ e.
             let two : flags ≡ RENAME_EXCHANGE = eqb-true flags RENAME_EXCHANGE e in
             exchange-room (sym (ap (λ (n : ℕ). first_row (rows_if (n == 0) (n == RENAME_NOREPLACE) (n == RENAME_EXCHANGE))) two) ∙ none)
-        | false ↦ λ e. no-exchange (flags == 0) (flags == RENAME_NOREPLACE) (sym (ap (λ b. first_row (rows_if (flags == 0) (flags == RENAME_NOREPLACE) b)) e) ∙ none)
+        | false ↦
+            λ e. no-exchange (flags == 0) (flags == RENAME_NOREPLACE)
+            (sym (ap (λ b. first_row (rows_if (flags == 0) (flags == RENAME_NOREPLACE) b)) e) ∙ none)
       ] refl
 
 -- the cookies that an accepted call uses are there
-pub cookies-there : (w : World) (limits : Limits) (counts : Counts) (next : ℕ) → counts.next_cookie ≡ cookie_now next → (f : FileCall) → refused w limits counts f ≡ None → HasRoom limits next (cookies_of w f)
+pub cookies-there : (w : World) (limits : Limits) (counts : Counts) (next : ℕ) → counts.next_cookie ≡ cookie_now next
+    → (f : FileCall) → refused w limits counts f ≡ None → HasRoom limits next (cookies_of w f)
 unfolding refusal_seen
 cookies-there w limits counts next now (Create p mode) none = inl refl
 cookies-there w limits counts next now (Mkdir p mode) none = inl refl
@@ -169,7 +189,8 @@ cookies-there w limits counts next now (Rename2 old new flags) none = rename2-ro
 cookies-there w limits counts next now (Status p) none = inl refl
 cookies-there w limits counts next now (Listed p) none = inl refl
 
-cookies-left : (t : Tree) (f : FileCall) → refused t.world t.limits (counts_of t) f ≡ None → t.next_cookie ≤ t.limits.cookies + 1 → t.next_cookie + cookies_of t.world f ≤ t.limits.cookies + 1
+cookies-left : (t : Tree) (f : FileCall) → refused t.world t.limits (counts_of t) f ≡ None → t.next_cookie ≤ t.limits.cookies + 1
+    → t.next_cookie + cookies_of t.world f ≤ t.limits.cookies + 1
 cookies-left t f none few = by (cookies-there t.world t.limits (counts_of t) t.next_cookie refl f none)
   where
     by : HasRoom t.limits t.next_cookie (cookies_of t.world f) → t.next_cookie + cookies_of t.world f ≤ t.limits.cookies + 1
@@ -187,16 +208,19 @@ cookies-fit limits next used (inr room) = let most = limits.cookies_in.1 in omeg
 
 -- ---- open instances
 
-find-mapped : (change : Instance → Instance) (es : List (ℕ × Instance)) (q : ℕ) → find nat_cmp q (map (λ (e : ℕ × Instance). (e.0, change e.1)) es) ≡ option_map change (find nat_cmp q es)
+find-mapped : (change : Instance → Instance) (es : List (ℕ × Instance)) (q : ℕ)
+    → find nat_cmp q (map (λ (e : ℕ × Instance). (e.0, change e.1)) es) ≡ option_map change (find nat_cmp q es)
 find-mapped change [] q = refl
 find-mapped change (e ∷ es) q =
-    elim (eq_by_cmp nat_cmp q e.0) as (λ t. cond t (Some (change e.1)) (find nat_cmp q (map (λ (e : ℕ × Instance). (e.0, change e.1)) es)) ≡ option_map change (cond t (Some e.1) (find nat_cmp q es))) [
+    elim (eq_by_cmp nat_cmp q e.0) as (λ t. cond t (Some (change e.1)) (find nat_cmp q (map (λ (e : ℕ × Instance). (e.0, change e.1)) es))
+    ≡ option_map change (cond t (Some e.1) (find nat_cmp q es))) [
       | true ↦ refl
       | false ↦ find-mapped change es q
     ]
 
 -- a change of all leaves each instance open
-pub instance_of-all_changed : (m : Instances) (change : Instance → Instance) (id : ℕ) → instance_of (all_changed m change) id ≡ option_map change (instance_of m id)
+pub instance_of-all_changed : (m : Instances) (change : Instance → Instance) (id : ℕ)
+    → instance_of (all_changed m change) id ≡ option_map change (instance_of m id)
 unfolding all_changed
 instance_of-all_changed m change id =
     get-from_entries nat_cmp_total (map (λ (e : ℕ × Instance). (e.0, change e.1)) (finmap.entries m)) id

@@ -43,7 +43,8 @@ refused-none id (call.Close from) r = refl
 abbrev given_if : Bool → ℕ → Option Instance → List ℤ
 given_if b number o = if b then wd_in (watch_answer number o) else []
 
-same-given : (t : Tree) (from id number : ℕ) (b : Bool) → (from == id) ≡ b → given_if b number (instance_of t.instances from) ≡ given_if b number (instance_of t.instances id)
+same-given : (t : Tree) (from id number : ℕ) (b : Bool) → (from == id) ≡ b
+    → given_if b number (instance_of t.instances from) ≡ given_if b number (instance_of t.instances id)
 same-given t from id number true e = ap (λ (n : ℕ). wd_in (watch_answer number (instance_of t.instances n))) (eqb-true from id e)
 same-given t from id number false e = refl
 
@@ -85,7 +86,8 @@ record Step (now next : ℕ) (given : List ℤ) : Type 0 where
   all : (rest : List ℤ) → RunOn next rest → RunOn now (given ++ rest)
 
 gives-none : (now next : ℕ) (given : List ℤ) → given ≡ [] → next ≡ now → Step now next given
-gives-none now next given none stays = record { all = λ rest h. subst (λ (xs : List ℤ). RunOn now (xs ++ rest)) (sym none) (subst (λ (n : ℕ). RunOn n rest) stays h) }
+gives-none now next given none stays =
+    record { all = λ rest h. subst (λ (xs : List ℤ). RunOn now (xs ++ rest)) (sym none) (subst (λ (n : ℕ). RunOn n rest) stays h) }
 
 -- an instance that is to be made
 unmade-left : (t : Tree) (c : Call) (id : ℕ) → next_wd_of (left_of t c id None) ≡ 1
@@ -138,11 +140,13 @@ removed-same w wd = by (watched_by w wd)
     by None = refl
     by (Some number) = refl
 
-same-if : (b : Bool) (i : Instance) (change : Instance → Instance) → (change i).watches.next_wd ≡ i.watches.next_wd → next_wd_of (cond b (Some (change i)) (Some i)) ≡ i.watches.next_wd
+same-if : (b : Bool) (i : Instance) (change : Instance → Instance) → (change i).watches.next_wd ≡ i.watches.next_wd
+    → next_wd_of (cond b (Some (change i)) (Some i)) ≡ i.watches.next_wd
 same-if true i change h = h
 same-if false i change h = refl
 
-watch-step : (b : Bool) (i : Instance) (number mask : ℕ) → IsSound i.watches → Step i.watches.next_wd (next_wd_of (cond b (Some (watching number mask i)) (Some i))) (given_if b number (Some i))
+watch-step : (b : Bool) (i : Instance) (number mask : ℕ) → IsSound i.watches
+    → Step i.watches.next_wd (next_wd_of (cond b (Some (watching number mask i)) (Some i))) (given_if b number (Some i))
 watch-step true i number mask sound = added-step i.watches number mask sound
 watch-step false i number mask sound = gives-none _ _ _ refl refl
 
@@ -169,12 +173,14 @@ closes-gives (call.Read from bytes) id r e = refl
 closes-gives (call.Pump from bytes) id r e = refl
 closes-gives (call.Close from) id r e = refl
 
-module _ (part : (w : Watching) (ns : List Notice) → IsPartOf (watches_after w ns) w) (t : Tree) (id : ℕ) (i : Instance) (at : instance_of t.instances id ≡ Some i) (made : id < t.next_id) (sound : IsSound i.watches) where
+module _ (part : (w : Watching) (ns : List Notice) → IsPartOf (watches_after w ns) w) (t : Tree) (id : ℕ) (i : Instance)
+    (at : instance_of t.instances id ≡ Some i) (made : id < t.next_id) (sound : IsSound i.watches) where
   -- a call that does not close the instance
   open-step : (c : Call) → closes id c ≡ false → Step i.watches.next_wd (next_wd_of (left_of t c id (Some i))) (wds_of id c (accepted_reply t c))
   open-step (call.File f) other = gives-none _ _ _ refl ((part i.watches (notices_of t.world f (cookie_now t.next_cookie))).next_wd)
   open-step (call.Init limit is_piped) other =
-      gives-none _ _ _ refl (ap (λ b. next_wd_of (cond b (Some (new_instance t.limits limit is_piped)) (Some i))) (eqb-other id t.next_id (λ e. absurd (omega arith))))
+      gives-none _ _ _ refl (ap (λ b. next_wd_of (cond b (Some (new_instance t.limits limit is_piped)) (Some i)))
+      (eqb-other id t.next_id (λ e. absurd (omega arith))))
   open-step (call.AddWatch from p mask) other =
       let number = number_seen (look t.world p) in
       subst (Step i.watches.next_wd (next_wd_of (cond (eqb id from) (Some (watching number (known mask) i)) (Some i))))
@@ -188,32 +194,43 @@ module _ (part : (w : Watching) (ns : List Notice) → IsPartOf (watches_after w
 -- ---- a journal
 
 module _ (part : (w : Watching) (ns : List Notice) → IsPartOf (watches_after w ns) w) (trees : TreesAreSound) (id : ℕ) where
-  unmade-step : (t : Tree) (c : Call) (r : Option Refusal) → instance_of t.instances id ≡ None → next_wd_of (instance_of (tree_by r t (accepted t c)).instances id) ≡ 1
+  unmade-step : (t : Tree) (c : Call) (r : Option Refusal) → instance_of t.instances id ≡ None
+      → next_wd_of (instance_of (tree_by r t (accepted t c)).instances id) ≡ 1
   unmade-step t c (Some r) none = ap next_wd_of none
   unmade-step t c None none = ap next_wd_of (instance_of-accepted t c id ∙ ap (left_of t c id) none) ∙ unmade-left t c id
 
-  step-by : (t : Tree) (c : Call) (i : Instance) (r : Option Refusal) → instance_of t.instances id ≡ Some i → id < t.next_id → IsSound i.watches → closes id c ≡ false
+  step-by : (t : Tree) (c : Call) (i : Instance) (r : Option Refusal) → instance_of t.instances id ≡ Some i → id < t.next_id
+      → IsSound i.watches → closes id c ≡ false
       → Step i.watches.next_wd (next_wd_of (instance_of (tree_by r t (accepted t c)).instances id)) (wds_of id c (reply_by r (accepted_reply t c)))
   step-by t c i (Some r) at made sound other = gives-none _ _ _ (refused-none id c r) (ap next_wd_of at)
   step-by t c i None at made sound other =
-      subst (λ o. Step i.watches.next_wd (next_wd_of o) (wds_of id c (accepted_reply t c))) (sym (instance_of-accepted t c id ∙ ap (left_of t c id) at)) (open-step part t id i at made sound c other)
+      subst (λ o. Step i.watches.next_wd (next_wd_of o) (wds_of id c (accepted_reply t c)))
+      (sym (instance_of-accepted t c id ∙ ap (left_of t c id) at)) (open-step part t id i at made sound c other)
 
-  gone-by : (t : Tree) (c : Call) (i : Instance) (es : List Entry) (r : Option Refusal) → instance_of t.instances id ≡ Some i → id < t.next_id → closes id c ≡ true → IsLawfulFrom (tree_by r t (accepted t c)) es
-      → RunOn (next_wd_of (instance_of (tree_by r t (accepted t c)).instances id)) (wds_given id es) → t.next_id ≤ (tree_by r t (accepted t c)).next_id → RunOn i.watches.next_wd (wds_given id es)
+  gone-by : (t : Tree) (c : Call) (i : Instance) (es : List Entry) (r : Option Refusal) → instance_of t.instances id ≡ Some i
+      → id < t.next_id → closes id c ≡ true → IsLawfulFrom (tree_by r t (accepted t c)) es
+      → RunOn (next_wd_of (instance_of (tree_by r t (accepted t c)).instances id)) (wds_given id es)
+      → t.next_id ≤ (tree_by r t (accepted t c)).next_id → RunOn i.watches.next_wd (wds_given id es)
   gone-by t c i es (Some r) at made e lawful rest more = subst (λ (n : ℕ). RunOn n (wds_given id es)) (ap next_wd_of at) rest
   gone-by t c i es None at made e lawful rest more =
-      subst (RunOn i.watches.next_wd) (sym (closed-journal (accepted t c) es id (instance_of-accepted t c id ∙ closes-left t c id (instance_of t.instances id) e) (omega arith) lawful)) tt
+      subst (RunOn i.watches.next_wd)
+      (sym (closed-journal (accepted t c) es id (instance_of-accepted t c id ∙ closes-left t c id (instance_of t.instances id) e) (omega arith) lawful))
+      tt
 
-  module _ (t : Tree) (e : Entry) (es : List Entry) (is : IsSoundTree t) (lawful : IsLawfulFrom (after t e.call) es) (rest : RunOn (next_wd_of (instance_of (after t e.call).instances id)) (wds_given id es)) where
-    opened : (i : Instance) (b : Bool) → instance_of t.instances id ≡ Some i → closes id e.call ≡ b → RunOn i.watches.next_wd (wds_of id e.call (reply_of t e.call) ++ wds_given id es)
+  module _ (t : Tree) (e : Entry) (es : List Entry) (is : IsSoundTree t) (lawful : IsLawfulFrom (after t e.call) es)
+      (rest : RunOn (next_wd_of (instance_of (after t e.call).instances id)) (wds_given id es)) where
+    opened : (i : Instance) (b : Bool) → instance_of t.instances id ≡ Some i → closes id e.call ≡ b
+        → RunOn i.watches.next_wd (wds_of id e.call (reply_of t e.call) ++ wds_given id es)
     opened i true at c =
         subst (λ (xs : List ℤ). RunOn i.watches.next_wd (xs ++ wds_given id es)) (sym (closes-gives e.call id (reply_of t e.call) c))
         (gone-by t e.call i es (refusal_of t e.call) at (is.counted.opened id (ap is_some at)) c lawful rest (next-after t e.call))
-    opened i false at c = (step-by t e.call i (refusal_of t e.call) at (is.counted.opened id (ap is_some at)) (is.instances id i at).watches c).all (wds_given id es) rest
+    opened i false at c =
+        (step-by t e.call i (refusal_of t e.call) at (is.counted.opened id (ap is_some at)) (is.instances id i at).watches c).all (wds_given id es) rest
 
     run-more : (o : Option Instance) → instance_of t.instances id ≡ o → RunOn (next_wd_of o) (wds_of id e.call (reply_of t e.call) ++ wds_given id es)
     run-more None at =
-        (gives-none 1 (next_wd_of (instance_of (after t e.call).instances id)) (wds_of id e.call (reply_of t e.call)) (closed-gives t id e.call at) (unmade-step t e.call (refusal_of t e.call) at)).all
+        (gives-none 1 (next_wd_of (instance_of (after t e.call).instances id)) (wds_of id e.call (reply_of t e.call))
+        (closed-gives t id e.call at) (unmade-step t e.call (refusal_of t e.call) at)).all
         (wds_given id es) rest
     run-more (Some i) at = opened i (closes id e.call) at refl
 

@@ -43,7 +43,8 @@ pub record EndLaws : Type 0 where
   pub after_added : (w : Watching) (wd : ℤ) (number mask : ℕ) → HasEnded w wd → HasEnded (added w number mask) wd
   pub after_removed : (w : Watching) (wd other : ℤ) → HasEnded w wd → HasEnded (removed w other) wd
   pub said : (w : Watching) (ns : List Notice) → filter says_ended (events_of w ns) ≡ map ignored (wds_ended w ns)
-  pub here : (w : Watching) (ns : List Notice) (before after : List Event) (e : Event) → IsSound w → events_of w ns ≡ before ++ e ∷ after → IsTrue (says_ended e) → TellsNothing e.wd after
+  pub here : (w : Watching) (ns : List Notice) (before after : List Event) (e : Event) → IsSound w
+      → events_of w ns ≡ before ++ e ∷ after → IsTrue (says_ended e) → TellsNothing e.wd after
   pub left : (w : Watching) (ns : List Notice) → IsSound w → All (HasEnded (watches_after w ns)) (wds_ended w ns)
   pub later : (w : Watching) (ns : List Notice) (wd : ℤ) → IsSound w → HasEnded w wd → TellsNothing wd (events_of w ns)
   pub ever : (w : Watching) (ns : List Notice) (wd : ℤ) → HasEnded w wd → HasEnded (watches_after w ns) wd
@@ -102,7 +103,8 @@ pub over-given : (wd : ℤ) (o : Option Instance) → OverIn wd o → IsGiven wd
 over-given wd None h = h
 over-given wd (Some i) h = h.given.0
 
-over-if : (wd : ℤ) (b : Bool) (change : Instance → Instance) → ((i : Instance) → HasEnded i.watches wd → HasEnded (change i).watches wd) → (o : Option Instance) → OverIn wd o
+over-if : (wd : ℤ) (b : Bool) (change : Instance → Instance)
+    → ((i : Instance) → HasEnded i.watches wd → HasEnded (change i).watches wd) → (o : Option Instance) → OverIn wd o
     → OverIn wd (cond b (option_map change o) o)
 over-if wd true change keeps None h = h
 over-if wd true change keeps (Some i) h = keeps i h
@@ -115,7 +117,9 @@ over-cut wd false o h = h
 -- an accepted call to end a watch has one
 rm-watched : (wd : ℤ) (i : Instance) → first_row (rm_watch_rows wd (Some i)) ≡ None → (number : ℕ) × (watched_by i.watches wd ≡ Some number)
 unfolding rm_watch_rows
-rm-watched wd i passes = by (watched_by i.watches wd) (row-passes (is_none (watched_by i.watches wd)) Einval (first-passes (row (is_none (watched_by i.watches wd)) Einval) [] passes).0)
+rm-watched wd i passes =
+    by (watched_by i.watches wd)
+    (row-passes (is_none (watched_by i.watches wd)) Einval (first-passes (row (is_none (watched_by i.watches wd)) Einval) [] passes).0)
   where
     by : (o : Option ℕ) → is_none o ≡ false → (number : ℕ) × (o ≡ Some number)
     by None h = absurd (cc)
@@ -129,11 +133,13 @@ apart e f = cc
 module _ (laws : EndLaws) where
   left-over : (t : Tree) (c : Call) (id : ℕ) (wd : ℤ) (o : Option Instance) → id < t.next_id → OverIn wd o → OverIn wd (left_of t c id o)
   left-over t (call.File f) id wd o made h =
-      over-if wd true (told (notices_of t.world f (cookie_now t.next_cookie))) (λ i k. laws.ever i.watches (notices_of t.world f (cookie_now t.next_cookie)) wd k) o h
+      over-if wd true (told (notices_of t.world f (cookie_now t.next_cookie)))
+      (λ i k. laws.ever i.watches (notices_of t.world f (cookie_now t.next_cookie)) wd k) o h
   left-over t (call.Init limit is_piped) id wd o made h =
       subst (λ b. OverIn wd (cond b (Some (new_instance t.limits limit is_piped)) o)) (sym (eqb-other id t.next_id (λ e. absurd (omega arith)))) h
   left-over t (call.AddWatch from p mask) id wd o made h =
-      over-if wd (eqb id from) (watching (number_seen (look t.world p)) (known mask)) (λ i k. laws.after_added i.watches wd (number_seen (look t.world p)) (known mask) k) o h
+      over-if wd (eqb id from) (watching (number_seen (look t.world p)) (known mask))
+      (λ i k. laws.after_added i.watches wd (number_seen (look t.world p)) (known mask) k) o h
   left-over t (call.RmWatch from other) id wd o made h = over-if wd (eqb id from) (unwatching other) (λ i k. laws.after_removed i.watches wd other k) o h
   left-over t (call.Read from bytes) id wd o made h = over-if wd (eqb id from) (after_reading bytes) (λ i k. k) o h
   left-over t (call.Pump from bytes) id wd o made h = over-if wd (eqb id from) (after_reading bytes) (λ i k. k) o h
@@ -148,7 +154,8 @@ module _ (laws : EndLaws) where
   IsOver-after t c id wd h = let rises = next-after t c in let made = h.made in record { made = omega arith; over = over-by t c id wd (refusal_of t c) h }
 
   -- nothing of it is raised
-  silent-for : (t : Tree) (c : Call) (id : ℕ) (i : Instance) (wd : ℤ) → instance_of t.instances id ≡ Some i → refusal_of t c ≡ None → IsSound i.watches → HasEnded i.watches wd
+  silent-for : (t : Tree) (c : Call) (id : ℕ) (i : Instance) (wd : ℤ) → instance_of t.instances id ≡ Some i
+      → refusal_of t c ≡ None → IsSound i.watches → HasEnded i.watches wd
       → TellsNothing wd (events_for t c id i)
   silent-for t (call.File f) id i wd there passes sound h = laws.later i.watches (notices_of t.world f (cookie_now t.next_cookie)) wd sound h
   silent-for t (call.Init limit is_piped) id i wd there passes sound h = All-nil (λ (e : Event). e.wd ≢ wd)
@@ -159,7 +166,8 @@ module _ (laws : EndLaws) where
       by true is =
           let open_one : instance_of t.instances from ≡ Some i = ap (instance_of t.instances) (eqb-true from id is) ∙ there in
           let watched = rm-watched other i (ap (λ o. first_row (rm_watch_rows other o)) (sym open_one) ∙ passes) in
-          All-cons (λ (e : Event). e.wd ≢ wd) (ignored other) [] (λ same. apart h.unwatched (ap (watched_by i.watches) (sym same) ∙ watched.1)) (All-nil (λ (e : Event). e.wd ≢ wd))
+          All-cons (λ (e : Event). e.wd ≢ wd) (ignored other) []
+          (λ same. apart h.unwatched (ap (watched_by i.watches) (sym same) ∙ watched.1)) (All-nil (λ (e : Event). e.wd ≢ wd))
       by false is = All-nil (λ (e : Event). e.wd ≢ wd)
   silent-for t (call.Read from bytes) id i wd there passes sound h = All-nil (λ (e : Event). e.wd ≢ wd)
   silent-for t (call.Pump from bytes) id i wd there passes sound h = All-nil (λ (e : Event). e.wd ≢ wd)
@@ -174,7 +182,8 @@ module _ (laws : EndLaws) where
       by ns =
           let P : Event → Type 0 = λ (e : Event). HasEnded (watches_after i.watches ns) e.wd in
           All-unfiltered says_ended P (events_of i.watches ns)
-          (All-same P (filter says_ended (events_of i.watches ns)) (map ignored (wds_ended i.watches ns)) (laws.said i.watches ns) (All-map P ignored (wds_ended i.watches ns) (laws.left i.watches ns sound)))
+          (All-same P (filter says_ended (events_of i.watches ns)) (map ignored (wds_ended i.watches ns)) (laws.said i.watches ns)
+          (All-map P ignored (wds_ended i.watches ns) (laws.left i.watches ns sound)))
   said-for t (call.Init limit is_piped) id i there passes sound = All-nil (Ends (OverLeft t (call.Init limit is_piped) id i))
   said-for t (call.AddWatch from p mask) id i there passes sound = All-nil (Ends (OverLeft t (call.AddWatch from p mask) id i))
   said-for t (call.RmWatch from wd) id i there passes sound = by (from == id) refl
@@ -187,7 +196,9 @@ module _ (laws : EndLaws) where
           let open_one : instance_of t.instances from ≡ Some i = ap (instance_of t.instances) (eqb-true from id is) ∙ there in
           let watched = rm-watched wd i (ap (λ o. first_row (rm_watch_rows wd o)) (sym open_one) ∙ passes) in
           All-cons P (ignored wd) []
-          (λ said. subst (λ b. OverIn wd (cond b (Some (unwatching wd i)) (Some i))) (sym (eqb-swap id from ∙ is)) (laws.ends i.watches wd watched.0 sound watched.1)) (All-nil P)
+          (λ said. subst (λ b. OverIn wd (cond b (Some (unwatching wd i)) (Some i))) (sym (eqb-swap id from ∙ is))
+          (laws.ends i.watches wd watched.0 sound watched.1))
+          (All-nil P)
       by false is = All-nil P
   said-for t (call.Read from bytes) id i there passes sound = All-nil (Ends (OverLeft t (call.Read from bytes) id i))
   said-for t (call.Pump from bytes) id i there passes sound = All-nil (Ends (OverLeft t (call.Pump from bytes) id i))
@@ -213,23 +224,27 @@ module _ (laws : EndLaws) where
   abbrev raised-then : Tree → Call → ℕ → Option Refusal → Option Instance → List Event
   raised-then t c id r o = events (where_open r o (λ i. raised_to i.queue (events_for t c id i)))
 
-  silent-by : (t : Tree) (c : Call) (id : ℕ) (wd : ℤ) (r : Option Refusal) (o : Option Instance) → instance_of t.instances id ≡ o → refusal_of t c ≡ r → HasSoundWatches o → OverIn wd o
+  silent-by : (t : Tree) (c : Call) (id : ℕ) (wd : ℤ) (r : Option Refusal) (o : Option Instance) → instance_of t.instances id ≡ o
+      → refusal_of t c ≡ r → HasSoundWatches o → OverIn wd o
       → TellsNothing wd (raised-then t c id r o)
   silent-by t c id wd (Some r) o there passes sound h = All-nil (λ (e : Event). e.wd ≢ wd)
   silent-by t c id wd None None there passes sound h = All-nil (λ (e : Event). e.wd ≢ wd)
   silent-by t c id wd None (Some i) there passes sound h =
-      All-same (λ (e : Event). e.wd ≢ wd) (events (raised_to i.queue (events_for t c id i))) (events_for t c id i) (events-raised_to i.queue (events_for t c id i)) (silent-for t c id i wd there passes sound h)
+      All-same (λ (e : Event). e.wd ≢ wd) (events (raised_to i.queue (events_for t c id i))) (events_for t c id i)
+      (events-raised_to i.queue (events_for t c id i)) (silent-for t c id i wd there passes sound h)
 
   pub silent-one : (t : Tree) (c : Call) (id : ℕ) (wd : ℤ) → WatchesAreSound t → IsOver t id wd → TellsNothing wd (events (raised_by t c id))
   unfolding raised_by
   silent-one t c id wd sound h = silent-by t c id wd (refusal_of t c) (instance_of t.instances id) refl refl (sound id) h.over
 
-  said-by : (t : Tree) (c : Call) (id : ℕ) (r : Option Refusal) (o : Option Instance) → instance_of t.instances id ≡ o → refusal_of t c ≡ r → HasSoundWatches o → (IsSome o → id < (tree_by r t (accepted t c)).next_id)
+  said-by : (t : Tree) (c : Call) (id : ℕ) (r : Option Refusal) (o : Option Instance) → instance_of t.instances id ≡ o
+      → refusal_of t c ≡ r → HasSoundWatches o → (IsSome o → id < (tree_by r t (accepted t c)).next_id)
       → All (Ends (IsOver (tree_by r t (accepted t c)) id)) (raised-then t c id r o)
   said-by t c id (Some r) o there passes sound made = All-nil (Ends (IsOver t id))
   said-by t c id None None there passes sound made = All-nil (Ends (IsOver (accepted t c) id))
   said-by t c id None (Some i) there passes sound made =
-      All-same (Ends (IsOver (accepted t c) id)) (events (raised_to i.queue (events_for t c id i))) (events_for t c id i) (events-raised_to i.queue (events_for t c id i))
+      All-same (Ends (IsOver (accepted t c) id)) (events (raised_to i.queue (events_for t c id i))) (events_for t c id i)
+      (events-raised_to i.queue (events_for t c id i))
       (All-weaker (Ends (OverLeft t c id i)) (Ends (IsOver (accepted t c) id))
       (λ e h said. record { made = made refl; over = subst (OverIn e.wd) (sym (instance_of-accepted t c id ∙ ap (left_of t c id) there)) (h said) })
       (events_for t c id i) (said-for t c id i there passes sound))
@@ -251,7 +266,8 @@ module _ (laws : EndLaws) where
 
   -- ---- what a journal raises
 
-  events-more : (t : Tree) (e : Entry) (es : List Entry) (id : ℕ) → events (raised_in t (e ∷ es) id) ≡ events (raised_by t e.call id) ++ events (raised_in (after t e.call) es id)
+  events-more : (t : Tree) (e : Entry) (es : List Entry) (id : ℕ)
+      → events (raised_in t (e ∷ es) id) ≡ events (raised_by t e.call id) ++ events (raised_in (after t e.call) es id)
   events-more t e es id = map-append (λ (r : Raised). r.event) (raised_by t e.call id) (raised_in (after t e.call) es id)
 
   silent-from : (t : Tree) (es : List Entry) (id : ℕ) (wd : ℤ) → WatchesAreSound t → IsOver t id wd → TellsNothing wd (events (raised_in t es id))
@@ -267,7 +283,8 @@ module _ (laws : EndLaws) where
       let later = WatchesAreSound-after laws.sound t e.call sound in
       let rest = events (raised_in (after t e.call) es id) in
       subst Quiet (sym (events-more t e es id))
-      (Quiet-append (events (raised_by t e.call id)) rest (quiet-one t e.call id sound) (quiet-from (after t e.call) es id later (AreBelow-after t e.call below))
+      (Quiet-append (events (raised_by t e.call id)) rest (quiet-one t e.call id sound)
+      (quiet-from (after t e.call) es id later (AreBelow-after t e.call below))
       (All-weaker (Ends (IsOver (after t e.call) id)) (Ends (λ wd. TellsNothing wd rest)) (λ x h said. silent-from (after t e.call) es id x.wd later (h said))
       (events (raised_by t e.call id)) (said-one t e.call id sound below)))
 
@@ -287,7 +304,8 @@ module _ (laws : EndLaws) where
     waiting-over (Some i) at =
         All-weaker (Ends (HasEnded i.watches)) (Ends (λ wd. TellsNothing wd (joined (raised_in t es id))))
         (λ e over said. joined-silent e.wd (over said).given.0 (raised_in t es id)
-        (silent-from t es id e.wd (sound-watches t is) (record { made = is.counted.opened id (ap is_some at); over = subst (OverIn e.wd) (sym at) (over said) })))
+        (silent-from t es id e.wd (sound-watches t is)
+        (record { made = is.counted.opened id (ap is_some at); over = subst (OverIn e.wd) (sym at) (over said) })))
         i.queue.waiting (is.instances id i at).over
 
     waiting-quiet : (o : Option Instance) → instance_of t.instances id ≡ o → Quiet (waiting_of o)
@@ -298,7 +316,8 @@ module _ (laws : EndLaws) where
   watches-end-once t es id is =
       let sound = sound-watches t is in
       let below = is.counted.opened in
-      EndsOnce-Quiet (waiting_of (instance_of t.instances id)) (raised_in t es id) (waiting-quiet t is es id (instance_of t.instances id) refl) (waiting-over t is es id (instance_of t.instances id) refl)
+      EndsOnce-Quiet (waiting_of (instance_of t.instances id)) (raised_in t es id)
+      (waiting-quiet t is es id (instance_of t.instances id) refl) (waiting-over t is es id (instance_of t.instances id) refl)
       (quiet-from t es id sound below) (given-from t es id sound below)
 
   -- ---- descriptors that are given
@@ -314,7 +333,8 @@ module _ (laws : EndLaws) where
           absurd (omega (arith, ints))
       by (Some watch) is same = apart h.unwatched ((laws.tells w wd number sound).1 (ap (option_map (λ (x : Watch). x.0)) is ∙ ap Some same))
 
-  answer-apart : (number : ℕ) (wd : ℤ) (r : Option Refusal) (o : Option Instance) → HasSoundWatches o → OverIn wd o → All (λ given. given ≢ wd) (wd_in (reply_by r (watch_answer number o)))
+  answer-apart : (number : ℕ) (wd : ℤ) (r : Option Refusal) (o : Option Instance) → HasSoundWatches o → OverIn wd o
+      → All (λ given. given ≢ wd) (wd_in (reply_by r (watch_answer number o)))
   answer-apart number wd (Some r) o sound h = All-nil (λ (given : ℤ). given ≢ wd)
   answer-apart number wd None None sound h = All-nil (λ (given : ℤ). given ≢ wd)
   answer-apart number wd None (Some i) sound h =
@@ -335,7 +355,8 @@ module _ (laws : EndLaws) where
   wds-one t (call.Pump from bytes) id wd sound h = All-nil (λ (given : ℤ). given ≢ wd)
   wds-one t (call.Close from) id wd sound h = All-nil (λ (given : ℤ). given ≢ wd)
 
-  wds-from : (t : Tree) (es : List Entry) (id : ℕ) (wd : ℤ) → IsLawfulFrom t es → WatchesAreSound t → IsOver t id wd → All (λ given. given ≢ wd) (wds_given id es)
+  wds-from : (t : Tree) (es : List Entry) (id : ℕ) (wd : ℤ) → IsLawfulFrom t es → WatchesAreSound t → IsOver t id wd
+      → All (λ given. given ≢ wd) (wds_given id es)
   wds-from t [] id wd lawful sound h = All-nil (λ (given : ℤ). given ≢ wd)
   wds-from t (e ∷ es) id wd lawful sound h =
       All-append (λ (given : ℤ). given ≢ wd) (wds_of id e.call e.reply) (wds_given id es)

@@ -37,7 +37,9 @@ IsCarriedOut-checked t f plan u said call counts world given answer =
     let same : world_of u ≡ ops.after t.world (counts_of t) f = world ∙ (λ i. ops.after t.world (counts i) (call i)) in
     record {
       world = same;
-      given = subst (λ (x : World). HasNumbersBelow x (t.next_number + ops.numbers_of f)) same (subst (λ (x : Counts × FileCall). HasNumbersBelow (world_of u) (x.0.next_number + ops.numbers_of x.1)) (λ i. (counts i, call i)) given);
+      given =
+          subst (λ (x : World). HasNumbersBelow x (t.next_number + ops.numbers_of f)) same
+          (subst (λ (x : Counts × FileCall). HasNumbersBelow (world_of u) (x.0.next_number + ops.numbers_of x.1)) (λ i. (counts i, call i)) given);
       answer = answer ∙ (λ i. ops.answer_of t.world (counts i) (call i));
     }
 
@@ -67,13 +69,15 @@ lists-change-nothing w counts (Listed p) e = record { world = refl; numbers = re
 pub tree_in-table : (m : FileSystem) (u : table.Tree) → world_of u ≡ world_of m.table → tree_in (record m { table = u }) ≡ tree_in m
 tree_in-table m u same = λ i. record (tree_in m) { world = same i }
 
-pub IsNumbered-filed : (t : Tree) (f : FileCall) (u : table.Tree) (said : Answer) → IsNumbered t → refused t.world t.limits (counts_of t) f ≡ None → IsCarriedOut t f u said → IsNumbered (after_file t f)
+pub IsNumbered-filed : (t : Tree) (f : FileCall) (u : table.Tree) (said : Answer) → IsNumbered t
+    → refused t.world t.limits (counts_of t) f ≡ None → IsCarriedOut t f u said → IsNumbered (after_file t f)
 unfolding after_file
 IsNumbered-filed t f u said is none done = record { counted = IsCounted-filed t f is.counted none; given = done.given }
 
 -- a call that was carried out and answers a list left the tree as it was
 filed-listed : (m n : FileSystem) (f : FileCall) (said : Answer) → IsCarriedOut (tree_in m) f n.table said
-    → n.limits ≡ m.limits → n.next_number ≡ m.next_number + ops.numbers_of f → n.next_cookie ≡ m.next_cookie + cookies_of (world_of m.table) f → n.next_id ≡ m.next_id → n.instances ≡ m.instances
+    → n.limits ≡ m.limits → n.next_number ≡ m.next_number + ops.numbers_of f
+    → n.next_cookie ≡ m.next_cookie + cookies_of (world_of m.table) f → n.next_id ≡ m.next_id → n.instances ≡ m.instances
     → has_list said ≡ true → tree_in n ≡ tree_in m
 filed-listed m n f said done limits number cookie id instances e =
     let none = lists-change-nothing (world_of m.table) (counts_of (tree_in m)) f (ap has_list (sym done.answer) ∙ e) in
@@ -87,9 +91,12 @@ filed-listed m n f said done limits number cookie id instances e =
     }
 
 -- a call that was carried out and counted, whose notices are staged
-pub filed-attempts : (m n : FileSystem) (f : FileCall) (said : Answer) → IsCarriedOut (tree_in m) f n.table said → refused (world_of m.table) m.limits (counts_of (tree_in m)) f ≡ None → IsNumbered (tree_in m)
-    → n.limits ≡ m.limits → n.next_number ≡ m.next_number + ops.numbers_of f → n.next_cookie ≡ m.next_cookie + cookies_of (world_of m.table) f → n.next_id ≡ m.next_id → n.instances ≡ m.instances
-    → all_changed m.instances (told n.notices) ≡ all_changed m.instances (told (notices_of (world_of m.table) f (cookie_now m.next_cookie))) → IsStaged n.instances n.notices n.staging
+pub filed-attempts : (m n : FileSystem) (f : FileCall) (said : Answer) → IsCarriedOut (tree_in m) f n.table said
+    → refused (world_of m.table) m.limits (counts_of (tree_in m)) f ≡ None → IsNumbered (tree_in m)
+    → n.limits ≡ m.limits → n.next_number ≡ m.next_number + ops.numbers_of f
+    → n.next_cookie ≡ m.next_cookie + cookies_of (world_of m.table) f → n.next_id ≡ m.next_id → n.instances ≡ m.instances
+    → all_changed m.instances (told n.notices) ≡ all_changed m.instances (told (notices_of (world_of m.table) f (cookie_now m.next_cookie)))
+    → IsStaged n.instances n.notices n.staging
     → Attempts m (call.File f) (Ok (record { reply = reply.File said; rest = Notify })) n
 unfolding after_file
 filed-attempts m n f said done passes numbered limits number cookie id instances heard staged = record {

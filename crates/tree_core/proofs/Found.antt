@@ -21,13 +21,15 @@ pub record Opens (o : Option Instance) (f : Instance → List Raised) (rs : List
   pub is_open : o ≡ Some instance
   pub all : f instance ≡ rs
 
-opens : (r : Option Refusal) (o : Option Instance) (f : Instance → List Raised) (before later : List Raised) (x : Raised) → where_open r o f ≡ before ++ x ∷ later → Opens o f (before ++ x ∷ later)
+opens : (r : Option Refusal) (o : Option Instance) (f : Instance → List Raised) (before later : List Raised) (x : Raised)
+    → where_open r o f ≡ before ++ x ∷ later → Opens o f (before ++ x ∷ later)
 opens (Some r) o f before later x e = absurd (no-list before later x e)
 opens None None f before later x e = absurd (no-list before later x e)
 opens None (Some i) f before later x e = record { instance = i; is_open = refl; all = e }
 
 -- each of several events finds what waited, and what joined by those before it
-found-in : (b : Backlog) (es : List Event) (before later : List Raised) (r : Raised) → raised_to b es ≡ before ++ r ∷ later → r.queue.waiting ≡ b.waiting ++ joined before
+found-in : (b : Backlog) (es : List Event) (before later : List Raised) (r : Raised) → raised_to b es ≡ before ++ r ∷ later
+    → r.queue.waiting ≡ b.waiting ++ joined before
 found-in b [] before later r e = absurd (no-list before later r e)
 found-in b (x ∷ es) [] later r e =
     let head : (let first : Raised = record { queue = b; event = x } in first ≡ r) = cc in

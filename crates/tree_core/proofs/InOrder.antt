@@ -76,7 +76,8 @@ opens true new o none free = ap waiting_of (free refl) ∙ sym none
 opens false new o none free = refl
 
 -- one instance is changed but for its queue
-same-waiting : (b : Bool) (change : Instance → Instance) (o : Option Instance) → ((i : Instance) → i.queue ≡ (change i).queue) → waiting_of o ≡ waiting_of (cond b (option_map change o) o)
+same-waiting : (b : Bool) (change : Instance → Instance) (o : Option Instance) → ((i : Instance) → i.queue ≡ (change i).queue)
+    → waiting_of o ≡ waiting_of (cond b (option_map change o) o)
 same-waiting true change None keeps = refl
 same-waiting true change (Some i) keeps = ap (λ (q : Backlog). q.waiting) (keeps i)
 same-waiting false change o keeps = refl
@@ -114,7 +115,8 @@ is_closed true None = inl refl
 is_closed true (Some i) = inr (record { instance = i; was_open = refl; hears_nothing = refl; reads_nothing = refl; is_gone = refl })
 is_closed false o = inl (quiet o o refl)
 
-heard : (ns : List Notice) (o : Option Instance) → GoesOn o (where_open None o (λ i. raised_to i.queue (events_of i.watches ns))) (where_open None o (λ i. [])) (option_map (told ns) o)
+heard : (ns : List Notice) (o : Option Instance)
+    → GoesOn o (where_open None o (λ i. raised_to i.queue (events_of i.watches ns))) (where_open None o (λ i. [])) (option_map (told ns) o)
 heard ns None = refl
 heard ns (Some i) = sym (waiting-joined i.queue (events_of i.watches ns))
 
@@ -122,12 +124,16 @@ module _ (t : Tree) (ahead : NoneAhead t) (id : ℕ) where
   abbrev RaisedOf : Call → Option Instance → List Raised
   RaisedOf c o = where_open None o (λ i. raised_to i.queue (events_for t c id i))
 
-  accepted-leads : (c : Call) (o : Option Instance) → instance_of t.instances id ≡ o → Leads o (RaisedOf c o) (where_open None o (records_for c id)) (left_of t c id o)
+  accepted-leads : (c : Call) (o : Option Instance) → instance_of t.instances id ≡ o
+      → Leads o (RaisedOf c o) (where_open None o (records_for c id)) (left_of t c id o)
   accepted-leads (call.File f) o is = inl (heard (notices_of t.world f (cookie_now t.next_cookie)) o)
   accepted-leads (call.Init limit is_piped) o is =
-      inl (quiet o (left_of t (call.Init limit is_piped) id o) (opens (eqb id t.next_id) (new_instance t.limits limit is_piped) o refl (λ e. let same : id ≡ t.next_id = eqb-true id t.next_id e in sym is ∙ ahead id (omega arith))))
+      inl (quiet o (left_of t (call.Init limit is_piped) id o)
+      (opens (eqb id t.next_id) (new_instance t.limits limit is_piped) o refl
+      (λ e. let same : id ≡ t.next_id = eqb-true id t.next_id e in sym is ∙ ahead id (omega arith))))
   accepted-leads (call.AddWatch from p mask) o is =
-      inl (quiet o (left_of t (call.AddWatch from p mask) id o) (same-waiting (eqb id from) (watching (number_seen (look t.world p)) (known mask)) o (λ i. refl)))
+      inl (quiet o (left_of t (call.AddWatch from p mask) id o)
+      (same-waiting (eqb id from) (watching (number_seen (look t.world p)) (known mask)) o (λ i. refl)))
   accepted-leads (call.RmWatch from wd) o is =
       inl (subst (λ b. IsUnwatched b wd o (left_of t (call.RmWatch from wd) id o)) (eqb-swap id from) (unwatched (eqb id from) wd o))
   accepted-leads (call.Read from bytes) o is =
@@ -137,7 +143,8 @@ module _ (t : Tree) (ahead : NoneAhead t) (id : ℕ) where
   accepted-leads (call.Close from) o is = is_closed (eqb id from) o
 
   leads-by : (c : Call) (o : Option Refusal)
-      → Leads (instance_of t.instances id) (where_open o (instance_of t.instances id) (λ i. raised_to i.queue (events_for t c id i))) (where_open o (instance_of t.instances id) (records_for c id))
+      → Leads (instance_of t.instances id) (where_open o (instance_of t.instances id) (λ i. raised_to i.queue (events_for t c id i)))
+      (where_open o (instance_of t.instances id) (records_for c id))
       (instance_of (tree_by o t (accepted t c)).instances id)
   leads-by c (Some r) = inl (append-nil (waiting_of (instance_of t.instances id)))
   leads-by c None =
@@ -155,8 +162,10 @@ in-order-more : (front read joined all : List Event) (o : Option Instance) → f
 in-order-more front read joined all None e h = (h.0, append_assoc front read h.0 ∙ ap (λ (xs : List Event). front ++ xs) h.1 ∙ e)
 in-order-more front read joined all (Some i) e h = append_assoc front read i.queue.waiting ∙ ap (λ (xs : List Event). front ++ xs) h ∙ e
 
-in-order-none : (waiting read : List Event) (raised : List Raised) (o : Option Instance) → read ≡ [] → raised ≡ [] → o ≡ None → IsInOrder read (waiting ++ joined raised) o
-in-order-none waiting read raised None e f none = (waiting, ap (λ (xs : List Event). xs ++ waiting) e ∙ sym (append-nil waiting) ∙ ap (λ (rs : List Raised). waiting ++ joined rs) (sym f))
+in-order-none : (waiting read : List Event) (raised : List Raised) (o : Option Instance) → read ≡ [] → raised ≡ [] → o ≡ None
+    → IsInOrder read (waiting ++ joined raised) o
+in-order-none waiting read raised None e f none =
+    (waiting, ap (λ (xs : List Event). xs ++ waiting) e ∙ sym (append-nil waiting) ∙ ap (λ (rs : List Raised). waiting ++ joined rs) (sym f))
 in-order-none waiting read raised (Some i) e f none = absurd (cc)
 
 in-order-now : (o : Option Instance) → IsInOrder [] (waiting_of o ++ []) o
@@ -165,29 +174,39 @@ in-order-now (Some i) = sym (append-nil i.queue.waiting)
 
 module _ (id : ℕ) where
   -- the joins of two parts, in order
-  parts : (old new : List Event) (read : List Event) (rs ss : List Raised) → old ++ joined rs ≡ read ++ new → read ++ (new ++ joined ss) ≡ old ++ joined (rs ++ ss)
+  parts : (old new : List Event) (read : List Event) (rs ss : List Raised) → old ++ joined rs ≡ read ++ new
+      → read ++ (new ++ joined ss) ≡ old ++ joined (rs ++ ss)
   parts old new read rs ss e =
-      sym (append_assoc read new (joined ss)) ∙ ap (λ (xs : List Event). xs ++ joined ss) (sym e) ∙ append_assoc old (joined rs) (joined ss) ∙ ap (λ (xs : List Event). old ++ xs) (sym (joined-append rs ss))
+      sym (append_assoc read new (joined ss)) ∙ ap (λ (xs : List Event). xs ++ joined ss) (sym e)
+      ∙ append_assoc old (joined rs) (joined ss) ∙ ap (λ (xs : List Event). old ++ xs) (sym (joined-append rs ss))
 
-  closes : (t : Tree) (ahead : NoneAhead t) (e : Entry) (es : List Entry) → IsClosing (instance_of t.instances id) (raised_by t e.call id) (read_by t e.call id) (instance_of (after t e.call).instances id)
-      → IsInOrder (read_in t (e ∷ es) id) (waiting_of (instance_of t.instances id) ++ joined (raised_in t (e ∷ es) id)) (instance_of (tree_after t (e ∷ es)).instances id)
+  closes : (t : Tree) (ahead : NoneAhead t) (e : Entry) (es : List Entry)
+      → IsClosing (instance_of t.instances id) (raised_by t e.call id) (read_by t e.call id) (instance_of (after t e.call).instances id)
+      → IsInOrder (read_in t (e ∷ es) id) (waiting_of (instance_of t.instances id) ++ joined (raised_in t (e ∷ es) id))
+      (instance_of (tree_after t (e ∷ es)).instances id)
   closes t ahead e es h =
       let next = next-after t e.call in
       let now : id < t.next_id = given t id h.instance ahead h.was_open in
       let past : id < (after t e.call).next_id = omega arith in
       let rest = untouched (after t e.call) es id h.is_gone (inl past) in
-      in-order-none (waiting_of (instance_of t.instances id)) (read_in t (e ∷ es) id) (raised_in t (e ∷ es) id) (instance_of (tree_after t (e ∷ es)).instances id)
+      in-order-none (waiting_of (instance_of t.instances id)) (read_in t (e ∷ es) id) (raised_in t (e ∷ es) id)
+      (instance_of (tree_after t (e ∷ es)).instances id)
       ((λ i. h.reads_nothing i ++ read_in (after t e.call) es id) ∙ rest.read)
       ((λ i. h.hears_nothing i ++ raised_in (after t e.call) es id) ∙ rest.raised)
       (none-tree_after (after t e.call) es id h.is_gone (inl past))
 
-  in-order : (t : Tree) (es : List Entry) → NoneAhead t → IsInOrder (read_in t es id) (waiting_of (instance_of t.instances id) ++ joined (raised_in t es id)) (instance_of (tree_after t es).instances id)
+  in-order : (t : Tree) (es : List Entry) → NoneAhead t
+      → IsInOrder (read_in t es id) (waiting_of (instance_of t.instances id) ++ joined (raised_in t es id)) (instance_of (tree_after t es).instances id)
   in-order t [] ahead = in-order-now (instance_of t.instances id)
   in-order t (e ∷ es) ahead =
       let u : Tree = after t e.call in
-      elim (leads t ahead id e.call) as (λ _. IsInOrder (read_in t (e ∷ es) id) (waiting_of (instance_of t.instances id) ++ joined (raised_in t (e ∷ es) id)) (instance_of (tree_after t (e ∷ es)).instances id)) [
-        | inl goes ↦ in-order-more (read_by t e.call id) (read_in u es id) (waiting_of (instance_of u.instances id) ++ joined (raised_in u es id)) _ (instance_of (tree_after u es).instances id)
-            (parts (waiting_of (instance_of t.instances id)) (waiting_of (instance_of u.instances id)) (read_by t e.call id) (raised_by t e.call id) (raised_in u es id) goes)
+      elim (leads t ahead id e.call) as (λ _. IsInOrder (read_in t (e ∷ es) id)
+      (waiting_of (instance_of t.instances id) ++ joined (raised_in t (e ∷ es) id)) (instance_of (tree_after t (e ∷ es)).instances id)) [
+        | inl goes ↦
+            in-order-more (read_by t e.call id) (read_in u es id)
+            (waiting_of (instance_of u.instances id) ++ joined (raised_in u es id)) _ (instance_of (tree_after u es).instances id)
+            (parts (waiting_of (instance_of t.instances id)) (waiting_of (instance_of u.instances id)) (read_by t e.call id)
+            (raised_by t e.call id) (raised_in u es id) goes)
             (in-order u es (NoneAhead-after t e.call ahead))
         | inr closing ↦ closes t ahead e es closing
       ]

@@ -56,7 +56,8 @@ some-cut false o h = h
 pub opened-cut : (m : Instances) (id q : ℕ) → IsSome (instance_of (finmap.remove m id) q) → IsSome (instance_of m q)
 opened-cut m id q h = some-cut (eqb q id) (instance_of m q) (subst IsSome (get-cut m id q) h)
 
-opened-changed_by : (m : Instances) (id : ℕ) (change : Instance → Instance) (o : Option Instance) (q : ℕ) → instance_of m id ≡ o → IsSome (instance_of (changed_by m id change o) q) → IsSome (instance_of m q)
+opened-changed_by : (m : Instances) (id : ℕ) (change : Instance → Instance) (o : Option Instance) (q : ℕ) → instance_of m id ≡ o
+    → IsSome (instance_of (changed_by m id change o) q) → IsSome (instance_of m q)
 opened-changed_by m id change None q e h = h
 opened-changed_by m id change (Some i) q e h =
     elim (opened-put m id (change i) q h) as (λ _. IsSome (instance_of m q)) [
@@ -120,7 +121,8 @@ module _ (t : Tree) (is : IsNumbered t) where
   IsNumbered-closed id = with-instances (finmap.remove t.instances id) (λ q h. opened-cut t.instances id q h)
 
   -- one was opened, under the number that comes next
-  pub IsNumbered-opened : (i : Instance) → t.next_id ≤ t.limits.ids → IsNumbered (record t { next_id = t.next_id + 1; instances = finmap.insert t.instances t.next_id i })
+  pub IsNumbered-opened : (i : Instance) → t.next_id ≤ t.limits.ids
+      → IsNumbered (record t { next_id = t.next_id + 1; instances = finmap.insert t.instances t.next_id i })
   IsNumbered-opened i few = record {
     counted = record {
       numbers = is.counted.numbers;
@@ -138,7 +140,8 @@ module _ (t : Tree) (is : IsNumbered t) where
 -- ---- the rows of a call to watch, where the instance is there
 
 module _ (w : World) (m : Instances) (id : ℕ) (i : Instance) (p : List (List ℕ)) (mask n : ℕ) (is : instance_of m id ≡ Some i) (e : n ≡ known mask) where
-  add-rows-there : first_row (add_watch_rows (look w) p (known mask) (instance_of m id)) ≡ first_row (mask_fault n ∷ find (look w) p ∷ seen_fault i n (look w p) ∷ [])
+  add-rows-there : first_row (add_watch_rows (look w) p (known mask) (instance_of m id))
+      ≡ first_row (mask_fault n ∷ find (look w) p ∷ seen_fault i n (look w p) ∷ [])
   unfolding add_watch_rows
   add-rows-there =
       ap (λ o. first_row (add_watch_rows (look w) p (known mask) o)) is
@@ -147,7 +150,8 @@ module _ (w : World) (m : Instances) (id : ℕ) (i : Instance) (p : List (List �
   pub add-mask-there : (r : Refusal) → Some r ≡ mask_fault n → first_row (add_watch_rows (look w) p (known mask) (instance_of m id)) ≡ Some r
   add-mask-there r h = add-rows-there ∙ ap (λ o. first_row (o ∷ find (look w) p ∷ seen_fault i n (look w p) ∷ [])) (sym h)
 
-  pub add-path-there : (r : Refusal) → None ≡ mask_fault n → find (look w) p ≡ Some r → first_row (add_watch_rows (look w) p (known mask) (instance_of m id)) ≡ Some r
+  pub add-path-there : (r : Refusal) → None ≡ mask_fault n → find (look w) p ≡ Some r
+      → first_row (add_watch_rows (look w) p (known mask) (instance_of m id)) ≡ Some r
   add-path-there r h missing =
       add-rows-there ∙ ap (λ o. first_row (o ∷ find (look w) p ∷ seen_fault i n (look w p) ∷ [])) (sym h)
       ∙ ap (λ o. first_row (o ∷ seen_fault i n (look w p) ∷ [])) missing
@@ -165,11 +169,13 @@ module _ (w : World) (m : Instances) (id : ℕ) (i : Instance) (p : List (List �
       sym (ap (λ o. watch_answer (number_seen (look w p)) o) is
       ∙ ap (λ o. reply.Wd (wd_added i.watches (number_seen o))) at)
 
-  pub watching-there : (seen : Seen) (x : Instances) → look w p ≡ Some seen → x ≡ changed m id (watching seen.number n) → x ≡ changed m id (watching (number_seen (look w p)) (known mask))
+  pub watching-there : (seen : Seen) (x : Instances) → look w p ≡ Some seen → x ≡ changed m id (watching seen.number n)
+      → x ≡ changed m id (watching (number_seen (look w p)) (known mask))
   watching-there seen x at now =
       now ∙ ap (λ o. changed m id (watching (number_seen o) n)) (sym at) ∙ ap (λ k. changed m id (watching (number_seen (look w p)) k)) e
 
-pub add-bad-there : (w : World) (m : Instances) (id : ℕ) (p : List (List ℕ)) (mask : ℕ) → instance_of m id ≡ None → first_row (add_watch_rows (look w) p (known mask) (instance_of m id)) ≡ Some Ebadf
+pub add-bad-there : (w : World) (m : Instances) (id : ℕ) (p : List (List ℕ)) (mask : ℕ) → instance_of m id ≡ None
+    → first_row (add_watch_rows (look w) p (known mask) (instance_of m id)) ≡ Some Ebadf
 unfolding add_watch_rows
 add-bad-there w m id p mask is = ap (λ o. first_row (add_watch_rows (look w) p (known mask) o)) is
 
@@ -185,10 +191,12 @@ either-false : (a b : Bool) → (a || b) ≡ false → (a ≡ false) × (b ≡ f
 either-false true b h = absurd (cc)
 either-false false b h = (refl, h)
 
-pub init-passes : (limits : Limits) (instances : Instances) (next_id limit : ℕ) → None ≡ first_row (init_rows limits instances next_id limit) → (1 ≤ limit) × (limit ≤ limits.queue) × (next_id ≤ limits.ids)
+pub init-passes : (limits : Limits) (instances : Instances) (next_id limit : ℕ)
+    → None ≡ first_row (init_rows limits instances next_id limit) → (1 ≤ limit) × (limit ≤ limits.queue) × (next_id ≤ limits.ids)
 unfolding init_rows
 init-passes limits instances next_id limit h =
-    let passes = rows-pass ((eqb limit 0) || ltb limits.queue limit) (leb limits.instances (finmap.len instances)) (ltb limits.ids next_id) Einval Emfile Emfile h in
+    let passes = rows-pass ((eqb limit 0) || ltb limits.queue limit) (leb limits.instances (finmap.len instances))
+    (ltb limits.ids next_id) Einval Emfile Emfile h in
     let first = either-false (eqb limit 0) (ltb limits.queue limit) passes.0 in
     (grind (arith, nat_tests, first.0), grind (arith, nat_tests, first.1), grind (arith, nat_tests, passes.2))
 
@@ -213,7 +221,8 @@ AreEvents-append (x ∷ es) e are is = (are.0, AreEvents-append es e are.1 is)
 
 pub events_more : (es : List Event) (i : ℕ) (e : Event) → slice_get es i ≡ Some e → AreEvents (take i es) → IsEvent e → AreEvents (take (i + 1) es)
 events_more es i e h are is =
-    subst AreEvents (sym (take_more es i e (slice_get_within es i e h) ∙ ap (λ x. take i es ++ x ∷ []) (get_or_from_slice_get es i e e h))) (AreEvents-append (take i es) e are is)
+    subst AreEvents (sym (take_more es i e (slice_get_within es i e h) ∙ ap (λ x. take i es ++ x ∷ []) (get_or_from_slice_get es i e e h)))
+    (AreEvents-append (take i es) e are is)
 
 -- ---- the root alone
 

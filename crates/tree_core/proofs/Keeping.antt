@@ -25,7 +25,8 @@ module _ (a b : Inside) (is : IsKept a) (snapshot : b.snapshot ≡ a.snapshot) (
   -- the same journal, and another file system with the same tree
   pub IsKept-same : b.journal.items ≡ a.journal.items → tree_in b.file_system ≡ tree_in a.file_system → IsKept b
   IsKept-same items tree =
-      let same : journal_of a ≡ journal_of b = λ i. record { start = tree_of (sym limits i) (sym snapshot i); place = (sym snapshot i).place; entries = sym items i } in
+      let same : journal_of a ≡ journal_of b =
+      λ i. record { start = tree_of (sym limits i) (sym snapshot i); place = (sym snapshot i).place; entries = sym items i } in
       record {
         shown = shown-still;
         past = subst (λ (s : Journaled). HasPast s.start s.place) same is.past;
@@ -39,19 +40,25 @@ module _ (a b : Inside) (is : IsKept a) (snapshot : b.snapshot ≡ a.snapshot) (
       }
 
   -- one entry more, and the tree after its call
-  pub IsKept-more : (e : Entry) → b.journal.items ≡ a.journal.items ++ e ∷ [] → length a.journal.items < a.file_system.limits.journal → last_place (journal_of a) + 1 < 2 ^ 64
-      → e.reply ≡ reply_of (tree_in a.file_system) e.call → tree_in b.file_system ≡ after (tree_in a.file_system) e.call → IsNumbered (tree_in b.file_system) → WaitingAreEvents a.file_system.instances → IsKept b
+  pub IsKept-more : (e : Entry) → b.journal.items ≡ a.journal.items ++ e ∷ []
+      → length a.journal.items < a.file_system.limits.journal → last_place (journal_of a) + 1 < 2 ^ 64
+      → e.reply ≡ reply_of (tree_in a.file_system) e.call → tree_in b.file_system ≡ after (tree_in a.file_system) e.call
+      → IsNumbered (tree_in b.file_system) → WaitingAreEvents a.file_system.instances → IsKept b
   unfolding now
   IsKept-more e items room small reply leads numbered waits =
-      let same : with_entry (journal_of a) e ≡ journal_of b = λ i. record { start = tree_of (sym limits i) (sym snapshot i); place = (sym snapshot i).place; entries = sym items i } in
+      let same : with_entry (journal_of a) e ≡ journal_of b =
+      λ i. record { start = tree_of (sym limits i) (sym snapshot i); place = (sym snapshot i).place; entries = sym items i } in
       let more : length (a.journal.items ++ e ∷ []) ≡ length a.journal.items + 1 = length-append a.journal.items (e ∷ []) in
       let t = now (journal_of a) in
       let more-read : (id : ℕ) → AreEvents (read_in (journal_of a).start (a.journal.items ++ e ∷ []) id) =
-      λ id. read-more (journal_of a).start a.journal.items e id (is.read id) (read-events t (events-of-file_system t a.file_system is.stands waits) e.call id) in
+      λ id. read-more (journal_of a).start a.journal.items e id (is.read id)
+      (read-events t (events-of-file_system t a.file_system is.stands waits) e.call id) in
       record {
         shown = shown-still;
         past = subst (λ (s : Journaled). HasPast s.start s.place) same is.past;
-        lawful = subst (λ (s : Journaled). IsLawfulFrom s.start s.entries) same (lawful-entry (journal_of a) e is.lawful (reply ∙ ap (λ (u : Tree). reply_of u e.call) is.stands));
+        lawful =
+            subst (λ (s : Journaled). IsLawfulFrom s.start s.entries) same
+            (lawful-entry (journal_of a) e is.lawful (reply ∙ ap (λ (u : Tree). reply_of u e.call) is.stands));
         stands = leads ∙ ap (λ (u : Tree). after u e.call) is.stands ∙ sym (now-entry (journal_of a) e) ∙ ap now same;
         numbered = numbered;
         waited = subst (λ (s : Journaled). WaitingAreEvents s.start.instances) same is.waited;
@@ -65,14 +72,16 @@ pub shown-of : {t u : Tree} {place : ℕ} {s : Snapshot} → t ≡ u → IsSnaps
 shown-of {t} {u} {place} {s} same shown = subst (λ (x : Tree). IsSnapshotOf x place s) same shown
 
 -- a cut: the snapshot of the tree, and no entry
-pub IsKept-cut : TreesAreSound → (a b : Inside) → IsKept a → b.file_system ≡ a.file_system → b.journal.items ≡ [] → (place : ℕ) → place ≡ last_place (journal_of a) → IsSnapshotOf (now (journal_of a)) place b.snapshot
+pub IsKept-cut : TreesAreSound → (a b : Inside) → IsKept a → b.file_system ≡ a.file_system → b.journal.items ≡ [] → (place : ℕ)
+    → place ≡ last_place (journal_of a) → IsSnapshotOf (now (journal_of a)) place b.snapshot
     → WaitingAreEvents a.file_system.instances → (journal_of b ≡ cut_off (journal_of a)) × IsKept b
 IsKept-cut sound a b is file_system none place at given waits =
     let s = journal_of a in
     let shows : IsSnapshotOf (now s) (last_place s) b.snapshot = subst (λ p. IsSnapshotOf (now s) p b.snapshot) at given in
     let whole = pasts-make-whole sound s is.past.0 is.past.1 is.lawful in
     let limits : (now s).limits ≡ b.file_system.limits = limits-now s ∙ sym (ap (λ (m : FileSystem). m.limits) file_system) in
-    let told : tree_of b.file_system.limits b.snapshot ≡ now s = ap (λ l. tree_of l b.snapshot) (sym limits) ∙ tree_of-snapshot (now s) (last_place s) b.snapshot (sound-now sound s whole.sound) shows in
+    let told : tree_of b.file_system.limits b.snapshot ≡ now s =
+    ap (λ l. tree_of l b.snapshot) (sym limits) ∙ tree_of-snapshot (now s) (last_place s) b.snapshot (sound-now sound s whole.sound) shows in
     let same : journal_of b ≡ cut_off s = λ i. record { start = told i; place = shows.last_place i; entries = none i } in (
       same,
       record {
@@ -89,10 +98,12 @@ IsKept-cut sound a b is file_system none place at given waits =
     )
 
 -- a new state: the snapshot of the opening tree, and no entry
-pub IsKept-new : TreesAreSound → (limits : Limits) (b : Inside) → tree_in b.file_system ≡ opening limits → IsNumbered (tree_in b.file_system) → b.journal.items ≡ [] → IsSnapshotOf (opening limits) 0 b.snapshot → WaitingAreEvents b.file_system.instances → (journal_of b ≡ opened limits) × IsKept b
+pub IsKept-new : TreesAreSound → (limits : Limits) (b : Inside) → tree_in b.file_system ≡ opening limits → IsNumbered (tree_in b.file_system)
+    → b.journal.items ≡ [] → IsSnapshotOf (opening limits) 0 b.snapshot → WaitingAreEvents b.file_system.instances → (journal_of b ≡ opened limits) × IsKept b
 IsKept-new sound limits b file_system numbered none shows waits =
     let same_limits : b.file_system.limits ≡ (opening limits).limits = ap (λ (t : Tree). t.limits) file_system in
-    let told : tree_of b.file_system.limits b.snapshot ≡ opening limits = ap (λ l. tree_of l b.snapshot) same_limits ∙ tree_of-snapshot (opening limits) 0 b.snapshot (sound.opened limits) shows in
+    let told : tree_of b.file_system.limits b.snapshot ≡ opening limits =
+    ap (λ l. tree_of l b.snapshot) same_limits ∙ tree_of-snapshot (opening limits) 0 b.snapshot (sound.opened limits) shows in
     let same : journal_of b ≡ opened limits = λ i. record { start = told i; place = shows.last_place i; entries = none i } in (
       same,
       record {
@@ -101,7 +112,8 @@ IsKept-new sound limits b file_system numbered none shows waits =
         lawful = subst (λ (j : Journaled). IsLawfulFrom j.start j.entries) (sym same) tt;
         stands = file_system ∙ now-opened limits ∙ ap now (sym same);
         numbered = numbered;
-        waited = subst (λ (j : Journaled). WaitingAreEvents j.start.instances) (sym same) (events-of-file_system (opening limits) b.file_system file_system waits);
+        waited =
+            subst (λ (j : Journaled). WaitingAreEvents j.start.instances) (sym same) (events-of-file_system (opening limits) b.file_system file_system waits);
         read = subst (λ (j : Journaled). (id : ℕ) → AreEvents (read_in j.start j.entries id)) (sym same) (λ id. tt);
         few = let least = b.file_system.limits.journal_in.0 in omega (arith, ap length none);
         small = subst (λ (j : Journaled). last_place j < 2 ^ 64) (sym same) (omega arith);

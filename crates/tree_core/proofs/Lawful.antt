@@ -69,7 +69,8 @@ limits-tree_after t (e ∷ es) = limits-tree_after (after t e.call) es ∙ limit
 
 -- ---- cuts
 
-pub cuts-keep-answers : TreesAreSound → (limits : Limits) (front rest : List Entry) → IsLawful limits (front ++ rest) → GoesOn limits front rest (stands_for limits front)
+pub cuts-keep-answers : TreesAreSound → (limits : Limits) (front rest : List Entry) → IsLawful limits (front ++ rest)
+    → GoesOn limits front rest (stands_for limits front)
 unfolding IsLawful stands_for
 cuts-keep-answers sound limits front rest lawful = record {
   sound = sound.stay (opening limits) front (sound.opened limits);
@@ -130,6 +131,7 @@ unfolding IsLawful stands_for opening
 HasPast-opening limits = ([], record { lawful = tt; places = refl; leads = refl })
 
 -- what waits, by the open instance of a file system
-pub waiting_in-file_system : (t : Tree) (m : FileSystem) (id : ℕ) (o : Option Instance) → tree_in m ≡ t → o ≡ instance_of m.instances id → option_map (λ (i : Instance). length i.queue.waiting) o ≡ waiting_in t id
+pub waiting_in-file_system : (t : Tree) (m : FileSystem) (id : ℕ) (o : Option Instance) → tree_in m ≡ t
+    → o ≡ instance_of m.instances id → option_map (λ (i : Instance). length i.queue.waiting) o ≡ waiting_in t id
 unfolding waiting_in
 waiting_in-file_system t m id o is there = ap (option_map (λ (i : Instance). length i.queue.waiting)) (there ∙ ap (λ (x : Tree). instance_of x.instances id) is)

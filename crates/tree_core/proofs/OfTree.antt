@@ -63,7 +63,8 @@ find-fits at p = by (is_some (at p)) (is_directory_seen (at (longest_there at p 
 
 parent-fits : (at : Look) (p : List (List ℕ)) → Fits (parent at p)
 unfolding parent
-parent-fits at p = first (find at (parent_of p) ∷ row (not (is_directory_seen (at (parent_of p)))) Enotdir ∷ []) (find-fits at (parent_of p), (one _ _ refl, tt))
+parent-fits at p =
+    first (find at (parent_of p) ∷ row (not (is_directory_seen (at (parent_of p)))) Enotdir ∷ []) (find-fits at (parent_of p), (one _ _ refl, tt))
 
 move-fits : (limits : Limits) (counts : Counts) (old new : Option Seen) → Each (ops.move_rows limits counts old new)
 unfolding ops.move_rows
@@ -82,7 +83,8 @@ noreplace-rows-fit : (at : Look) (limits : Limits) (counts : Counts) (old new : 
 unfolding ops.noreplace_rows
 noreplace-rows-fit at limits counts old new = (one _ _ refl, (find-fits at old, (one _ _ refl, (parent-fits at new, (one _ _ refl, (one _ _ refl, tt))))))
 
-swap-fits : (limits : Limits) (counts : Counts) (old new : List (List ℕ)) (one_seen other : Option Seen) → Each (ops.swap_rows limits counts old new one_seen other)
+swap-fits : (limits : Limits) (counts : Counts) (old new : List (List ℕ)) (one_seen other : Option Seen)
+    → Each (ops.swap_rows limits counts old new one_seen other)
 unfolding ops.swap_rows
 swap-fits limits counts old new one_seen other = (one _ _ refl, (one _ _ refl, tt))
 
@@ -95,7 +97,8 @@ either-fits : (b : Bool) (rows others : List (Option Refusal)) → Each rows →
 either-fits true rows others h g = h
 either-fits false rows others h g = g
 
-rename2-rows-fit : (at : Look) (limits : Limits) (counts : Counts) (old new : List (List ℕ)) (flags : ℕ) → Each (ops.rename2_rows at limits counts old new flags)
+rename2-rows-fit : (at : Look) (limits : Limits) (counts : Counts) (old new : List (List ℕ)) (flags : ℕ)
+    → Each (ops.rename2_rows at limits counts old new flags)
 unfolding ops.rename2_rows
 rename2-rows-fit at limits counts old new flags =
     either-fits (flags == 0) _ _ (rename-rows-fit at limits counts old new)

@@ -46,7 +46,8 @@ by_change m from change id (Some i) true e s =
     get-put m from (change i) id ∙ ap (λ b. cond b (Some (change i)) (instance_of m id)) s ∙ ap (option_map change) (sym there)
 by_change m from change id (Some i) false e s = get-put m from (change i) id ∙ ap (λ b. cond b (Some (change i)) (instance_of m id)) s
 
-pub instance_of-changed : (m : Instances) (from : ℕ) (change : Instance → Instance) (id : ℕ) → instance_of (changed m from change) id ≡ cond (eqb id from) (option_map change (instance_of m id)) (instance_of m id)
+pub instance_of-changed : (m : Instances) (from : ℕ) (change : Instance → Instance) (id : ℕ)
+    → instance_of (changed m from change) id ≡ cond (eqb id from) (option_map change (instance_of m id)) (instance_of m id)
 unfolding changed
 instance_of-changed m from change id = by_change m from change id (instance_of m from) (eqb id from) refl refl
 

@@ -21,9 +21,11 @@ use Rattle.tree_core.specs.Peeks.{bytes_waiting_in}
 use Rattle.tree_core.specs.FileSystems.{tree_in}
 use Rattle.tree_core.specs.Tree.{Tree, counts_of, reply_by, reply_of}
 
-pub bytes-file_system : (t : Tree) (m : FileSystem) (id : ℕ) (o : Option Instance) → tree_in m ≡ t → o ≡ instance_of m.instances id → option_map (λ (i : Instance). length (spelling i.queue.waiting)) o ≡ bytes_waiting_in t id
+pub bytes-file_system : (t : Tree) (m : FileSystem) (id : ℕ) (o : Option Instance) → tree_in m ≡ t
+    → o ≡ instance_of m.instances id → option_map (λ (i : Instance). length (spelling i.queue.waiting)) o ≡ bytes_waiting_in t id
 unfolding bytes_waiting_in
-bytes-file_system t m id o is there = ap (option_map (λ (i : Instance). length (spelling i.queue.waiting))) (there ∙ ap (λ (x : Tree). instance_of x.instances id) is)
+bytes-file_system t m id o is there =
+    ap (option_map (λ (i : Instance). length (spelling i.queue.waiting))) (there ∙ ap (λ (x : Tree). instance_of x.instances id) is)
 
 -- the reply that an answer is, or a refusal
 abbrev pub as_reply : Result Answer Refusal → Reply
@@ -35,7 +37,8 @@ by-rows (Some refusal) a = refl
 by-rows None a = refl
 
 -- what the files answer is the reply of the tree
-pub replied : (t : Tree) (m : FileSystem) (f : FileCall) (r : Result Answer Refusal) → tree_in m ≡ t → answered (world_of m.table) m.limits (counts_of (tree_in m)) f ≡ r → reply_of t (call.File f) ≡ as_reply r
+pub replied : (t : Tree) (m : FileSystem) (f : FileCall) (r : Result Answer Refusal) → tree_in m ≡ t
+    → answered (world_of m.table) m.limits (counts_of (tree_in m)) f ≡ r → reply_of t (call.File f) ≡ as_reply r
 replied t m f r is e =
     ap (λ (x : Tree). reply_of x (call.File f)) (sym is)
     ∙ by-rows (refused (world_of m.table) m.limits (counts_of (tree_in m)) f) (answer_of (world_of m.table) (counts_of (tree_in m)) f)
@@ -45,15 +48,18 @@ module _ (t : Tree) (m : FileSystem) (f : FileCall) where
   abbrev pub said : Result Answer Refusal
   said = answered (world_of m.table) m.limits (counts_of (tree_in m)) f
 
-  pub said-ok : {X : Type 0} (g : X → Answer) → tree_in m ≡ t → (r : Result X Refusal) → IfOk r (λ x. said ≡ Ok (g x)) → IfOk r (λ x. reply_of t (call.File f) ≡ reply.File (g x))
+  pub said-ok : {X : Type 0} (g : X → Answer) → tree_in m ≡ t → (r : Result X Refusal) → IfOk r (λ x. said ≡ Ok (g x))
+      → IfOk r (λ x. reply_of t (call.File f) ≡ reply.File (g x))
   said-ok g is (Ok x) e = replied t m f (Ok (g x)) is e
   said-ok g is (Err refusal) e = tt
 
-  pub said-err : {X : Type 0} → tree_in m ≡ t → (r : Result X Refusal) → IfErr r (λ refusal. said ≡ Err refusal) → IfErr r (λ refusal. reply_of t (call.File f) ≡ reply.Refused refusal)
+  pub said-err : {X : Type 0} → tree_in m ≡ t → (r : Result X Refusal) → IfErr r (λ refusal. said ≡ Err refusal)
+      → IfErr r (λ refusal. reply_of t (call.File f) ≡ reply.Refused refusal)
   said-err is (Ok x) e = tt
   said-err is (Err refusal) e = replied t m f (Err refusal) is e
 
-  pub may-err : {X : Type 0} → tree_in m ≡ t → (r : Result X Refusal) → IfErr r (λ refusal. (said ≡ Err refusal) ⊎ (refusal ≡ Enomem)) → IfErr r (λ refusal. (reply_of t (call.File f) ≡ reply.Refused refusal) ⊎ (refusal ≡ Enomem))
+  pub may-err : {X : Type 0} → tree_in m ≡ t → (r : Result X Refusal) → IfErr r (λ refusal. (said ≡ Err refusal) ⊎ (refusal ≡ Enomem))
+      → IfErr r (λ refusal. (reply_of t (call.File f) ≡ reply.Refused refusal) ⊎ (refusal ≡ Enomem))
   may-err is (Ok x) e = tt
   may-err is (Err refusal) (inl e) = inl (replied t m f (Err refusal) is e)
   may-err is (Err refusal) (inr e) = inr e

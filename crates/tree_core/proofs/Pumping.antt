@@ -24,14 +24,16 @@ use Rattle.tree_core.proofs.Instances.{IsNumbered-changed, changed-same, read-op
 use Rattle.tree_core.proofs.Serving.{IsAnswered, failed-attempts, reply_of-accepted, reply_of-refused}
 use Rattle.tree_core.proofs.Spelled.{read-events}
 
-read_by-accepted : (t : Tree) (id bytes : ℕ) (i : Instance) → instance_of t.instances id ≡ Some i → refusal_of t (call.Pump id bytes) ≡ None → read_by t (call.Pump id bytes) id ≡ oldest bytes i
+read_by-accepted : (t : Tree) (id bytes : ℕ) (i : Instance) → instance_of t.instances id ≡ Some i
+    → refusal_of t (call.Pump id bytes) ≡ None → read_by t (call.Pump id bytes) id ≡ oldest bytes i
 unfolding read_by
 read_by-accepted t id bytes i at none =
     let same : eqb id id ≡ true = grind (arith, nat_tests) in
     (λ k. where_open (none k) (at k) (records_for (call.Pump id bytes) id)) ∙ ap (λ (b : Bool). if b then oldest bytes i else []) same
 
 -- a pump that is not refused hands over the oldest records
-pub pumped-accepted : (t : Tree) (id bytes : ℕ) (o : Option Instance) → instance_of t.instances id ≡ o → refusal_of t (call.Pump id bytes) ≡ None → IsSome o → pumped t id bytes ≡ option_map (oldest bytes) o
+pub pumped-accepted : (t : Tree) (id bytes : ℕ) (o : Option Instance) → instance_of t.instances id ≡ o
+    → refusal_of t (call.Pump id bytes) ≡ None → IsSome o → pumped t id bytes ≡ option_map (oldest bytes) o
 pumped-accepted t id bytes None at none there = absurd (cc)
 pumped-accepted t id bytes (Some i) at none there =
     ap (λ r. where_records r (read_by t (call.Pump id bytes) id)) (reply_of-accepted t (call.Pump id bytes) none ∙ ap (read_answer bytes) at)
@@ -53,13 +55,16 @@ pumped-by : (t : Tree) (id bytes : ℕ) (o : Option Refusal) → refusal_of t (c
     → (es : List Event) → pumped t id bytes ≡ Some es → reply_of t (call.Pump id bytes) ≡ reply.Records (spelling es)
 pumped-by t id bytes (Some r) is x at es e = let none : pumped t id bytes ≡ None = pumped-refused t id bytes r is in absurd (cc)
 pumped-by t id bytes None is None at es e =
-    absurd (let there : IsSome (instance_of t.instances id) = read-open true bytes (instance_of t.instances id) (sym is) in let missing : ◌≡◌ {A = Bool} false true = ap is_some (sym at) ∙ there in cc)
+    absurd (
+    let there : IsSome (instance_of t.instances id) = read-open true bytes (instance_of t.instances id) (sym is) in
+    let missing : ◌≡◌ {A = Bool} false true = ap is_some (sym at) ∙ there in cc)
 pumped-by t id bytes None is (Some i) at es e =
     let same : oldest bytes i ≡ es = ap (λ (o : Option (List Event)). unwrap_or o []) (sym (pumped-accepted t id bytes (Some i) at is refl) ∙ e) in
     reply_of-accepted t (call.Pump id bytes) is ∙ ap (read_answer bytes) at ∙ ap (λ xs. reply.Records (spelling xs)) same
 
 -- a pump hands over events, whose bytes its reply has
-pub records-spelled : (t : Tree) → WaitingAreEvents t.instances → (id bytes : ℕ) (o : Option (List Event)) (r : Reply) → o ≡ pumped t id bytes → r ≡ reply_of t (call.Pump id bytes)
+pub records-spelled : (t : Tree) → WaitingAreEvents t.instances → (id bytes : ℕ) (o : Option (List Event)) (r : Reply)
+    → o ≡ pumped t id bytes → r ≡ reply_of t (call.Pump id bytes)
     → IfSome o (λ es. AreEvents es × (r ≡ reply.Records (spelling es)))
 records-spelled t waits id bytes None r is e = tt
 records-spelled t waits id bytes (Some es) r is e =
@@ -80,12 +85,15 @@ read-after true t id bytes = refl
 read-after false t id bytes = refl
 
 module _ (m : FileSystem) (pumps : Bool) (id bytes : ℕ) where
-  pub read-refused : (new : FileSystem) (result : Result Begun Refusal) (r : Refusal) → IsErrAnd result (λ e. e ≡ r) → first_row (read_rows pumps bytes (instance_of m.instances id)) ≡ Some r → tree_in new ≡ tree_in m → Attempts m (reading pumps id bytes) result new
-  read-refused new result r is refused same = failed-attempts m new (reading pumps id bytes) result r is (inl (read-refusal pumps (tree_in m) id bytes ∙ refused)) same
+  pub read-refused : (new : FileSystem) (result : Result Begun Refusal) (r : Refusal) → IsErrAnd result (λ e. e ≡ r)
+      → first_row (read_rows pumps bytes (instance_of m.instances id)) ≡ Some r → tree_in new ≡ tree_in m → Attempts m (reading pumps id bytes) result new
+  read-refused new result r is refused same =
+      failed-attempts m new (reading pumps id bytes) result r is (inl (read-refusal pumps (tree_in m) id bytes ∙ refused)) same
 
   -- the records that fit are left to be taken
   pub read-attempts : (i : Instance) (place count : ℕ) (records : List ℕ) → IsNumbered (tree_in m) → instance_of m.instances id ≡ Some i
-      → first_row (read_rows pumps bytes (instance_of m.instances id)) ≡ None → count ≡ fitting bytes i.queue.waiting → records ≡ spelling (take count i.queue.waiting)
+      → first_row (read_rows pumps bytes (instance_of m.instances id)) ≡ None → count ≡ fitting bytes i.queue.waiting
+      → records ≡ spelling (take count i.queue.waiting)
       → Attempts m (reading pumps id bytes) (Ok (record { reply = reply.Records records; rest = Take id place count })) m
   unfolding after_accepted_read
   read-attempts i place count records numbered at passes fits said = record {
@@ -95,7 +103,8 @@ module _ (m : FileSystem) (pumps : Bool) (id bytes : ℕ) where
         ∙ ap (read_answer bytes) (sym at) ∙ sym (read-reply pumps (tree_in m) id bytes);
     rest = tt;
     tree =
-        ap (λ (x : Instances). record (tree_in m) { instances = x }) (changed-same m.instances id (after_read count) (after_reading bytes) i at (ap (λ n. after_read n i) fits))
+        ap (λ (x : Instances). record (tree_in m) { instances = x })
+        (changed-same m.instances id (after_read count) (after_reading bytes) i at (ap (λ n. after_read n i) fits))
         ∙ sym (read-after pumps (tree_in m) id bytes);
     begun = λ _. refl;
     numbered = subst IsNumbered (sym (read-after pumps (tree_in m) id bytes)) (IsNumbered-changed (tree_in m) numbered id (after_reading bytes));
@@ -110,14 +119,18 @@ read-taken m id bytes i place count at fits =
     ap (λ o. Some (take count (waiting_of o))) at ∙ ap (λ n. Some (take n i.queue.waiting)) fits ∙ ap (option_map (oldest bytes)) (sym at)
 
 -- what a pump takes, also where it is refused
-pump-answered : (m : FileSystem) (id bytes : ℕ) (r : Refusal) (result : Result Begun Refusal) → (refusal_of (tree_in m) (call.Pump id bytes) ≡ Some r) ⊎ (r ≡ Enomem) → IsAnswered result r → IfOk result (λ b. taken m b.rest ≡ pumped (tree_in m) id bytes)
+pump-answered : (m : FileSystem) (id bytes : ℕ) (r : Refusal) (result : Result Begun Refusal)
+    → (refusal_of (tree_in m) (call.Pump id bytes) ≡ Some r) ⊎ (r ≡ Enomem) → IsAnswered result r
+    → IfOk result (λ b. taken m b.rest ≡ pumped (tree_in m) id bytes)
 pump-answered m id bytes r result why (inl is) = subst (λ (x : Result Begun Refusal). IfOk x (λ b. taken m b.rest ≡ pumped (tree_in m) id bytes)) (sym is.1) tt
 pump-answered m id bytes r result (inl refused) (inr is) =
-    subst (λ (x : Result Begun Refusal). IfOk x (λ b. taken m b.rest ≡ pumped (tree_in m) id bytes)) (sym is.1) (sym (pumped-refused (tree_in m) id bytes r refused))
+    subst (λ (x : Result Begun Refusal). IfOk x (λ b. taken m b.rest ≡ pumped (tree_in m) id bytes)) (sym is.1)
+    (sym (pumped-refused (tree_in m) id bytes r refused))
 pump-answered m id bytes r result (inr memory) (inr is) = absurd (is.0 memory)
 
 pub pump-taken : (m : FileSystem) (id bytes : ℕ) (tried result : Result Begun Refusal) → Attempts m (call.Pump id bytes) tried m
-    → IfOk tried (λ b. taken m b.rest ≡ option_map (oldest bytes) (instance_of m.instances id)) → IfOk tried (λ b. result ≡ Ok b) → IfErr tried (IsAnswered result)
+    → IfOk tried (λ b. taken m b.rest ≡ option_map (oldest bytes) (instance_of m.instances id)) → IfOk tried (λ b. result ≡ Ok b)
+    → IfErr tried (IsAnswered result)
     → IfOk result (λ b. taken m b.rest ≡ pumped (tree_in m) id bytes)
 pump-taken m id bytes (Ok b) result h records is none =
     let o = instance_of m.instances id in

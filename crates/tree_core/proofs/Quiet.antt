@@ -46,9 +46,11 @@ pub All-unfiltered : (test : Event → Bool) (P : Event → Type 0) (es : List E
 All-unfiltered test P [] h = All-nil (λ (e : Event). IsTrue (test e) → P e)
 All-unfiltered test P (e ∷ es) h = by (test e) refl (All-unfiltered test P es) h
   where
-    by : (b : Bool) → test e ≡ b → (All P (filter test es) → All (λ (x : Event). IsTrue (test x) → P x) es) → All P (cond b (e ∷ filter test es) (filter test es))
+    by : (b : Bool) → test e ≡ b → (All P (filter test es) → All (λ (x : Event). IsTrue (test x) → P x) es)
+        → All P (cond b (e ∷ filter test es) (filter test es))
         → All (λ (x : Event). IsTrue (test x) → P x) (e ∷ es)
-    by true is more k = All-cons (λ (x : Event). IsTrue (test x) → P x) e es (λ passes. All-head P e (filter test es) k) (more (All-tail P e (filter test es) k))
+    by true is more k =
+        All-cons (λ (x : Event). IsTrue (test x) → P x) e es (λ passes. All-head P e (filter test es) k) (more (All-tail P e (filter test es) k))
     by false is more k = All-cons (λ (x : Event). IsTrue (test x) → P x) e es (λ passes. absurd (cc)) (more k)
 
 -- ---- what joins a queue
@@ -93,6 +95,7 @@ joined-Quiet (r ∷ rs) q given =
     joining-Quiet (fate r) r.event (joined rs) (λ said. joined-silent r.event.wd (All-head (Ends IsGiven) r.event (events rs) given said) rs (q.0 said))
     (joined-Quiet rs q.1 (All-tail (Ends IsGiven) r.event (events rs) given))
 
-pub EndsOnce-Quiet : (waiting : List Event) (rs : List Raised) → Quiet waiting → All (Ends (λ wd. TellsNothing wd (joined rs))) waiting → Quiet (events rs) → All (Ends IsGiven) (events rs) → EndsOnce waiting rs
+pub EndsOnce-Quiet : (waiting : List Event) (rs : List Raised) → Quiet waiting → All (Ends (λ wd. TellsNothing wd (joined rs))) waiting
+    → Quiet (events rs) → All (Ends IsGiven) (events rs) → EndsOnce waiting rs
 EndsOnce-Quiet waiting rs waits over q given =
     record { raised = nothing-behind (events rs) q; joined = nothing-behind (waiting ++ joined rs) (Quiet-append waiting (joined rs) waits (joined-Quiet rs q given) over) }

@@ -66,12 +66,14 @@ opened-by : (t : Tree) (c : Call) (id : ℕ) (o : Option Refusal) → reply_by o
 opened-by t c id None e = opened-next t c id e
 opened-by t c id (Some r) e = absurd (cc)
 
-watch-passes : (at : Look) (p : List (List ℕ)) (mask number : ℕ) (o : Option Instance) (r : Refusal) → first_row (add_watch_rows at p mask o) ≡ None → watch_answer number o ≡ reply.Refused r → ⊥
+watch-passes : (at : Look) (p : List (List ℕ)) (mask number : ℕ) (o : Option Instance) (r : Refusal)
+    → first_row (add_watch_rows at p mask o) ≡ None → watch_answer number o ≡ reply.Refused r → ⊥
 unfolding add_watch_rows
 watch-passes at p mask number None r passes e = cc
 watch-passes at p mask number (Some i) r passes e = cc
 
-read-passes : (pumps : Bool) (bytes : ℕ) (o : Option Instance) (r : Refusal) → first_row (read_rows pumps bytes o) ≡ None → read_answer bytes o ≡ reply.Refused r → ⊥
+read-passes : (pumps : Bool) (bytes : ℕ) (o : Option Instance) (r : Refusal) → first_row (read_rows pumps bytes o) ≡ None
+    → read_answer bytes o ≡ reply.Refused r → ⊥
 unfolding read_rows
 read-passes pumps bytes None r passes e = cc
 read-passes pumps bytes (Some i) r passes e = cc
@@ -80,13 +82,15 @@ read-passes pumps bytes (Some i) r passes e = cc
 no-refusal : (t : Tree) (c : Call) (r : Refusal) → refusal_of t c ≡ None → accepted_reply t c ≡ reply.Refused r → ⊥
 no-refusal t (call.File f) r passes e = cc
 no-refusal t (call.Init limit is_piped) r passes e = cc
-no-refusal t (call.AddWatch id p mask) r passes e = watch-passes (look t.world) p (known mask) (number_seen (look t.world p)) (instance_of t.instances id) r passes e
+no-refusal t (call.AddWatch id p mask) r passes e =
+    watch-passes (look t.world) p (known mask) (number_seen (look t.world p)) (instance_of t.instances id) r passes e
 no-refusal t (call.RmWatch id wd) r passes e = cc
 no-refusal t (call.Read id bytes) r passes e = read-passes false bytes (instance_of t.instances id) r passes e
 no-refusal t (call.Pump id bytes) r passes e = read-passes true bytes (instance_of t.instances id) r passes e
 no-refusal t (call.Close id) r passes e = cc
 
-refused-same : (t : Tree) (c : Call) (r : Refusal) (o : Option Refusal) → refusal_of t c ≡ o → reply_by o (accepted_reply t c) ≡ reply.Refused r → tree_by o t (accepted t c) ≡ t
+refused-same : (t : Tree) (c : Call) (r : Refusal) (o : Option Refusal) → refusal_of t c ≡ o
+    → reply_by o (accepted_reply t c) ≡ reply.Refused r → tree_by o t (accepted t c) ≡ t
 refused-same t c r None passes e = absurd (no-refusal t c r passes e)
 refused-same t c r (Some s) passes e = refl
 
@@ -99,14 +103,18 @@ unfolding read_by
 nothing-read t c r e id = ap (λ o. where_open o (instance_of t.instances id) (records_for c id)) e
 
 -- the refusal in a reply is the call's
-refusal-is : (t : Tree) (c : Call) (r : Refusal) (o : Option Refusal) → refusal_of t c ≡ o → reply_by o (accepted_reply t c) ≡ reply.Refused r → refusal_of t c ≡ Some r
+refusal-is : (t : Tree) (c : Call) (r : Refusal) (o : Option Refusal) → refusal_of t c ≡ o
+    → reply_by o (accepted_reply t c) ≡ reply.Refused r → refusal_of t c ≡ Some r
 refusal-is t c r None passes e = absurd (no-refusal t c r passes e)
 refusal-is t c r (Some s) passes e = passes ∙ ap Some cc
 
 pub replies-tell : (t : Tree) (c : Call) → RepliesTell t c
 replies-tell t c = record {
-  read = λ id count bytes is e. piped-not (given-open false count bytes (instance_of t.instances id) (refusal_of t (call.Read id count)) refl (ap (reply_of t) (sym is) ∙ e));
-  pumped = λ id count bytes is e. given-open true count bytes (instance_of t.instances id) (refusal_of t (call.Pump id count)) refl (ap (reply_of t) (sym is) ∙ e);
+  read =
+      λ id count bytes is e. piped-not
+      (given-open false count bytes (instance_of t.instances id) (refusal_of t (call.Read id count)) refl (ap (reply_of t) (sym is) ∙ e));
+  pumped =
+      λ id count bytes is e. given-open true count bytes (instance_of t.instances id) (refusal_of t (call.Pump id count)) refl (ap (reply_of t) (sym is) ∙ e);
   opened = λ id e. opened-by t c id (refusal_of t c) e;
   closed = λ id is e. closed-open (instance_of t.instances id) (refusal_of t (call.Close id)) refl (ap (reply_of t) (sym is) ∙ e);
   rising = next-after t c;

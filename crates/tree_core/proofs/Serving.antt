@@ -29,7 +29,8 @@ after-accepted t c e = ap (λ o. tree_by o t (accepted t c)) e
 -- ---- attempts
 
 -- a refusal, or out of memory
-pub failed-attempts : (old new : FileSystem) (c : Call) (result : Result Begun Refusal) (r : Refusal) → IsErrAnd result (λ e. e ≡ r) → (refusal_of (tree_in old) c ≡ Some r) ⊎ (r ≡ Enomem) → tree_in new ≡ tree_in old → Attempts old c result new
+pub failed-attempts : (old new : FileSystem) (c : Call) (result : Result Begun Refusal) (r : Refusal) → IsErrAnd result (λ e. e ≡ r)
+    → (refusal_of (tree_in old) c ≡ Some r) ⊎ (r ≡ Enomem) → tree_in new ≡ tree_in old → Attempts old c result new
 failed-attempts old new c (Ok b) r is why same = absurd is
 failed-attempts old new c (Err e) r is why same = record {
   passes = tt;
@@ -43,7 +44,8 @@ failed-attempts old new c (Err e) r is why same = record {
 }
 
 -- a call that is accepted, of which nothing is left to do, and whose reply has no list
-pub complete-attempts : (old new : FileSystem) (c : Call) (b : Begun) (answer : Reply) → b ≡ record { reply = answer; rest = Nothing } → refusal_of (tree_in old) c ≡ None → answer ≡ accepted_reply (tree_in old) c
+pub complete-attempts : (old new : FileSystem) (c : Call) (b : Begun) (answer : Reply)
+    → b ≡ record { reply = answer; rest = Nothing } → refusal_of (tree_in old) c ≡ None → answer ≡ accepted_reply (tree_in old) c
     → tree_in new ≡ accepted (tree_in old) c → IsNumbered (accepted (tree_in old) c) → takes_memory answer ≡ false → Attempts old c (Ok b) new
 complete-attempts old new c b answer is passes answers leads numbered plain =
     subst (λ (x : Begun). Attempts old c (Ok x) new) (sym is)
@@ -65,7 +67,8 @@ abbrev pub IsAnswered : Result Begun Refusal → Refusal → Type 0
 IsAnswered result r = ((r ≡ Enomem) × (result ≡ Err Enomem)) ⊎ ((r ≢ Enomem) × (result ≡ Ok (record { reply = reply.Refused r; rest = Nothing })))
 
 module _ (old new : FileSystem) (c : Call) (numbered : IsNumbered (tree_in old)) where
-  refused-begins : (r : Refusal) → refusal_of (tree_in old) c ≡ Some r → tree_in new ≡ tree_in old → Begins old c (Ok (record { reply = reply.Refused r; rest = Nothing })) new
+  refused-begins : (r : Refusal) → refusal_of (tree_in old) c ≡ Some r → tree_in new ≡ tree_in old
+      → Begins old c (Ok (record { reply = reply.Refused r; rest = Nothing })) new
   refused-begins r refused same = record {
     reply = sym (reply_of-refused (tree_in old) c r refused);
     rest = tt;
@@ -79,12 +82,14 @@ module _ (old new : FileSystem) (c : Call) (numbered : IsNumbered (tree_in old))
   failed-begins : tree_in new ≡ tree_in old → Begins old c (Err Enomem) new
   failed-begins same = record { reply = tt; rest = tt; tree = tt; begun = tt; numbered = tt; err = same; memory = refl }
 
-  answer-begins : (r : Refusal) (result : Result Begun Refusal) → (refusal_of (tree_in old) c ≡ Some r) ⊎ (r ≡ Enomem) → tree_in new ≡ tree_in old → IsAnswered result r → Begins old c result new
+  answer-begins : (r : Refusal) (result : Result Begun Refusal) → (refusal_of (tree_in old) c ≡ Some r) ⊎ (r ≡ Enomem)
+      → tree_in new ≡ tree_in old → IsAnswered result r → Begins old c result new
   answer-begins r result why same (inl is) = subst (λ (x : Result Begun Refusal). Begins old c x new) (sym is.1) (failed-begins same)
   answer-begins r result (inl refused) same (inr is) = subst (λ (x : Result Begun Refusal). Begins old c x new) (sym is.1) (refused-begins r refused same)
   answer-begins r result (inr memory) same (inr is) = absurd (is.0 memory)
 
-  pub attempted-begins : (tried result : Result Begun Refusal) → Attempts old c tried new → IfOk tried (λ b. result ≡ Ok b) → IfErr tried (IsAnswered result) → Begins old c result new
+  pub attempted-begins : (tried result : Result Begun Refusal) → Attempts old c tried new → IfOk tried (λ b. result ≡ Ok b)
+      → IfErr tried (IsAnswered result) → Begins old c result new
   attempted-begins (Ok b) result h is none =
       subst (λ (x : Result Begun Refusal). Begins old c x new) (sym is)
       (record {
@@ -106,7 +111,8 @@ pub record Executes (old : FileSystem) (c : Call) (given : Reply) (new : FileSys
   pub tree : tree_in new ≡ after (tree_in old) c
   pub numbered : IsNumbered (tree_in new)
 
-pub finished-executes : (old begun : FileSystem) (c : Call) (b : Begun) → Begins old c (Ok b) begun → (new : FileSystem) → tree_in new ≡ finished begun b.rest → Executes old c b.reply new
+pub finished-executes : (old begun : FileSystem) (c : Call) (b : Begun) → Begins old c (Ok b) begun → (new : FileSystem)
+    → tree_in new ≡ finished begun b.rest → Executes old c b.reply new
 finished-executes old begun c b h new done = record {
   reply = h.reply;
   tree = done ∙ h.tree;

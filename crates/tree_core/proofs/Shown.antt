@@ -36,7 +36,8 @@ files-back (e ∷ es) = ap (λ (xs : List (ℕ × File)). e ∷ xs) (files-back 
 watches-back : (w : Watching) → IsSound w → finmap.from_entries (map (λ r. (r.0, (r.1, r.2))) (watch_rows w)) ≡ w.watches
 unfolding watch_rows
 watches-back w sound =
-    ap (λ (es : List (ℕ × Watch)). finmap.from_entries {R = nat_cmp} es) (map-map (λ (r : ℕ × ℤ × ℕ). (r.0, (r.1, r.2))) (λ (e : ℤ × (ℕ × ℕ)). (e.1.0, e.0, e.1.1)) (finmap.entries (by_wd w)))
+    ap (λ (es : List (ℕ × Watch)). finmap.from_entries {R = nat_cmp} es)
+    (map-map (λ (r : ℕ × ℤ × ℕ). (r.0, (r.1, r.2))) (λ (e : ℤ × (ℕ × ℕ)). (e.1.0, e.0, e.1.1)) (finmap.entries (by_wd w)))
     ∙ turned-twice nat_cmp_total nat_cmp-IsAntisymmetric int_cmp_total int_cmp-IsAntisymmetric w.watches
     (λ j k wd x y one two. sound.apart j k wd (ap (option_map (λ (v : Watch). v.0)) one) (ap (option_map (λ (v : Watch). v.0)) two))
 
@@ -49,7 +50,8 @@ told_back limits i = (open_of limits (instance_row (0, i))).1
 instance-back : (t : Tree) (i : Instance) → IsSoundInstance t i → told_back t.limits i ≡ i
 instance-back t i is = λ k. record {
   is_piped = i.is_piped;
-  watches = record { watches = watches-back i.watches is.watches k; next_wd = i.watches.next_wd; most_watches = sym is.most_watches k; last_wd = sym is.last_wd k };
+  watches =
+      record { watches = watches-back i.watches is.watches k; next_wd = i.watches.next_wd; most_watches = sym is.most_watches k; last_wd = sym is.last_wd k };
   queue = i.queue;
 }
 
@@ -57,7 +59,8 @@ instances-back : (t : Tree) → IsSoundTree t → finmap.from_entries (map (open
 unfolding all_changed
 instances-back t is =
     ap (λ (es : List (ℕ × Instance)). finmap.from_entries {R = nat_cmp} es) (map-map (open_of t.limits) instance_row (finmap.entries t.instances))
-    ∙ same_map nat_cmp_total nat_cmp-IsAntisymmetric (all_changed t.instances (told_back t.limits)) t.instances (λ id. instance_of-all_changed t.instances (told_back t.limits) id ∙ each id (instance_of t.instances id) refl)
+    ∙ same_map nat_cmp_total nat_cmp-IsAntisymmetric (all_changed t.instances (told_back t.limits)) t.instances
+    (λ id. instance_of-all_changed t.instances (told_back t.limits) id ∙ each id (instance_of t.instances id) refl)
   where
     each : (id : ℕ) (o : Option Instance) → instance_of t.instances id ≡ o → option_map (told_back t.limits) o ≡ o
     each id None at = refl
@@ -76,10 +79,17 @@ tree_of-snapshot t place s is shows = λ k. record {
   limits = t.limits;
   world = record {
     paths = (ap (λ es. finmap.from_entries es) shows.paths ∙ made-of-entries path_total path_exact t.world.paths) k;
-    files = (ap (λ es. finmap.from_entries (map file_of es)) shows.files ∙ ap (λ (es : List (ℕ × File)). finmap.from_entries {R = nat_cmp} es) (files-back (finmap.entries t.world.files)) ∙ made-of-entries nat_cmp_total nat_cmp-IsAntisymmetric t.world.files) k;
+    files =
+        (ap (λ es. finmap.from_entries (map file_of es)) shows.files
+        ∙ ap (λ (es : List (ℕ × File)). finmap.from_entries {R = nat_cmp} es) (files-back (finmap.entries t.world.files))
+        ∙ made-of-entries nat_cmp_total nat_cmp-IsAntisymmetric t.world.files)
+        k;
   };
   next_number = shows.next_number k;
-  next_cookie = (ap cookies_until shows.next_cookie ∙ cookie-back t.next_cookie (let h = is.counted.cookies in let most = t.limits.cookies_in.1 in omega arith) is.cookies) k;
+  next_cookie =
+      (ap cookies_until shows.next_cookie
+      ∙ cookie-back t.next_cookie (let h = is.counted.cookies in let most = t.limits.cookies_in.1 in omega arith) is.cookies)
+      k;
   next_id = shows.next_id k;
   instances = (ap (λ es. finmap.from_entries (map (open_of t.limits) es)) shows.instances ∙ instances-back t is) k;
 }

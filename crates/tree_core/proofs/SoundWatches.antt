@@ -72,21 +72,25 @@ module _ (laws : WatchLaws) (at : Look) (p : List Label) (mask : ℕ) (i : Insta
 
 -- ---- one call
 
-kept-if : (b : Bool) (change : Instance → Instance) → (b ≡ true → (i : Instance) → IsSound i.watches → IsSound (change i).watches) → (o : Option Instance) → HasSoundWatches o → HasSoundWatches (cond b (option_map change o) o)
+kept-if : (b : Bool) (change : Instance → Instance) → (b ≡ true → (i : Instance) → IsSound i.watches → IsSound (change i).watches)
+    → (o : Option Instance) → HasSoundWatches o → HasSoundWatches (cond b (option_map change o) o)
 kept-if true change keeps None sound = tt
 kept-if true change keeps (Some i) sound = keeps refl i sound
 kept-if false change keeps o sound = sound
 
 module _ (laws : WatchLaws) (t : Tree) (id : ℕ) where
-  watched : (from : ℕ) (p : List Label) (mask : ℕ) (b : Bool) (o : Option Instance) → eqb id from ≡ b → instance_of t.instances id ≡ o → refusal_of t (call.AddWatch from p mask) ≡ None → HasSoundWatches o
+  watched : (from : ℕ) (p : List Label) (mask : ℕ) (b : Bool) (o : Option Instance) → eqb id from ≡ b
+      → instance_of t.instances id ≡ o → refusal_of t (call.AddWatch from p mask) ≡ None → HasSoundWatches o
       → HasSoundWatches (cond b (option_map (watching (number_seen (look t.world p)) (known mask)) o) o)
   watched from p mask true None same is e sound = tt
   watched from p mask true (Some i) same is e sound =
       let there : instance_of t.instances from ≡ Some i = ap (instance_of t.instances) (sym (eqb-true id from same)) ∙ is in
-      watching-sound laws (look t.world) p (known mask) i sound (ap (λ (x : Option Instance). first_row (add_watch_rows (look t.world) p (known mask) x)) (sym there) ∙ e)
+      watching-sound laws (look t.world) p (known mask) i sound
+      (ap (λ (x : Option Instance). first_row (add_watch_rows (look t.world) p (known mask) x)) (sym there) ∙ e)
   watched from p mask false o same is e sound = sound
 
-  left-sound : (c : Call) (o : Option Instance) → instance_of t.instances id ≡ o → refusal_of t c ≡ None → HasSoundWatches o → HasSoundWatches (left_of t c id o)
+  left-sound : (c : Call) (o : Option Instance) → instance_of t.instances id ≡ o → refusal_of t c ≡ None → HasSoundWatches o
+      → HasSoundWatches (left_of t c id o)
   left-sound (call.File f) None is e sound = tt
   left-sound (call.File f) (Some i) is e sound = laws.told i.watches (notices_of t.world f (cookie_now t.next_cookie)) sound
   left-sound (call.Init limit is_piped) o is e sound = opened (eqb id t.next_id)
@@ -109,7 +113,8 @@ module _ (laws : WatchLaws) (t : Tree) (id : ℕ) where
 module _ (laws : WatchLaws) where
   by-refusal : (t : Tree) (c : Call) (o : Option Refusal) → refusal_of t c ≡ o → WatchesAreSound t → WatchesAreSound (tree_by o t (accepted t c))
   by-refusal t c (Some r) e sound = sound
-  by-refusal t c None e sound = λ id. subst HasSoundWatches (sym (instance_of-accepted t c id)) (left-sound laws t id c (instance_of t.instances id) refl e (sound id))
+  by-refusal t c None e sound =
+      λ id. subst HasSoundWatches (sym (instance_of-accepted t c id)) (left-sound laws t id c (instance_of t.instances id) refl e (sound id))
 
   pub WatchesAreSound-after : (t : Tree) (c : Call) → WatchesAreSound t → WatchesAreSound (after t c)
   WatchesAreSound-after t c sound = by-refusal t c (refusal_of t c) refl sound

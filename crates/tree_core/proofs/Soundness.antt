@@ -55,12 +55,16 @@ use Rattle.tree_core.proofs.Waiting.{WaitLaws, Waits, cookies-rise, waits-after}
 -- the laws of the crates below on which the soundness of trees rests
 pub record TreeLaws : Type 0 where
   pub watches : WatchLaws
-  pub world : (w : World) (limits : Limits) (counts : Counts) (f : FileCall) → IsWorld w → refused w limits counts f ≡ None → finmap.get w.files counts.next_number ≡ None → IsWorld (ops.after w counts f)
-  pub whole : (w : World) (limits : Limits) (counts : Counts) (f : FileCall) → IsWorld w → IsWhole w → refused w limits counts f ≡ None → finmap.get w.files counts.next_number ≡ None → IsWhole (ops.after w counts f)
+  pub world : (w : World) (limits : Limits) (counts : Counts) (f : FileCall) → IsWorld w → refused w limits counts f ≡ None
+      → finmap.get w.files counts.next_number ≡ None → IsWorld (ops.after w counts f)
+  pub whole : (w : World) (limits : Limits) (counts : Counts) (f : FileCall) → IsWorld w → IsWhole w
+      → refused w limits counts f ≡ None → finmap.get w.files counts.next_number ≡ None → IsWhole (ops.after w counts f)
   pub opened : IsWorld opening_world
   pub opened_whole : IsWhole opening_world
-  pub numbers : (w : World) (counts : Counts) (f : FileCall) (n : ℕ) → IsSome (finmap.get (ops.after w counts f).files n) → IsSome (finmap.get w.files n) ⊎ ((n ≡ counts.next_number) × (ops.numbers_of f ≡ 1))
-  pub told : (w : World) (limits : Limits) (counts : Counts) (f : FileCall) (cookie n : ℕ) → IsWorld w → refused w limits counts f ≡ None → IsSome (finmap.get w.files n) → finmap.get (ops.after w counts f).files n ≡ None → Contains (notices_of w f cookie) (Gone n)
+  pub numbers : (w : World) (counts : Counts) (f : FileCall) (n : ℕ) → IsSome (finmap.get (ops.after w counts f).files n)
+      → IsSome (finmap.get w.files n) ⊎ ((n ≡ counts.next_number) × (ops.numbers_of f ≡ 1))
+  pub told : (w : World) (limits : Limits) (counts : Counts) (f : FileCall) (cookie n : ℕ) → IsWorld w → refused w limits counts f ≡ None
+      → IsSome (finmap.get w.files n) → finmap.get (ops.after w counts f).files n ≡ None → Contains (notices_of w f cookie) (Gone n)
   pub unwatched : (w : Watching) (ns : List Notice) (n : ℕ) → Contains ns (Gone n) → watch_of (watches_after w ns) n ≡ None
   pub part : (w : Watching) (ns : List Notice) → IsPartOf (watches_after w ns) w
   pub of_watches : (w : Watching) (ns : List Notice) → All (λ e. HasWatch w e.wd) (events_of w ns)
@@ -86,7 +90,8 @@ IsCounted-accepted t (call.AddWatch from p mask) is none = record { numbers = is
 IsCounted-accepted t (call.RmWatch from wd) is none = record { numbers = is.numbers; cookies = is.cookies; ids = is.ids; opened = λ id there. is.opened id (opened-changed t.instances from (unwatching wd) id there) }
 IsCounted-accepted t (call.Read from bytes) is none = record { numbers = is.numbers; cookies = is.cookies; ids = is.ids; opened = λ id there. is.opened id (opened-changed t.instances from (after_reading bytes) id there) }
 IsCounted-accepted t (call.Pump from bytes) is none = record { numbers = is.numbers; cookies = is.cookies; ids = is.ids; opened = λ id there. is.opened id (opened-changed t.instances from (after_reading bytes) id there) }
-IsCounted-accepted t (call.Close from) is none = record { numbers = is.numbers; cookies = is.cookies; ids = is.ids; opened = λ id there. is.opened id (opened-cut t.instances from id there) }
+IsCounted-accepted t (call.Close from) is none =
+    record { numbers = is.numbers; cookies = is.cookies; ids = is.ids; opened = λ id there. is.opened id (opened-cut t.instances from id there) }
 
 -- ---- queues
 
@@ -106,7 +111,8 @@ module _ (bounds : (b : Backlog) → KeepsBounds b) where
   bounded-all : (b : Backlog) (es : List Event) → All (λ (e : Event). e ≢ overflow_mark) es → IsBounded b → IsBounded (fold after_offer b es)
   bounded-all b [] h is = is
   bounded-all b (e ∷ es) h is =
-      bounded-all (after_offer b e) es (All-tail (λ (x : Event). x ≢ overflow_mark) e es h) ((bounds b).offers e (All-head (λ (x : Event). x ≢ overflow_mark) e es h) is)
+      bounded-all (after_offer b e) es (All-tail (λ (x : Event). x ≢ overflow_mark) e es h)
+      ((bounds b).offers e (All-head (λ (x : Event). x ≢ overflow_mark) e es h) is)
 
 limit-all : (b : Backlog) (es : List Event) → (fold after_offer b es).limit ≡ b.limit
 limit-all b [] = refl
@@ -135,7 +141,8 @@ watched-removed w wd n h = by (watched_by w wd) h
     by (Some number) g = let watch = is_value _ g in ap is_some (dropped-was w number n watch.0 watch.1).1
 
 -- what an accepted call watches is there
-seen-file : (t : Tree) (from : ℕ) (p : List Label) (mask : ℕ) → refusal_of t (call.AddWatch from p mask) ≡ None → IsSome (finmap.get t.world.files (number_seen (look t.world p)))
+seen-file : (t : Tree) (from : ℕ) (p : List Label) (mask : ℕ) → refusal_of t (call.AddWatch from p mask) ≡ None
+    → IsSome (finmap.get t.world.files (number_seen (look t.world p)))
 unfolding add_watch_rows seen_as
 seen-file t from p mask none = by (instance_of t.instances from) none
   where
@@ -150,7 +157,8 @@ seen-file t from p mask none = by (instance_of t.instances from) none
         let number : a.number ≡ s.number = ap (λ (x : Seen). x.number) a.seen in
         ap is_some (ap (finmap.get t.world.files) (sym number) ∙ a.is)
 
-    by : (o : Option Instance) → first_row (add_watch_rows (look t.world) p (known mask) o) ≡ None → IsSome (finmap.get t.world.files (number_seen (look t.world p)))
+    by : (o : Option Instance) → first_row (add_watch_rows (look t.world) p (known mask) o) ≡ None
+        → IsSome (finmap.get t.world.files (number_seen (look t.world p)))
     by None e = absurd (cc)
     by (Some i) e =
         let mask_passes = first (mask_fault (known mask)) (find (look t.world) p ∷ seen_fault i (known mask) (look t.world p) ∷ []) e in
@@ -187,7 +195,8 @@ record IsKeeping (t : Tree) (i : Instance) : Type 0 where
   bounded : IsBounded i.queue
   limited : i.queue.limit ≤ t.limits.queue
 
-keeping-if : (P Q : Instance → Type 0) (b : Bool) (change : Instance → Instance) → ((i : Instance) → P i → Q i) → ((i : Instance) → P i → Q (change i)) → (o : Option Instance) → IfSome o P → IfSome (cond b (option_map change o) o) Q
+keeping-if : (P Q : Instance → Type 0) (b : Bool) (change : Instance → Instance) → ((i : Instance) → P i → Q i)
+    → ((i : Instance) → P i → Q (change i)) → (o : Option Instance) → IfSome o P → IfSome (cond b (option_map change o) o) Q
 keeping-if P Q true change same now None h = tt
 keeping-if P Q true change same now (Some i) h = now i h
 keeping-if P Q false change same now None h = tt
@@ -208,7 +217,8 @@ module _ (laws : TreeLaws) (t : Tree) (is : IsSoundTree t) where
   -- ---- a call on files
 
   -- a file that an instance still watches is still there
-  still-there : (f : FileCall) → refusal_of t (call.File f) ≡ None → (i : Instance) → IsSoundInstance t i → (number : ℕ) → IsSome (watch_of (told (notices_of t.world f (cookie_now t.next_cookie)) i).watches number)
+  still-there : (f : FileCall) → refusal_of t (call.File f) ≡ None → (i : Instance) → IsSoundInstance t i → (number : ℕ)
+      → IsSome (watch_of (told (notices_of t.world f (cookie_now t.next_cookie)) i).watches number)
       → IsSome (finmap.get (ops.after t.world (counts_of t) f).files number)
   still-there f none i sound number h =
       let ns = notices_of t.world f (cookie_now t.next_cookie) in
@@ -221,7 +231,8 @@ module _ (laws : TreeLaws) (t : Tree) (is : IsSoundTree t) where
             absurd (some_none (laws.unwatched i.watches ns number told_gone) watch.1)
       ] refl
 
-  keeps-told : (f : FileCall) → refusal_of t (call.File f) ≡ None → (i : Instance) → IsSoundInstance t i → IsKeeping (accepted t (call.File f)) (told (notices_of t.world f (cookie_now t.next_cookie)) i)
+  keeps-told : (f : FileCall) → refusal_of t (call.File f) ≡ None → (i : Instance) → IsSoundInstance t i
+      → IsKeeping (accepted t (call.File f)) (told (notices_of t.world f (cookie_now t.next_cookie)) i)
   unfolding after_file
   keeps-told f none i sound =
       let es = events_of i.watches (notices_of t.world f (cookie_now t.next_cookie)) in
@@ -229,7 +240,11 @@ module _ (laws : TreeLaws) (t : Tree) (is : IsSoundTree t) where
       record {
         has_limits = record { most = part.most_watches ∙ sound.most_watches; last = part.last_wd ∙ sound.last_wd };
         watched = still-there f none i sound;
-        bounded = bounded-all laws.bounds i.queue es (All-weaker (λ (e : Event). HasWatch i.watches e.wd) (λ (e : Event). e ≢ overflow_mark) (watch-no_mark i.watches sound.watches) es (laws.of_watches i.watches (notices_of t.world f (cookie_now t.next_cookie)))) sound.bounded;
+        bounded =
+            bounded-all laws.bounds i.queue es
+            (All-weaker (λ (e : Event). HasWatch i.watches e.wd) (λ (e : Event). e ≢ overflow_mark)
+            (watch-no_mark i.watches sound.watches) es (laws.of_watches i.watches (notices_of t.world f (cookie_now t.next_cookie))))
+            sound.bounded;
         limited = subst (λ n. n ≤ t.limits.queue) (sym (limit-all i.queue es)) sound.limited;
       }
 
@@ -237,13 +252,15 @@ module _ (laws : TreeLaws) (t : Tree) (is : IsSoundTree t) where
 
   keeps-same : (c : Call) (i : Instance) → (accepted t c).world ≡ t.world → (accepted t c).limits ≡ t.limits → IsSoundInstance t i → IsKeeping (accepted t c) i
   keeps-same c i world limits sound = record {
-    has_limits = record { most = sound.most_watches ∙ sym (ap (λ (l : Limits). l.watches) limits); last = sound.last_wd ∙ sym (ap (λ (l : Limits). l.wds) limits) };
+    has_limits =
+        record { most = sound.most_watches ∙ sym (ap (λ (l : Limits). l.watches) limits); last = sound.last_wd ∙ sym (ap (λ (l : Limits). l.wds) limits) };
     watched = λ number h. subst (λ (w : World). IsSome (finmap.get w.files number)) (sym world) (sound.watched number h);
     bounded = sound.bounded;
     limited = subst (λ (l : Limits). i.queue.limit ≤ l.queue) (sym limits) sound.limited;
   }
 
-  keeps-read : (c : Call) (bytes : ℕ) (i : Instance) → (accepted t c).world ≡ t.world → (accepted t c).limits ≡ t.limits → IsSoundInstance t i → IsKeeping (accepted t c) (after_reading bytes i)
+  keeps-read : (c : Call) (bytes : ℕ) (i : Instance) → (accepted t c).world ≡ t.world → (accepted t c).limits ≡ t.limits
+      → IsSoundInstance t i → IsKeeping (accepted t c) (after_reading bytes i)
   keeps-read c bytes i world limits sound = let same = keeps-same c i world limits sound in record {
     has_limits = same.has_limits;
     watched = same.watched;
@@ -254,7 +271,8 @@ module _ (laws : TreeLaws) (t : Tree) (is : IsSoundTree t) where
   no-watch : (number : ℕ) → IsSome (watch_of (no_watches t.limits) number) → ⊥
   no-watch number h = let watch = is_value _ h in some_none (get-empty {X = Watch} nat_cmp number) watch.1
 
-  keeps-left : (c : Call) (id : ℕ) (o : Option Instance) → refusal_of t c ≡ None → IfSome o (IsSoundInstance t) → IfSome (left_of t c id o) (IsKeeping (accepted t c))
+  keeps-left : (c : Call) (id : ℕ) (o : Option Instance) → refusal_of t c ≡ None → IfSome o (IsSoundInstance t)
+      → IfSome (left_of t c id o) (IsKeeping (accepted t c))
   unfolding after_init after_add_watch after_rm_watch after_accepted_read after_close
   keeps-left (call.File f) id None none h = tt
   keeps-left (call.File f) id (Some i) none h = keeps-told f none i h
@@ -278,7 +296,8 @@ module _ (laws : TreeLaws) (t : Tree) (is : IsSoundTree t) where
         limited = g.limited;
       }) o h
     where
-      by : (i : Instance) → IsSoundInstance t i → (number : ℕ) → (number ≡ number_seen (look t.world p)) ⊎ IsSome (watch_of i.watches number) → IsSome (finmap.get t.world.files number)
+      by : (i : Instance) → IsSoundInstance t i → (number : ℕ)
+          → (number ≡ number_seen (look t.world p)) ⊎ IsSome (watch_of i.watches number) → IsSome (finmap.get t.world.files number)
       by i g number (inl e) = subst (λ n. IsSome (finmap.get t.world.files n)) (sym e) (seen-file t from p mask none)
       by i g number (inr was) = g.watched number was
   keeps-left (call.RmWatch from wd) id o none h =
@@ -324,7 +343,8 @@ module _ (laws : TreeLaws) (t : Tree) (is : IsSoundTree t) where
   whole-accepted (call.Pump from bytes) none = is.whole
   whole-accepted (call.Close from) none = is.whole
 
-  given-filed : (f : FileCall) (number : ℕ) → IsSome (finmap.get t.world.files number) ⊎ ((number ≡ t.next_number) × (ops.numbers_of f ≡ 1)) → number < t.next_number + ops.numbers_of f
+  given-filed : (f : FileCall) (number : ℕ) → IsSome (finmap.get t.world.files number) ⊎ ((number ≡ t.next_number) × (ops.numbers_of f ≡ 1))
+      → number < t.next_number + ops.numbers_of f
   given-filed f number (inl was) = let before = is.given number was in omega arith
   given-filed f number (inr (e, one)) = omega (arith, e, one)
 
@@ -349,9 +369,11 @@ module _ (laws : TreeLaws) (t : Tree) (is : IsSoundTree t) where
     cookies = let more = cookies-rise t c in let first = is.cookies in let same = ap (λ (u : Tree). u.next_cookie) (after-accepted t c none) in omega arith;
     instances = λ id i at.
         let left : left_of t c id (instance_of t.instances id) ≡ Some i = sym (instance_of-accepted t c id) ∙ at in
-        let keeping = at-instance (IsKeeping (accepted t c)) (left_of t c id (instance_of t.instances id)) i left (keeps-left c id (instance_of t.instances id) none (sound-if-open t is id)) in
+        let keeping = at-instance (IsKeeping (accepted t c)) (left_of t c id (instance_of t.instances id)) i left
+        (keeps-left c id (instance_of t.instances id) none (sound-if-open t is id)) in
         let sound = subst WatchesAreSound (after-accepted t c none) (WatchesAreSound-after laws.watches t c (sound-watches t is)) in
-        let waits = subst (λ (u : Tree). Waits u i) (after-accepted t c none) (waits-after laws.waits t is c id i (ap (λ (u : Tree). instance_of u.instances id) (after-accepted t c none) ∙ at)) in
+        let waits = subst (λ (u : Tree). Waits u i) (after-accepted t c none)
+        (waits-after laws.waits t is c id i (ap (λ (u : Tree). instance_of u.instances id) (after-accepted t c none) ∙ at)) in
         record {
           watches = at-instance (λ x. IsSound x.watches) (instance_of (accepted t c).instances id) i at (sound id);
           most_watches = keeping.has_limits.most;
@@ -386,7 +408,8 @@ module _ (laws : TreeLaws) where
         | inl e ↦ omega (arith, e)
         | inr off ↦
             let f = is_value _ h in
-            absurd (some_none (get-insert_other nat_cmp_total nat_cmp-IsAntisymmetric finmap.empty root_number _ number off ∙ get-empty {X = File} nat_cmp number) f.1)
+            absurd (some_none
+            (get-insert_other nat_cmp_total nat_cmp-IsAntisymmetric finmap.empty root_number _ number off ∙ get-empty {X = File} nat_cmp number) f.1)
       ]
 
   IsSoundTree-opening : (limits : Limits) → IsSoundTree (opening limits)

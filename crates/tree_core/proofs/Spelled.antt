@@ -96,7 +96,8 @@ events-of-file_system t m is waits = subst WaitingAreEvents (ap (λ (x : Tree). 
 
 -- ---- a journal
 
-pub read-more : (t : Tree) (es : List Entry) (e : Entry) (id : ℕ) → AreEvents (read_in t es id) → AreEvents (read_by (tree_after t es) e.call id) → AreEvents (read_in t (es ++ e ∷ []) id)
+pub read-more : (t : Tree) (es : List Entry) (e : Entry) (id : ℕ) → AreEvents (read_in t es id)
+    → AreEvents (read_by (tree_after t es) e.call id) → AreEvents (read_in t (es ++ e ∷ []) id)
 read-more t [] e id h g = events-append (read_by t e.call id) [] g tt
 read-more t (x ∷ es) e id h g =
     let one = read_by t x.call id in

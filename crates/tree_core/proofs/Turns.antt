@@ -23,7 +23,8 @@ pub record Step (now next : ℕ) (given : List ℕ) : Type 0 where
   pub all : (rest : List ℕ) → AreInTurn next rest → AreInTurn now (given ++ rest)
 
 pub gives-none : (now next : ℕ) (given : List ℕ) → given ≡ [] → next ≡ now → Step now next given
-gives-none now next given none stays = record { all = λ rest h. subst (λ (xs : List ℕ). AreInTurn now (xs ++ rest)) (sym none) (subst (λ (n : ℕ). AreInTurn n rest) stays h) }
+gives-none now next given none stays =
+    record { all = λ rest h. subst (λ (xs : List ℕ). AreInTurn now (xs ++ rest)) (sym none) (subst (λ (n : ℕ). AreInTurn n rest) stays h) }
 
 pub gives-one : (now next : ℕ) (given : List ℕ) → given ≡ now ∷ [] → next ≡ now + 1 → Step now next given
 gives-one now next given one rises =
@@ -79,7 +80,8 @@ accepted-numbers t (call.Read id bytes) = gives-none _ _ _ (read-number bytes (i
 accepted-numbers t (call.Pump id bytes) = gives-none _ _ _ (read-number bytes (instance_of t.instances id)) refl
 accepted-numbers t (call.Close id) = gives-none _ _ _ refl refl
 
-step-numbers : (t : Tree) (c : Call) (o : Option Refusal) → Step t.next_number (tree_by o t (accepted t c)).next_number (number_in (reply_by o (accepted_reply t c)))
+step-numbers : (t : Tree) (c : Call) (o : Option Refusal)
+    → Step t.next_number (tree_by o t (accepted t c)).next_number (number_in (reply_by o (accepted_reply t c)))
 step-numbers t c None = accepted-numbers t c
 step-numbers t c (Some r) = gives-none _ _ _ refl refl
 

@@ -76,7 +76,8 @@ left-none t (call.Read from bytes) id h = none-if (eqb id from) None refl
 left-none t (call.Pump from bytes) id h = none-if (eqb id from) None refl
 left-none t (call.Close from) id h = none-if (eqb id from) None refl
 
-none-by : (t : Tree) (c : Call) (id : ℕ) (o : Option Refusal) → instance_of t.instances id ≡ None → IsPast t (tree_by o t (accepted t c)) id → instance_of (tree_by o t (accepted t c)).instances id ≡ None
+none-by : (t : Tree) (c : Call) (id : ℕ) (o : Option Refusal) → instance_of t.instances id ≡ None
+    → IsPast t (tree_by o t (accepted t c)) id → instance_of (tree_by o t (accepted t c)).instances id ≡ None
 none-by t c id (Some r) none h = none
 none-by t c id None none h = instance_of-accepted t c id ∙ ap (left_of t c id) none ∙ left-none t c id h
 
@@ -93,7 +94,8 @@ there : (t : Tree) (e : Entry) (es : List Entry) (id : ℕ) → IsPast t (tree_a
 there t e es id (inl h) = let more = next-after t e.call in inl (omega arith)
 there t e es id (inr h) = inr h
 
-pub none-tree_after : (t : Tree) (es : List Entry) (id : ℕ) → instance_of t.instances id ≡ None → IsPast t (tree_after t es) id → instance_of (tree_after t es).instances id ≡ None
+pub none-tree_after : (t : Tree) (es : List Entry) (id : ℕ) → instance_of t.instances id ≡ None → IsPast t (tree_after t es) id
+    → instance_of (tree_after t es).instances id ≡ None
 none-tree_after t [] id none h = none
 none-tree_after t (e ∷ es) id none h = none-tree_after (after t e.call) es id (none-after t e.call id none (here t e es id h)) (there t e es id h)
 

@@ -53,7 +53,8 @@ joining-All P mark Lost e h = All-nil P
 joined-All : (P : Event → Type 0) → P overflow_mark → (rs : List Raised) → All P (events rs) → All P (joined rs)
 joined-All P mark [] h = All-nil P
 joined-All P mark (r ∷ rs) h =
-    All-append P (joining (fate r) r.event) (joined rs) (joining-All P mark (fate r) r.event (All-head P r.event (events rs) h)) (joined-All P mark rs (All-tail P r.event (events rs) h))
+    All-append P (joining (fate r) r.event) (joined rs) (joining-All P mark (fate r) r.event (All-head P r.event (events rs) h))
+    (joined-All P mark rs (All-tail P r.event (events rs) h))
 
 -- ---- numbers that come next
 
@@ -90,13 +91,15 @@ marks-All P none (m ∷ ms) h ties = by (is_move m) refl (λ k. marks-All P none
     by : (b : Bool) → is_move m ≡ b → (All (λ (x : Mark). P x.1) (moves_in ms) → All (λ (x : Mark). P x.1) ms)
         → All (λ (x : Mark). P x.1) (if b then (event_bit m.0, m.1) ∷ moves_in ms else moves_in ms) → All (λ (x : Mark). P x.1) (m ∷ ms)
     by true e rest k =
-        All-cons (λ (x : Mark). P x.1) m ms (All-head (λ (x : Mark). P x.1) (event_bit m.0, m.1) (moves_in ms) k) (rest (All-tail (λ (x : Mark). P x.1) (event_bit m.0, m.1) (moves_in ms) k))
+        All-cons (λ (x : Mark). P x.1) m ms (All-head (λ (x : Mark). P x.1) (event_bit m.0, m.1) (moves_in ms) k)
+        (rest (All-tail (λ (x : Mark). P x.1) (event_bit m.0, m.1) (moves_in ms) k))
     by false e rest k = All-cons (λ (x : Mark). P x.1) m ms (subst P (sym (All-head IsTied m ms ties e)) none) (rest k)
 
 events-All : (P : ℕ → Type 0) (es : List Event) → All (λ (m : Mark). P m.1) (marks_of es) → All (λ (e : Event). P e.cookie) es
 events-All P [] h = All-nil (λ (e : Event). P e.cookie)
 events-All P (e ∷ es) h =
-    All-cons (λ (x : Event). P x.cookie) e es (All-head (λ (m : Mark). P m.1) (e.mask, e.cookie) (marks_of es) h) (events-All P es (All-tail (λ (m : Mark). P m.1) (e.mask, e.cookie) (marks_of es) h))
+    All-cons (λ (x : Event). P x.cookie) e es (All-head (λ (m : Mark). P m.1) (e.mask, e.cookie) (marks_of es) h)
+    (events-All P es (All-tail (λ (m : Mark). P m.1) (e.mask, e.cookie) (marks_of es) h))
 
 module _ (t : Tree) (c : Call) where
   in-turn : AreInTurn t.next_cookie (cookies_used t c ++ (after t c).next_cookie ∷ [])
@@ -112,13 +115,16 @@ module _ (t : Tree) (c : Call) where
   -- the cookies that a call uses are so, and those of all events that it raises
   used-given : All IsGivenCookie (cookies_used t c)
   used-given =
-      All-weaker (λ x. x < (after t c).next_cookie) IsGivenCookie (λ x h. inr h) (cookies_used t c) (all-below t.next_cookie (after t c).next_cookie (cookies_used t c) in-turn)
+      All-weaker (λ x. x < (after t c).next_cookie) IsGivenCookie (λ x h. inr h) (cookies_used t c)
+      (all-below t.next_cookie (after t c).next_cookie (cookies_used t c) in-turn)
 
   events-given : (es : List Event) → AreTied (moves_with (cookies_used t c)) (marks_of es) → All (λ e. IsGivenCookie e.cookie) es
   events-given es ties =
       events-All IsGivenCookie es
       (marks-All IsGivenCookie (inl refl) (marks_of es)
-      (among-All (λ (m : Mark). IsGivenCookie m.1) (moves_in (marks_of es)) (moves_with (cookies_used t c)) ties.among (with-All IsGivenCookie (cookies_used t c) used-given)) ties.others)
+      (among-All (λ (m : Mark). IsGivenCookie m.1) (moves_in (marks_of es)) (moves_with (cookies_used t c)) ties.among
+      (with-All IsGivenCookie (cookies_used t c) used-given))
+      ties.others)
 
   -- a cookie that was given is so after the call
   still-given : (cookie : ℕ) → (cookie ≡ 0) ⊎ (cookie < t.next_cookie) → IsGivenCookie cookie
@@ -153,8 +159,10 @@ module _ (part : (w : Watching) (ns : List Notice) → IsPartOf (watches_after w
   later-left : (t : Tree) (c : Call) (id : ℕ) (i : Instance) → id < t.next_id → IfSome (left_of t c id (Some i)) (IsLater i)
   later-left t (call.File f) id i made = let same = (part i.watches (notices_of t.world f (cookie_now t.next_cookie))).next_wd in omega (arith, same)
   later-left t (call.Init limit is_piped) id i made =
-      subst (λ b. IfSome (cond b (Some (new_instance t.limits limit is_piped)) (Some i)) (IsLater i)) (sym (eqb-other id t.next_id (λ e. absurd (omega arith)))) (omega arith)
-  later-left t (call.AddWatch from p mask) id i made = later-if (eqb id from) i (watching (number_seen (look t.world p)) (known mask)) (added-next i.watches (number_seen (look t.world p)) (known mask))
+      subst (λ b. IfSome (cond b (Some (new_instance t.limits limit is_piped)) (Some i)) (IsLater i))
+      (sym (eqb-other id t.next_id (λ e. absurd (omega arith)))) (omega arith)
+  later-left t (call.AddWatch from p mask) id i made =
+      later-if (eqb id from) i (watching (number_seen (look t.world p)) (known mask)) (added-next i.watches (number_seen (look t.world p)) (known mask))
   later-left t (call.RmWatch from wd) id i made = later-if (eqb id from) i (unwatching wd) (removed-next i.watches wd)
   later-left t (call.Read from bytes) id i made = later-if (eqb id from) i (after_reading bytes) (omega arith)
   later-left t (call.Pump from bytes) id i made = later-if (eqb id from) i (after_reading bytes) (omega arith)
@@ -164,11 +172,13 @@ module _ (part : (w : Watching) (ns : List Notice) → IsPartOf (watches_after w
       by true = tt
       by false = omega arith
 
-  later-by : (t : Tree) (c : Call) (id : ℕ) (i : Instance) (r : Option Refusal) → instance_of t.instances id ≡ Some i → id < t.next_id → IfSome (instance_of (tree_by r t (accepted t c)).instances id) (IsLater i)
+  later-by : (t : Tree) (c : Call) (id : ℕ) (i : Instance) (r : Option Refusal) → instance_of t.instances id ≡ Some i
+      → id < t.next_id → IfSome (instance_of (tree_by r t (accepted t c)).instances id) (IsLater i)
   later-by t c id i (Some r) at made = subst (λ o. IfSome o (IsLater i)) (sym at) (omega arith)
   later-by t c id i None at made = subst (λ o. IfSome o (IsLater i)) (sym (instance_of-accepted t c id ∙ ap (left_of t c id) at)) (later-left t c id i made)
 
-  later-after : (t : Tree) (c : Call) (id : ℕ) (i j : Instance) → instance_of t.instances id ≡ Some i → id < t.next_id → instance_of (after t c).instances id ≡ Some j → IsLater i j
+  later-after : (t : Tree) (c : Call) (id : ℕ) (i j : Instance) → instance_of t.instances id ≡ Some i → id < t.next_id
+      → instance_of (after t c).instances id ≡ Some j → IsLater i j
   later-after t c id i j at made is_open = subst (λ o. IfSome o (IsLater i)) is_open (later-by t c id i (refusal_of t c) at made)
 
 -- ---- what waits
@@ -193,7 +203,8 @@ module _ (laws : WaitLaws) (t : Tree) (is : IsSoundTree t) (c : Call) (id : ℕ)
   old-over : (o : Option Instance) → instance_of t.instances id ≡ o → All (Ends (IsOver t id)) (waiting_of o)
   old-over None at = All-nil (Ends (IsOver t id))
   old-over (Some i) at =
-      All-weaker (Ends (HasEnded i.watches)) (Ends (IsOver t id)) (λ e h said. record { made = below (Some i) at refl; over = subst (OverIn e.wd) (sym at) (h said) }) i.queue.waiting (is.instances id i at).over
+      All-weaker (Ends (HasEnded i.watches)) (Ends (IsOver t id))
+      (λ e h said. record { made = below (Some i) at refl; over = subst (OverIn e.wd) (sym at) (h said) }) i.queue.waiting (is.instances id i at).over
 
   old-quiet : (o : Option Instance) → instance_of t.instances id ≡ o → Quiet (waiting_of o)
   old-quiet None at = tt
@@ -204,25 +215,31 @@ module _ (laws : WaitLaws) (t : Tree) (is : IsSoundTree t) (c : Call) (id : ℕ)
   Raising = raised_by t c id
 
   raised-over : All (Ends (IsOver (after t c) id)) (joined Raising)
-  raised-over = joined-All (Ends (IsOver (after t c) id)) (λ said. absurd (mark-goes-on said)) Raising (said-one laws.ends t c id (sound-watches t is) is.counted.opened)
+  raised-over =
+      joined-All (Ends (IsOver (after t c) id)) (λ said. absurd (mark-goes-on said)) Raising
+      (said-one laws.ends t c id (sound-watches t is) is.counted.opened)
 
   raised-quiet : Quiet (joined Raising)
   raised-quiet =
       joined-Quiet Raising (quiet-one laws.ends t c id (sound-watches t is))
-      (All-weaker (Ends (IsOver (after t c) id)) (Ends IsGiven) (λ e h said. over-given e.wd (instance_of (after t c).instances id) (h said).over) (events Raising)
+      (All-weaker (Ends (IsOver (after t c) id)) (Ends IsGiven)
+      (λ e h said. over-given e.wd (instance_of (after t c).instances id) (h said).over) (events Raising)
       (said-one laws.ends t c id (sound-watches t is) is.counted.opened))
 
   -- what waited, and what joined
   all-over : (o : Option Instance) → instance_of t.instances id ≡ o → All (Ends (IsOver (after t c) id)) (waiting_of o ++ joined Raising)
   all-over o at =
       All-append (Ends (IsOver (after t c) id)) (waiting_of o) (joined Raising)
-      (All-weaker (Ends (IsOver t id)) (Ends (IsOver (after t c) id)) (λ e h said. IsOver-after laws.ends t c id e.wd (h said)) (waiting_of o) (old-over o at)) raised-over
+      (All-weaker (Ends (IsOver t id)) (Ends (IsOver (after t c) id)) (λ e h said. IsOver-after laws.ends t c id e.wd (h said))
+      (waiting_of o) (old-over o at))
+      raised-over
 
   all-quiet : (o : Option Instance) → instance_of t.instances id ≡ o → Quiet (waiting_of o ++ joined Raising)
   all-quiet o at =
       Quiet-append (waiting_of o) (joined Raising) (old-quiet o at) raised-quiet
       (All-weaker (Ends (IsOver t id)) (Ends (λ wd. TellsNothing wd (joined Raising)))
-      (λ e h said. joined-silent e.wd (over-given e.wd (instance_of t.instances id) (h said).over) Raising (silent-one laws.ends t c id e.wd (sound-watches t is) (h said)))
+      (λ e h said. joined-silent e.wd (over-given e.wd (instance_of t.instances id) (h said).over) Raising
+      (silent-one laws.ends t c id e.wd (sound-watches t is) (h said)))
       (waiting_of o) (old-over o at))
 
   module _ (j : Instance) (is_open : instance_of (after t c).instances id ≡ Some j) where
@@ -237,7 +254,8 @@ module _ (laws : WaitLaws) (t : Tree) (is : IsSoundTree t) (c : Call) (id : ℕ)
             let more = later-after laws.part t c id i j at (below (Some i) at refl) is_open in
             inr (low, (omega (arith, ints, more, high)), still-given t c e.cookie cookie)
 
-    event-given : (i : Instance) → instance_of t.instances id ≡ Some i → (e : Event) → HasWatch i.watches e.wd → IsGivenCookie t c e.cookie → IsGivenRecord (after t c) j e
+    event-given : (i : Instance) → instance_of t.instances id ≡ Some i → (e : Event) → HasWatch i.watches e.wd
+        → IsGivenCookie t c e.cookie → IsGivenRecord (after t c) j e
     event-given i at e has cookie =
         let given = (is.instances id i at).watches.given has.0 e.wd has.1 in
         let more = later-after laws.part t c id i j at (below (Some i) at refl) is_open in
@@ -260,11 +278,13 @@ module _ (laws : WaitLaws) (t : Tree) (is : IsSoundTree t) (c : Call) (id : ℕ)
     unfolding raised_by
     all-given o at =
         All-append (IsGivenRecord (after t c) j) (waiting_of o) (joined Raising) (old-given o at)
-        (joined-All (IsGivenRecord (after t c) j) (inl refl) Raising (raised-given (refusal_of t c) (instance_of t.instances id) refl refl (events-given t c (events (raised_by t c id)) (laws.ties t c id))))
+        (joined-All (IsGivenRecord (after t c) j) (inl refl) Raising
+        (raised-given (refusal_of t c) (instance_of t.instances id) refl refl (events-given t c (events (raised_by t c id)) (laws.ties t c id))))
 
     waits : GoesOn (instance_of t.instances id) Raising (read_by t c id) (instance_of (after t c).instances id) → Waits (after t c) j
     waits goes =
-        let same : waiting_of (instance_of t.instances id) ++ joined Raising ≡ read_by t c id ++ j.queue.waiting = goes ∙ ap (λ o. read_by t c id ++ waiting_of o) is_open in
+        let same : waiting_of (instance_of t.instances id) ++ joined Raising ≡ read_by t c id ++ j.queue.waiting =
+        goes ∙ ap (λ o. read_by t c id ++ waiting_of o) is_open in
         let E : Event → Type 0 = Ends (IsOver (after t c) id) in
         let G : Event → Type 0 = IsGivenRecord (after t c) j in
         record {
@@ -278,6 +298,8 @@ module _ (laws : WaitLaws) (t : Tree) (is : IsSoundTree t) (c : Call) (id : ℕ)
     pub waits-after : Waits (after t c) j
     waits-after = by (leads t (sound-ahead t is) id c)
       where
-        by : GoesOn (instance_of t.instances id) Raising (read_by t c id) (instance_of (after t c).instances id) ⊎ IsClosing (instance_of t.instances id) Raising (read_by t c id) (instance_of (after t c).instances id) → Waits (after t c) j
+        by : GoesOn (instance_of t.instances id) Raising (read_by t c id) (instance_of (after t c).instances id)
+            ⊎ IsClosing (instance_of t.instances id) Raising (read_by t c id) (instance_of (after t c).instances id)
+            → Waits (after t c) j
         by (inl goes) = waits goes
         by (inr closing) = let gone : ◌≡◌ {A = Option Instance} None (Some j) = sym closing.is_gone ∙ is_open in absurd (cc)

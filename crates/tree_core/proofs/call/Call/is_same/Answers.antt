@@ -10,7 +10,9 @@ use Rattle.tree_core.proofs.call.Call.is_same.Goals as goal
 same : (a b : Call) → IsTrue (derived.ghosts.eq a b) ↔ (a ≡ b)
 same (File f) b = elim b as (λ b. IsTrue (derived.ghosts.eq (File f) b) ↔ (File f ≡ b)) [ File g ↦ search (rules, calls_same) | _ ↦ search rules ]
 same (Init l p) b = elim b as (λ b. IsTrue (derived.ghosts.eq (Init l p) b) ↔ (Init l p ≡ b)) [ Init m q ↦ search rules | _ ↦ search rules ]
-same (AddWatch i p m) b = elim b as (λ b. IsTrue (derived.ghosts.eq (AddWatch i p m) b) ↔ (AddWatch i p m ≡ b)) [ AddWatch j q n ↦ search (rules, names_eq_decides) | _ ↦ search rules ]
+same (AddWatch i p m) b =
+    elim b as (λ b. IsTrue (derived.ghosts.eq (AddWatch i p m) b) ↔ (AddWatch i p m ≡ b))
+    [ AddWatch j q n ↦ search (rules, names_eq_decides) | _ ↦ search rules ]
 same (RmWatch i w) b = elim b as (λ b. IsTrue (derived.ghosts.eq (RmWatch i w) b) ↔ (RmWatch i w ≡ b)) [ RmWatch j v ↦ search rules | _ ↦ search rules ]
 same (Read i n) b = elim b as (λ b. IsTrue (derived.ghosts.eq (Read i n) b) ↔ (Read i n ≡ b)) [ Read j m ↦ search rules | _ ↦ search rules ]
 same (Pump i n) b = elim b as (λ b. IsTrue (derived.ghosts.eq (Pump i n) b) ↔ (Pump i n ≡ b)) [ Pump j m ↦ search rules | _ ↦ search rules ]

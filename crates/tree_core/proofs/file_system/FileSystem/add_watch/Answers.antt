@@ -29,14 +29,17 @@ pub returns-then-is_none : goal.returns-then-is_none
 returns-then-is_none c =
     let m = c.args.self.now in
     let none = copied-none c.find.result (instance_of m.instances c.args.id) c.find.ensures (c.is_none.ensures ∙ ap not c.if-is_none.true) in
-    failed-attempts m m (call.AddWatch c.args.id c.args.path.now c.args.mask) (Err Ebadf) Ebadf refl (inl (add-bad-there (world_of m.table) m.instances c.args.id c.args.path.now c.args.mask none)) refl
+    failed-attempts m m (call.AddWatch c.args.id c.args.path.now c.args.mask) (Err Ebadf) Ebadf refl
+    (inl (add-bad-there (world_of m.table) m.instances c.args.id c.args.path.now c.args.mask none)) refl
 
 pub returns-in-Some : goal.returns-in-Some
 returns-in-Some c =
     let m = c.args.self.now in
     let found = copied-some c.find.result (instance_of m.instances c.args.id) c.find.ensures (c.is_none.ensures ∙ ap not c.if-is_none.false) in
     failed-attempts m m (call.AddWatch c.args.id c.args.path.now c.args.mask) (Err c.in-Some.refusal) c.in-Some.refusal refl
-    (inl (add-mask-there (world_of m.table) m.instances c.args.id found.0 c.args.path.now c.args.mask c.of-mask.result.0 found.1 c.of-mask.ensures c.in-Some.refusal c.in-Some.ensures)) refl
+    (inl (add-mask-there (world_of m.table) m.instances c.args.id found.0 c.args.path.now c.args.mask c.of-mask.result.0 found.1
+    c.of-mask.ensures c.in-Some.refusal c.in-Some.ensures))
+    refl
 
 pub returns-in_err-seen : goal.returns-in_err-seen
 returns-in_err-seen c =
@@ -45,7 +48,9 @@ returns-in_err-seen c =
     let r = c.in_err-seen.field-0.0 in
     let missing = subst (λ p. find (look (world_of m.table)) p ≡ Some r) c.resolve.ensures.names c.in_err-seen.ensures.missing in
     failed-attempts m m (call.AddWatch c.args.id c.args.path.now c.args.mask) c.from_residual.result r c.from_residual.ensures.1
-    (inl (add-path-there (world_of m.table) m.instances c.args.id found.0 c.args.path.now c.args.mask c.of-mask.result.0 found.1 c.of-mask.ensures r c.in_default.ensures missing)) refl
+    (inl (add-path-there (world_of m.table) m.instances c.args.id found.0 c.args.path.now c.args.mask c.of-mask.result.0 found.1
+    c.of-mask.ensures r c.in_default.ensures missing))
+    refl
 
 pub returns : goal.returns
 unfolding after_add_watch
@@ -57,15 +62,19 @@ returns c =
     let seen = c.in_ok-seen.seen in
     let there = subst (λ p. find (look (world_of m.table)) p ≡ None) c.resolve.ensures.names c.in_ok-seen.ensures.none in
     let at = subst (λ p. look (world_of m.table) p ≡ Some seen) c.resolve.ensures.names c.in_ok-seen.ensures.seen in
-    let free = at-instance (λ i. add_refusal i.watches seen.number n c.eq-is_directory.result ≡ None) (instance_of m.instances c.args.id) i found.1 c.in_ok-wd.ensures.accepted in
+    let free = at-instance (λ i. add_refusal i.watches seen.number n c.eq-is_directory.result ≡ None)
+    (instance_of m.instances c.args.id) i found.1 c.in_ok-wd.ensures.accepted in
     let wd = at-instance (λ i. c.in_ok-wd.wd ≡ wd_added i.watches seen.number) (instance_of m.instances c.args.id) i found.1 c.in_ok-wd.ensures.wd in
     let fits : SFits w32 c.in_ok-wd.wd = search rules in
     let same = to_z-of_z w32 c.in_ok-wd.wd fits in
-    complete-attempts m _ (call.AddWatch c.args.id c.args.path.now c.args.mask) c.complete.result (reply.Wd (to_z w32 (of_z w32 c.in_ok-wd.wd))) c.complete.ensures
+    complete-attempts m _ (call.AddWatch c.args.id c.args.path.now c.args.mask) c.complete.result
+    (reply.Wd (to_z w32 (of_z w32 c.in_ok-wd.wd))) c.complete.ensures
     (add-seen-there (world_of m.table) m.instances c.args.id i c.args.path.now c.args.mask n found.1 c.of-mask.ensures seen None c.in_default.ensures there at
     (ap (λ d. add_refusal i.watches seen.number n d) (sym (c.eq-is_directory.ensures ∙ tells-directory seen.kind)) ∙ free))
     (ap reply.Wd (same ∙ wd) ∙ answer-there (world_of m.table) m.instances c.args.id i c.args.path.now c.args.mask n found.1 c.of-mask.ensures seen at)
-    (ap (λ (x : Instances). record (tree_in m) { instances = x }) (watching-there (world_of m.table) m.instances c.args.id i c.args.path.now c.args.mask n found.1 c.of-mask.ensures seen c.watch.new.self at c.in_ok-wd.ensures.ok))
+    (ap (λ (x : Instances). record (tree_in m) { instances = x })
+    (watching-there (world_of m.table) m.instances c.args.id i c.args.path.now c.args.mask n found.1 c.of-mask.ensures seen
+    c.watch.new.self at c.in_ok-wd.ensures.ok))
     (IsNumbered-changed (tree_in m) c.requires c.args.id (watching (number_seen (look (world_of m.table) c.args.path.now)) (known c.args.mask)))
     refl
 
@@ -79,9 +88,12 @@ returns-in_err-wd c =
     let r = c.in_err-wd.field-0.0 in
     let there = subst (λ p. find (look (world_of m.table)) p ≡ None) c.resolve.ensures.names c.in_ok-seen.ensures.none in
     let at = subst (λ p. look (world_of m.table) p ≡ Some seen) c.resolve.ensures.names c.in_ok-seen.ensures.seen in
-    let either = at-instance (λ i. (add_refusal i.watches seen.number n c.eq-is_directory.result ≡ Some r) ⊎ (r ≡ Enomem)) (instance_of m.instances c.args.id) i found.1 c.in_err-wd.ensures.refusals in
-    let why : add_refusal i.watches seen.number n c.eq-is_directory.result ≡ Some r → refusal_of (tree_in m) (call.AddWatch c.args.id c.args.path.now c.args.mask) ≡ Some r =
-    λ why. add-seen-there (world_of m.table) m.instances c.args.id i c.args.path.now c.args.mask n found.1 c.of-mask.ensures seen (Some r) c.in_default.ensures there at
+    let either = at-instance (λ i. (add_refusal i.watches seen.number n c.eq-is_directory.result ≡ Some r) ⊎ (r ≡ Enomem))
+    (instance_of m.instances c.args.id) i found.1 c.in_err-wd.ensures.refusals in
+    let why : add_refusal i.watches seen.number n c.eq-is_directory.result ≡ Some r
+    → refusal_of (tree_in m) (call.AddWatch c.args.id c.args.path.now c.args.mask) ≡ Some r =
+    λ why. add-seen-there (world_of m.table) m.instances c.args.id i c.args.path.now c.args.mask n found.1 c.of-mask.ensures seen
+    (Some r) c.in_default.ensures there at
     (ap (λ d. add_refusal i.watches seen.number n d) (sym (c.eq-is_directory.ensures ∙ tells-directory seen.kind)) ∙ why) in
     failed-attempts m _ (call.AddWatch c.args.id c.args.path.now c.args.mask) c.from_residual-in_err-wd.result r c.from_residual-in_err-wd.ensures.1
     (either-of why either)

@@ -39,7 +39,8 @@ returns-in_err-ready c =
     let m = c.args.self.now in
     let f = c.args.call.now in
     failed-attempts m m (call.File f) c.from_residual.result c.in_err-ready.field-0.0 c.from_residual.ensures.1
-    (inl (passed m.table c.resolve-paths.result f m.limits c.counts-counts.result (counts_of (tree_in m)) c.counts-counts.ensures c.resolve-paths.ensures.tree c.resolve-paths.ensures.call _ c.in_err-ready.ensures.refused))
+    (inl (passed m.table c.resolve-paths.result f m.limits c.counts-counts.result (counts_of (tree_in m)) c.counts-counts.ensures
+    c.resolve-paths.ensures.tree c.resolve-paths.ensures.call _ c.in_err-ready.ensures.refused))
     refl
 
 pub returns-in_err-answer : goal.returns-in_err-answer
@@ -47,7 +48,8 @@ returns-in_err-answer c =
     let m = c.args.self.now in
     let s : FileSystem = record m { notices = c.note.new.noted; staging = c.stage.new.staging } in
     let u = c.carry_out.new.table in
-    failed-attempts m (record s { table = u }) (call.File c.args.call.now) c.from_residual-in_err-answer.result c.in_err-answer.field-0.0 c.from_residual-in_err-answer.ensures.1 (inr c.in_err-answer.ensures.memory)
+    failed-attempts m (record s { table = u }) (call.File c.args.call.now) c.from_residual-in_err-answer.result
+    c.in_err-answer.field-0.0 c.from_residual-in_err-answer.ensures.1 (inr c.in_err-answer.ensures.memory)
     (tree_in-table s u c.in_err-answer.ensures.err_world)
 
 pub returns : goal.returns
@@ -66,7 +68,8 @@ returns c =
     (ap (λ (p : PlanValue). p.counts) c.into_plan-plan.ensures.plan ∙ c.in_ok-ready.ensures.counts ∙ c.counts-counts.ensures)
     c.in_ok-answer.ensures.world c.in_ok-answer.ensures.numbers c.in_ok-answer.ensures.answer in
     let passes : refused w m.limits (counts_of (tree_in m)) f ≡ None =
-    passed m.table c.resolve-paths.result f m.limits c.counts-counts.result (counts_of (tree_in m)) c.counts-counts.ensures c.resolve-paths.ensures.tree c.resolve-paths.ensures.call None c.in_ok-ready.ensures.accepted in
+    passed m.table c.resolve-paths.result f m.limits c.counts-counts.result (counts_of (tree_in m)) c.counts-counts.ensures
+    c.resolve-paths.ensures.tree c.resolve-paths.ensures.call None c.in_ok-ready.ensures.accepted in
     filed-attempts m n f said done passes c.requires refl
     (ap (λ x. m.next_number + x) (c.numbers-numbers.ensures ∙ ap numbers_of call))
     (ap (λ x. m.next_cookie + x) (c.from.ensures ∙ c.cookies-cookies.ensures ∙ (λ i. cookies_of (world_of (tree i)) (call i))))
@@ -82,8 +85,10 @@ note-requires c =
     let now : c.counts-counts.result.next_cookie ≡ cookie_now m.next_cookie = ap (λ (x : Counts). x.next_cookie) c.counts-counts.ensures in
     let call : c.in_ok-ready.ready.plan.call ≡ c.args.call.now = c.in_ok-ready.ensures.call ∙ c.resolve-paths.ensures.call in
     let tree : c.in_ok-ready.ready.tree ≡ m.table = c.in_ok-ready.ensures.tree ∙ c.resolve-paths.ensures.tree in
-    let accepted = passed m.table c.resolve-paths.result c.args.call.now m.limits c.counts-counts.result c.counts-counts.result refl c.resolve-paths.ensures.tree c.resolve-paths.ensures.call None c.in_ok-ready.ensures.accepted in
+    let accepted = passed m.table c.resolve-paths.result c.args.call.now m.limits c.counts-counts.result c.counts-counts.result
+    refl c.resolve-paths.ensures.tree c.resolve-paths.ensures.call None c.in_ok-ready.ensures.accepted in
     let room = cookies-there w m.limits c.counts-counts.result m.next_cookie now c.args.call.now accepted in
     let fits = cookies-fit m.limits m.next_cookie (cookies_of w c.args.call.now) room in
-    let same : cookies_of (world_of c.in_ok-ready.ready.tree) c.in_ok-ready.ready.plan.call ≡ cookies_of w c.args.call.now = (λ i. cookies_of (world_of (tree i)) (call i)) in
+    let same : cookies_of (world_of c.in_ok-ready.ready.tree) c.in_ok-ready.ready.plan.call ≡ cookies_of w c.args.call.now =
+    (λ i. cookies_of (world_of (tree i)) (call i)) in
     omega (arith, fits, same, now)

@@ -23,5 +23,6 @@ returns c =
     c.in_ok-check_init.ensures.passes
     refl
     (λ i. record (tree_in m) { next_id = m.next_id + 1; instances = c.in_ok-open.ensures.ok i })
-    (IsNumbered-opened (tree_in m) c.requires (new_instance m.limits c.args.limit c.args.piped) (init-passes m.limits m.instances m.next_id c.args.limit (sym c.in_ok-check_init.ensures.passes)).2)
+    (IsNumbered-opened (tree_in m) c.requires (new_instance m.limits c.args.limit c.args.piped)
+    (init-passes m.limits m.instances m.next_id c.args.limit (sym c.in_ok-check_init.ensures.passes)).2)
     refl

@@ -17,7 +17,8 @@ returns c =
     let m = c.args.self.now in
     let same = to_z-of_z w32 c.args.wd c.ranges.wd in
     complete-attempts m _ (call.RmWatch c.args.id c.args.wd) c.complete.result reply.Done c.complete.ensures
-    (ap (λ o. first_row (rm_watch_rows c.args.wd o)) (sym c.find.ensures) ∙ sym (ap (λ z. first_row (rm_watch_rows z (option_copied c.find.result))) same) ∙ c.in_ok-check_rm_watch.ensures.passes)
+    (ap (λ o. first_row (rm_watch_rows c.args.wd o)) (sym c.find.ensures)
+    ∙ sym (ap (λ z. first_row (rm_watch_rows z (option_copied c.find.result))) same) ∙ c.in_ok-check_rm_watch.ensures.passes)
     refl
     (ap (λ (x : Instances). record (tree_in m) { instances = x }) (c.unwatch.ensures ∙ ap (λ z. changed m.instances c.args.id (unwatching z)) same))
     (IsNumbered-changed (tree_in m) c.requires c.args.id (unwatching c.args.wd))

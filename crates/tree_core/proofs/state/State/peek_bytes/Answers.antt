@@ -13,6 +13,10 @@ returns c =
     let is : tree_in m ≡ now c.args.self.now = c.self.invariant.stands ∙ ap now c.self.view_is in
     let counts = counts_of (tree_in m) in
     record {
-      ok = said-ok (now c.args.self.now) m (ReadFile c.args.path.now c.args.offset c.args.count) (λ (bytes : Bor (List ℕ)). Bytes bytes.now) is c.peek_bytes.result (c.peek_bytes.ensures.ok m.limits counts);
-      err = said-err (now c.args.self.now) m (ReadFile c.args.path.now c.args.offset c.args.count) is c.peek_bytes.result (c.peek_bytes.ensures.err m.limits counts);
+      ok =
+          said-ok (now c.args.self.now) m (ReadFile c.args.path.now c.args.offset c.args.count)
+          (λ (bytes : Bor (List ℕ)). Bytes bytes.now) is c.peek_bytes.result (c.peek_bytes.ensures.ok m.limits counts);
+      err =
+          said-err (now c.args.self.now) m (ReadFile c.args.path.now c.args.offset c.args.count) is c.peek_bytes.result
+          (c.peek_bytes.ensures.err m.limits counts);
     }

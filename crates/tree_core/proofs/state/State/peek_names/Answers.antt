@@ -13,6 +13,8 @@ returns c =
     let is : tree_in m ≡ now c.args.self.now = c.self.invariant.stands ∙ ap now c.self.view_is in
     let counts = counts_of (tree_in m) in
     record {
-      ok = said-ok (now c.args.self.now) m (Listed c.args.path.now) (λ (names : List (List ℕ)). Names names) is c.peek_names.result (c.peek_names.ensures.ok m.limits counts);
+      ok =
+          said-ok (now c.args.self.now) m (Listed c.args.path.now) (λ (names : List (List ℕ)). Names names) is c.peek_names.result
+          (c.peek_names.ensures.ok m.limits counts);
       err = may-err (now c.args.self.now) m (Listed c.args.path.now) is c.peek_names.result (c.peek_names.ensures.err m.limits counts);
     }

@@ -13,6 +13,8 @@ returns c =
     let is : tree_in m ≡ now c.args.self.now = c.self.invariant.stands ∙ ap now c.self.view_is in
     let counts = counts_of (tree_in m) in
     record {
-      ok = said-ok (now c.args.self.now) m (Stat c.args.path.now) (λ (a : Answer). a) is c.peek_stat.result (of-answer _ _ (c.peek_stat.ensures m.limits counts)).0;
+      ok =
+          said-ok (now c.args.self.now) m (Stat c.args.path.now) (λ (a : Answer). a) is c.peek_stat.result
+          (of-answer _ _ (c.peek_stat.ensures m.limits counts)).0;
       err = said-err (now c.args.self.now) m (Stat c.args.path.now) is c.peek_stat.result (of-answer _ _ (c.peek_stat.ensures m.limits counts)).1;
     }

@@ -16,9 +16,12 @@ use Rattle.tree_core.proofs.state.State.pump.Goals as goal
 pub invariant_of-self-2 : goal.invariant_of-self-2
 invariant_of-self-2 c =
     let a = c.self.inside in
-    let served : Executes a.file_system (call.Pump c.args.instance c.args.bytes) c.in_ok-reply.field-0.reply c.finish_pump.new.self = finished-executes a.file_system a.file_system (call.Pump c.args.instance c.args.bytes) c.in_ok-reply.field-0 c.in_ok-reply.ensures.begun c.finish_pump.new.self c.in_ok-records.ensures.tree in
+    let served : Executes a.file_system (call.Pump c.args.instance c.args.bytes) c.in_ok-reply.field-0.reply c.finish_pump.new.self =
+    finished-executes a.file_system a.file_system (call.Pump c.args.instance c.args.bytes) c.in_ok-reply.field-0
+    c.in_ok-reply.ensures.begun c.finish_pump.new.self c.in_ok-records.ensures.tree in
     let entry : Entry = record { caller = c.args.caller; call = (call.Pump c.args.instance c.args.bytes); reply = c.in_ok-reply.field-0.reply } in
-    IsKept-more a (record { file_system = c.finish_pump.new.self; snapshot = a.snapshot; journal = c.push_reserved.new.self }) c.self.invariant refl (limits-executed a.file_system c.finish_pump.new.self (call.Pump c.args.instance c.args.bytes) served.tree) entry
+    IsKept-more a (record { file_system = c.finish_pump.new.self; snapshot = a.snapshot; journal = c.push_reserved.new.self })
+    c.self.invariant refl (limits-executed a.file_system c.finish_pump.new.self (call.Pump c.args.instance c.args.bytes) served.tree) entry
     (c.push_reserved.ensures.items ∙ ap (λ es. es ++ entry ∷ []) c.make_room.ensures.items) c.in_ok-make_room.ensures.free c.in_ok-make_room.ensures.small
     served.reply served.tree served.numbered c.law.ensures
 
@@ -26,14 +29,19 @@ pub returns-clause-applied : goal.returns-clause-applied
 returns-clause-applied c = record {
   entry =
       let a = c.self.inside in
-      let served : Executes a.file_system (call.Pump c.args.instance c.args.bytes) c.in_ok-reply.field-0.reply c.finish_pump.new.self = finished-executes a.file_system a.file_system (call.Pump c.args.instance c.args.bytes) c.in_ok-reply.field-0 c.in_ok-reply.ensures.begun c.finish_pump.new.self c.in_ok-records.ensures.tree in
+      let served : Executes a.file_system (call.Pump c.args.instance c.args.bytes) c.in_ok-reply.field-0.reply c.finish_pump.new.self =
+      finished-executes a.file_system a.file_system (call.Pump c.args.instance c.args.bytes) c.in_ok-reply.field-0
+      c.in_ok-reply.ensures.begun c.finish_pump.new.self c.in_ok-records.ensures.tree in
       let entry : Entry = record { caller = c.args.caller; call = (call.Pump c.args.instance c.args.bytes); reply = c.in_ok-reply.field-0.reply } in
-      let items : c.push_reserved.new.self.items ≡ a.journal.items ++ entry ∷ [] = c.push_reserved.ensures.items ∙ ap (λ es. es ++ entry ∷ []) c.make_room.ensures.items in
+      let items : c.push_reserved.new.self.items ≡ a.journal.items ++ entry ∷ [] =
+      c.push_reserved.ensures.items ∙ ap (λ es. es ++ entry ∷ []) c.make_room.ensures.items in
       (λ i. record { start = tree_of (limits-executed a.file_system c.finish_pump.new.self (call.Pump c.args.instance c.args.bytes) served.tree i) a.snapshot; place = a.snapshot.place; entries = items i })
       ∙ (λ i. with_entry (c.self.view_is i) (record { caller = c.args.caller; call = (call.Pump c.args.instance c.args.bytes); reply = (sym (ap (λ (r : Receipt). r.reply) c.in_ok-receipt.ensures.receipt)) i }));
   place = search rules;
   reply =
-      ap (λ (r : Receipt). r.reply) c.in_ok-receipt.ensures.receipt ∙ c.in_ok-reply.ensures.begun.reply ∙ ap (λ (t : Tree). reply_of t (call.Pump c.args.instance c.args.bytes)) c.self.invariant.stands ∙ ap (λ s. reply_of (now s) (call.Pump c.args.instance c.args.bytes)) c.self.view_is;
+      ap (λ (r : Receipt). r.reply) c.in_ok-receipt.ensures.receipt ∙ c.in_ok-reply.ensures.begun.reply
+      ∙ ap (λ (t : Tree). reply_of t (call.Pump c.args.instance c.args.bytes)) c.self.invariant.stands
+      ∙ ap (λ s. reply_of (now s) (call.Pump c.args.instance c.args.bytes)) c.self.view_is;
   lawful = (invariant_of-self-2 c).lawful;
   err = search rules;
   full = search rules;

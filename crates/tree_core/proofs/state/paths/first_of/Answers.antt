@@ -8,7 +8,8 @@ returns-then-from-number-clause-ok c =
     let row = c.loop-path-item.result in
     let same : row.1 ≡ c.args.number = sym c.from.ensures ∙ c.if-from-number.true in
     ap (λ p. Some p) c.in_ok-copy.ensures.ok
-    ∙ ap (option_map (λ (e : List (List ℕ) × ℕ). e.0)) (sym (row-here c.args.rows.now c.loop-path.path-index c.args.number row c.loop-path-test.true c.loop-path-item.is c.loop-path.invariant same))
+    ∙ ap (option_map (λ (e : List (List ℕ) × ℕ). e.0))
+    (sym (row-here c.args.rows.now c.loop-path.path-index c.args.number row c.loop-path-test.true c.loop-path-item.is c.loop-path.invariant same))
 
 pub loop-path-preserved : goal.loop-path-preserved
 loop-path-preserved c =
