@@ -37,7 +37,8 @@ cut-lawful : TreesAreSound → (old : Journaled) (text : List ℕ) (new : Journa
 cut-lawful sound old text new h (inl cut) = subst IsLawfulState (sym cut.1) (tt, HasPast-cut sound old h.1 h.0)
 cut-lawful sound old text new h (inr spent) = subst IsLawfulState (sym spent.1) h
 
-line-lawful : TreesAreSound → (old : Journaled) (asked : Result Line LineError) (text : List ℕ) (new : Journaled) → IsLawfulState old → PrintsLine old asked text new → IsLawfulState new
+line-lawful : TreesAreSound → (old : Journaled) (asked : Result Line LineError) (text : List ℕ) (new : Journaled)
+    → IsLawfulState old → PrintsLine old asked text new → IsLawfulState new
 line-lawful sound old (Ok Silent) text new h printed = subst IsLawfulState (sym printed.1) h
 line-lawful sound old (Ok Cut) text new h printed = cut-lawful sound old text new h printed
 line-lawful sound old (Ok (Run call how)) text new h printed = reply-lawful old call printed.0 new h printed.1
@@ -46,7 +47,8 @@ line-lawful sound old (Err (Fault fault)) text new h printed = absurd printed
 line-lawful sound old (Err PathMemory) text new h printed = subst IsLawfulState (sym printed.1) h
 line-lawful sound old (Err Memory) text new h printed = absurd printed
 
-lines-lawful : TreesAreSound → (queue : ℕ) (old new : Journaled) (lines : List (List ℕ)) (text : List ℕ) → IsLawfulState old → Prints queue old lines text new → IsLawfulState new
+lines-lawful : TreesAreSound → (queue : ℕ) (old new : Journaled) (lines : List (List ℕ)) (text : List ℕ) → IsLawfulState old
+    → Prints queue old lines text new → IsLawfulState new
 lines-lawful sound queue old new [] text h printed = subst IsLawfulState (sym printed.1) h
 lines-lawful sound queue old new (line ∷ lines) text h printed =
     lines-lawful sound queue printed.0 new lines printed.2 (line-lawful sound old (line_of queue line) printed.1 printed.0 h printed.3) printed.4

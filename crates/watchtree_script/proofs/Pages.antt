@@ -23,7 +23,8 @@ front-first bytes others old new part = record {
 }
 
 -- bytes that were written, with a front of others behind them
-front-second : (bytes others : List ℕ) (old mid new : Option (List ℕ)) → Appends old mid bytes → IsFrontWritten others mid new → IsFrontWritten (bytes ++ others) old new
+front-second : (bytes others : List ℕ) (old mid new : Option (List ℕ)) → Appends old mid bytes → IsFrontWritten others mid new
+    → IsFrontWritten (bytes ++ others) old new
 front-second bytes others old mid new added part = record {
   written = bytes ++ part.written;
   more = part.more;
@@ -31,13 +32,15 @@ front-second bytes others old mid new added part = record {
   added = Appends-more old mid new bytes part.written added part.added;
 }
 
-pub front-second-at : {A : Type 0} (r : Result A RunFault) (bytes others : List ℕ) (old mid new : Option (List ℕ)) → Appends old mid bytes → OnErr r (IsFrontWritten others mid new)
+pub front-second-at : {A : Type 0} (r : Result A RunFault) (bytes others : List ℕ) (old mid new : Option (List ℕ))
+    → Appends old mid bytes → OnErr r (IsFrontWritten others mid new)
     → OnErr r (IsFrontWritten (bytes ++ others) old new)
 front-second-at (Ok x) bytes others old mid new added h = tt
 front-second-at (Err e) bytes others old mid new added h = front-second bytes others old mid new added h
 
 -- all was written, and nothing waits
-pub passes-all : {A : Type 0} (r : Result A RunFault) (bytes others left : List ℕ) (old mid new : Option (List ℕ)) → left ≡ [] → Appends old mid bytes → OnOk r (Appends mid new others)
+pub passes-all : {A : Type 0} (r : Result A RunFault) (bytes others left : List ℕ) (old mid new : Option (List ℕ)) → left ≡ []
+    → Appends old mid bytes → OnOk r (Appends mid new others)
     → OnOk r (Passes bytes others left old new)
 passes-all (Ok x) bytes others left old mid new none first second = record {
   written = bytes ++ others;

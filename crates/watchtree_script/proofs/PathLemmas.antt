@@ -17,7 +17,8 @@ use Rattle.watchtree_script.specs.Replies.{refusal_text}
 use Rattle.watchtree_script.specs.Script.{PrintsLine}
 
 rows : (none much relative nul ends dots long : Bool) (names : List (List ℕ))
-    → cond none (Err Enoent) (cond much (Err Enametoolong) (cond relative (Err Einval) (cond nul (Err Einval) (cond ends (Err Einval) (cond dots (Err Einval) (cond long (Err Enametoolong) (Ok names)))))))
+    → cond none (Err Enoent) (cond much (Err Enametoolong)
+    (cond relative (Err Einval) (cond nul (Err Einval) (cond ends (Err Einval) (cond dots (Err Einval) (cond long (Err Enametoolong) (Ok names)))))))
     ≡ Err Enomem → ⊥
 rows true much relative nul ends dots long names h = cc
 rows false true relative nul ends dots long names h = cc
@@ -32,14 +33,17 @@ never : (text : List ℕ) → parsed text ≡ Err Enomem → ⊥
 unfolding parsed
 never text h =
     rows (nat_eq (length text) 0) (nat_le path_max (length text)) (not (nat_eq (slice_index text 0) slash)) (list_any is_null text)
-    (nat_lt 1 (length text) && nat_eq (slice_index text (length text - 1)) slash) (list_any is_dots (names_of text)) (list_any is_long (names_of text)) (names_of text) h
+    (nat_lt 1 (length text) && nat_eq (slice_index text (length text - 1)) slash) (list_any is_dots (names_of text))
+    (list_any is_long (names_of text)) (names_of text) h
 
-lacking : {A : Type 0} (r : Result (List (List ℕ)) Refusal) (told : Result A Refusal) → told ≡ Err Enomem → (r ≡ Err Enomem → ⊥) → IfErr r (λ e. told ≡ Err e) → (x : List (List ℕ)) × (refused r ≡ Ok x)
+lacking : {A : Type 0} (r : Result (List (List ℕ)) Refusal) (told : Result A Refusal) → told ≡ Err Enomem → (r ≡ Err Enomem → ⊥)
+    → IfErr r (λ e. told ≡ Err e) → (x : List (List ℕ)) × (refused r ≡ Ok x)
 lacking (Ok x) told lacks other h = (x, refl)
 lacking (Err e) told lacks other h = absurd (other cc)
 
 -- a text that is no path is refused as the definition says, so one that is refused as out of memory is a path
-pub path-lacking : {A : Type 0} (text : List ℕ) (told : Result A Refusal) → told ≡ Err Enomem → IfErr (parsed text) (λ e. told ≡ Err e) → ((x : List (List ℕ)) × (path_of text ≡ Ok x)) ⊎ (path_of text ≡ Err PathMemory)
+pub path-lacking : {A : Type 0} (text : List ℕ) (told : Result A Refusal) → told ≡ Err Enomem
+    → IfErr (parsed text) (λ e. told ≡ Err e) → ((x : List (List ℕ)) × (path_of text ≡ Ok x)) ⊎ (path_of text ≡ Err PathMemory)
 unfolding path_of
 path-lacking text told lacks h = inl (lacking (parsed text) told lacks (never text) h)
 
@@ -50,7 +54,8 @@ told-one (Err e) h = cc
 not-both : {A : Type 0} (e : LineError) (x : A) → Err e ≡ Ok x → ⊥
 not-both e x h = cc
 
-behind : (p q : Result (List (List ℕ)) LineError) → ((x : List (List ℕ)) × (p ≡ Ok x)) ⊎ (p ≡ Err PathMemory) → (p ≡ Err PathMemory → ⊥) → (error : LineError) → GivesPath (Err error) q
+behind : (p q : Result (List (List ℕ)) LineError) → ((x : List (List ℕ)) × (p ≡ Ok x)) ⊎ (p ≡ Err PathMemory)
+    → (p ≡ Err PathMemory → ⊥) → (error : LineError) → GivesPath (Err error) q
     → GivesPath {A = List (List ℕ) × List (List ℕ)} (Err error) (p >>= (λ o. q >>= (λ n. Ok (o, n))))
 behind (Ok x) q g other (Fault fault) h = ap (λ r. r >>= (λ n. Ok (x, n))) h
 behind (Ok x) q g other (Refused refusal) h = ap (λ r. r >>= (λ n. Ok (x, n))) h
@@ -61,13 +66,15 @@ behind (Err e) q (inl g) other error h = absurd (not-both e g.0 g.1)
 behind (Err e) q (inr g) other error h = absurd (other g)
 
 -- where memory runs out for the first of two texts, which is a path then, the line has the error of the second
-pub error-behind : (old new : List ℕ) (lacks : LineError) → lacks ≡ PathMemory → GivesPath (Err lacks) (path_of old) → (error : LineError) → GivesPath (Err error) (path_of new) → GivesPath (Err error) (paths_of old new)
+pub error-behind : (old new : List ℕ) (lacks : LineError) → lacks ≡ PathMemory → GivesPath (Err lacks) (path_of old)
+    → (error : LineError) → GivesPath (Err error) (path_of new) → GivesPath (Err error) (paths_of old new)
 unfolding path_of paths_of
 error-behind old new lacks is g error h =
     behind (refused (parsed old)) (refused (parsed new)) (subst (λ e. GivesPath (Err e) (refused (parsed old))) is g) (told-one (parsed old)) error h
 
 -- where memory runs out for a path, the line's call is answered ENOMEM
-pub path_answered : (old : Journaled) (asked : Result Line LineError) (text : List ℕ) → AsksByPath asked → text ≡ refusal_text Enomem → PrintsLine old asked text old
+pub path_answered : (old : Journaled) (asked : Result Line LineError) (text : List ℕ) → AsksByPath asked
+    → text ≡ refusal_text Enomem → PrintsLine old asked text old
 path_answered old (Ok Silent) text h e = absurd h
 path_answered old (Ok Cut) text h e = absurd h
 path_answered old (Ok (Run call how)) text h e = (replies.Refused Enomem, inr (record { path = h; answer = refl; same = refl }), e)

@@ -84,7 +84,8 @@ first-any s bs (Some k) h = sym (list_any_at (λ b. b == s) bs k 0 h.0.high h.1)
 -- ---- a line of printable bytes
 
 -- a front of which all pass a test, and a front of the rest of which all do, are one such front
-pub longer-front : (p : ℕ → Bool) (bs : List ℕ) (a b : ℕ) → list_all p (take a bs) ≡ true → list_all p (take b (drop a bs)) ≡ true → list_all p (take (a + b) bs) ≡ true
+pub longer-front : (p : ℕ → Bool) (bs : List ℕ) (a b : ℕ) → list_all p (take a bs) ≡ true → list_all p (take b (drop a bs)) ≡ true
+    → list_all p (take (a + b) bs) ≡ true
 longer-front p bs a b front behind =
     ap (list_all p) (take-add a b bs) ∙ list_all-append p (take a bs) (take b (drop a bs))
     ∙ ap (λ (t : Bool). t && list_all p (take b (drop a bs))) front ∙ behind
@@ -102,9 +103,11 @@ no_feeds (b ∷ bs) h zero d lt = no_feed b (and_parts (is_line_byte b) (list_al
 no_feeds (b ∷ bs) h (suc k) d lt = no_feeds bs (and_parts (is_line_byte b) (list_all is_line_byte bs) h).1 k d (omega (arith, lt))
 
 -- it ends at the line feed behind it
-pub line-cut : (bs : List ℕ) (n : ℕ) → n < length bs → list_all is_line_byte (take n bs) ≡ true → get_or bs n 0 ≡ 10 → pieces 10 bs ≡ take n bs ∷ pieces 10 (drop (n + 1) bs)
+pub line-cut : (bs : List ℕ) (n : ℕ) → n < length bs → list_all is_line_byte (take n bs) ≡ true → get_or bs n 0 ≡ 10
+    → pieces 10 bs ≡ take n bs ∷ pieces 10 (drop (n + 1) bs)
 line-cut bs n lt h e =
-    let parts : bs ≡ take n bs ++ 10 ∷ drop (n + 1) bs = sym (take-append-drop n bs) ∙ ap (λ (t : List ℕ). take n bs ++ t) (drop_more bs n 0 lt) ∙ ap (λ (b : ℕ). take n bs ++ b ∷ drop (n + 1) bs) e in
+    let parts : bs ≡ take n bs ++ 10 ∷ drop (n + 1) bs =
+    sym (take-append-drop n bs) ∙ ap (λ (t : List ℕ). take n bs ++ t) (drop_more bs n 0 lt) ∙ ap (λ (b : ℕ). take n bs ++ b ∷ drop (n + 1) bs) e in
     ap (pieces 10) parts ∙ slice_split_at (λ b. b == 10) (take n bs) 10 (drop (n + 1) bs) (no_feeds (take n bs) h) refl
 
 -- and where nothing stands behind it, it is all

@@ -45,9 +45,11 @@ one_printed bytes rest behind old mid new e so_far fits is left text =
       events = es ++ e ∷ [];
       fits = AreEvents-push es e so_far.fits fits;
       spelled = so_far.spelled ∙ ap (λ (t : List ℕ). spelling es ++ t) is ∙ sym (append_assoc (spelling es) (record_bytes e) behind)
-          ∙ ap (λ (t : List ℕ). (spelling es ++ t) ++ behind) (sym (append-nil (record_bytes e))) ∙ ap (λ (t : List ℕ). t ++ behind) (sym (flat_map-append record_bytes es (e ∷ [])));
+          ∙ ap (λ (t : List ℕ). (spelling es ++ t) ++ behind) (sym (append-nil (record_bytes e)))
+          ∙ ap (λ (t : List ℕ). t ++ behind) (sym (flat_map-append record_bytes es (e ∷ [])));
       text = text ∙ ap (λ (t : List ℕ). t ++ event_line e) so_far.text ∙ append_assoc old (flat_map event_line es) (event_line e)
-          ∙ ap (λ (t : List ℕ). old ++ (flat_map event_line es ++ t)) (sym (append-nil (event_line e))) ∙ ap (λ (t : List ℕ). old ++ t) (sym (flat_map-append event_line es (e ∷ [])));
+          ∙ ap (λ (t : List ℕ). old ++ (flat_map event_line es ++ t)) (sym (append-nil (event_line e)))
+          ∙ ap (λ (t : List ℕ). old ++ t) (sym (flat_map-append event_line es (e ∷ [])));
       left = left;
     }
 

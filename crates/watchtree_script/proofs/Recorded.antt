@@ -21,9 +21,11 @@ last-more o (y ∷ ys) x = last-more (Some y) ys x
 
 module _ (old new : Journaled) (call : Call) where
   -- the entry of a call that joined the journal
-  pub recorded-last : (place : ℕ) → Applies (receipt_of old call) old caller call (Ok place) new → last_or None new.entries ≡ Some (record { caller = caller; call = call; reply = reply_of (now old) call })
+  pub recorded-last : (place : ℕ) → Applies (receipt_of old call) old caller call (Ok place) new
+      → last_or None new.entries ≡ Some (record { caller = caller; call = call; reply = reply_of (now old) call })
   recorded-last place h =
-      ap (λ (s : Journaled). last_or None s.entries) h.entry ∙ last-more None old.entries (record { caller = caller; call = call; reply = reply_of (now old) call })
+      ap (λ (s : Journaled). last_or None s.entries) h.entry
+      ∙ last-more None old.entries (record { caller = caller; call = call; reply = reply_of (now old) call })
 
   pub recorded-answers : (place : ℕ) → Applies (receipt_of old call) old caller call (Ok place) new → IsAnswered old call (reply_of (now old) call) new
   recorded-answers place h = record { room = λ spent. let full = h.full.1 spent in absurd (cc); answer = refl; entry = h.entry }

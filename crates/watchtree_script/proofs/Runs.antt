@@ -50,18 +50,22 @@ Progress-start queue script lines journal waiting known all start none = record 
 }
 
 -- the lines before and this one print what they printed before and what this one prints
-Prints-next : (queue : ℕ) (line first : List ℕ) (left rest : List (List ℕ)) (script : List ℕ) (number : ℕ) (journal after : Journaled) (waiting : List ℕ) (old new : Option (List ℕ))
+Prints-next : (queue : ℕ) (line first : List ℕ) (left rest : List (List ℕ)) (script : List ℕ) (number : ℕ)
+    (journal after : Journaled) (waiting : List ℕ) (old new : Option (List ℕ))
     → (p : Progress queue script left number journal waiting old new) → PrintsLine journal (line_of queue line) first after
     → Prints queue opening (p.front ++ line ∷ []) (p.written ++ (waiting ++ first)) after
 Prints-next queue line first left rest script number journal after waiting old new p printed =
     let P : List ℕ → Type 0 = λ text. Prints queue opening (p.front ++ line ∷ []) text after in
     subst P (append_assoc p.written waiting first) (Prints-more queue opening journal after p.front line (p.written ++ waiting) first p.prints printed)
 
-lines-next : (script line : List ℕ) (front left rest : List (List ℕ)) → left ≡ line ∷ rest → lines_of script ≡ front ++ left → lines_of script ≡ (front ++ line ∷ []) ++ rest
+lines-next : (script line : List ℕ) (front left rest : List (List ℕ)) → left ≡ line ∷ rest → lines_of script ≡ front ++ left
+    → lines_of script ≡ (front ++ line ∷ []) ++ rest
 lines-next script line front left rest cut lines = lines ∙ ap (λ (t : List (List ℕ)). front ++ t) cut ∙ sym (append_assoc front (line ∷ []) rest)
 
-pub Progress-next : (queue : ℕ) (script line first : List ℕ) (left rest : List (List ℕ)) (number : ℕ) (journal after : Journaled) (waiting later : List ℕ) (old mid new : Option (List ℕ))
-    → left ≡ line ∷ rest → Progress queue script left number journal waiting old mid → PrintsLine journal (line_of queue line) first after → Passes waiting first later mid new
+pub Progress-next : (queue : ℕ) (script line first : List ℕ) (left rest : List (List ℕ)) (number : ℕ) (journal after : Journaled)
+    (waiting later : List ℕ) (old mid new : Option (List ℕ))
+    → left ≡ line ∷ rest → Progress queue script left number journal waiting old mid
+    → PrintsLine journal (line_of queue line) first after → Passes waiting first later mid new
     → Progress queue script rest (number + 1) after later old new
 Progress-next queue script line first left rest number journal after waiting later old mid new cut p printed passes =
     let P : List ℕ → Type 0 = λ text. Prints queue opening (p.front ++ line ∷ []) text after in
@@ -77,7 +81,8 @@ Progress-next queue script line first left rest number journal after waiting lat
     }
 
 -- no line's number is above the count of lines
-pub Progress-count : (queue : ℕ) (script line : List ℕ) (left rest : List (List ℕ)) (number : ℕ) (journal : Journaled) (waiting : List ℕ) (old new : Option (List ℕ))
+pub Progress-count : (queue : ℕ) (script line : List ℕ) (left rest : List (List ℕ)) (number : ℕ) (journal : Journaled)
+    (waiting : List ℕ) (old new : Option (List ℕ))
     → left ≡ line ∷ rest → Progress queue script left number journal waiting old new → IsShort script → number ≤ script_max
 Progress-count queue script line left rest number journal waiting old new cut p short =
     let all = ap length p.lines in
@@ -87,7 +92,8 @@ Progress-count queue script line left rest number journal waiting old new cut p 
 
 -- all lines were run, and what waited is written
 pub Progress-end : (queue : ℕ) (script : List ℕ) (left : List (List ℕ)) (number : ℕ) (journal : Journaled) (waiting : List ℕ) (old mid new : Option (List ℕ))
-    → left ≡ [] → Progress queue script left number journal waiting old mid → IsShort script → Appends mid new waiting → Adds (IsText queue) (Some script) old new
+    → left ≡ [] → Progress queue script left number journal waiting old mid → IsShort script → Appends mid new waiting
+    → Adds (IsText queue) (Some script) old new
 Progress-end queue script left number journal waiting old mid new none p short added =
     let all : p.front ≡ lines_of script = sym (p.lines ∙ ap (λ (t : List (List ℕ)). p.front ++ t) none ∙ append-nil p.front) in
     let P : List (List ℕ) → Type 0 = λ lines. Prints queue opening lines (p.written ++ waiting) journal in (
@@ -98,7 +104,8 @@ Progress-end queue script left number journal waiting old mid new none p short a
 
 -- of the text of some first lines a front was written, and then more of it
 text-front : (queue : ℕ) (script : List ℕ) (front back : List (List ℕ)) (before text : List ℕ) (journal : Journaled) (old mid new : Option (List ℕ))
-    → IsShort script → lines_of script ≡ front ++ back → Prints queue opening front (before ++ text) journal → Appends old mid before → IsFrontWritten text mid new
+    → IsShort script → lines_of script ≡ front ++ back → Prints queue opening front (before ++ text) journal
+    → Appends old mid before → IsFrontWritten text mid new
     → Adds (IsTextFront queue) (Some script) old new
 text-front queue script front back before text journal old mid new short lines prints added part =
     let P : List ℕ → Type 0 = λ t. Prints queue opening front t journal in
@@ -117,13 +124,18 @@ text-front queue script front back before text journal old mid new short lines p
     )
 
 -- the last write succeeds, or it fails
-pub Progress-ok : (r : Result (Unit {0}) RunFault) (queue : ℕ) (script : List ℕ) (left : List (List ℕ)) (number : ℕ) (journal : Journaled) (waiting : List ℕ) (N : Type 0) (old mid new : Option (List ℕ))
-    → left ≡ [] → Progress queue script left number journal waiting old mid → IsShort script → OnOk r (N × Appends mid new waiting) → OnOk r (Adds (IsText queue) (Some script) old new)
-Progress-ok (Ok x) queue script left number journal waiting N old mid new none p short h = Progress-end queue script left number journal waiting old mid new none p short h.1
+pub Progress-ok : (r : Result (Unit {0}) RunFault) (queue : ℕ) (script : List ℕ) (left : List (List ℕ)) (number : ℕ)
+    (journal : Journaled) (waiting : List ℕ) (N : Type 0) (old mid new : Option (List ℕ))
+    → left ≡ [] → Progress queue script left number journal waiting old mid → IsShort script
+    → OnOk r (N × Appends mid new waiting) → OnOk r (Adds (IsText queue) (Some script) old new)
+Progress-ok (Ok x) queue script left number journal waiting N old mid new none p short h =
+    Progress-end queue script left number journal waiting old mid new none p short h.1
 Progress-ok (Err e) queue script left number journal waiting N old mid new none p short h = tt
 
-pub Progress-err : (r : Result (Unit {0}) RunFault) (queue : ℕ) (script : List ℕ) (left : List (List ℕ)) (number : ℕ) (journal : Journaled) (waiting : List ℕ) (old mid new : Option (List ℕ))
-    → Progress queue script left number journal waiting old mid → IsShort script → IfErr r (λ fault. fault ≡ faults.Write) → OnErr r (IsFrontWritten waiting mid new)
+pub Progress-err : (r : Result (Unit {0}) RunFault) (queue : ℕ) (script : List ℕ) (left : List (List ℕ)) (number : ℕ)
+    (journal : Journaled) (waiting : List ℕ) (old mid new : Option (List ℕ))
+    → Progress queue script left number journal waiting old mid → IsShort script → IfErr r (λ fault. fault ≡ faults.Write)
+    → OnErr r (IsFrontWritten waiting mid new)
     → IfErr r (λ fault. FaultTells queue fault (Some script) old new)
 Progress-err (Ok x) queue script left number journal waiting old mid new p short kind h = tt
 Progress-err (Err fault) queue script left number journal waiting old mid new p short kind h =
@@ -131,7 +143,8 @@ Progress-err (Err fault) queue script left number journal waiting old mid new p 
     subst P (sym kind) (text-front queue script p.front left p.written waiting journal old mid new short p.lines p.prints p.added h)
 
 -- a line that is printed, where not all of it is written
-pub LineTells-write : (r : Result (Unit {0}) RunFault) (queue number : ℕ) (journal after : Journaled) (line waiting printed : List ℕ) (old new : Option (List ℕ))
+pub LineTells-write : (r : Result (Unit {0}) RunFault) (queue number : ℕ) (journal after : Journaled)
+    (line waiting printed : List ℕ) (old new : Option (List ℕ))
     → IfErr r (λ fault. fault ≡ faults.Write) → OnErr r (IsFrontWritten (waiting ++ printed) old new) → PrintsLine journal (line_of queue line) printed after
     → IfErr r (λ fault. LineTells queue number journal line fault waiting old new)
 LineTells-write (Ok x) queue number journal after line waiting printed old new kind h prints = tt
@@ -140,8 +153,10 @@ LineTells-write (Err fault) queue number journal after line waiting printed old 
     subst P (sym kind) (inr (printed, after, prints, h))
 
 -- the run ends where a line is not passed on whole
-pub Progress-fault : (queue : ℕ) (script line : List ℕ) (left rest : List (List ℕ)) (number : ℕ) (journal : Journaled) (waiting : List ℕ) (old mid new : Option (List ℕ)) (fault : RunFault)
-    → left ≡ line ∷ rest → Progress queue script left number journal waiting old mid → IsShort script → LineTells queue (number + 1) journal line fault waiting mid new
+pub Progress-fault : (queue : ℕ) (script line : List ℕ) (left rest : List (List ℕ)) (number : ℕ) (journal : Journaled)
+    (waiting : List ℕ) (old mid new : Option (List ℕ)) (fault : RunFault)
+    → left ≡ line ∷ rest → Progress queue script left number journal waiting old mid → IsShort script
+    → LineTells queue (number + 1) journal line fault waiting mid new
     → FaultTells queue fault (Some script) old new
 Progress-fault queue script line left rest number journal waiting old mid new (faults.Script n f) cut p short tells = (
   p.written ++ waiting,
@@ -162,7 +177,8 @@ Progress-fault queue script line left rest number journal waiting old mid new fa
 Progress-fault queue script line left rest number journal waiting old mid new faults.Write cut p short (inl part) =
     text-front queue script p.front left p.written waiting journal old mid new short p.lines p.prints p.added part
 Progress-fault queue script line left rest number journal waiting old mid new faults.Write cut p short (inr tells) =
-    text-front queue script (p.front ++ line ∷ []) rest p.written (waiting ++ tells.0) tells.1 old mid new short (lines-next script line p.front left rest cut p.lines)
+    text-front queue script (p.front ++ line ∷ []) rest p.written (waiting ++ tells.0) tells.1 old mid new short
+    (lines-next script line p.front left rest cut p.lines)
     (Prints-next queue line tells.0 left rest script number journal tells.1 waiting old mid p tells.2) p.added tells.3
 Progress-fault queue script line left rest number journal waiting old mid new faults.Memory cut p short tells =
     inr (text-front queue script p.front left p.written waiting journal old mid new short p.lines p.prints p.added (front-all waiting mid new tells))

@@ -12,4 +12,6 @@ returns-in-Ok c =
     (subst P c.in-Ok.ensures.cases.0 c.from_str_radix.ensures.value))
 
 pub returns-in-Err : goal.returns-in-Err
-returns-in-Err c = absurd (c.in-Err.ensures.cases.0 (digits-text c.args.radix c.args.digits.now c.requires.largest (AllDigits-from_test c.args.radix c.args.digits.now c.requires.all)))
+returns-in-Err c =
+    absurd (c.in-Err.ensures.cases.0
+    (digits-text c.args.radix c.args.digits.now c.requires.largest (AllDigits-from_test c.args.radix c.args.digits.now c.requires.all)))
