@@ -21,7 +21,8 @@ length-overlaid : (xs old : List ℕ) → length (overlaid xs old) ≡ length ol
 length-overlaid xs old = simp (length-append, length-take, length-drop) (omega arith)
 
 -- where all of the first part fits
-roomy : (xs ys old : List ℕ) → length xs ≤ length old → take (length xs) (overlaid xs old) ++ overlaid ys (drop (length xs) (overlaid xs old)) ≡ overlaid (xs ++ ys) old
+roomy : (xs ys old : List ℕ) → length xs ≤ length old
+    → take (length xs) (overlaid xs old) ++ overlaid ys (drop (length xs) (overlaid xs old)) ≡ overlaid (xs ++ ys) old
 roomy xs ys old le =
     let n = length xs in
     let k = length (drop n old) in
@@ -41,7 +42,8 @@ roomy xs ys old le =
 full : (xs ys old : List ℕ) → length old ≤ length xs → overlaid xs old ≡ overlaid (xs ++ ys) old
 full xs ys old le =
     let total = length-append xs ys in
-    let none : drop (length xs) old ≡ drop (length (xs ++ ys)) old = drop_all (length xs) old le ∙ sym (drop_all (length (xs ++ ys)) old (omega (arith, total, le))) in
+    let none : drop (length xs) old ≡ drop (length (xs ++ ys)) old =
+    drop_all (length xs) old le ∙ sym (drop_all (length (xs ++ ys)) old (omega (arith, total, le))) in
     ap (λ (t : List ℕ). take (length old) xs ++ t) none ∙ ap (λ (t : List ℕ). t ++ drop (length (xs ++ ys)) old) (sym (take-append-le (length old) xs ys le))
 
 -- a write from an index to the end
@@ -69,7 +71,8 @@ at_place xs ys old now len s is place fits before =
     ]
 
 -- bytes that are put behind others
-pub more : (xs ys old now mid : List ℕ) (len s : ℕ) → len ≡ min (length xs) (2 ^ 64 - 1) → s ≡ min len (length now) → length now < 2 ^ 64 → now ≡ overlaid xs old
+pub more : (xs ys old now mid : List ℕ) (len s : ℕ) → len ≡ min (length xs) (2 ^ 64 - 1) → s ≡ min len (length now)
+    → length now < 2 ^ 64 → now ≡ overlaid xs old
     → mid ≡ overlaid ys (drop s now) → put_mid s (length now - s) now mid ≡ overlaid (xs ++ ys) old
 more xs ys old now mid len s is place fits before put =
     to_end now mid s ∙ ap (λ (t : List ℕ). take s now ++ t) put ∙ at_place xs ys old now len s is place fits before

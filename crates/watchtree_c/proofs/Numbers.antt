@@ -17,7 +17,8 @@ first_with n (r ∷ rs) = if refusal_number r == n then Some r else first_with n
 
 abbrev refusals : List Refusal
 refusals =
-    Eperm ∷ Enoent ∷ Ebadf ∷ Eagain ∷ Enomem ∷ Ebusy ∷ Eexist ∷ Enotdir ∷ Eisdir ∷ Einval ∷ Emfile ∷ Efbig ∷ Enospc ∷ Emlink ∷ Enametoolong ∷ Enotempty ∷ JournalFull
+    Eperm ∷ Enoent ∷ Ebadf ∷ Eagain ∷ Enomem ∷ Ebusy ∷ Eexist ∷ Enotdir ∷ Eisdir ∷ Einval ∷ Emfile ∷ Efbig ∷ Enospc ∷ Emlink
+    ∷ Enametoolong ∷ Enotempty ∷ JournalFull
     ∷ PipeFull ∷ Piped ∷ CookiesSpent ∷ NotPiped ∷ SeatsSpent ∷ NumbersSpent ∷ []
 
 found : (r : Refusal) → first_with (refusal_number r) refusals ≡ Some r

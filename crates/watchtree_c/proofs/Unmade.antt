@@ -22,7 +22,8 @@ use Rattle.watchtree_c.specs.Stats.{Tells, stat_of, told_or}
 use Rattle.watchtree_c.proofs.Fits.{asked_within, file_fits, more_room}
 
 -- there is no call to make
-pub unasked : (s : Journaled) (f : List (List ℕ) → Call) (text : List ℕ) (e : Refusal) → (e ≡ Enomem) ⊎ (parsed text ≡ Err e) → WouldReply s (on_path f (parsed text)) (reply.Refused e)
+pub unasked : (s : Journaled) (f : List (List ℕ) → Call) (text : List ℕ) (e : Refusal) → (e ≡ Enomem) ⊎ (parsed text ≡ Err e)
+    → WouldReply s (on_path f (parsed text)) (reply.Refused e)
 unasked s f text e (inr is) = subst (λ o. WouldReply s (on_path f o) (reply.Refused e)) (sym is) (inl refl)
 unasked s f text e (inl is) = by (parsed text)
   where
@@ -31,7 +32,8 @@ unasked s f text e (inl is) = by (parsed text)
     by (Err r) = inr (ap (λ x. reply.Refused x) is)
 
 -- the call is on the path of the text
-pub asked : (s : Journaled) (f : List (List ℕ) → Call) (text : List ℕ) (p : List (List ℕ)) (r : Reply) → parsed text ≡ Ok p → MayReply s (f p) r → WouldReply s (on_path f (parsed text)) r
+pub asked : (s : Journaled) (f : List (List ℕ) → Call) (text : List ℕ) (p : List (List ℕ)) (r : Reply) → parsed text ≡ Ok p
+    → MayReply s (f p) r → WouldReply s (on_path f (parsed text)) r
 asked s f text p r is may = subst (λ o. WouldReply s (on_path f o) r) (sym is) may
 
 -- a refusal of the call, or out of memory
@@ -44,13 +46,16 @@ pub lists-by : (M N : Reply → Type 0) (number : ℤ) (out filled : List ℕ) �
 lists-by M N number out filled f a = record { r = a.r; made = f a.r a.made; is_listed = a.is_listed }
 
 -- the same, under a number that is equal
-pub lists-of : (M N : Reply → Type 0) (number told : ℤ) (out filled : List ℕ) → told ≡ number → ((r : Reply) → M r → N r) → Lists M number out filled → Lists N told out filled
+pub lists-of : (M N : Reply → Type 0) (number told : ℤ) (out filled : List ℕ) → told ≡ number → ((r : Reply) → M r → N r)
+    → Lists M number out filled → Lists N told out filled
 lists-of M N number told out filled is f a = subst (λ (n : ℤ). Lists N n out filled) (sym is) (lists-by M N number out filled f a)
 
-pub bytes-by : (M N : Reply → Type 0) (number : ℤ) (out filled : List ℕ) → ((r : Reply) → M r → N r) → AnswersBytes M number out filled → AnswersBytes N number out filled
+pub bytes-by : (M N : Reply → Type 0) (number : ℤ) (out filled : List ℕ) → ((r : Reply) → M r → N r)
+    → AnswersBytes M number out filled → AnswersBytes N number out filled
 bytes-by M N number out filled f a = record { r = a.r; made = f a.r a.made; is_number = a.is_number; is_filled = a.is_filled; fits = a.fits }
 
-pub bytes-of : (M N : Reply → Type 0) (number told : ℤ) (out filled : List ℕ) → told ≡ number → ((r : Reply) → M r → N r) → AnswersBytes M number out filled → AnswersBytes N told out filled
+pub bytes-of : (M N : Reply → Type 0) (number told : ℤ) (out filled : List ℕ) → told ≡ number → ((r : Reply) → M r → N r)
+    → AnswersBytes M number out filled → AnswersBytes N told out filled
 bytes-of M N number told out filled is f a = subst (λ (n : ℤ). AnswersBytes N n out filled) (sym is) (bytes-by M N number out filled f a)
 
 -- a tree that is not open
@@ -59,7 +64,8 @@ closed-peeked old c is = subst (λ (o : Option Opened). IsPeeked o c (reply.Refu
 
 -- the bytes of a file, which are as many as are asked for at most
 pub read-peeked : (s : Journaled) (p : List (List ℕ)) (offset n : ℕ) (out filled bytes : List ℕ) (number : ℤ) → n ≡ asked_bytes out
-    → reply_of (now s) (call.File (file.ReadFile p offset n)) ≡ reply.File (answer.Bytes bytes) → number ≡ count_number (length bytes) → filled ≡ overlaid bytes out
+    → reply_of (now s) (call.File (file.ReadFile p offset n)) ≡ reply.File (answer.Bytes bytes)
+    → number ≡ count_number (length bytes) → filled ≡ overlaid bytes out
     → AnswersBytes (MayReply s (call.File (file.ReadFile p offset (asked_bytes out)))) number out filled
 read-peeked s p offset n out filled bytes number is said is_number is_filled =
     let told = subst (λ m. reply_of (now s) (call.File (file.ReadFile p offset m)) ≡ reply.File (answer.Bytes bytes)) is said in
@@ -68,7 +74,9 @@ read-peeked s p offset n out filled bytes number is said is_number is_filled =
       made = inl (sym told);
       is_number = is_number;
       is_filled = is_filled;
-      fits = more_room (reply.File (answer.Bytes bytes)) (asked_bytes out) (length out) (asked_within out) (subst (λ (r : Reply). Fits r (asked_bytes out)) told (file_fits (now s) p offset (asked_bytes out)));
+      fits =
+          more_room (reply.File (answer.Bytes bytes)) (asked_bytes out) (length out) (asked_within out)
+          (subst (λ (r : Reply). Fits r (asked_bytes out)) told (file_fits (now s) p offset (asked_bytes out)));
     }
 
 -- why they are refused
@@ -84,11 +92,13 @@ module _ (old : Option Opened) (content : Opened) (c : Result Call Refusal) (is 
   pub peeked : (r : Reply) → WouldReply content.state c r → IsPeeked old c r
   peeked r would = subst (λ (o : Option Opened). IsPeeked o c r) (sym is) would
 
-  pub tells-peeked : (r : Reply) (number : ℤ) (out told : Stat) → WouldReply content.state c r → number ≡ reply_number r → told ≡ told_or (stat_of r) out → Tells (IsPeeked old c) number out told
+  pub tells-peeked : (r : Reply) (number : ℤ) (out told : Stat) → WouldReply content.state c r → number ≡ reply_number r
+      → told ≡ told_or (stat_of r) out → Tells (IsPeeked old c) number out told
   tells-peeked r number out told would is_number is_told = record { r = r; made = peeked r would; is_number = is_number; is_told = is_told }
 
   pub lists-peeked : (number : ℤ) (out filled : List ℕ) → Lists (WouldReply content.state c) number out filled → Lists (IsPeeked old c) number out filled
   lists-peeked number out filled a = lists-by (WouldReply content.state c) (IsPeeked old c) number out filled peeked a
 
-  pub bytes-peeked : (number : ℤ) (out filled : List ℕ) → AnswersBytes (WouldReply content.state c) number out filled → AnswersBytes (IsPeeked old c) number out filled
+  pub bytes-peeked : (number : ℤ) (out filled : List ℕ) → AnswersBytes (WouldReply content.state c) number out filled
+      → AnswersBytes (IsPeeked old c) number out filled
   bytes-peeked number out filled a = bytes-by (WouldReply content.state c) (IsPeeked old c) number out filled peeked a

@@ -29,9 +29,11 @@ loop-name-preserved c =
 pub returns : goal.returns
 returns c =
     let all = take_all c.loop-name.name-index c.args.names.now c.loop-name-test.false in
-    let same : to_z w64 (of_z w64 c.count_number.result) ≡ c.count_number.result = to_z-of_z w64 c.count_number.result (record { sfits = c.count_number.type_inv }) in
+    let same : to_z w64 (of_z w64 c.count_number.result) ≡ c.count_number.result =
+    to_z-of_z w64 c.count_number.result (record { sfits = c.count_number.type_inv }) in
     record {
       number = same ∙ c.count_number.ensures ∙ ap count_number c.loop-name.invariant.len
-          ∙ count_same (length (flat_map ended (take c.loop-name.name-index c.args.names.now))) ∙ ap (λ (t : List (List ℕ)). count_number (length (flat_map ended t))) all;
+          ∙ count_same (length (flat_map ended (take c.loop-name.name-index c.args.names.now)))
+          ∙ ap (λ (t : List (List ℕ)). count_number (length (flat_map ended t))) all;
       bytes = c.loop-name.invariant.bytes ∙ ap (λ (t : List (List ℕ)). overlaid (flat_map ended t) c.args.out.now) all;
     }

@@ -11,14 +11,18 @@ loop-name-init c = record { front = []; whole = refl; len = refl; bytes = sym (o
 
 pub loop-name-preserved-in-Some : goal.loop-name-preserved-in-Some
 loop-name-preserved-in-Some c =
-    put_next c.args.names c.loop-name.names c.next.new.self c.in-Some.name c.bytes.result.now c.loop-name.len c.put_more-len.result c.put_more-len-in-Some.result
-    c.args.out.now c.loop-name.out c.put_more-len.new.out c.put_more-len-in-Some.new.out c.loop-name.invariant c.in-Some.ensures (c.bytes.ensures.value ∙ c.as_name.ensures)
+    put_next c.args.names c.loop-name.names c.next.new.self c.in-Some.name c.bytes.result.now c.loop-name.len
+    c.put_more-len.result c.put_more-len-in-Some.result
+    c.args.out.now c.loop-name.out c.put_more-len.new.out c.put_more-len-in-Some.new.out c.loop-name.invariant c.in-Some.ensures
+    (c.bytes.ensures.value ∙ c.as_name.ensures)
     c.put_more-len.ensures.len c.put_more-len.ensures.bytes c.put_more-len-in-Some.ensures.len c.put_more-len-in-Some.ensures.bytes
 
 pub loop-name-preserved : goal.loop-name-preserved
 loop-name-preserved c =
-    put_next c.args.names c.loop-name.names c.next.new.self c.in-Some.name c.bytes.result.now c.loop-name.len c.put_more-len.result c.put_more-len-in-Some.result
-    c.args.out.now c.loop-name.out c.put_more-len.new.out c.put_more-len-in-Some.new.out c.loop-name.invariant c.in-Some.ensures (c.bytes.ensures.value ∙ c.as_name.ensures)
+    put_next c.args.names c.loop-name.names c.next.new.self c.in-Some.name c.bytes.result.now c.loop-name.len
+    c.put_more-len.result c.put_more-len-in-Some.result
+    c.args.out.now c.loop-name.out c.put_more-len.new.out c.put_more-len-in-Some.new.out c.loop-name.invariant c.in-Some.ensures
+    (c.bytes.ensures.value ∙ c.as_name.ensures)
     c.put_more-len.ensures.len c.put_more-len.ensures.bytes c.put_more-len-in-Some.ensures.len c.put_more-len-in-Some.ensures.bytes
 
 pub returns : goal.returns
@@ -26,7 +30,8 @@ returns c =
     let inv = c.loop-name.invariant in
     let all : inv.front ≡ c.args.names = sym (append-nil inv.front) ∙ ap (λ (t : List (List ℕ)). inv.front ++ t) (sym c.in_default.ensures.0) ∙ inv.whole in
     let whole : slashed inv.front ≡ pathname_of c.args.names = ap slashed all ∙ slashed_all c.args.names (search rules) in
-    let same : to_z w64 (of_z w64 c.count_number.result) ≡ c.count_number.result = to_z-of_z w64 c.count_number.result (record { sfits = c.count_number.type_inv }) in
+    let same : to_z w64 (of_z w64 c.count_number.result) ≡ c.count_number.result =
+    to_z-of_z w64 c.count_number.result (record { sfits = c.count_number.type_inv }) in
     record {
       number = same ∙ c.count_number.ensures ∙ ap count_number inv.len
           ∙ count_same (length (slashed inv.front)) ∙ ap (λ (t : List ℕ). count_number (length t)) whole;

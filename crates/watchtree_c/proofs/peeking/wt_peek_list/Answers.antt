@@ -6,4 +6,5 @@ use Rattle.watchtree_c.proofs.Unmade.{closed-peeked}
 use Rattle.watchtree_c.proofs.peeking.wt_peek_list.Goals as goal
 
 pub returns-in_default-clause-told : goal.returns-in_default-clause-told
-returns-in_default-clause-told c = record { r = reply.Refused Ebadf; made = closed-peeked c.args.tree.now.held.state (list_call c.args.path.now) (search rules); is_listed = search rules }
+returns-in_default-clause-told c =
+    record { r = reply.Refused Ebadf; made = closed-peeked c.args.tree.now.held.state (list_call c.args.path.now) (search rules); is_listed = search rules }
