@@ -246,9 +246,7 @@ by_chain false false false names r p h k = record { answer = rw h k; shape = rw 
 
 pub text_answer : (text : List ℕ) (r : Result Shape Refusal) → 0 < length text → length text < 4096 → get_or text 0 0 ≡ 47
     → (ltb 1 (length text) && eqb (get_or text (length text - 1) 0) 47) ≡ false
-    → r
-    ≡ (
-    let rest = take (length text - 1) (drop 1 text) in
+    → r ≡ (let rest = take (length text - 1) (drop 1 text) in
     cond (list_any is_null rest) (Err Einval)
     (cond (list_any is_dots (names_of rest)) (Err Einval)
     (cond (list_any is_long (names_of rest)) (Err Enametoolong) (Ok (shape_of (names_of rest))))))
