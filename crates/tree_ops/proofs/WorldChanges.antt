@@ -229,7 +229,8 @@ numbers-changed w p change k =
             | None ↦ λ _. refl
             | Some f ↦ λ at. elim (cases_eq k n) [
               | inl e ↦
-                  ap is_some (ap (finmap.get (finmap.insert w.files n (change f))) e ∙ get-insert_here nat_cmp_total nat_cmp-IsAntisymmetric w.files n (change f))
+                  ap is_some (ap (finmap.get (finmap.insert w.files n (change f))) e
+                  ∙ get-insert_here nat_cmp_total nat_cmp-IsAntisymmetric w.files n (change f))
                   ∙ sym (ap is_some (ap (finmap.get w.files) e ∙ at))
               | inr off ↦ ap is_some (get-insert_other nat_cmp_total nat_cmp-IsAntisymmetric w.files n (change f) k off)
             ]
