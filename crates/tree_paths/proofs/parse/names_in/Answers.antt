@@ -3,7 +3,8 @@ use Rattle.std.proofs.lemmas.List.{length-take-le, append-nil}
 use Rattle.std.specs.List.{list_any, list_all}
 use Rattle.record_codec.specs.Names.{is_name}
 use Rattle.tree_paths.specs.Paths.{names_of, is_null}
-use Rattle.tree_paths.proofs.FrontLemmas.{IsFront, behind_front, is_path, behind_slash, is_cut, front_is_name, names_step, named_step, null_step, names_end, pushed, passed}
+use Rattle.tree_paths.proofs.FrontLemmas.{IsFront, behind_front, is_path, behind_slash, is_cut, front_is_name}
+use Rattle.tree_paths.proofs.FrontLemmas.{names_step, named_step, null_step, names_end, pushed, passed}
 use Rattle.tree_paths.specs.Pieces.{pieces}
 use Rattle.tree_paths.proofs.parse.names_in.Goals as goal
 use Rattle.tree_paths.proofs.parse.names_in.Goals.{then-len-gt0+in_ok-of+in_ok-push, else-len-gt0}

@@ -2,7 +2,9 @@ use Rattle.std.proofs.Common.{◌≡◌, ◌<◌, ◌+◌, true, false, ◌&&◌
 use Rattle.std.specs.List.{list_any, list_all}
 use Rattle.tree_paths.specs.Kept.{is_in_place}
 use Rattle.tree_paths.specs.Paths.{names_of, is_null, is_dots, is_long, slashed}
-use Rattle.tree_paths.proofs.FrontLemmas.{IsCut, IsWhole, null_step, dots_step, long_step, count_step, len_step, fits_step, one_most, shape_by, null_end, dots_end, long_end, count_end, len_end, fits_end}
+use Rattle.tree_paths.proofs.FrontLemmas.{IsCut, IsWhole, null_step, dots_step, long_step, count_step, len_step}
+use Rattle.tree_paths.proofs.FrontLemmas.{fits_step, one_most, shape_by, null_end, dots_end, long_end, count_end}
+use Rattle.tree_paths.proofs.FrontLemmas.{len_end, fits_end}
 use Rattle.tree_paths.proofs.parse.shape_between.Goals as goal
 
 pub returns-then-has_long : goal.returns-then-has_long
