@@ -1,5 +1,6 @@
 -- From whole paths to keys.
-use Rattle.std.proofs.Common.{◌≡◌, ◌≢◌, ℕ, true, false, List, [], ◌∷◌, ◌++◌, Option, Some, None, Result, Ok, Err, IsSome, IfSome, IfOk, IfErr, is_none, is_some, ◌&&◌, refl, sym, ap, ◌∙◌, subst}
+use Rattle.std.proofs.Common.{◌≡◌, ◌≢◌, ℕ, true, false, List, [], ◌∷◌, ◌++◌, Option, Some, None, Result, Ok, Err}
+use Rattle.std.proofs.Common.{IsSome, IfSome, IfOk, IfErr, is_none, is_some, ◌&&◌, refl, sym, ap, ◌∙◌, subst}
 use Rattle.std.specs.Option.{option_and_then, option_map, unwrap_or}
 use Rattle.std.specs.Result.{result_ok}
 use Rattle.inode_table.specs.Changes.{Avoids, IsOpen, LosesLink, with_bytes}

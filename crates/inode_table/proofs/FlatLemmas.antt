@@ -1,5 +1,7 @@
 -- The walk over all paths of a table finds each in order, and no other.
-use Rattle.std.proofs.Common.{◌≡◌, ◌⊎◌, ℕ, ◌-◌, true, false, T, cond, take, List, [], ◌∷◌, ◌++◌, length, reverse, Option, Some, None, IsSome, refl, sym, ap, ◌∙◌, subst, inl, inr, arith, append_assoc, append-nil}
+use Rattle.std.proofs.Common.{◌≡◌, ◌⊎◌, ℕ, ◌-◌, true, false, T, cond, take, List, [], ◌∷◌, ◌++◌, length, reverse}
+use Rattle.std.proofs.Common.{Option, Some, None, IsSome, refl, sym, ap, ◌∙◌, subst, inl, inr, arith, append_assoc}
+use Rattle.std.proofs.Common.{append-nil}
 use Rattle.std.specs.BTreeMap as tree
 use Rattle.std.specs.BTreeMap.{BTreeMap}
 use Rattle.std.specs.Cmp.{tied_itself}
@@ -24,7 +26,8 @@ use Rattle.inode_table.specs.declared.node.Node.{Node}
 use Rattle.slab.specs.Slab.{Slab, get}
 use Rattle.inode_table.proofs.RowsLemmas.{row-rows_of}
 use Rattle.inode_table.proofs.ChangeLemmas.{same_label-true}
-use Rattle.inode_table.proofs.EntriesLemmas.{In, In-all, In-cases, In-find, In-left, In-map, In-right, In-unmap, entries-of, find-In, holds, is_sorted-push, sorted-below}
+use Rattle.inode_table.proofs.EntriesLemmas.{In, In-all, In-cases, In-find, In-left, In-map, In-right, In-unmap}
+use Rattle.inode_table.proofs.EntriesLemmas.{entries-of, find-In, holds, is_sorted-push, sorted-below}
 use Rattle.inode_table.proofs.TreeLemmas.{same_some, some_none}
 use Rattle.inode_table.proofs.WalkLemmas.{walk-append}
 use Rattle.inode_table.proofs.WorldLemmas.{path_exact, path_total}

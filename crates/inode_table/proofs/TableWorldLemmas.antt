@@ -1,5 +1,7 @@
 -- Each table stands for one world.
-use Rattle.std.proofs.Common.{◌≡◌, ◌≢◌, ◌⊎◌, ℕ, zero, suc, ◌<◌, ◌≤◌, true, false, ◌||◌, cond, eqb, List, [], ◌∷◌, ◌++◌, map, length, Option, Some, None, is_some, refl, sym, ap, ◌∙◌, inl, inr, arith, subst, append-nil, append_assoc}
+use Rattle.std.proofs.Common.{◌≡◌, ◌≢◌, ◌⊎◌, ℕ, zero, suc, ◌<◌, ◌≤◌, true, false, ◌||◌, cond, eqb, List, [], ◌∷◌, ◌++◌}
+use Rattle.std.proofs.Common.{map, length, Option, Some, None, is_some, refl, sym, ap, ◌∙◌, inl, inr, arith, subst}
+use Rattle.std.proofs.Common.{append-nil, append_assoc}
 use Rattle.std.proofs.lemmas.Bool.{cases_eq}
 use Rattle.std.proofs.lemmas.Map.Steps.{length-le_from_distinct_below}
 use Rattle.std.specs.List.{AllByRecursion, IsDistinct, flat_map, list_any}
@@ -18,7 +20,8 @@ use Rattle.inode_table.specs.Flat.{names_in, number_under}
 use Rattle.inode_table.specs.Paths.{path_cmp}
 use Rattle.inode_table.specs.World as world
 use Rattle.inode_table.specs.World.{World, look}
-use Rattle.inode_table.specs.TableWorld.{file_of, number_of, names_of_row, names_of, paths_up_to, with_number, paths_among, with_node, files_below, world_in, world_of, file_under}
+use Rattle.inode_table.specs.TableWorld.{file_of, number_of, names_of_row, names_of, paths_up_to, with_number}
+use Rattle.inode_table.specs.TableWorld.{paths_among, with_node, files_below, world_in, world_of, file_under}
 use Rattle.inode_table.specs.Stands.{look_in, Stands}
 use Rattle.inode_table.proofs.TreeLemmas.{some_none, same_some, IsTree-live}
 use Rattle.inode_table.proofs.WalkLemmas.{walk-append, longer}

@@ -4,7 +4,8 @@ use Rattle.slab.specs.Slab.{Slab, get}
 use Rattle.inode_table.specs.declared.node.Node.{Node}
 use Rattle.inode_table.specs.Rows.{Row, reserved, reserved_in}
 use Rattle.inode_table.specs.Kept.{row_of, rows_of, body_of}
-use Rattle.inode_table.proofs.RowsLemmas.{row-rows_of, OnOk-map, OnErr-map, child-with_value_same, what-with_value_same, reserved-with_value, rows_of-with_value_same}
+use Rattle.inode_table.proofs.RowsLemmas.{row-rows_of, OnOk-map, OnErr-map, child-with_value_same, what-with_value_same}
+use Rattle.inode_table.proofs.RowsLemmas.{reserved-with_value, rows_of-with_value_same}
 use Rattle.inode_table.proofs.node.reserve_bytes.Goals as goal
 
 pub returns-clause-child : goal.returns-clause-child
