@@ -1,5 +1,6 @@
 -- Which numbers the files have after a call.
-use Rattle.std.proofs.Common.{◌≡◌, inl, inr, ℕ, ◌+◌, ◌<◌, ◌==◌, Bool, true, false, List, [], Option, Some, None, is_some, refl, sym, ap, subst, ◌∙◌, arith, if◌then◌else◌}
+use Rattle.std.proofs.Common.{◌≡◌, inl, inr, ℕ, ◌+◌, ◌<◌, ◌==◌, Bool, true, false, List, [], Option, Some, None}
+use Rattle.std.proofs.Common.{is_some, refl, sym, ap, subst, ◌∙◌, arith, if◌then◌else◌}
 use Rattle.std.specs.Ordering.{nat_cmp}
 use Rattle.std.specs.Option.{option_and_then}
 use Rattle.std.specs.Cmp.{nat_cmp_total}
@@ -7,12 +8,16 @@ use Rattle.std.specs.FinMap as finmap
 use Rattle.std.specs.FinMap.{nat_cmp-IsAntisymmetric, get-empty}
 use Rattle.inode_table.specs.declared.seen.Kind.TheVariants.{Directory}
 use Rattle.inode_table.specs.TableWorld.{HasNumbersBelow}
-use Rattle.inode_table.specs.World.{World, File, root_number, root_mode, opening_world, links, with_file, with_path, without_path, with_move, with_swap, with_content, without_file, without_lost, linked, content_by, changed_at}
+use Rattle.inode_table.specs.World.{World, File, root_number, root_mode, opening_world, links, with_file, with_path}
+use Rattle.inode_table.specs.World.{without_path, with_move, with_swap, with_content, without_file, without_lost}
+use Rattle.inode_table.specs.World.{linked, content_by, changed_at}
 use Rattle.inode_table.proofs.SeenLemmas.{is_value}
 use Rattle.tree_ops.proofs.Keys.{get-insert_either, get-remove_was}
 use Rattle.tree_ops.specs.declared.call.TheConstants.{RENAME_EXCHANGE}
 use Rattle.tree_ops.specs.declared.call.FileCall.{FileCall}
-use Rattle.tree_ops.specs.declared.call.FileCall.TheVariants.{Create, Write, ReadFile, Truncate, Chmod, Mkdir, Link, Unlink, Rmdir, Rename, Rename2, Stat as Status, List as Listed}
+use Rattle.tree_ops.specs.declared.call.FileCall.TheVariants.{Create, Write, ReadFile, Truncate, Chmod, Mkdir, Link}
+use Rattle.tree_ops.specs.declared.call.FileCall.TheVariants.{Unlink, Rmdir, Rename, Rename2, Stat as Status}
+use Rattle.tree_ops.specs.declared.call.FileCall.TheVariants.{List as Listed}
 use Rattle.tree_ops.specs.declared.call.Counts.{Counts}
 use Rattle.tree_ops.specs.After.{after, after_unlink, after_rename, after_exchange, are_same, numbers_of}
 

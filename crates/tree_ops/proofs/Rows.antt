@@ -1,5 +1,6 @@
 -- What is known where no row holds.
-use Rattle.std.proofs.Common.{◌≡◌, ◌≢◌, ◌==◌, ◌+◌, ◌++◌, ◌&&◌, ◌||◌, nat_lt, ℕ, length, Bool, true, false, not, List, [], ◌∷◌, Option, Some, None, is_some, refl, sym, ap, ◌∙◌, if◌then◌else◌}
+use Rattle.std.proofs.Common.{◌≡◌, ◌≢◌, ◌==◌, ◌+◌, ◌++◌, ◌&&◌, ◌||◌, nat_lt, ℕ, length, Bool, true, false, not, List}
+use Rattle.std.proofs.Common.{[], ◌∷◌, Option, Some, None, is_some, refl, sym, ap, ◌∙◌, if◌then◌else◌}
 use Rattle.std.proofs.lemmas.Bool.{eqb-true}
 use Rattle.tree_paths.specs.declared.refusal.Refusal.{Refusal}
 use Rattle.tree_paths.specs.declared.refusal.Refusal.TheVariants.{Enoent, Enotdir, Eperm, Ebusy, Eexist, Eisdir, Einval, Efbig, Emlink, Enotempty}
@@ -8,7 +9,10 @@ use Rattle.inode_table.specs.declared.seen.Seen.{Seen}
 use Rattle.tree_paths.specs.Paths.{is_below}
 use Rattle.tree_ops.specs.declared.call.TheConstants.{RENAME_EXCHANGE, RENAME_NOREPLACE}
 use Rattle.tree_ops.specs.declared.call.Counts.{Counts}
-use Rattle.tree_ops.specs.Refused.{has_names_seen, links_seen, are_same_seen, make_rows, write_rows, read_rows, truncate_rows, chmod_rows, link_rows, unlink_rows, rmdir_rows, move_rows, rename_rows, noreplace_rows, swap_rows, exchange_rows, rename2_rows, find_rows, list_rows}
+use Rattle.tree_ops.specs.Refused.{has_names_seen, links_seen, are_same_seen, make_rows, write_rows, read_rows}
+use Rattle.tree_ops.specs.Refused.{truncate_rows, chmod_rows, link_rows, unlink_rows, rmdir_rows, move_rows}
+use Rattle.tree_ops.specs.Refused.{rename_rows, noreplace_rows, swap_rows, exchange_rows, rename2_rows, find_rows}
+use Rattle.tree_ops.specs.Refused.{list_rows}
 use Rattle.tree_paths.specs.Rows.{row, first_row}
 use Rattle.inode_table.specs.Refusals.{Look, find, parent, parent_of, is_directory_seen, longest_there}
 

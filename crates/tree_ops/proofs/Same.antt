@@ -4,7 +4,8 @@ use Rattle.record_codec.proofs.Equal.{names_eq_decides}
 use Rattle.tree_ops.specs.declared.answer.Answer.{Answer}
 use Rattle.tree_ops.specs.declared.answer.Answer.TheVariants as answer
 use Rattle.tree_ops.specs.declared.call.FileCall.{FileCall}
-use Rattle.tree_ops.specs.declared.call.FileCall.TheVariants.{Create, Mkdir, Write, ReadFile, Truncate, Chmod, Link, Unlink, Rmdir, Rename, Rename2, Stat, List as Listed}
+use Rattle.tree_ops.specs.declared.call.FileCall.TheVariants.{Create, Mkdir, Write, ReadFile, Truncate, Chmod, Link}
+use Rattle.tree_ops.specs.declared.call.FileCall.TheVariants.{Unlink, Rmdir, Rename, Rename2, Stat, List as Listed}
 use Rattle.tree_ops.specs.contracts.answer.AnswerPartialEq.TheImpl as answers
 use Rattle.tree_ops.specs.contracts.call.FileCallPartialEq.TheImpl as calls
 

@@ -1,5 +1,6 @@
 -- Each change of a world leaves it one, where nothing is lost below the path that changes.
-use Rattle.std.proofs.Common.{◌≡◌, ◌≢◌, inl, inr, ℕ, zero, suc, ◌==◌, List, [], ◌∷◌, ◌++◌, Option, Some, None, IsSome, is_some, refl, sym, ap, ◌∙◌, subst, if◌then◌else◌}
+use Rattle.std.proofs.Common.{◌≡◌, ◌≢◌, inl, inr, ℕ, zero, suc, ◌==◌, List, [], ◌∷◌, ◌++◌, Option, Some, None, IsSome}
+use Rattle.std.proofs.Common.{is_some, refl, sym, ap, ◌∙◌, subst, if◌then◌else◌}
 use Rattle.std.proofs.lemmas.Bool.{cases_eq}
 use borrow.Author.Tests.{ne_eqb}
 use Rattle.std.specs.Option.{option_and_then, option_map, IsSomeAnd}
@@ -11,7 +12,8 @@ use Rattle.inode_table.specs.declared.seen.Kind.{Kind}
 use Rattle.inode_table.specs.declared.seen.Kind.TheVariants.{Directory}
 use Rattle.inode_table.specs.Count.{IsCount}
 use Rattle.inode_table.specs.Rows.{Label}
-use Rattle.inode_table.specs.World.{World, File, IsWorld, IsWhole, IsDirectoryAt, file_at, links, with_file, with_path, without_path, with_content, without_file, without_lost, content_by, changed_at}
+use Rattle.inode_table.specs.World.{World, File, IsWorld, IsWhole, IsDirectoryAt, file_at, links, with_file, with_path}
+use Rattle.inode_table.specs.World.{without_path, with_content, without_file, without_lost, content_by, changed_at}
 use Rattle.inode_table.proofs.TreeLemmas.{some_none, same_some}
 use Rattle.inode_table.proofs.MapLemmas.{count-of, get-remove_here, get-remove_other}
 use Rattle.inode_table.proofs.SeenLemmas.{is_value, front-past}

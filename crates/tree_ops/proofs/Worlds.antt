@@ -1,5 +1,6 @@
 -- What is known of a world, and what is seen of it.
-use Rattle.std.proofs.Common.{◌≡◌, ◌≢◌, ℕ, ◌-◌, length, take, true, false, ◌&&◌, List, [], ◌∷◌, ◌++◌, append-nil, Some, None, IsSome, is_some, refl, sym, ap, ◌∙◌, subst, arith, length-append}
+use Rattle.std.proofs.Common.{◌≡◌, ◌≢◌, ℕ, ◌-◌, length, take, true, false, ◌&&◌, List, [], ◌∷◌, ◌++◌, append-nil, Some}
+use Rattle.std.proofs.Common.{None, IsSome, is_some, refl, sym, ap, ◌∙◌, subst, arith, length-append}
 use Rattle.std.specs.Option.{option_and_then, option_map, IsSomeAnd}
 use Rattle.std.specs.FinMap as finmap
 use Rattle.inode_table.specs.declared.seen.Kind.{Kind}

@@ -1,5 +1,6 @@
 -- The files stay a world over each call that no row refuses, each with a path.
-use Rattle.std.proofs.Common.{◌≡◌, ◌≢◌, inl, inr, ℕ, ◌==◌, ◌&&◌, true, false, List, [], ◌∷◌, ◌++◌, Option, Some, None, IsSome, is_some, refl, sym, ap, ◌∙◌, subst, if◌then◌else◌, length}
+use Rattle.std.proofs.Common.{◌≡◌, ◌≢◌, inl, inr, ℕ, ◌==◌, ◌&&◌, true, false, List, [], ◌∷◌, ◌++◌, Option, Some, None}
+use Rattle.std.proofs.Common.{IsSome, is_some, refl, sym, ap, ◌∙◌, subst, if◌then◌else◌, length}
 use Rattle.std.proofs.lemmas.Bool.{cases_eq}
 use borrow.Author.Tests.{eq-eqb}
 use Rattle.std.specs.Option.{option_map, IsSomeAnd}
@@ -16,19 +17,27 @@ use Rattle.inode_table.specs.Rows.{Label}
 use Rattle.tree_paths.specs.Paths.{is_below}
 use Rattle.inode_table.specs.Paths.{path_cmp}
 use Rattle.inode_table.specs.Refusals.{is_directory_seen, parent_of}
-use Rattle.inode_table.specs.World.{World, File, IsWorld, IsWhole, IsDirectoryAt, look, seen_as, linked, opening_world, root_number, root_mode, without_path, with_move, with_swap, without_lost, file_at}
+use Rattle.inode_table.specs.World.{World, File, IsWorld, IsWhole, IsDirectoryAt, look, seen_as, linked, opening_world}
+use Rattle.inode_table.specs.World.{root_number, root_mode, without_path, with_move, with_swap, without_lost, file_at}
 use Rattle.inode_table.proofs.TreeLemmas.{some_none, same_some}
 use Rattle.inode_table.proofs.SeenLemmas.{is_value}
 use Rattle.inode_table.proofs.WorldLemmas.{decide_path, path_total, path_exact, get-insert_here, get-insert_other}
 use Rattle.tree_ops.specs.declared.call.Counts.{Counts}
 use Rattle.tree_ops.specs.declared.call.TheConstants.{RENAME_EXCHANGE}
 use Rattle.tree_ops.specs.declared.call.FileCall.{FileCall}
-use Rattle.tree_ops.specs.declared.call.FileCall.TheVariants.{Create, Write, ReadFile, Truncate, Chmod, Mkdir, Link, Unlink, Rmdir, Rename, Rename2, Stat as Status, List as Listed}
+use Rattle.tree_ops.specs.declared.call.FileCall.TheVariants.{Create, Write, ReadFile, Truncate, Chmod, Mkdir, Link}
+use Rattle.tree_ops.specs.declared.call.FileCall.TheVariants.{Unlink, Rmdir, Rename, Rename2, Stat as Status}
+use Rattle.tree_ops.specs.declared.call.FileCall.TheVariants.{List as Listed}
 use Rattle.tree_ops.specs.Refused.{refused, refusal_seen, are_same_seen}
 use Rattle.tree_ops.specs.After.{after, after_unlink, after_rename, after_exchange, are_same}
-use Rattle.tree_ops.proofs.Rows.{make-known, link-known, unlink-known, rmdir-known, rename-known, move-known, exchange-known, MakeKnown, LinkKnown, FileKnown, RmdirKnown, RenameKnown, ExchangeKnown, write-known, truncate-known}
-use Rattle.tree_ops.proofs.Worlds.{parted, directory-of, directory-by, directory-seen, regular-seen, standing, unseen, seen-some, nothing-below, nothing-under, apart-from}
-use Rattle.tree_ops.proofs.WorldChanges.{IsWorld-with_path, IsWhole-with_path, IsWorld-with_file, IsWhole-with_file, IsWorld-changed, IsWhole-changed, dropped-other, files-left, IsWorld-without_path, IsWorld-lost, IsWhole-lost}
+use Rattle.tree_ops.proofs.Rows.{make-known, link-known, unlink-known, rmdir-known, rename-known, move-known}
+use Rattle.tree_ops.proofs.Rows.{exchange-known, MakeKnown, LinkKnown, FileKnown, RmdirKnown, RenameKnown}
+use Rattle.tree_ops.proofs.Rows.{ExchangeKnown, write-known, truncate-known}
+use Rattle.tree_ops.proofs.Worlds.{parted, directory-of, directory-by, directory-seen, regular-seen, standing, unseen}
+use Rattle.tree_ops.proofs.Worlds.{seen-some, nothing-below, nothing-under, apart-from}
+use Rattle.tree_ops.proofs.WorldChanges.{IsWorld-with_path, IsWhole-with_path, IsWorld-with_file, IsWhole-with_file}
+use Rattle.tree_ops.proofs.WorldChanges.{IsWorld-changed, IsWhole-changed, dropped-other, files-left}
+use Rattle.tree_ops.proofs.WorldChanges.{IsWorld-without_path, IsWorld-lost, IsWhole-lost}
 use Rattle.tree_ops.proofs.WorldMoves.{IsWorld-with_move, path-moved, moved-files}
 use Rattle.tree_ops.proofs.WorldSwaps.{IsWorld-with_swap, IsWhole-with_swap}
 

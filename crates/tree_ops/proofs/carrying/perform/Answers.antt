@@ -1,4 +1,6 @@
-use Rattle.std.proofs.Common.{◌≡◌, ◌≢◌, ◌==◌, if◌then◌else◌, Bool, ℕ, ◌+◌, ◌<◌, ◌^◌, Option, Some, None, IsSome, IfSome, take, drop, true, false, nat_lt, length, ◌&&◌, ◌≤◌, List, refl, sym, ap, subst, ◌∙◌, inl, inr, arith}
+use Rattle.std.proofs.Common.{◌≡◌, ◌≢◌, ◌==◌, if◌then◌else◌, Bool, ℕ, ◌+◌, ◌<◌, ◌^◌, Option, Some, None, IsSome, IfSome}
+use Rattle.std.proofs.Common.{take, drop, true, false, nat_lt, length, ◌&&◌, ◌≤◌, List, refl, sym, ap, subst, ◌∙◌, inl}
+use Rattle.std.proofs.Common.{inr, arith}
 use Rattle.std.proofs.lemmas.Result.{on_ok_weaker}
 use borrow.Author.Tests.{ltb-true, ltb-false, eq-eqb, ne_eqb}
 use Rattle.inode_table.specs.declared.seen.Seen.{Seen}
@@ -13,7 +15,8 @@ use Rattle.tree_ops.proofs.Changed.{empty-seen}
 use Rattle.tree_ops.proofs.Numbers.{next-free}
 use Rattle.tree_ops.specs.declared.call.TheConstants.{RENAME_EXCHANGE}
 use Rattle.tree_ops.specs.declared.call.FileCall.{FileCall}
-use Rattle.tree_ops.specs.declared.call.FileCall.TheVariants.{Create, Write, ReadFile, Truncate, Chmod, Mkdir, Link, Unlink, Rmdir, Rename, Rename2, Stat, List as Listed}
+use Rattle.tree_ops.specs.declared.call.FileCall.TheVariants.{Create, Write, ReadFile, Truncate, Chmod, Mkdir, Link}
+use Rattle.tree_ops.specs.declared.call.FileCall.TheVariants.{Unlink, Rmdir, Rename, Rename2, Stat, List as Listed}
 use Rattle.tree_ops.specs.declared.answer.Answer.{Answer}
 use Rattle.tree_ops.specs.declared.answer.Answer.TheVariants.{Bytes, Names}
 use Rattle.tree_ops.specs.CallPaths.{path_of, other_path_of}
@@ -24,7 +27,8 @@ use Rattle.inode_table.specs.Refusals.{is_directory_seen}
 use Rattle.tree_ops.specs.declared.moves.Moves.TheVariants.{Nothing}
 use Rattle.tree_ops.specs.Moves.{moves_of}
 use Rattle.tree_ops.proofs.Moving.{rename-stays, rename2-stays}
-use Rattle.tree_ops.proofs.Rows.{make-known, write-known, read-known, truncate-known, chmod-known, link-known, unlink-known, rmdir-known, find-known, list-known, LinkKnown, ListKnown}
+use Rattle.tree_ops.proofs.Rows.{make-known, write-known, read-known, truncate-known, chmod-known, link-known}
+use Rattle.tree_ops.proofs.Rows.{unlink-known, rmdir-known, find-known, list-known, LinkKnown, ListKnown}
 use Rattle.tree_ops.proofs.carrying.perform.Goals as goal
 
 -- no row of the call's kind holds for what the table shows
