@@ -3,7 +3,9 @@ use Rattle.std.proofs.Common.{ℕ, ◌+◌, Bool, true, false, ◌==◌, if◌th
 use Rattle.std.specs.Prelude.{All, Contains}
 use Rattle.std.specs.List.{last_or}
 use Rattle.std.proofs.lemmas.List.Elements.{All-nil, All-cons, All-append}
-use Rattle.record_codec.specs.declared.bits.TheConstants.{IN_ACCESS, IN_MODIFY, IN_ATTRIB, IN_CLOSE_WRITE, IN_CLOSE_NOWRITE, IN_OPEN, IN_MOVED_FROM, IN_MOVED_TO, IN_CREATE, IN_DELETE, IN_DELETE_SELF, IN_MOVE_SELF}
+use Rattle.record_codec.specs.declared.bits.TheConstants.{IN_ACCESS, IN_MODIFY, IN_ATTRIB, IN_CLOSE_WRITE}
+use Rattle.record_codec.specs.declared.bits.TheConstants.{IN_CLOSE_NOWRITE, IN_OPEN, IN_MOVED_FROM, IN_MOVED_TO}
+use Rattle.record_codec.specs.declared.bits.TheConstants.{IN_CREATE, IN_DELETE, IN_DELETE_SELF, IN_MOVE_SELF}
 use Rattle.record_codec.specs.Bits.{event_bits}
 use Rattle.inode_table.specs.declared.seen.Kind.{Kind}
 use Rattle.inode_table.specs.declared.seen.Kind.TheVariants.{Regular, Directory}
@@ -12,13 +14,17 @@ use Rattle.inode_table.specs.Refusals.{Look, parent_of}
 use Rattle.inode_table.specs.World.{World, look}
 use Rattle.tree_ops.specs.declared.call.TheConstants.{RENAME_EXCHANGE}
 use Rattle.tree_ops.specs.declared.call.FileCall.{FileCall}
-use Rattle.tree_ops.specs.declared.call.FileCall.TheVariants.{Create, Write, ReadFile, Truncate, Chmod, Mkdir, Link, Unlink, Rmdir, Rename, Rename2, Stat, List as Listed}
+use Rattle.tree_ops.specs.declared.call.FileCall.TheVariants.{Create, Write, ReadFile, Truncate, Chmod, Mkdir, Link}
+use Rattle.tree_ops.specs.declared.call.FileCall.TheVariants.{Unlink, Rmdir, Rename, Rename2, Stat, List as Listed}
 use Rattle.tree_ops.specs.After.{answer_of}
 use Rattle.tree_ops.specs.Refused.{are_same_seen}
 use Rattle.event_rules.specs.declared.notice.TheConstants.{NO_COOKIE}
 use Rattle.event_rules.specs.declared.notice.Notice.{Notice}
 use Rattle.event_rules.specs.declared.notice.Notice.TheVariants.{Told, Gone}
-use Rattle.event_rules.specs.Table.{about, answers_byte, chmod_told, create_told, deleted_told, exchange_told, has_byte, kind_seen, link_told, lost_told, mkdir_told, move_told, no_counts, notices_of, path_lost, read_told, rename_told, rmdir_told, swap_told, to_both, to_dir, to_self, told_in, truncate_told, unlink_told, write_told}
+use Rattle.event_rules.specs.Table.{about, answers_byte, chmod_told, create_told, deleted_told, exchange_told, has_byte}
+use Rattle.event_rules.specs.Table.{kind_seen, link_told, lost_told, mkdir_told, move_told, no_counts, notices_of}
+use Rattle.event_rules.specs.Table.{path_lost, read_told, rename_told, rmdir_told, swap_told, to_both, to_dir, to_self}
+use Rattle.event_rules.specs.Table.{told_in, truncate_told, unlink_told, write_told}
 use Rattle.event_rules.specs.Raised.{event_bit}
 use Rattle.event_rules.specs.Laws.{HasOneEvent}
 

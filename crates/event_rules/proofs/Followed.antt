@@ -1,5 +1,6 @@
 -- What comes after the event that says that a watch has ended.
-use Rattle.std.proofs.Common.{◌≡◌, ◌≢◌, ◌==◌, ◌&&◌, ℕ, Bool, true, false, not, IsTrue, if◌then◌else◌, List, [], ◌∷◌, ◌++◌, Option, Some, None, refl, sym, ap, ◌∙◌, subst}
+use Rattle.std.proofs.Common.{◌≡◌, ◌≢◌, ◌==◌, ◌&&◌, ℕ, Bool, true, false, not, IsTrue, if◌then◌else◌, List, [], ◌∷◌}
+use Rattle.std.proofs.Common.{◌++◌, Option, Some, None, refl, sym, ap, ◌∙◌, subst}
 use Rattle.std.specs.Prelude.{ℤ, All, filter, map}
 use Rattle.std.specs.Int.Bits.{and_zero_r}
 use Rattle.std.proofs.lemmas.Bool.{eqb-true}
@@ -10,7 +11,8 @@ use Rattle.record_codec.specs.declared.event.Event.{Event}
 use Rattle.watch_table.specs.Watching.{HasEnded, IsSound, Watch, Watching, dropped, watch_of, wd_of}
 use Rattle.event_rules.specs.declared.notice.Notice.{Notice}
 use Rattle.event_rules.specs.declared.notice.Notice.TheVariants.{Told, Gone}
-use Rattle.event_rules.specs.Raised.{asks_for, ended, ended_by, ends_watch, events_of, ignored, is_oneshot, left, left_by, raised, raised_at, told_number, watches_after, wds_ended}
+use Rattle.event_rules.specs.Raised.{asks_for, ended, ended_by, ends_watch, events_of, ignored, is_oneshot, left}
+use Rattle.event_rules.specs.Raised.{left_by, raised, raised_at, told_number, watches_after, wds_ended}
 use Rattle.event_rules.specs.Laws.{TellsNothing, says_ended}
 use Rattle.event_rules.proofs.Removals.{Known, left-IsSound, left-either, some_none, wd-of}
 use Rattle.event_rules.proofs.Others.{raised-All}

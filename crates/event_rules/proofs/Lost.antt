@@ -9,14 +9,16 @@ use Rattle.inode_table.specs.Rows.{Label}
 use Rattle.inode_table.specs.World.{World, look, links, seen_as}
 use Rattle.inode_table.proofs.SeenLemmas.{is_value}
 use Rattle.tree_ops.specs.declared.call.FileCall.{FileCall}
-use Rattle.tree_ops.specs.declared.call.FileCall.TheVariants.{Create, Write, ReadFile, Truncate, Chmod, Mkdir, Link, Unlink, Rmdir, Rename, Rename2, Stat, List as Listed}
+use Rattle.tree_ops.specs.declared.call.FileCall.TheVariants.{Create, Write, ReadFile, Truncate, Chmod, Mkdir, Link}
+use Rattle.tree_ops.specs.declared.call.FileCall.TheVariants.{Unlink, Rmdir, Rename, Rename2, Stat, List as Listed}
 use Rattle.tree_ops.proofs.Worlds.{look-is}
 use Rattle.tree_ops.proofs.FilesAfter.{IsThere, IsAlone, Goes}
 use Rattle.watch_table.specs.Watching.{Watching, watch_of}
 use Rattle.event_rules.specs.declared.notice.TheConstants.{NO_COOKIE}
 use Rattle.event_rules.specs.declared.notice.Notice.{Notice}
 use Rattle.event_rules.specs.declared.notice.Notice.TheVariants.{Told, Gone}
-use Rattle.event_rules.specs.Table.{deleted_told, exchange_told, kind_seen, lost_told, move_told, notices_of, path_lost, rename_told, rmdir_told, to_dir, to_self, unlink_told}
+use Rattle.event_rules.specs.Table.{deleted_told, exchange_told, kind_seen, lost_told, move_told, notices_of, path_lost}
+use Rattle.event_rules.specs.Table.{rename_told, rmdir_told, to_dir, to_self, unlink_told}
 use Rattle.event_rules.specs.Raised.{left, left_by, watches_after}
 use Rattle.event_rules.proofs.Removals.{dropped-here, some_none}
 use Rattle.event_rules.proofs.Others.{part-after}

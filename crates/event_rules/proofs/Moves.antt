@@ -11,7 +11,8 @@ use Rattle.inode_table.specs.Refusals.{Look, parent_of}
 use Rattle.inode_table.specs.World.{World, look}
 use Rattle.tree_ops.specs.declared.call.TheConstants.{RENAME_EXCHANGE}
 use Rattle.tree_ops.specs.declared.call.FileCall.{FileCall}
-use Rattle.tree_ops.specs.declared.call.FileCall.TheVariants.{Create, Write, ReadFile, Truncate, Chmod, Mkdir, Link, Unlink, Rmdir, Rename, Rename2, Stat, List as Listed}
+use Rattle.tree_ops.specs.declared.call.FileCall.TheVariants.{Create, Write, ReadFile, Truncate, Chmod, Mkdir, Link}
+use Rattle.tree_ops.specs.declared.call.FileCall.TheVariants.{Unlink, Rmdir, Rename, Rename2, Stat, List as Listed}
 use Rattle.tree_ops.specs.After.{answer_of}
 use Rattle.tree_ops.specs.declared.moves.Moves.TheVariants.{Nothing, Move, Exchange}
 use Rattle.tree_ops.specs.Moves.{cookies_for, cookies_of}
@@ -19,7 +20,8 @@ use Rattle.tree_ops.specs.Refused.{are_same_seen}
 use Rattle.event_rules.specs.declared.notice.TheConstants.{NO_COOKIE}
 use Rattle.event_rules.specs.declared.notice.Notice.{Notice}
 use Rattle.event_rules.specs.declared.notice.Notice.TheVariants.{Told, Gone}
-use Rattle.event_rules.specs.Table.{about, answers_byte, exchange_told, has_byte, kind_seen, move_told, no_counts, notices_of, path_lost, rename_told, swap_told, to_dir, to_self, told_in}
+use Rattle.event_rules.specs.Table.{about, answers_byte, exchange_told, has_byte, kind_seen, move_told, no_counts}
+use Rattle.event_rules.specs.Table.{notices_of, path_lost, rename_told, swap_told, to_dir, to_self, told_in}
 use Rattle.event_rules.specs.Raised.{event_bit}
 use Rattle.event_rules.specs.Laws.{AreAmong, AreTied, IsTied, Mark, cookies_from, is_move, marks_told, moves_in, moves_with}
 use Rattle.event_rules.proofs.EveryCall as every

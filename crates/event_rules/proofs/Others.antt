@@ -6,7 +6,8 @@ use Rattle.record_codec.specs.declared.event.Event.{Event}
 use Rattle.watch_table.specs.Watching.{IsSound, Watch, Watching, dropped, watch_of}
 use Rattle.event_rules.specs.declared.notice.Notice.{Notice}
 use Rattle.event_rules.specs.declared.notice.Notice.TheVariants.{Told, Gone}
-use Rattle.event_rules.specs.Raised.{asks_for, ended, ended_by, ends_watch, event_told, events_of, ignored, left, left_by, raised, raised_at, told_number, watches_after, wds_ended, where_ended}
+use Rattle.event_rules.specs.Raised.{asks_for, ended, ended_by, ends_watch, event_told, events_of, ignored, left}
+use Rattle.event_rules.specs.Raised.{left_by, raised, raised_at, told_number, watches_after, wds_ended, where_ended}
 use Rattle.event_rules.specs.Laws.{HasWatch, IsPartOf}
 use Rattle.event_rules.proofs.Removals.{dropped-other, dropped-was, left-either, same_or_not, same_some, some_none, wd-of}
 

@@ -6,7 +6,8 @@ use Rattle.record_codec.specs.declared.event.Event.{Event}
 use Rattle.watch_table.specs.Watching.{Watch, Watching, removed, watch_of}
 use Rattle.event_rules.specs.declared.notice.Notice.{Notice}
 use Rattle.event_rules.specs.declared.staging.StagedEvent.{StagedEvent}
-use Rattle.event_rules.specs.Raised.{raised, raised_at, ended, ended_by, ends_watch, event_told, ignored, left, told_number, events_of, wds_ended, watches_after}
+use Rattle.event_rules.specs.Raised.{raised, raised_at, ended, ended_by, ends_watch, event_told, ignored, left}
+use Rattle.event_rules.specs.Raised.{told_number, events_of, wds_ended, watches_after}
 use Rattle.event_rules.specs.Staging.{staged_event}
 
 events_of-push : (w : Watching) (ns : List Notice) (n : Notice) → events_of w (ns ++ n ∷ []) ≡ events_of w ns ++ raised (watches_after w ns) n
