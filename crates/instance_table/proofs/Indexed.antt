@@ -1,5 +1,6 @@
 -- The open instances and the index of watchers, changed together.
-use Rattle.std.proofs.Common.{◌≡◌, ℕ, Bool, true, false, not, cond, ◌||◌, ◌&&◌, ◌++◌, ◌∷◌, [], suc, List, take, drop, set, get_or, eqb, Option, Some, None, is_some, refl, sym, ap, ◌∙◌, subst, arith}
+use Rattle.std.proofs.Common.{◌≡◌, ℕ, Bool, true, false, not, cond, ◌||◌, ◌&&◌, ◌++◌, ◌∷◌, [], suc, List, take, drop}
+use Rattle.std.proofs.Common.{set, get_or, eqb, Option, Some, None, is_some, refl, sym, ap, ◌∙◌, subst, arith}
 use Rattle.std.specs.Prelude.{pos, ℤ, Result, Ok, Err, OnOk, OnErr}
 use Rattle.record_codec.specs.Records.{AreEvents}
 use Rattle.tree_paths.specs.declared.refusal.Refusal.{Refusal}
@@ -19,7 +20,8 @@ use Rattle.instance_table.specs.declared.opened.Opened.{Opened}
 use Rattle.instance_table.specs.Ids.{IsPlace}
 use Rattle.instance_table.specs.Opened.{by_number, ids_of}
 use Rattle.instance_table.specs.Views.{instances_of, NotesEveryWatch}
-use Rattle.instance_table.proofs.Rising.{entries-rising, get-absent, get-at, length-keys, cut-absent, map-cut, map-put, map-set, rises-cut, rises-put, rises-set}
+use Rattle.instance_table.proofs.Rising.{entries-rising, get-absent, get-at, length-keys, cut-absent, map-cut, map-put}
+use Rattle.instance_table.proofs.Rising.{map-set, rises-cut, rises-put, rises-set}
 use Rattle.std.proofs.lemmas.List.{get_or-map}
 use Rattle.std.proofs.lemmas.Bool.{false≢true}
 use Rattle.std.specs.List.Sorted.{IsStrictlySortedBy}

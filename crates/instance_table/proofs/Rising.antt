@@ -1,5 +1,7 @@
 -- Rows that rise by a number of each, the numbers alone, and the maps that rows stand for.
-use Rattle.std.proofs.Common.{◌≡◌, ℕ, suc, zero, ◌<◌, ◌≤◌, ◌-◌, ◌++◌, ◌∷◌, [], List, Bool, true, false, cond, T, ◌||◌, ◌&&◌, Option, Some, None, map, length, take, drop, get_or, set, refl, sym, ap, ◌∙◌, subst, arith, inl, inr}
+use Rattle.std.proofs.Common.{◌≡◌, ℕ, suc, zero, ◌<◌, ◌≤◌, ◌-◌, ◌++◌, ◌∷◌, [], List, Bool, true, false, cond, T, ◌||◌}
+use Rattle.std.proofs.Common.{◌&&◌, Option, Some, None, map, length, take, drop, get_or, set, refl, sym, ap, ◌∙◌, subst}
+use Rattle.std.proofs.Common.{arith, inl, inr}
 use Rattle.std.specs.Prelude.{Ok, Err, Result}
 use Rattle.std.specs.List.{AllByRecursion, list_any}
 use Rattle.std.specs.List.Sorted.{IsStrictlySortedBy, IsBinarySearchResult, IsSearchInRange}
@@ -7,7 +9,8 @@ use Rattle.std.specs.Ordering.{nat_cmp, eq_by_cmp, is_lt, is_eq, ordering_index}
 use Rattle.std.specs.declared.cmp.Ordering.TheVariants.{Less}
 use Rattle.std.specs.Cmp.{nat_cmp_total, nat_cmp_is, tied_itself}
 use Rattle.std.specs.FinMap as finmap
-use Rattle.std.specs.FinMap.{FinMap, find, from_entries, is_sorted, get-from_entries, get-from_sorted, entries-from_sorted, get-insert, get-remove, same_map, nat_cmp-IsAntisymmetric}
+use Rattle.std.specs.FinMap.{FinMap, find, from_entries, is_sorted, get-from_entries, get-from_sorted}
+use Rattle.std.specs.FinMap.{entries-from_sorted, get-insert, get-remove, same_map, nat_cmp-IsAntisymmetric}
 use Rattle.std.specs.FinMap.Entries.{below_all}
 use Rattle.instance_table.specs.Ids.{IdSet, IsPlace, marked, set_of}
 use Rattle.std.proofs.lemmas.List.{get_or-map, map-id}

@@ -1,5 +1,6 @@
 -- What is staged: who is a recipient, and who is not.
-use Rattle.std.proofs.Common.{◌≡◌, ℕ, zero, suc, Bool, true, false, cond, ◌||◌, ◌<◌, ◌≤◌, List, [], ◌∷◌, ◌++◌, length, eqb, is_some, Option, Some, None, take, map, refl, sym, ap, ◌∙◌, get_or, arith}
+use Rattle.std.proofs.Common.{◌≡◌, ℕ, zero, suc, Bool, true, false, cond, ◌||◌, ◌<◌, ◌≤◌, List, [], ◌∷◌, ◌++◌, length}
+use Rattle.std.proofs.Common.{eqb, is_some, Option, Some, None, take, map, refl, sym, ap, ◌∙◌, get_or, arith}
 use Rattle.std.specs.Prelude.{ℤ, fold, All}
 use Rattle.std.specs.FinMap as finmap
 use Rattle.std.specs.FinMap.{contains_key-keys}

@@ -1,4 +1,5 @@
-use Rattle.std.proofs.Common.{◌≡◌, ◌≤◌, ◌+◌, ◌++◌, ℕ, suc, zero, List, [], ◌∷◌, Some, None, take, drop, slice_get, ap, sym, ◌∙◌, refl, append_assoc, arith, rules}
+use Rattle.std.proofs.Common.{◌≡◌, ◌≤◌, ◌+◌, ◌++◌, ℕ, suc, zero, List, [], ◌∷◌, Some, None, take, drop, slice_get, ap}
+use Rattle.std.proofs.Common.{sym, ◌∙◌, refl, append_assoc, arith, rules}
 use Rattle.record_codec.specs.declared.event.Event.{Event}
 use Rattle.event_queue.specs.Backlogs.{after_take}
 use Rattle.instance_table.proofs.instances.move_oldest.Goals as goal
