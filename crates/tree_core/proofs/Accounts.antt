@@ -1,5 +1,6 @@
 -- What becomes of the events that are raised for an instance.
-use Rattle.std.proofs.Common.{◌≡◌, ℕ, suc, ◌+◌, Bool, true, false, not, cond, if◌then◌else◌, ◌==◌, List, [], ◌∷◌, ◌++◌, length, Option, Some, None, refl, sym, ap, subst, ◌∙◌, arith}
+use Rattle.std.proofs.Common.{◌≡◌, ℕ, suc, ◌+◌, Bool, true, false, not, cond, if◌then◌else◌, ◌==◌, List, [], ◌∷◌, ◌++◌}
+use Rattle.std.proofs.Common.{length, Option, Some, None, refl, sym, ap, subst, ◌∙◌, arith}
 use Rattle.std.proofs.lemmas.Bool.{eqb-true}
 use Rattle.std.proofs.lemmas.List.Elements.{All-nil, All-append, All-cons, All-head, All-tail, All-weaker}
 use Rattle.std.proofs.lemmas.List.Sums.{sum_by-cons}
@@ -26,7 +27,8 @@ use Rattle.tree_core.specs.declared.call.Call.{Call}
 use Rattle.tree_core.specs.declared.call.Call.TheVariants as call
 use Rattle.tree_core.specs.declared.reply.Entry.{Entry}
 use Rattle.tree_core.specs.Tree.{Tree, cookie_now, refusal_of, rm_watch_rows, after}
-use Rattle.tree_core.specs.Histories.{Raised, where_open, events_for, raised_to, raised_by, raised_in, fate, is_keeping, is_merging, is_losing, events, joined, kept}
+use Rattle.tree_core.specs.Histories.{Raised, where_open, events_for, raised_to, raised_by, raised_in, fate, is_keeping}
+use Rattle.tree_core.specs.Histories.{is_merging, is_losing, events, joined, kept}
 use Rattle.tree_core.specs.QueueLaws.{EventsAreAccountedFor}
 use Rattle.tree_core.proofs.SoundWatches.{WatchLaws, HasSoundWatches, WatchesAreSound, WatchesAreSound-after}
 use Rattle.tree_core.proofs.SoundTrees.{sound-watches}

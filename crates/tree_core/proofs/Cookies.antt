@@ -21,7 +21,8 @@ use Rattle.tree_core.specs.declared.call.Call.{Call}
 use Rattle.tree_core.specs.declared.call.Call.TheVariants as call
 use Rattle.tree_core.specs.declared.reply.Entry.{Entry}
 use Rattle.tree_core.specs.Histories.{raised_to, raised_by, events, events_for, where_open}
-use Rattle.tree_core.specs.Tree.{Tree, cookie_now, counts_of, refusal_of, after_file, after_init, after_add_watch, after_rm_watch, after_accepted_read, after_close, accepted, tree_by, after}
+use Rattle.tree_core.specs.Tree.{Tree, cookie_now, counts_of, refusal_of, after_file, after_init, after_add_watch}
+use Rattle.tree_core.specs.Tree.{after_rm_watch, after_accepted_read, after_close, accepted, tree_by, after}
 use Rattle.tree_core.specs.TurnLaws.{AreInTurn, cookies_taken, cookies_by, cookies_in, cookies_used, CookiesAreInTurn, CookiesTieMoves}
 use Rattle.tree_core.proofs.Counted.{HasRoom, cookies-there}
 use Rattle.tree_core.proofs.Turns.{Step, gives-many, gives-none, same-number}

@@ -1,5 +1,7 @@
 -- The numbers that come next stay within the limits, where a call on files is accepted.
-use Rattle.std.proofs.Common.{◌≡◌, ◌⊎◌, inl, inr, ℕ, ◌+◌, ◌≤◌, ◌^◌, ◌==◌, ◌||◌, nat_lt, nat_le, Bool, true, false, cond, if◌then◌else◌, List, [], ◌∷◌, map, Option, Some, None, IsSome, option_map, refl, sym, ap, subst, ◌∙◌, arith}
+use Rattle.std.proofs.Common.{◌≡◌, ◌⊎◌, inl, inr, ℕ, ◌+◌, ◌≤◌, ◌^◌, ◌==◌, ◌||◌, nat_lt, nat_le, Bool, true, false, cond}
+use Rattle.std.proofs.Common.{if◌then◌else◌, List, [], ◌∷◌, map, Option, Some, None, IsSome, option_map, refl, sym, ap}
+use Rattle.std.proofs.Common.{subst, ◌∙◌, arith}
 use Rattle.std.proofs.lemmas.Bool.{or_parts, eqb-true, leb-true, ltb-false, true≢false}
 use Rattle.std.specs.FinMap as finmap
 use Rattle.std.specs.FinMap.{find, get-from_entries, get-entries}
@@ -16,11 +18,14 @@ use Rattle.inode_table.specs.Refusals.{Look}
 use Rattle.tree_ops.specs.declared.call.Counts.{Counts}
 use Rattle.tree_ops.specs.declared.call.TheConstants.{RENAME_EXCHANGE, RENAME_NOREPLACE}
 use Rattle.tree_ops.specs.declared.call.FileCall.{FileCall}
-use Rattle.tree_ops.specs.declared.call.FileCall.TheVariants.{Create, Write, ReadFile, Truncate, Chmod, Mkdir, Link, Unlink, Rmdir, Rename, Rename2, Stat as Status, List as Listed}
+use Rattle.tree_ops.specs.declared.call.FileCall.TheVariants.{Create, Write, ReadFile, Truncate, Chmod, Mkdir, Link}
+use Rattle.tree_ops.specs.declared.call.FileCall.TheVariants.{Unlink, Rmdir, Rename, Rename2, Stat as Status}
+use Rattle.tree_ops.specs.declared.call.FileCall.TheVariants.{List as Listed}
 use Rattle.tree_ops.specs.declared.moves.Moves.{Moves}
 use Rattle.tree_ops.specs.declared.moves.Moves.TheVariants.{Nothing, Move, Exchange}
 use Rattle.tree_ops.specs.Moves.{cookies_for, cookies_of, moves_for}
-use Rattle.tree_ops.specs.Refused.{refused, refusal_seen, cookies_row, two_cookies_row, are_same_seen, make_rows, rename_rows, move_rows, noreplace_rows, swap_rows, exchange_rows, rename2_rows}
+use Rattle.tree_ops.specs.Refused.{refused, refusal_seen, cookies_row, two_cookies_row, are_same_seen, make_rows}
+use Rattle.tree_ops.specs.Refused.{rename_rows, move_rows, noreplace_rows, swap_rows, exchange_rows, rename2_rows}
 use Rattle.tree_ops.specs.After.{numbers_of}
 use Rattle.event_rules.specs.Table.{notices_of}
 use Rattle.instance_table.specs.declared.instance.Instance.{Instance}

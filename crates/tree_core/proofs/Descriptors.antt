@@ -1,5 +1,6 @@
 -- Descriptors run on in each instance.
-use Rattle.std.proofs.Common.{◌≡◌, inl, inr, ℕ, ◌<◌, ◌≤◌, ◌==◌, Bool, true, false, cond, eqb, if◌then◌else◌, List, [], ◌∷◌, ◌++◌, Option, Some, None, is_some, refl, sym, ap, subst, ◌∙◌, arith}
+use Rattle.std.proofs.Common.{◌≡◌, inl, inr, ℕ, ◌<◌, ◌≤◌, ◌==◌, Bool, true, false, cond, eqb, if◌then◌else◌, List, []}
+use Rattle.std.proofs.Common.{◌∷◌, ◌++◌, Option, Some, None, is_some, refl, sym, ap, subst, ◌∙◌, arith}
 use Rattle.std.specs.Prelude.{ℤ, pos, option_map}
 use Rattle.std.proofs.lemmas.Bool.{eqb-true}
 use Rattle.tree_paths.specs.declared.refusal.Refusal.{Refusal}
@@ -19,7 +20,8 @@ use Rattle.tree_core.specs.declared.reply.Reply.{Reply}
 use Rattle.tree_core.specs.declared.reply.Reply.TheVariants as reply
 use Rattle.tree_core.specs.Journal.{IsLawfulFrom}
 use Rattle.tree_core.specs.Sound.{IsSoundTree}
-use Rattle.tree_core.specs.Tree.{Tree, accepted, after, after_reading, accepted_reply, cookie_now, number_seen, refusal_of, reply_by, reply_of, tree_by, watch_answer}
+use Rattle.tree_core.specs.Tree.{Tree, accepted, after, after_reading, accepted_reply, cookie_now, number_seen}
+use Rattle.tree_core.specs.Tree.{refusal_of, reply_by, reply_of, tree_by, watch_answer}
 use Rattle.tree_core.specs.TurnLaws.{DescriptorsRunOn, RunOn, TreesAreSound, next_wd_of, wd_in, wds_given, wds_of}
 use Rattle.tree_core.proofs.Opened.{eqb-other, eqb-swap, instance_of-accepted, left_of}
 use Rattle.tree_core.proofs.Untouched.{next-after, none-after}

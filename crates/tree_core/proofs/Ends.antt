@@ -1,5 +1,7 @@
 -- Nothing of a watch follows its end, along a journal, and its descriptor is not given again.
-use Rattle.std.proofs.Common.{◌≡◌, ◌≢◌, ◌↔◌, ℕ, ◌+◌, ◌<◌, ◌==◌, Bool, true, false, cond, eqb, if◌then◌else◌, IsTrue, List, [], ◌∷◌, ◌++◌, Option, Some, None, is_none, is_some, refl, sym, ap, ◌∙◌, subst, arith}
+use Rattle.std.proofs.Common.{◌≡◌, ◌≢◌, ◌↔◌, ℕ, ◌+◌, ◌<◌, ◌==◌, Bool, true, false, cond, eqb, if◌then◌else◌, IsTrue}
+use Rattle.std.proofs.Common.{List, [], ◌∷◌, ◌++◌, Option, Some, None, is_none, is_some, refl, sym, ap, ◌∙◌, subst}
+use Rattle.std.proofs.Common.{arith}
 use Rattle.std.specs.Prelude.{ℤ, pos, ◌<ℤ◌, All, IsSome, filter, map, option_map}
 use Rattle.std.proofs.lemmas.Bool.{eqb-true}
 use Rattle.std.proofs.lemmas.Int.{ints}
@@ -25,7 +27,9 @@ use Rattle.tree_core.specs.declared.reply.Reply.{Reply}
 use Rattle.tree_core.specs.Histories.{Raised, raised_to, raised_by, raised_in, events, events_for, joined, where_open}
 use Rattle.tree_core.specs.Journal.{IsLawfulFrom}
 use Rattle.tree_core.specs.Sound.{IsSoundTree}
-use Rattle.tree_core.specs.Tree.{Tree, cookie_now, rm_watch_rows, refusal_of, number_seen, after_reading, after_file, after_init, after_add_watch, after_rm_watch, after_accepted_read, after_close, accepted, tree_by, watch_answer, reply_by, reply_of, after}
+use Rattle.tree_core.specs.Tree.{Tree, cookie_now, rm_watch_rows, refusal_of, number_seen, after_reading, after_file}
+use Rattle.tree_core.specs.Tree.{after_init, after_add_watch, after_rm_watch, after_accepted_read, after_close}
+use Rattle.tree_core.specs.Tree.{accepted, tree_by, watch_answer, reply_by, reply_of, after}
 use Rattle.tree_core.specs.TurnLaws.{WatchesEndOnce, wd_in, wds_of, wds_given, DescriptorsEndForGood}
 use Rattle.tree_core.proofs.Cookies.{events-raised_to}
 use Rattle.tree_core.proofs.Counted.{first-passes, row-passes}

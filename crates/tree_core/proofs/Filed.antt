@@ -6,7 +6,9 @@ use Rattle.inode_table.specs.TableWorld.{world_of, HasNumbersBelow}
 use Rattle.inode_table.specs.World.{World}
 use Rattle.tree_ops.specs.declared.call.Counts.{Counts}
 use Rattle.tree_ops.specs.declared.call.FileCall.{FileCall}
-use Rattle.tree_ops.specs.declared.call.FileCall.TheVariants.{Create, Write, ReadFile, Truncate, Chmod, Mkdir, Link, Unlink, Rmdir, Rename, Rename2, Stat as Status, List as Listed}
+use Rattle.tree_ops.specs.declared.call.FileCall.TheVariants.{Create, Write, ReadFile, Truncate, Chmod, Mkdir, Link}
+use Rattle.tree_ops.specs.declared.call.FileCall.TheVariants.{Unlink, Rmdir, Rename, Rename2, Stat as Status}
+use Rattle.tree_ops.specs.declared.call.FileCall.TheVariants.{List as Listed}
 use Rattle.tree_ops.specs.declared.answer.Answer.{Answer}
 use Rattle.tree_ops.specs.ReadyCall.{PlanValue}
 use Rattle.tree_ops.specs.Moves.{cookies_of}

@@ -9,10 +9,12 @@ use Rattle.tree_core.specs.declared.call.Call.TheVariants as call
 use Rattle.tree_core.specs.declared.reply.Entry.{Entry}
 use Rattle.tree_core.specs.declared.file_system.FileSystem.{FileSystem}
 use Rattle.tree_core.specs.CutLaws.{GoesOn, IsWhole}
-use Rattle.tree_core.specs.Journal.{Journaled, HasPast, IsLawfulFrom, IsLawful, IsPast, cut_off, last_place, now, opened, stands_for, tree_after, waiting_in, with_entry}
+use Rattle.tree_core.specs.Journal.{Journaled, HasPast, IsLawfulFrom, IsLawful, IsPast, cut_off, last_place, now}
+use Rattle.tree_core.specs.Journal.{opened, stands_for, tree_after, waiting_in, with_entry}
 use Rattle.tree_core.specs.FileSystems.{tree_in}
 use Rattle.tree_core.specs.Sound.{IsSoundTree}
-use Rattle.tree_core.specs.Tree.{Tree, opening, refusal_of, reply_of, accepted, after, after_file, after_init, after_add_watch, after_rm_watch, after_accepted_read, after_close, tree_by}
+use Rattle.tree_core.specs.Tree.{Tree, opening, refusal_of, reply_of, accepted, after, after_file, after_init}
+use Rattle.tree_core.specs.Tree.{after_add_watch, after_rm_watch, after_accepted_read, after_close, tree_by}
 use Rattle.tree_core.specs.TurnLaws.{TreesAreSound}
 
 -- ---- two parts

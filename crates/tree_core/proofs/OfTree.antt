@@ -1,6 +1,7 @@
 -- Which refusals a tree gives: none is out of memory, a full journal or a full pipe.
 use Rattle.std.specs.Prelude.{ℤ}
-use Rattle.std.proofs.Common.{◌≡◌, ℕ, Bool, true, false, if◌then◌else◌, List, [], ◌∷◌, Option, Some, None, is_none, is_some, not, ◌&&◌, ◌==◌, length, refl, sym, ap, subst, ◌∙◌}
+use Rattle.std.proofs.Common.{◌≡◌, ℕ, Bool, true, false, if◌then◌else◌, List, [], ◌∷◌, Option, Some, None, is_none}
+use Rattle.std.proofs.Common.{is_some, not, ◌&&◌, ◌==◌, length, refl, sym, ap, subst, ◌∙◌}
 use Rattle.tree_paths.specs.Rows.{row, first_row}
 use Rattle.tree_paths.specs.declared.limits.Limits.{Limits}
 use Rattle.tree_paths.specs.declared.refusal.Refusal.{Refusal}
@@ -10,7 +11,9 @@ use Rattle.inode_table.specs.World.{look}
 use Rattle.inode_table.specs.Refusals.{Look, find, is_directory_kind, is_directory_seen, longest_there, parent, parent_of}
 use Rattle.tree_ops.specs.declared.call.Counts.{Counts}
 use Rattle.tree_ops.specs.declared.call.FileCall.{FileCall}
-use Rattle.tree_ops.specs.declared.call.FileCall.TheVariants.{Create, Write, ReadFile, Truncate, Chmod, Mkdir, Link, Unlink, Rmdir, Rename, Rename2, Stat as Status, List as Listed}
+use Rattle.tree_ops.specs.declared.call.FileCall.TheVariants.{Create, Write, ReadFile, Truncate, Chmod, Mkdir, Link}
+use Rattle.tree_ops.specs.declared.call.FileCall.TheVariants.{Unlink, Rmdir, Rename, Rename2, Stat as Status}
+use Rattle.tree_ops.specs.declared.call.FileCall.TheVariants.{List as Listed}
 use Rattle.tree_ops.specs.Refused as ops
 use Rattle.tree_ops.specs.declared.call.TheConstants.{RENAME_EXCHANGE, RENAME_NOREPLACE}
 use Rattle.record_codec.specs.declared.bits.TheConstants.{IN_ALL_EVENTS, IN_MASK_ADD, IN_MASK_CREATE}

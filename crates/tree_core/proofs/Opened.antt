@@ -9,7 +9,8 @@ use Rattle.instance_table.specs.declared.instance.Instance.{Instance}
 use Rattle.instance_table.specs.Instances.{Instances, instance_of, new_instance, told, watching, unwatching, changed, changed_by}
 use Rattle.tree_core.specs.declared.call.Call.{Call}
 use Rattle.tree_core.specs.declared.call.Call.TheVariants as call
-use Rattle.tree_core.specs.Tree.{Tree, cookie_now, number_seen, after_reading, after_file, after_init, after_add_watch, after_rm_watch, after_accepted_read, after_close, accepted}
+use Rattle.tree_core.specs.Tree.{Tree, cookie_now, number_seen, after_reading, after_file, after_init, after_add_watch}
+use Rattle.tree_core.specs.Tree.{after_rm_watch, after_accepted_read, after_close, accepted}
 use Rattle.tree_core.proofs.Counted.{instance_of-all_changed}
 use Rattle.tree_core.proofs.Instances.{get-put, get-cut}
 

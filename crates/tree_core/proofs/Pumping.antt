@@ -1,5 +1,7 @@
 -- Reads and pumps, and what a pump hands over.
-use Rattle.std.proofs.Common.{◌≡◌, ℕ, Bool, true, false, eqb, if◌then◌else◌, List, [], Option, Some, None, IsSome, is_some, option_map, Result, Ok, Err, IsErrAnd, inl, inr, take, refl, sym, ap, subst, ◌∙◌, arith}
+use Rattle.std.proofs.Common.{◌≡◌, ℕ, Bool, true, false, eqb, if◌then◌else◌, List, [], Option, Some, None, IsSome}
+use Rattle.std.proofs.Common.{is_some, option_map, Result, Ok, Err, IsErrAnd, inl, inr, take, refl, sym, ap, subst, ◌∙◌}
+use Rattle.std.proofs.Common.{arith}
 use Rattle.std.proofs.lemmas.Bool.Decides.{nat_tests}
 use Rattle.std.specs.Option.{unwrap_or}
 use Rattle.std.specs.Prelude.{◌⊎◌, IfOk, IfErr, IfSome}

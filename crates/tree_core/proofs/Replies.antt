@@ -10,7 +10,8 @@ use Rattle.instance_table.specs.Instances.{instance_of}
 use Rattle.tree_core.specs.declared.call.Call.{Call}
 use Rattle.tree_core.specs.declared.call.Call.TheVariants as call
 use Rattle.tree_core.specs.declared.reply.Reply.TheVariants as reply
-use Rattle.tree_core.specs.Tree.{Tree, refusal_of, add_watch_rows, read_rows, way_row, close_rows, accepted, watch_answer, read_answer, number_seen, accepted_reply, reply_by, tree_by, reply_of}
+use Rattle.tree_core.specs.Tree.{Tree, refusal_of, add_watch_rows, read_rows, way_row, close_rows, accepted}
+use Rattle.tree_core.specs.Tree.{watch_answer, read_answer, number_seen, accepted_reply, reply_by, tree_by, reply_of}
 use Rattle.tree_core.specs.TurnLaws.{RepliesTell}
 use Rattle.tree_core.specs.Histories.{events_for, raised_by, raised_to, read_by, records_for, where_open}
 use Rattle.tree_core.proofs.Counted.{first-passes}

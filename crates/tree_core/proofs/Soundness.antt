@@ -1,5 +1,6 @@
 -- Each call leaves a sound tree sound.
-use Rattle.std.proofs.Common.{◌≡◌, ◌≢◌, ◌⊎◌, inl, inr, ℕ, ◌+◌, ◌<◌, ◌≤◌, Bool, true, false, cond, eqb, List, [], ◌∷◌, Option, Some, None, is_some, refl, sym, ap, subst, ◌∙◌, arith}
+use Rattle.std.proofs.Common.{◌≡◌, ◌≢◌, ◌⊎◌, inl, inr, ℕ, ◌+◌, ◌<◌, ◌≤◌, Bool, true, false, cond, eqb, List, [], ◌∷◌}
+use Rattle.std.proofs.Common.{Option, Some, None, is_some, refl, sym, ap, subst, ◌∙◌, arith}
 use Rattle.std.proofs.lemmas.Bool.{cases_eq, true≢false}
 use Rattle.std.proofs.lemmas.List.Elements.{All-head, All-tail, All-weaker}
 use Rattle.std.specs.Prelude.{ℤ, pos, negsuc, ◌≤ℤ◌, All, Contains, IfSome, IsSome, fold, option_map}
@@ -39,7 +40,9 @@ use Rattle.instance_table.specs.Instances.{instance_of, new_instance, told, watc
 use Rattle.tree_core.specs.declared.call.Call.{Call}
 use Rattle.tree_core.specs.declared.call.Call.TheVariants as call
 use Rattle.tree_core.specs.declared.reply.Entry.{Entry}
-use Rattle.tree_core.specs.Tree.{Tree, opening, cookie_now, counts_of, refusal_of, accepted, after, tree_by, add_watch_rows, seen_fault, number_seen, after_reading, after_file, after_init, after_add_watch, after_rm_watch, after_accepted_read, after_close}
+use Rattle.tree_core.specs.Tree.{Tree, opening, cookie_now, counts_of, refusal_of, accepted, after, tree_by}
+use Rattle.tree_core.specs.Tree.{add_watch_rows, seen_fault, number_seen, after_reading, after_file, after_init}
+use Rattle.tree_core.specs.Tree.{after_add_watch, after_rm_watch, after_accepted_read, after_close}
 use Rattle.tree_core.specs.Journal.{tree_after}
 use Rattle.tree_core.specs.Sound.{IsCounted, IsSoundInstance, IsSoundTree}
 use Rattle.tree_core.specs.TurnLaws.{TreesAreSound}

@@ -4,7 +4,9 @@ use Rattle.std.specs.FinMap as finmap
 use Rattle.tree_paths.specs.declared.refusal.Refusal.{Refusal}
 use Rattle.inode_table.specs.World.{World, File, file_at, look}
 use Rattle.tree_ops.specs.declared.call.FileCall.{FileCall}
-use Rattle.tree_ops.specs.declared.call.FileCall.TheVariants.{Create, Write, ReadFile, Truncate, Chmod, Mkdir, Link, Unlink, Rmdir, Rename, Rename2, Stat as Status, List as Listed}
+use Rattle.tree_ops.specs.declared.call.FileCall.TheVariants.{Create, Write, ReadFile, Truncate, Chmod, Mkdir, Link}
+use Rattle.tree_ops.specs.declared.call.FileCall.TheVariants.{Unlink, Rmdir, Rename, Rename2, Stat as Status}
+use Rattle.tree_ops.specs.declared.call.FileCall.TheVariants.{List as Listed}
 use Rattle.tree_ops.specs.After as ops
 use Rattle.event_rules.specs.Laws.{cookies_from}
 use Rattle.instance_table.specs.declared.instance.Instance.{Instance}
@@ -15,7 +17,9 @@ use Rattle.tree_core.specs.declared.reply.Entry.{Entry}
 use Rattle.tree_core.specs.declared.reply.Reply.{Reply}
 use Rattle.tree_core.specs.declared.reply.Reply.TheVariants as reply
 use Rattle.tree_core.specs.Journal.{IsLawfulFrom}
-use Rattle.tree_core.specs.Tree.{Tree, counts_of, refusal_of, after_file, after_init, after_add_watch, after_rm_watch, after_accepted_read, after_close, accepted, watch_answer, read_answer, number_seen, accepted_reply, reply_by, tree_by, after}
+use Rattle.tree_core.specs.Tree.{Tree, counts_of, refusal_of, after_file, after_init, after_add_watch, after_rm_watch}
+use Rattle.tree_core.specs.Tree.{after_accepted_read, after_close, accepted, watch_answer, read_answer, number_seen}
+use Rattle.tree_core.specs.Tree.{accepted_reply, reply_by, tree_by, after}
 use Rattle.tree_core.specs.TurnLaws.{AreInTurn, number_in, numbers_given, NumbersAreInTurn, id_in, ids_given, IdsAreInTurn}
 
 -- what a call gives is in turn: what is in turn from the number that comes next after it is so behind it too

@@ -9,7 +9,8 @@ use Rattle.instance_table.specs.Instances.{instance_of, new_instance}
 use Rattle.tree_core.specs.declared.call.Call.{Call}
 use Rattle.tree_core.specs.declared.call.Call.TheVariants as call
 use Rattle.tree_core.specs.declared.reply.Entry.{Entry}
-use Rattle.tree_core.specs.Tree.{Tree, opening, refusal_of, accepted, tree_by, after, after_file, after_init, after_add_watch, after_rm_watch, after_accepted_read, after_close}
+use Rattle.tree_core.specs.Tree.{Tree, opening, refusal_of, accepted, tree_by, after, after_file, after_init}
+use Rattle.tree_core.specs.Tree.{after_add_watch, after_rm_watch, after_accepted_read, after_close}
 use Rattle.tree_core.specs.Journal.{tree_after}
 use Rattle.tree_core.specs.Histories.{where_open, events_for, records_for, raised_to, raised_by, raised_in, read_by, read_in}
 use Rattle.tree_core.specs.QueueLaws.{IsUntouched, UnmadeInstancesHearNothing, ClosedInstancesHearNothing}

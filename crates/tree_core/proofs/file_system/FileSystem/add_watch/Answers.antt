@@ -17,7 +17,8 @@ use Rattle.tree_core.specs.declared.reply.Reply.TheVariants as reply
 use Rattle.tree_core.specs.FileSystems.{tree_in}
 use Rattle.tree_core.specs.Tree.{after_add_watch, number_seen, refusal_of}
 use Rattle.tree_core.proofs.Serving.{failed-attempts, complete-attempts}
-use Rattle.tree_core.proofs.Instances.{copied-none, copied-some, at-instance, either-of, add-bad-there, add-mask-there, add-path-there, add-seen-there, answer-there, watching-there, IsNumbered-changed}
+use Rattle.tree_core.proofs.Instances.{copied-none, copied-some, at-instance, either-of, add-bad-there, add-mask-there}
+use Rattle.tree_core.proofs.Instances.{add-path-there, add-seen-there, answer-there, watching-there, IsNumbered-changed}
 use Rattle.tree_core.proofs.file_system.FileSystem.add_watch.Goals as goal
 
 -- the derived test of kinds decides whether a file is a directory
