@@ -4,7 +4,11 @@ use Rattle.std.specs.Prelude.{pos, neg_ℤ}
 use Rattle.std.proofs.lemmas.Int.{ints}
 use Rattle.std.proofs.lemmas.Option.{same_Some}
 use Rattle.tree_paths.specs.declared.refusal.Refusal.{Refusal}
-use Rattle.tree_paths.specs.declared.refusal.Refusal.TheVariants.{Eperm, Enoent, Ebadf, Eagain, Enomem, Ebusy, Eexist, Enotdir, Eisdir, Einval, Emfile, Efbig, Enospc, Emlink, Enametoolong, Enotempty, JournalFull, PipeFull, Piped, CookiesSpent, NotPiped, SeatsSpent, NumbersSpent}
+use Rattle.tree_paths.specs.declared.refusal.Refusal.TheVariants.{Eperm, Enoent, Ebadf, Eagain, Enomem, Ebusy, Eexist}
+use Rattle.tree_paths.specs.declared.refusal.Refusal.TheVariants.{Enotdir, Eisdir, Einval, Emfile, Efbig, Enospc}
+use Rattle.tree_paths.specs.declared.refusal.Refusal.TheVariants.{Emlink, Enametoolong, Enotempty, JournalFull}
+use Rattle.tree_paths.specs.declared.refusal.Refusal.TheVariants.{PipeFull, Piped, CookiesSpent, NotPiped, SeatsSpent}
+use Rattle.tree_paths.specs.declared.refusal.Refusal.TheVariants.{NumbersSpent}
 use Rattle.tree_paths.specs.Refusals.{refusal_number}
 use Rattle.watchtree_script.specs.declared.fault.ScriptFault.{ScriptFault}
 use Rattle.watchtree_script.specs.declared.fault.ScriptFault.TheVariants.{BadByte, UnknownCommand, WrongNumber, BadEscape, BadMode, BadHex, BadMask, BadNumber}
