@@ -17,7 +17,8 @@ use Rattle.watchtree_script.proofs.Pages.{front-all}
 use Rattle.watchtree_script.proofs.PieceLemmas.{length-pieces-le}
 
 -- some first lines of a script were run, and the others are left. What they print was written, but for what waits
-pub record Progress (queue : ℕ) (script : List ℕ) (rest : List (List ℕ)) (number : ℕ) (journal : Journaled) (waiting : List ℕ) (old new : Option (List ℕ)) : Type 0 where
+pub record Progress (queue : ℕ) (script : List ℕ) (rest : List (List ℕ)) (number : ℕ) (journal : Journaled)
+    (waiting : List ℕ) (old new : Option (List ℕ)) : Type 0 where
   pub front : List (List ℕ)
   pub lines : lines_of script ≡ front ++ rest
   pub count : number ≡ length front
