@@ -37,7 +37,8 @@ gives-one now next given one rises =
 pub gives-many : (now used : ℕ) → Step now (now + used) (cookies_from now used)
 gives-many now zero = gives-none now (now + 0) [] refl (omega arith)
 gives-many now (suc used) = record {
-  all = λ rest h. (refl, (gives-many (now + 1) used).all rest (subst (λ (n : ℕ). AreInTurn n rest) (let same : now + suc used ≡ (now + 1) + used = omega arith in same) h));
+  all = λ rest h.
+      (refl, (gives-many (now + 1) used).all rest (subst (λ (n : ℕ). AreInTurn n rest) (let same : now + suc used ≡ (now + 1) + used = omega arith in same) h));
 }
 
 -- ---- numbers of files
