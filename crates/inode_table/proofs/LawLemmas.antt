@@ -102,8 +102,13 @@ module _ {t : Tree} {w : World} (stands : Stands t w) where
     where
       to_node : finmap.get w.files n ≡ Some f → IsNodeOf t n f
       to_node is =
-          let found = stands.no_more n f is in
-          (found.0, found.1, found.2, found.3, same_some (file_of found.1) f (sym (stands.files found.0 found.1 found.2) ∙ ap (finmap.get w.files) found.3 ∙ is))
+          let found = stands.no_more n f is in (
+            found.0,
+            found.1,
+            found.2,
+            found.3,
+            same_some (file_of found.1) f (sym (stands.files found.0 found.1 found.2) ∙ ap (finmap.get w.files) found.3 ∙ is),
+          )
 
       of_node : IsNodeOf t n f → finmap.get w.files n ≡ Some f
       of_node node = ap (finmap.get w.files) (sym node.3) ∙ stands.files node.0 node.1 node.2 ∙ ap Some node.4

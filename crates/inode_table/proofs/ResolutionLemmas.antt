@@ -164,5 +164,15 @@ module _ (t : Tree) (table : IsTable t.rows) where
       ap parent_of cut ∙ parent-append w.front name (next ∷ left) ∙ ap (λ (r : List Label). w.front ++ r) (parent-cons name next left) in (
         stops-at t table whole e
             (record { front = w.front; label = name; rest = next ∷ left; key = key; cut = cut; there = w.there; missing = none; answer = answer }),
-        stops-at t table (parent_of whole) e (record { front = w.front; label = name; rest = parent_of (next ∷ left); key = key; cut = parent; there = w.there; missing = none; answer = answer }),
+        stops-at t table (parent_of whole) e
+            (record {
+              front = w.front;
+              label = name;
+              rest = parent_of (next ∷ left);
+              key = key;
+              cut = parent;
+              there = w.there;
+              missing = none;
+              answer = answer;
+            }),
       )

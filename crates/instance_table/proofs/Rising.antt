@@ -60,8 +60,10 @@ numbers-put (y ∷ xs) zero x h below above =
     let first : x < y = above 0 (omega arith) (omega arith) in
     ((less x y first, above-all x y xs first h.0), h)
 numbers-put (y ∷ xs) (suc i) x h below above =
-    let first : y < x = below 0 (omega arith) (omega arith) in
-    (all-put y x xs i (less y x first) h.0, numbers-put xs i x h.1 (λ k p q. below (suc k) (omega arith) (omega arith)) (λ k p q. above (suc k) (omega arith) (omega arith)))
+    let first : y < x = below 0 (omega arith) (omega arith) in (
+      all-put y x xs i (less y x first) h.0,
+      numbers-put xs i x h.1 (λ k p q. below (suc k) (omega arith) (omega arith)) (λ k p q. above (suc k) (omega arith) (omega arith)),
+    )
 
 all-cut : (P : ℕ → Type 0) (xs : List ℕ) (i : ℕ) → AllByRecursion P xs → AllByRecursion P (take i xs ++ drop (suc i) xs)
 all-cut P [] zero all = tt

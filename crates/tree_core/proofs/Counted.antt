@@ -104,7 +104,11 @@ two-room limits counts next now none =
   where
     by : (b : Bool) → (((if b then next else 0) == 0) || nat_lt limits.cookies ((if b then next else 0) + 1)) ≡ false
         → (next + 2 ≤ limits.cookies + 1) × ((if b then next else 0) ≡ next)
-    by true e = (let last : next + 1 ≤ limits.cookies = ltb-false limits.cookies (next + 1) (or_parts (next == 0) (nat_lt limits.cookies (next + 1)) e).1 in omega arith, refl)
+    by true e = (
+      let last : next + 1 ≤ limits.cookies = ltb-false limits.cookies (next + 1) (or_parts (next == 0) (nat_lt limits.cookies (next + 1)) e).1 in
+          omega arith,
+      refl,
+    )
     by false e = absurd (true≢false e)
 
 move-left : (limits : Limits) (counts : Counts) (old new : Option Seen) → Each (move_rows limits counts old new) → cookies_row limits counts ≡ None

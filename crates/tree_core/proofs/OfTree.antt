@@ -79,8 +79,13 @@ tail-fits false rows h = h
 
 rename-rows-fit : (at : Look) (limits : Limits) (counts : Counts) (old new : List (List ℕ)) → Each (ops.rename_rows at limits counts old new)
 unfolding ops.rename_rows
-rename-rows-fit at limits counts old new =
-    (one _ _ refl, (find-fits at old, (one _ _ refl, (parent-fits at new, tail-fits (ops.are_same_seen (at old) (at new)) _ (move-fits limits counts (at old) (at new))))))
+rename-rows-fit at limits counts old new = (
+  one _ _ refl,
+  (
+    find-fits at old,
+    (one _ _ refl, (parent-fits at new, tail-fits (ops.are_same_seen (at old) (at new)) _ (move-fits limits counts (at old) (at new)))),
+  ),
+)
 
 noreplace-rows-fit : (at : Look) (limits : Limits) (counts : Counts) (old new : List (List ℕ)) → Each (ops.noreplace_rows at limits counts old new)
 unfolding ops.noreplace_rows
@@ -93,8 +98,10 @@ swap-fits limits counts old new one_seen other = (one _ _ refl, (one _ _ refl, t
 
 exchange-rows-fit : (at : Look) (limits : Limits) (counts : Counts) (old new : List (List ℕ)) → Each (ops.exchange_rows at limits counts old new)
 unfolding ops.exchange_rows
-exchange-rows-fit at limits counts old new =
-    (one _ _ refl, (find-fits at old, (find-fits at new, tail-fits (ops.are_same_seen (at old) (at new)) _ (swap-fits limits counts old new (at old) (at new)))))
+exchange-rows-fit at limits counts old new = (
+  one _ _ refl,
+  (find-fits at old, (find-fits at new, tail-fits (ops.are_same_seen (at old) (at new)) _ (swap-fits limits counts old new (at old) (at new)))),
+)
 
 either-fits : (b : Bool) (rows others : List (Option Refusal)) → Each rows → Each others → Each (if b then rows else others)
 either-fits true rows others h g = h
@@ -139,7 +146,10 @@ watch-fits : (at : Look) (p : List (List ℕ)) (mask : ℕ) (o : Option Instance
 unfolding add_watch_rows
 watch-fits at p mask None = refl
 watch-fits at p mask (Some i) =
-    first (add_watch_rows at p mask (Some i)) (two (has_any mask IN_MASK_CREATE && has_any mask IN_MASK_ADD) (not (has_any mask IN_ALL_EVENTS)) Einval Einval refl refl, (find-fits at p, (seen-fits i mask (at p), tt)))
+    first (add_watch_rows at p mask (Some i)) (
+      two (has_any mask IN_MASK_CREATE && has_any mask IN_MASK_ADD) (not (has_any mask IN_ALL_EVENTS)) Einval Einval refl refl,
+      (find-fits at p, (seen-fits i mask (at p), tt)),
+    )
 
 unwatch-fits : (wd : ℤ) (o : Option Instance) → Fits (first_row (rm_watch_rows wd o))
 unfolding rm_watch_rows

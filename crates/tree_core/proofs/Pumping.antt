@@ -69,8 +69,10 @@ pub records-spelled : (t : Tree) → WaitingAreEvents t.instances → (id bytes 
     → o ≡ pumped t id bytes → r ≡ reply_of t (call.Pump id bytes)
     → IfSome o (λ es. AreEvents es × (r ≡ reply.Records (spelling es)))
 records-spelled t waits id bytes None r is e = tt
-records-spelled t waits id bytes (Some es) r is e =
-    (where-events (reply_of t (call.Pump id bytes)) (read_by t (call.Pump id bytes) id) es (read-events t waits (call.Pump id bytes) id) (sym is), e ∙ pumped-by t id bytes (refusal_of t (call.Pump id bytes)) refl (instance_of t.instances id) refl es (sym is))
+records-spelled t waits id bytes (Some es) r is e = (
+  where-events (reply_of t (call.Pump id bytes)) (read_by t (call.Pump id bytes) id) es (read-events t waits (call.Pump id bytes) id) (sym is),
+  e ∙ pumped-by t id bytes (refusal_of t (call.Pump id bytes)) refl (instance_of t.instances id) refl es (sym is),
+)
 
 -- ---- reads and pumps
 

@@ -98,4 +98,7 @@ joined-Quiet (r ∷ rs) q given =
 pub EndsOnce-Quiet : (waiting : List Event) (rs : List Raised) → Quiet waiting → All (Ends (λ wd. TellsNothing wd (joined rs))) waiting
     → Quiet (events rs) → All (Ends IsGiven) (events rs) → EndsOnce waiting rs
 EndsOnce-Quiet waiting rs waits over q given =
-    record { raised = nothing-behind (events rs) q; joined = nothing-behind (waiting ++ joined rs) (Quiet-append waiting (joined rs) waits (joined-Quiet rs q given) over) }
+    record {
+      raised = nothing-behind (events rs) q;
+      joined = nothing-behind (waiting ++ joined rs) (Quiet-append waiting (joined rs) waits (joined-Quiet rs q given) over);
+    }

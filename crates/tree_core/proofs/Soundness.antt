@@ -89,10 +89,34 @@ IsCounted-accepted t (call.Init limit is_piped) is none = record {
     later : (id : ℕ) → (id ≡ t.next_id) ⊎ IsSome (instance_of t.instances id) → id < t.next_id + 1
     later id (inl e) = omega arith
     later id (inr was) = let before = is.opened id was in omega arith
-IsCounted-accepted t (call.AddWatch from p mask) is none = record { numbers = is.numbers; cookies = is.cookies; ids = is.ids; opened = λ id there. is.opened id (opened-changed t.instances from (watching (number_seen (look t.world p)) (known mask)) id there) }
-IsCounted-accepted t (call.RmWatch from wd) is none = record { numbers = is.numbers; cookies = is.cookies; ids = is.ids; opened = λ id there. is.opened id (opened-changed t.instances from (unwatching wd) id there) }
-IsCounted-accepted t (call.Read from bytes) is none = record { numbers = is.numbers; cookies = is.cookies; ids = is.ids; opened = λ id there. is.opened id (opened-changed t.instances from (after_reading bytes) id there) }
-IsCounted-accepted t (call.Pump from bytes) is none = record { numbers = is.numbers; cookies = is.cookies; ids = is.ids; opened = λ id there. is.opened id (opened-changed t.instances from (after_reading bytes) id there) }
+IsCounted-accepted t (call.AddWatch from p mask) is none =
+    record {
+      numbers = is.numbers;
+      cookies = is.cookies;
+      ids = is.ids;
+      opened = λ id there. is.opened id (opened-changed t.instances from (watching (number_seen (look t.world p)) (known mask)) id there);
+    }
+IsCounted-accepted t (call.RmWatch from wd) is none =
+    record {
+      numbers = is.numbers;
+      cookies = is.cookies;
+      ids = is.ids;
+      opened = λ id there. is.opened id (opened-changed t.instances from (unwatching wd) id there);
+    }
+IsCounted-accepted t (call.Read from bytes) is none =
+    record {
+      numbers = is.numbers;
+      cookies = is.cookies;
+      ids = is.ids;
+      opened = λ id there. is.opened id (opened-changed t.instances from (after_reading bytes) id there);
+    }
+IsCounted-accepted t (call.Pump from bytes) is none =
+    record {
+      numbers = is.numbers;
+      cookies = is.cookies;
+      ids = is.ids;
+      opened = λ id there. is.opened id (opened-changed t.instances from (after_reading bytes) id there);
+    }
 IsCounted-accepted t (call.Close from) is none =
     record { numbers = is.numbers; cookies = is.cookies; ids = is.ids; opened = λ id there. is.opened id (opened-cut t.instances from id there) }
 

@@ -155,7 +155,11 @@ pub rmdir-known : (at : Look) (p : List (List ℕ)) → first_row (rmdir_rows at
 unfolding rmdir_rows
 rmdir-known at p e =
     let h = each-none (rmdir_rows at p) e in
-    record { named = named-by p (row-false (length p == 0) Ebusy h.0); there = found-some at p h.1.0; empty = row-false (has_names_seen (at p)) Enotempty h.1.1.1.0 }
+    record {
+      named = named-by p (row-false (length p == 0) Ebusy h.0);
+      there = found-some at p h.1.0;
+      empty = row-false (has_names_seen (at p)) Enotempty h.1.1.1.0;
+    }
 
 pub record RenameKnown (at : Look) (old new : List (List ℕ)) : Type 0 where
   pub named : old ≢ []

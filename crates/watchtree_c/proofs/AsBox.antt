@@ -15,7 +15,12 @@ use Rattle.watchtree_c.specs.contracts.parts.Parts as Parts
 use Rattle.watchtree_c.specs.contracts.tree.Held as Held
 
 abbrev pub E : Bx
-E = record { row = Opened.the_row; laws = opened.the_row_laws; al = record { row = Heap.the_row; laws = heap.the_row_laws; g = ghosts; d = dict; drops = impl [] tnil dnil } }
+E =
+    record {
+      row = Opened.the_row;
+      laws = opened.the_row_laws;
+      al = record { row = Heap.the_row; laws = heap.the_row_laws; g = ghosts; d = dict; drops = impl [] tnil dnil };
+    }
 
 abbrev pub FromParts : Slot 0
 FromParts = plain (λ _. Parts.the_row Opened.the_row Heap.the_row ghosts)

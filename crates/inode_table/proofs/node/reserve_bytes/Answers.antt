@@ -14,7 +14,12 @@ returns-clause-child c = child-with_value_same c.args.nodes.now c.args.key c.ind
 pub returns-clause-what : goal.returns-clause-what
 returns-clause-what c =
     what-with_value_same c.args.nodes.now c.args.key c.index_mut.result.now _ c.index_mut.ensures.value
-    (λ i. record { number = c.index_mut.result.now.number; mode = c.index_mut.result.now.mode; links = c.index_mut.result.now.links; bytes = c.reserve.ensures.bytes i })
+    (λ i. record {
+      number = c.index_mut.result.now.number;
+      mode = c.index_mut.result.now.mode;
+      links = c.index_mut.result.now.links;
+      bytes = c.reserve.ensures.bytes i;
+    })
 
 pub returns-clause-reserved : goal.returns-clause-reserved
 returns-clause-reserved c =

@@ -8,4 +8,9 @@ returns-clause-child c = child-with_value_same c.args.nodes.now c.args.key c.ind
 pub returns-clause-what : goal.returns-clause-what
 returns-clause-what c =
     ChangesWhat-with_value c.args.nodes.now c.args.key c.index_mut.result.now _ (with_written c.args.offset c.args.bytes.now) c.index_mut.ensures.value
-    (λ i. record { number = c.index_mut.result.now.number; mode = c.index_mut.result.now.mode; links = c.index_mut.result.now.links; bytes = c.write.ensures.bytes i })
+    (λ i. record {
+      number = c.index_mut.result.now.number;
+      mode = c.index_mut.result.now.mode;
+      links = c.index_mut.result.now.links;
+      bytes = c.write.ensures.bytes i;
+    })

@@ -19,7 +19,10 @@ child_names-name-items-requires c =
     let p = c.resolved.result.now.names in
     let directory : is_directory_seen (look w p) ≡ true =
     (λ i. is_directory_seen (look (world_of (c.table-table.ensures i)) (c.resolved.ensures.path i).names)) ∙ c.requires.directory in
-    record { directory = subst (λ o. IsSomeAnd o (λ (f : world.File). f.kind ≡ Directory)) (sym (ap (option_and_then (finmap.get w.files)) c.key.ensures.found)) (directory-seen w p directory) }
+    record {
+      directory = subst (λ o. IsSomeAnd o (λ (f : world.File). f.kind ≡ Directory))
+          (sym (ap (option_and_then (finmap.get w.files)) c.key.ensures.found)) (directory-seen w p directory);
+    }
 
 pub returns : goal.returns
 returns c =

@@ -170,7 +170,13 @@ truncate-requires-clause-regular c =
     (one-path c.requires.ready c.plan.view_is (λ p. Truncate p c.in-Truncate.len) refl c.in-Truncate.is))).regular
 
 pub set_mode-requires : goal.set_mode-requires
-set_mode-requires c = record { resolved = resolved c.requires.ready c.plan.view_is; there = chmod-known (look (world_of c.args.table.now)) c.plan.inside.path.names c.in-Chmod.mode (known c.args.table.now c.args.plan.now _ _ c.requires.ready c.plan.view_is (one-path c.requires.ready c.plan.view_is (λ p. Chmod p c.in-Chmod.mode) refl c.in-Chmod.is)) }
+set_mode-requires c =
+    record {
+      resolved = resolved c.requires.ready c.plan.view_is;
+      there = chmod-known (look (world_of c.args.table.now)) c.plan.inside.path.names c.in-Chmod.mode
+          (known c.args.table.now c.args.plan.now _ _ c.requires.ready c.plan.view_is
+          (one-path c.requires.ready c.plan.view_is (λ p. Chmod p c.in-Chmod.mode) refl c.in-Chmod.is));
+    }
 
 pub add_name-requires-clause-source : goal.add_name-requires-clause-source
 add_name-requires-clause-source c =

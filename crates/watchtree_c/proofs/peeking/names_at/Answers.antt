@@ -10,4 +10,9 @@ pub returns-in-Ok : goal.returns-in-Ok
 returns-in-Ok c = record { r = reply.File (answer.Names c.in-Ok.names); made = inl (sym c.in-Ok.ensures.ok); is_listed = search rules }
 
 pub returns-in-Err : goal.returns-in-Err
-returns-in-Err c = record { r = reply.Refused c.in-Err.refusal; made = refused-may c.args.state.now (call.File (file.List c.args.path.now)) c.in-Err.refusal c.in-Err.ensures.err; is_listed = search rules }
+returns-in-Err c =
+    record {
+      r = reply.Refused c.in-Err.refusal;
+      made = refused-may c.args.state.now (call.File (file.List c.args.path.now)) c.in-Err.refusal c.in-Err.ensures.err;
+      is_listed = search rules;
+    }

@@ -14,4 +14,12 @@ returns-in-Ok c =
     c.bytes_at.ensures
 
 pub returns-in-Err : goal.returns-in-Err
-returns-in-Err c = record { r = reply.Refused c.in-Err.refusal; made = unasked c.args.state.now (λ p. call.File (file.ReadFile p c.args.offset (asked_bytes c.args.out.now))) c.args.path.now c.in-Err.refusal c.in-Err.ensures.err; is_number = search rules; is_filled = search rules; fits = tt }
+returns-in-Err c =
+    record {
+      r = reply.Refused c.in-Err.refusal;
+      made = unasked c.args.state.now (λ p. call.File (file.ReadFile p c.args.offset (asked_bytes c.args.out.now)))
+          c.args.path.now c.in-Err.refusal c.in-Err.ensures.err;
+      is_number = search rules;
+      is_filled = search rules;
+      fits = tt;
+    }

@@ -11,4 +11,9 @@ returns-in-Ok c =
     (λ r may. asked c.args.state.now (λ p. call.File (file.List p)) c.args.path.now c.in-Ok.path r c.in-Ok.ensures.ok may) c.names_at.ensures
 
 pub returns-in-Err : goal.returns-in-Err
-returns-in-Err c = record { r = reply.Refused c.in-Err.refusal; made = unasked c.args.state.now (λ p. call.File (file.List p)) c.args.path.now c.in-Err.refusal c.in-Err.ensures.err; is_listed = search rules }
+returns-in-Err c =
+    record {
+      r = reply.Refused c.in-Err.refusal;
+      made = unasked c.args.state.now (λ p. call.File (file.List p)) c.args.path.now c.in-Err.refusal c.in-Err.ensures.err;
+      is_listed = search rules;
+    }

@@ -6,4 +6,11 @@ use Rattle.watchtree_c.proofs.Unmade.{closed-peeked}
 use Rattle.watchtree_c.proofs.peeking.wt_peek_pread.Goals as goal
 
 pub returns-in_default-clause-told : goal.returns-in_default-clause-told
-returns-in_default-clause-told c = record { r = reply.Refused Ebadf; made = closed-peeked c.args.tree.now.held.state (read_call c.args.path.now c.args.offset (asked_bytes c.args.out.now)) (search rules); is_number = search rules; is_filled = search rules; fits = tt }
+returns-in_default-clause-told c =
+    record {
+      r = reply.Refused Ebadf;
+      made = closed-peeked c.args.tree.now.held.state (read_call c.args.path.now c.args.offset (asked_bytes c.args.out.now)) (search rules);
+      is_number = search rules;
+      is_filled = search rules;
+      fits = tt;
+    }

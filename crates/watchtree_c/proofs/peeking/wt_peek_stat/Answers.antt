@@ -6,4 +6,10 @@ use Rattle.watchtree_c.proofs.Unmade.{closed-peeked}
 use Rattle.watchtree_c.proofs.peeking.wt_peek_stat.Goals as goal
 
 pub returns-in_default-clause-told : goal.returns-in_default-clause-told
-returns-in_default-clause-told c = record { r = reply.Refused Ebadf; made = closed-peeked c.args.tree.now.held.state (stat_call c.args.path.now) (search rules); is_number = search rules; is_told = search rules }
+returns-in_default-clause-told c =
+    record {
+      r = reply.Refused Ebadf;
+      made = closed-peeked c.args.tree.now.held.state (stat_call c.args.path.now) (search rules);
+      is_number = search rules;
+      is_told = search rules;
+    }

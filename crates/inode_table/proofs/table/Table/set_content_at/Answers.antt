@@ -9,7 +9,14 @@ use Rattle.inode_table.proofs.ChangeLemmas.{IsTable-change, regular-what}
 use Rattle.inode_table.proofs.table.Table.set_content_at.Goals as goal
 
 pub invariant_of-self : goal.invariant_of-self
-invariant_of-self c = IsTable-change c.set_bytes.ensures.what (record { number = λ w. refl; kind = λ w e. sym (regular-what (rows_of c.self.inside.nodes) c.args.key w e (ap (λ t. is_directory t.rows c.args.key) c.self.view_is ∙ c.requires.regular)) }) c.self.invariant c.set_bytes.ensures.child (λ w. refl)
+invariant_of-self c =
+    IsTable-change c.set_bytes.ensures.what
+    (record {
+      number = λ w. refl;
+      kind = λ w e. sym (regular-what (rows_of c.self.inside.nodes) c.args.key w e
+          (ap (λ t. is_directory t.rows c.args.key) c.self.view_is ∙ c.requires.regular));
+    })
+    c.self.invariant c.set_bytes.ensures.child (λ w. refl)
 
 pub returns-clause-world : goal.returns-clause-world
 returns-clause-world c w v stands was =
@@ -18,4 +25,13 @@ returns-clause-world c w v stands was =
     subst (λ rs. ChangesWhat rs (rows_of c.set_bytes.new.nodes) c.args.key (with_bytes c.args.bytes.items)) same c.set_bytes.ensures.what in
     let children : (k : ℕ) (l : Label) → child (rows_of c.set_bytes.new.nodes) k l ≡ child c.args.self.now.rows k l =
     subst (λ rs. (k : ℕ) (l : Label) → child (rows_of c.set_bytes.new.nodes) k l ≡ child rs k l) same c.set_bytes.ensures.child in
-    Stands-with_content stands (IsTable-change c.set_bytes.ensures.what (record { number = λ w. refl; kind = λ w e. sym (regular-what (rows_of c.self.inside.nodes) c.args.key w e (ap (λ t. is_directory t.rows c.args.key) c.self.view_is ∙ c.requires.regular)) }) c.self.invariant c.set_bytes.ensures.child (λ w. refl)) c.args.key v (with_bytes c.args.bytes.items v) was (changes.here ∙ ap (option_map (with_bytes c.args.bytes.items)) was) refl changes.others (λ p i. walk (λ k l. children k l i) 0 p)
+    Stands-with_content stands
+    (IsTable-change c.set_bytes.ensures.what
+    (record {
+      number = λ w. refl;
+      kind = λ w e. sym (regular-what (rows_of c.self.inside.nodes) c.args.key w e
+          (ap (λ t. is_directory t.rows c.args.key) c.self.view_is ∙ c.requires.regular));
+    })
+    c.self.invariant c.set_bytes.ensures.child (λ w. refl))
+    c.args.key v (with_bytes c.args.bytes.items v) was (changes.here ∙ ap (option_map (with_bytes c.args.bytes.items)) was)
+    refl changes.others (λ p i. walk (λ k l. children k l i) 0 p)

@@ -26,4 +26,7 @@ loop-row-preserved c =
 pub returns : goal.returns
 returns c =
     let all = take_all c.loop-row.row-index c.args.rows.now c.loop-row-test.false in
-    record { count = c.loop-row.invariant.count ∙ ap (λ rows. length (ready_rows rows)) all; ids = c.loop-row.invariant.ids ∙ ap (λ rows. written_over (ready_rows rows) c.args.out.now) all }
+    record {
+      count = c.loop-row.invariant.count ∙ ap (λ rows. length (ready_rows rows)) all;
+      ids = c.loop-row.invariant.ids ∙ ap (λ rows. written_over (ready_rows rows) c.args.out.now) all;
+    }

@@ -22,5 +22,8 @@ zero-behind (x ∷ front) zs zero h past = absurd (omega arith)
 zero-behind (x ∷ front) zs (suc i) h past = zero-behind front zs i h (omega arith)
 
 pub returns-clause-sound : goal.returns-clause-sound
-returns-clause-sound c =
-    (omega arith, λ i past. zero-behind c.copy_from_slice-2.new.self _ i (zeros-behind (length c.args.bytes.now) _ refl) (omega (arith, ap (λ (t : List ℕ). length t) c.copy_from_slice-2.ensures.after)))
+returns-clause-sound c = (
+  omega arith,
+  λ i past. zero-behind c.copy_from_slice-2.new.self _ i (zeros-behind (length c.args.bytes.now) _ refl)
+      (omega (arith, ap (λ (t : List ℕ). length t) c.copy_from_slice-2.ensures.after)),
+)

@@ -16,14 +16,21 @@ loop-rest-preserved g c =
     (g.T.Write.contents (inner_of c.write.new.self)) c.args.bytes.now c.loop-rest.rest.now c.loop-rest.invariant.added.0
     c.in_ok-count.count c.loop-rest.invariant.added.1 c.in_ok-count.ensures.bytes in
     record {
-      added = (c.loop-rest.invariant.added.0 + c.in_ok-count.count, record { so_far = more.so_far; left = take_rest c.loop-rest.rest.now c.in_ok-count.count ∙ more.left });
+      added = (
+        c.loop-rest.invariant.added.0 + c.in_ok-count.count,
+        record { so_far = more.so_far; left = take_rest c.loop-rest.rest.now c.in_ok-count.count ∙ more.left },
+      );
       faults = c.in_ok-count.ensures.ok ∙ c.loop-rest.invariant.faults;
     }
 
 pub returns-in_err-count-clause-front : goal.returns-in_err-count-clause-front
 returns-in_err-count-clause-front g c =
     let p = err_from_is_err_and c.from_residual.result c.from_residual.ensures.1 in
-    rw p.1 (c.loop-rest.invariant.added.0, Appends-keeps (g.T.Write.contents (inner_of c.args.self.now)) (g.T.Write.contents (inner_of c.loop-rest.self)) (g.T.Write.contents (inner_of c.write.new.self)) _ c.loop-rest.invariant.added.1.so_far c.in_err-count.ensures.bytes)
+    rw p.1 (
+      c.loop-rest.invariant.added.0,
+      Appends-keeps (g.T.Write.contents (inner_of c.args.self.now)) (g.T.Write.contents (inner_of c.loop-rest.self))
+          (g.T.Write.contents (inner_of c.write.new.self)) _ c.loop-rest.invariant.added.1.so_far c.in_err-count.ensures.bytes,
+    )
 
 pub returns-in_err-count-clause-err : goal.returns-in_err-count-clause-err
 returns-in_err-count-clause-err g c =

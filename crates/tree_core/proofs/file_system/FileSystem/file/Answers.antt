@@ -60,7 +60,17 @@ returns c =
     let f = c.args.call.now in
     let said = c.in_ok-answer.answer in
     let ready = c.in_ok-ready.ready in
-    let n : FileSystem = record { alloc = m.alloc; limits = m.limits; table = u; next_number = m.next_number + c.numbers-numbers.result; next_cookie = m.next_cookie + c.from.result; next_id = m.next_id; instances = m.instances; notices = c.note.new.noted; staging = c.stage.new.staging } in
+    let n : FileSystem = record {
+      alloc = m.alloc;
+      limits = m.limits;
+      table = u;
+      next_number = m.next_number + c.numbers-numbers.result;
+      next_cookie = m.next_cookie + c.from.result;
+      next_id = m.next_id;
+      instances = m.instances;
+      notices = c.note.new.noted;
+      staging = c.stage.new.staging;
+    } in
     let call : ready.plan.call ≡ f = c.in_ok-ready.ensures.call ∙ c.resolve-paths.ensures.call in
     let tree : ready.tree ≡ m.table = c.in_ok-ready.ensures.tree ∙ c.resolve-paths.ensures.tree in
     let done : IsCarriedOut (tree_in m) f u said = IsCarriedOut-checked (tree_in m) f c.into_plan-plan.result u said

@@ -46,7 +46,11 @@ returns-clause-applied c = record {
       let entry : Entry = record { caller = c.args.caller; call = c.args.call; reply = c.in_ok-reply.field-0.reply } in
       let items : c.push_reserved.new.self.items ≡ a.journal.items ++ entry ∷ [] =
       c.push_reserved.ensures.items ∙ ap (λ es. es ++ entry ∷ []) c.make_room.ensures.items in
-      (λ i. record { start = tree_of (limits-executed a.file_system c.finish.new.self c.args.call served.tree i) a.snapshot; place = a.snapshot.place; entries = items i })
+      (λ i. record {
+        start = tree_of (limits-executed a.file_system c.finish.new.self c.args.call served.tree i) a.snapshot;
+        place = a.snapshot.place;
+        entries = items i;
+      })
       ∙ (λ i. with_entry (c.self.view_is i)
       (record { caller = c.args.caller; call = c.args.call; reply = (sym (ap (λ (r : Receipt). r.reply) c.in_ok-receipt.ensures.receipt)) i }));
   place = search rules;

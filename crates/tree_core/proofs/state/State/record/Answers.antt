@@ -38,8 +38,19 @@ returns-clause-applied c = record {
       let entry : Entry = record { caller = c.args.caller; call = c.args.call; reply = c.in-Ok.begun.reply } in
       let items : c.push_reserved.new.self.items ≡ a.journal.items ++ entry ∷ [] =
       c.push_reserved.ensures.items ∙ ap (λ es. es ++ entry ∷ []) c.make_room.ensures.items in
-      (λ i. record { start = tree_of (limits-executed a.file_system c.finish.new.self c.args.call served.tree i) a.snapshot; place = a.snapshot.place; entries = items i })
-      ∙ (λ i. with_entry (c.self.view_is i) (record { caller = c.args.caller; call = c.args.call; reply = (c.in-Ok.ensures.reply ∙ ap (λ (t : Tree). reply_of t c.args.call) c.self.invariant.stands ∙ ap (λ s. reply_of (now s) c.args.call) c.self.view_is) i }));
+      (λ i. record {
+        start = tree_of (limits-executed a.file_system c.finish.new.self c.args.call served.tree i) a.snapshot;
+        place = a.snapshot.place;
+        entries = items i;
+      })
+      ∙ (λ i. with_entry (c.self.view_is i)
+      (record {
+        caller = c.args.caller;
+        call = c.args.call;
+        reply = (c.in-Ok.ensures.reply ∙ ap (λ (t : Tree). reply_of t c.args.call) c.self.invariant.stands
+            ∙ ap (λ s. reply_of (now s) c.args.call) c.self.view_is)
+            i;
+      }));
   place = search rules;
   reply = refl;
   lawful = (invariant_of-self-2 c).lawful;
