@@ -25,6 +25,18 @@ impl<'a> Model for Resolved<'a> {
 }
 
 impl<'a> Resolved<'a> {
+    /// The same once more.
+    #[inline(always)]
+    pub fn copied(&self) -> Resolved<'a>
+        ensures { result ≡ self.now }
+    {
+        Resolved {
+            path: self.path,
+            directory: self.directory,
+            here: self.here,
+        }
+    }
+
     /// The path.
     pub fn as_path(&self) -> &'a Path
         ensures { result.now ≡ self.now.names }

@@ -229,7 +229,7 @@ impl FileSystem {
     {
         let counts = self.counts();
         let paths = Paths::resolve(&self.table, call);
-        let ready = check(paths, &counts, &self.limits)?;
+        let ready = check(&paths, &counts, &self.limits)?;
         note(
             &self.instances,
             &ready,

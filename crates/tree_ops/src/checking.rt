@@ -387,22 +387,23 @@ fn check_call(paths: &Paths, counts: &Counts, limits: &Limits) -> Result<Moves, 
 /// `counts` says what the call gets where it makes a file or moves one. No number of the table has reached
 /// `next_number`.
 #[inline(always)]
-pub fn check<'t, 'a>(
-    paths: Paths<'t, 'a>,
+pub fn check<'p, 't, 'a>(
+    paths: &'p Paths<'t, 'a>,
     counts: &Counts,
     limits: &Limits,
-) -> Result<Ready<'t, 'a>, Refusal>
-    requires { HasNumbersBelow (world_of paths.tree) counts.now.next_number }
+) -> Result<Ready<'p, 't, 'a>, Refusal>
+    requires { HasNumbersBelow (world_of paths.now.tree) counts.now.next_number }
     ensures refused { IfErr result (λ refusal. refused
-        (world_of paths.entry.tree) limits.now counts.now paths.entry.call ≡ Some refusal) }
-    ensures accepted { OnOk result (refused (world_of paths.entry.tree) limits.now counts.now paths.entry.call ≡ None) }
+        (world_of paths.entry.now.tree) limits.now counts.now paths.entry.now.call ≡ Some refusal) }
+    ensures accepted { OnOk result (refused
+        (world_of paths.entry.now.tree) limits.now counts.now paths.entry.now.call ≡ None) }
     ensures ready { IfOk result (λ ready. IsReady ready.tree ready.plan) }
-    ensures tree { IfOk result (λ ready. ready.tree ≡ paths.entry.tree) }
-    ensures call { IfOk result (λ ready. ready.plan.call ≡ paths.entry.call) }
+    ensures tree { IfOk result (λ ready. ready.tree ≡ paths.entry.now.tree) }
+    ensures call { IfOk result (λ ready. ready.plan.call ≡ paths.entry.now.call) }
     ensures counts { IfOk result (λ ready. ready.plan.counts ≡ counts.now) }
 {
     paths.law();
-    match check_call(&paths, counts, limits) {
+    match check_call(paths, counts, limits) {
         Err(refusal) => Err(refusal),
         Ok(moves) => Ok(Ready {
             paths,

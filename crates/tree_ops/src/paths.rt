@@ -17,24 +17,23 @@ pub struct Paths<'t, 'a> {
     table: &'t Table,
     call: &'a FileCall,
     path: Resolved<'a>,
-    /// That of a call that has two.
-    other_path: Option<Resolved<'a>>,
+    /// The new path of a call that has two, and else the path once more.
+    other_path: Resolved<'a>,
 }
 
 impl<'t, 'a> Model for Paths<'t, 'a> {
     ghost use Rattle.tree_ops.specs.CallPaths.{ArePathsOf, PathsValue};
-    ghost use Rattle.std.specs.Option.{unwrap_or};
 
     ghost Value = { PathsValue };
 
     ghost view = { λ p. record {
       tree = p.table.now;
       call = p.call.now;
-      paths = record { path = p.path; other_path = unwrap_or p.other_path p.path };
+      paths = record { path = p.path; other_path = p.other_path };
     } };
 
     ghost invariant = { λ p. ArePathsOf p.table.now p.call.now
-        (record { path = p.path; other_path = unwrap_or p.other_path p.path }) };
+        (record { path = p.path; other_path = p.other_path }) };
 }
 
 impl<'t, 'a> Paths<'t, 'a> {
@@ -43,14 +42,16 @@ impl<'t, 'a> Paths<'t, 'a> {
         ensures tree { result.tree ≡ table.now }
         ensures call { result.call ≡ call.now }
     {
+        let path = table.resolve(call.path());
+        let other_path = match call.other_path() {
+            Some(other_path) => table.resolve(other_path),
+            None => path.copied(),
+        };
         Paths {
             table,
             call,
-            path: table.resolve(call.path()),
-            other_path: match call.other_path() {
-                Some(other_path) => Some(table.resolve(other_path)),
-                None => None,
-            },
+            path,
+            other_path,
         }
     }
 
@@ -87,23 +88,20 @@ impl<'t, 'a> Paths<'t, 'a> {
         ensures path { result.path ≡ self.now.paths.other_path }
         ensures names { result.path.names ≡ other_path_of self.now.call }
     {
-        match &self.other_path {
-            Some(other_path) => Lookup::new(self.table, other_path),
-            None => Lookup::new(self.table, &self.path),
-        }
+        Lookup::new(self.table, &self.other_path)
     }
 
     // The plan of the call, which borrows no table.
     #[inline(always)]
-    pub(crate) fn into_plan(self, counts: Counts, moves: Moves) -> Plan<'a>
-        ensures plan { result ≡ plan_with self.entry counts moves }
-        ensures paths { ArePathsOf self.entry.tree self.entry.call self.entry.paths }
+    pub(crate) fn plan(&self, counts: Counts, moves: Moves) -> Plan<'a>
+        ensures plan { result ≡ plan_with self.now counts moves }
+        ensures paths { ArePathsOf self.now.tree self.now.call self.now.paths }
     {
         Plan {
             call: self.call,
             counts,
-            path: self.path,
-            other_path: self.other_path,
+            path: self.path.copied(),
+            other_path: self.other_path.copied(),
             moves,
         }
     }

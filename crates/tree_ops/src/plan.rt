@@ -14,22 +14,23 @@ use crate::paths::Paths;
 use inode_table::Resolved;
 use std::marker::Model;
 
-/// A call that no row refuses on the table that it was checked on, as [`crate::check`] makes it. It borrows the table.
+/// A call that no row refuses on the table that it was checked on, as [`crate::check`] makes it. It borrows the paths and
+/// the table.
 #[derive(Drop)]
-pub struct Ready<'t, 'a> {
-    pub(crate) paths: Paths<'t, 'a>,
+pub struct Ready<'p, 't, 'a> {
+    pub(crate) paths: &'p Paths<'t, 'a>,
     pub(crate) counts: Counts,
     pub(crate) moves: Moves,
 }
 
-impl<'t, 'a> Model for Ready<'t, 'a> {
+impl<'p, 't, 'a> Model for Ready<'p, 't, 'a> {
     ghost use Rattle.tree_ops.specs.ReadyCall.{IsReady, ReadyValue, plan_with};
 
     ghost Value = { ReadyValue };
 
-    ghost view = { λ r. record { tree = r.paths.tree; plan = plan_with r.paths r.counts r.moves } };
+    ghost view = { λ r. record { tree = r.paths.now.tree; plan = plan_with r.paths.now r.counts r.moves } };
 
-    ghost invariant = { λ r. IsReady r.paths.tree (plan_with r.paths r.counts r.moves) };
+    ghost invariant = { λ r. IsReady r.paths.now.tree (plan_with r.paths.now r.counts r.moves) };
 }
 
 /// What [`crate::carry_out`] does: a call, its paths, and what it moves. It borrows the call and no table.
@@ -38,14 +39,13 @@ pub struct Plan<'a> {
     pub(crate) call: &'a FileCall,
     pub(crate) counts: Counts,
     pub(crate) path: Resolved<'a>,
-    /// That of a call that has two.
-    pub(crate) other_path: Option<Resolved<'a>>,
+    /// The new path of a call that has two, and else the path once more.
+    pub(crate) other_path: Resolved<'a>,
     pub(crate) moves: Moves,
 }
 
 impl<'a> Model for Plan<'a> {
     ghost use Rattle.tree_ops.specs.ReadyCall.{PlanValue};
-    ghost use Rattle.std.specs.Option.{unwrap_or};
 
     ghost Value = { PlanValue };
 
@@ -53,12 +53,12 @@ impl<'a> Model for Plan<'a> {
       call = p.call.now;
       counts = p.counts;
       path = p.path;
-      other_path = unwrap_or p.other_path p.path;
+      other_path = p.other_path;
       moves = p.moves;
     } };
 }
 
-impl<'t, 'a> Ready<'t, 'a> {
+impl<'p, 't, 'a> Ready<'p, 't, 'a> {
     /// The call that was checked.
     pub fn call(&self) -> &'a FileCall
         ensures { result.now ≡ self.now.plan.call }
@@ -118,7 +118,7 @@ impl<'t, 'a> Ready<'t, 'a> {
         ensures plan { result ≡ self.entry.plan }
         ensures ready { IsReady self.entry.tree result }
     {
-        self.paths.into_plan(self.counts, self.moves)
+        self.paths.plan(self.counts, self.moves)
     }
 }
 
@@ -128,9 +128,6 @@ impl<'a> Plan<'a> {
     pub(crate) fn other_path(&self) -> &Resolved<'a>
         ensures { result.now ≡ self.now.other_path }
     {
-        match &self.other_path {
-            Some(other_path) => other_path,
-            None => &self.path,
-        }
+        &self.other_path
     }
 }

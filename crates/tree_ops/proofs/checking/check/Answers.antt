@@ -27,8 +27,8 @@ is-ready p limits counts made accepted is numbers paths = record {
 
 pub invariant_of-result : goal.invariant_of-result
 invariant_of-result c =
-    is-ready c.args.paths c.args.limits.now c.args.counts.now c.in-Ok.moves (sym c.in-Ok.ensures.err) c.in-Ok.ensures.moves c.requires c.law.ensures
+    is-ready c.args.paths.now c.args.limits.now c.args.counts.now c.in-Ok.moves (sym c.in-Ok.ensures.err) c.in-Ok.ensures.moves c.requires c.law.ensures
 
 pub returns-in-Ok-clause-ready : goal.returns-in-Ok-clause-ready
 returns-in-Ok-clause-ready c =
-    is-ready c.args.paths c.args.limits.now c.args.counts.now c.in-Ok.moves (sym c.in-Ok.ensures.err) c.in-Ok.ensures.moves c.requires c.law.ensures
+    is-ready c.args.paths.now c.args.limits.now c.args.counts.now c.in-Ok.moves (sym c.in-Ok.ensures.err) c.in-Ok.ensures.moves c.requires c.law.ensures
