@@ -88,7 +88,7 @@ impl Calls {
     /// The notices of the call.
     fn told(&mut self, call: &FileCall) -> Result<Notices, Refusal> {
         let paths = Paths::resolve(&self.table, call);
-        let ready = check(paths, &self.counts, &Limits::full())?;
+        let ready = check(&paths, &self.counts, &Limits::full())?;
         let Some(next_number) = self.counts.next_number.checked_add(ready.numbers()) else {
             return Err(Refusal::NumbersSpent);
         };

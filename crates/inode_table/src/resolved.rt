@@ -3,25 +3,29 @@
 ghost use Rattle.std.specs.Prelude.{◌≡◌, ◌≢◌, ◌++◌, ◌∷◌, []};
 ghost use Rattle.inode_table.specs.Refusals.{parent_of};
 
-use crate::key::Key;
+use crate::found::Found;
 use std::marker::Model;
-use tree_paths::{Path, PathName, Refusal};
+use tree_paths::{Path, PathName};
 
 /// A path, and what [`crate::Table::resolve`] found along it, in the table as it was then.
 #[derive(Drop)]
 pub struct Resolved<'a> {
     pub(crate) path: &'a Path,
-    pub(crate) directory: Result<Key, Refusal>,
-    pub(crate) here: Result<Key, Refusal>,
+    pub(crate) directory: Found,
+    pub(crate) here: Found,
 }
 
 impl<'a> Model for Resolved<'a> {
     ghost use Rattle.inode_table.specs.Resolution.{ResolvedPath};
+    ghost use Rattle.inode_table.specs.Found.{found_of};
 
     ghost Value = { ResolvedPath };
 
-    ghost view = { λ resolved.
-        record { names = resolved.path.now; directory = resolved.directory; here = resolved.here } };
+    ghost view = { λ resolved. record {
+      names = resolved.path.now;
+      directory = found_of resolved.directory;
+      here = found_of resolved.here;
+    } };
 }
 
 impl<'a> Resolved<'a> {

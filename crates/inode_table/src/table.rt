@@ -1,13 +1,15 @@
 //! The table of nodes.
 
 ghost use Rattle.std.specs.Prelude.{◌≡◌, ◌↔◌, ◌≤◌, ℕ, List, None, Some, IfOk, IfErr, OnOk, OnErr, IsSome};
-ghost use Rattle.std.specs.Prelude.{if◌then◌else◌};
+ghost use Rattle.std.specs.Prelude.{if◌then◌else◌, Err};
 ghost use Rattle.std.specs.FinMap as finmap;
 ghost use Rattle.inode_table.specs.Rows.{Label, row_under};
 ghost use Rattle.inode_table.specs.Kept.{rows_of, is_directory, row_of};
 ghost use Rattle.inode_table.specs.Tree.{at, what_at};
+ghost use Rattle.inode_table.specs.Found.{found_of};
 
 use crate::content::Content;
+use crate::found::Found;
 use crate::key::Key;
 use crate::node::{Node, child};
 use record_codec::Name;
@@ -128,9 +130,10 @@ impl Table {
     }
 }
 
-// Why the walk ends at this node.
-fn refusal_at(nodes: &Slab<Node>, key: usize) -> Refusal
-    ensures { result ≡ (if is_directory (rows_of nodes.now) key then Refusal.Enoent else Refusal.Enotdir) }
+// Nothing, as the walk ends at this node.
+fn missing_at(nodes: &Slab<Node>, key: usize) -> Found
+    ensures { found_of result
+        ≡ Err (if is_directory (rows_of nodes.now) key then Refusal.Enoent else Refusal.Enotdir) }
 {
     match nodes.get(key) {
         Some(
@@ -138,8 +141,8 @@ fn refusal_at(nodes: &Slab<Node>, key: usize) -> Refusal
                 content: Content::Directory(_),
                 ..
             },
-        ) => Refusal::Enoent,
-        _ => Refusal::Enotdir,
+        ) => Found::missing(true),
+        _ => Found::missing(false),
     }
 }
 

@@ -14,8 +14,8 @@ use crate::paths::Paths;
 use inode_table::Resolved;
 use std::marker::Model;
 
-/// A call that no row refuses on the table that it was checked on, as [`crate::check`] makes it. It borrows the paths and
-/// the table.
+/// A call that no row refuses on the table that it was checked on, as [`crate::check`] makes it. It borrows its paths
+/// and the table.
 #[derive(Drop)]
 pub struct Ready<'p, 't, 'a> {
     pub(crate) paths: &'p Paths<'t, 'a>,

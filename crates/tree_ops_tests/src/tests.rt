@@ -61,7 +61,7 @@ impl Calls {
 
     fn made(&mut self, call: &FileCall) -> Result<Answer, Refusal> {
         let paths = Paths::resolve(&self.table, call);
-        let ready = check(paths, &self.counts, &self.limits)?;
+        let ready = check(&paths, &self.counts, &self.limits)?;
         let Some(next_number) = self.counts.next_number.checked_add(ready.numbers()) else {
             return Err(Refusal::NumbersSpent);
         };
@@ -234,7 +234,7 @@ fn ready_calls(rt: HostRuntime) -> Result<(), Fail> {
     let path = calls.path("/a")?;
     let call = FileCall::Mkdir { path, mode: 0o755 };
     let paths = Paths::resolve(&calls.table, &call);
-    let ready = check(paths, &calls.counts, &calls.limits)?;
+    let ready = check(&paths, &calls.counts, &calls.limits)?;
     equal(&rt, ready.cookies(), 0);
     equal(&rt, ready.numbers(), 1);
     holds(

@@ -74,7 +74,7 @@ fn call_of(calls: &Calls, which: u32) -> Result<FileCall, Refusal> {
 // The notices that a call would have.
 fn noticed(calls: &Calls, call: &FileCall) -> Result<Notices, Refusal> {
     let paths = Paths::resolve(&calls.table, call);
-    let ready = check(paths, &calls.counts, &Limits::full())?;
+    let ready = check(&paths, &calls.counts, &Limits::full())?;
     let next_cookie = calls.counts.next_cookie;
     if next_cookie.checked_add(ready.cookies()).is_none() {
         return Err(Refusal::CookiesSpent);

@@ -4,8 +4,10 @@ ghost use Rattle.std.specs.Prelude.{◌≡◌, ◌∷◌, ◌++◌, List, [], So
 ghost use Rattle.std.specs.FinMap as finmap;
 ghost use Rattle.inode_table.specs.Rows.{Label};
 ghost use Rattle.inode_table.specs.Tree.{at, what_at};
+ghost use Rattle.inode_table.specs.Found.{found_of};
 
-use super::{ROOT, Table, refusal_at};
+use super::{ROOT, Table, missing_at};
+use crate::found::Found;
 use crate::key::Key;
 use crate::node::child;
 use crate::resolved::Resolved;
@@ -31,8 +33,8 @@ impl Table {
         let Some(first) = names.next() else {
             return Resolved {
                 path,
-                directory: Ok(Key::of(ROOT)),
-                here: Ok(Key::of(ROOT)),
+                directory: Found::at(Key::of(ROOT)),
+                here: Found::at(Key::of(ROOT)),
             };
         };
         let (directory, here) = self.walk(first, names);
@@ -45,13 +47,9 @@ impl Table {
 
     // The keys of the directory of the last name and of what stands under that, or why there are none.
     #[inline(always)]
-    fn walk<'a>(
-        &self,
-        first: PathName<'a>,
-        behind: PathNames<'a>,
-    ) -> (Result<Key, Refusal>, Result<Key, Refusal>)
-        ensures directory { IsFound self.now (parent_of (first.entry ∷ behind.entry)) result.0 }
-        ensures here { IsFound self.now (first.entry ∷ behind.entry) result.1 }
+    fn walk<'a>(&self, first: PathName<'a>, behind: PathNames<'a>) -> (Found, Found)
+        ensures directory { IsFound self.now (parent_of (first.entry ∷ behind.entry)) (found_of result.0) }
+        ensures here { IsFound self.now (first.entry ∷ behind.entry) (found_of result.1) }
     {
         self.rows_law();
         let mut name = first;
@@ -61,14 +59,14 @@ impl Table {
             match child(&self.nodes, directory, name.as_name()) {
                 Some(key) => directory = key,
                 None => {
-                    let refusal = refusal_at(&self.nodes, directory);
-                    return (Err(refusal), Err(refusal));
+                    let missing = missing_at(&self.nodes, directory);
+                    return (missing, missing);
                 }
             }
             name = next;
         }
         (
-            Ok(Key::of(directory)),
+            Found::at(Key::of(directory)),
             self.resolve_in(directory, name.as_name()),
         )
     }
@@ -82,7 +80,7 @@ impl Table {
         ensures absent { IfErr result (λ _. look (world_of self.now) path.now.names ≡ None) }
     {
         self.rows_law();
-        match path.here {
+        match path.here.get() {
             Ok(key) => Ok(self.seen_under(key)),
             Err(refusal) => Err(refusal),
         }
@@ -107,7 +105,7 @@ impl Table {
         ensures absent { IfErr result (λ _. look (world_of self.now) (parent_of path.now.names) ≡ None) }
     {
         self.rows_law();
-        match path.directory {
+        match path.directory.get() {
             Ok(directory) => Ok(self.seen_under(directory)),
             Err(refusal) => Err(refusal),
         }
@@ -121,21 +119,22 @@ impl Table {
         ensures there { IsSome (number_of self.now (Some result)) }
     {
         self.rows_law();
-        match path.here {
+        match path.here.get() {
             Ok(key) => key,
             Err(_) => unreachable!(),
         }
     }
 
     // What stands under a name at a key.
-    fn resolve_in(&self, directory: usize, name: &Name) -> Result<Key, Refusal>
+    fn resolve_in(&self, directory: usize, name: &Name) -> Found
         requires there { IsSome (what_at self.now directory) }
-        ensures { (p : List Label) → at self.now p ≡ Some directory → IsFound self.now (p ++ name.now ∷ []) result }
+        ensures { (p : List Label) → at self.now p ≡ Some directory
+            → IsFound self.now (p ++ name.now ∷ []) (found_of result) }
     {
         self.rows_law();
         match child(&self.nodes, directory, name) {
-            Some(key) => Ok(Key::of(key)),
-            None => Err(refusal_at(&self.nodes, directory)),
+            Some(key) => Found::at(Key::of(key)),
+            None => missing_at(&self.nodes, directory),
         }
     }
 
@@ -146,7 +145,7 @@ impl Table {
         ensures { at self.now path.now.names ≡ Some result }
     {
         self.rows_law();
-        match path.here {
+        match path.here.get() {
             Ok(key) => key.slot(),
             Err(_) => unreachable!(),
         }
@@ -159,7 +158,7 @@ impl Table {
         ensures { at self.now (parent_of path.now.names) ≡ Some result }
     {
         self.rows_law();
-        match path.directory {
+        match path.directory.get() {
             Ok(key) => key.slot(),
             Err(_) => unreachable!(),
         }
@@ -171,7 +170,7 @@ impl Table {
         ensures { result ≡ at self.now path.now.names }
     {
         self.rows_law();
-        match path.here {
+        match path.here.get() {
             Ok(key) => Some(key.slot()),
             Err(_) => None,
         }

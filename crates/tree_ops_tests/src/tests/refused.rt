@@ -193,7 +193,7 @@ fn each_growth_of_the_rows(rt: HostRuntime) -> Result<(), Fail> {
 // Whether the call is let through, or refused as it should be.
 fn is_checked(calls: &Calls, call: &FileCall, wanted: Option<Refusal>) -> bool {
     let paths = Paths::resolve(&calls.table, call);
-    check(paths, &calls.counts, &calls.limits).err() == wanted
+    check(&paths, &calls.counts, &calls.limits).err() == wanted
 }
 
 #[test]

@@ -1,5 +1,7 @@
-use Rattle.std.proofs.Common.{◌∷◌, Err, cond, sym, ap, subst, ◌∙◌}
+use Rattle.std.proofs.Common.{◌∷◌, ℕ, Result, cond, sym, ap, subst, ◌∙◌}
+use Rattle.tree_paths.specs.declared.refusal.Refusal.{Refusal}
 use Rattle.tree_paths.specs.declared.refusal.Refusal.TheVariants.{Enoent, Enotdir}
+use Rattle.inode_table.specs.Found.{found_of}
 use Rattle.inode_table.specs.Kept.{rows_of, is_directory}
 use Rattle.inode_table.specs.Refusals.{parent_of}
 use Rattle.inode_table.specs.Resolution.{IsFound}
@@ -17,9 +19,8 @@ loop-next-preserved c =
     c.loop-next.directory c.in-Some-child.key
     c.loop-next.invariant c.in-Some.ensures (ap (child rows c.loop-next.directory) (sym c.as_name.ensures) ∙ sym c.in-Some-child.ensures)
 
-stops : (c : Joined-name)
-    → IsFound c.args.self.now (c.args.first ∷ c.args.behind) (Err c.refusal_at-refusal.result)
-    × IsFound c.args.self.now (parent_of (c.args.first ∷ c.args.behind)) (Err c.refusal_at-refusal.result)
+stops : (c : Joined-name) → IsFound c.args.self.now (c.args.first ∷ c.args.behind) (found_of c.missing_at-missing.result)
+    × IsFound c.args.self.now (parent_of (c.args.first ∷ c.args.behind)) (found_of c.missing_at-missing.result)
 stops c =
     let t = c.args.self.now in
     let whole = c.args.first ∷ c.args.behind in
@@ -27,10 +28,12 @@ stops c =
     let name = c.loop-next.name in
     let walks : WalksTo (child t.rows) whole name c.loop-next.names key =
     subst (λ (s : Tree). WalksTo (child s.rows) whole name c.loop-next.names key) c.self.view_is c.loop-next.invariant in
-    walk-stops t c.rows_law.ensures.table whole name c.in-Some.next c.loop-next.names c.next.new.self key c.refusal_at-refusal.result walks c.in-Some.ensures
+    let refusal = cond (is_directory (rows_of c.self.inside.nodes) key) Enoent Enotdir in
+    subst (λ (r : Result ℕ Refusal). IsFound t whole r × IsFound t (parent_of whole) r) (sym c.missing_at-missing.ensures)
+    (walk-stops t c.rows_law.ensures.table whole name c.in-Some.next c.loop-next.names c.next.new.self key refusal walks c.in-Some.ensures
     (ap (λ (s : Tree). child s.rows key name) (sym c.self.view_is)
     ∙ ap (child (rows_of c.self.inside.nodes) key) (sym c.as_name.ensures) ∙ sym c.in-None.ensures)
-    (c.refusal_at-refusal.ensures ∙ ap (λ (s : Tree). cond (is_directory s.rows key) Enoent Enotdir) c.self.view_is)
+    (ap (λ (s : Tree). cond (is_directory s.rows key) Enoent Enotdir) c.self.view_is))
 
 pub returns-in-None-clause-directory : goal.returns-in-None-clause-directory
 returns-in-None-clause-directory c = (stops c).1
@@ -52,7 +55,9 @@ returns-clause-directory c =
     let whole = c.args.first ∷ c.args.behind in
     let walks : WalksTo (child t.rows) whole c.loop-next.name c.loop-next.names c.loop-next.directory =
     subst (λ (s : Tree). WalksTo (child s.rows) whole c.loop-next.name c.loop-next.names c.loop-next.directory) c.self.view_is c.loop-next.invariant in
-    walk-parent t c.rows_law.ensures.table whole c.loop-next.name c.loop-next.names c.loop-next.directory c.of.result walks c.in_default.ensures.0 c.of.ensures
+    subst (IsFound t (parent_of whole)) (sym c.at.ensures)
+    (walk-parent t c.rows_law.ensures.table whole c.loop-next.name c.loop-next.names c.loop-next.directory c.of.result walks
+    c.in_default.ensures.0 c.of.ensures)
 
 pub returns-clause-here : goal.returns-clause-here
 returns-clause-here c =
@@ -61,4 +66,4 @@ returns-clause-here c =
     let walks : WalksTo (child t.rows) whole c.loop-next.name c.loop-next.names c.loop-next.directory =
     subst (λ (s : Tree). WalksTo (child s.rows) whole c.loop-next.name c.loop-next.names c.loop-next.directory) c.self.view_is c.loop-next.invariant in
     walk-here t c.rows_law.ensures.table whole c.loop-next.name c.as_name-2.result.now c.loop-next.names c.loop-next.directory
-    c.resolve_in.result walks c.in_default.ensures.0 c.as_name-2.ensures c.resolve_in.ensures
+    (found_of c.resolve_in.result) walks c.in_default.ensures.0 c.as_name-2.ensures c.resolve_in.ensures
