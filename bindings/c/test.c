@@ -225,6 +225,9 @@ static void entries(void) {
     IS(wt_first_place(&t), 1), IS(wt_last_place(&t), 7), IS(wt_cut(&t), 7), IS(wt_first_place(&t), 8);
     IS(wt_last_place(&t), 7), IS(wt_entry(&t, 7, out, 8), -ENOENT), IS(wt_chmod(&t, PATH("/d"), 0700), 0);
     IS(wt_last_place(&t), 8), is_entry(&t, 8, "chmod /d 700\n# ok\n");
+    IS(wt_chmod(&t, PATH("/d"), 01000000), -EINVAL), IS(wt_chmod(&t, PATH("/d"), 0777777), -EINVAL);
+    is_entry(&t, 9, "# chmod /d 1000000 (no line of a script makes this call)\n# err EINVAL 22\n");
+    is_entry(&t, 10, "chmod /d 777777\n# err EINVAL 22\n");
     wt_close(&t);
 }
 

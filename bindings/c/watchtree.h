@@ -97,8 +97,9 @@ int64_t wt_path_of(struct wt_tree *tree, uint64_t number, void *out, size_t out_
 int64_t wt_first_place(struct wt_tree *tree);
 int64_t wt_last_place(struct wt_tree *tree);
 /* The journal's entry with a sequence number as text, truncated to out_len bytes: the line of a script that makes the
- * call, and its reply in lines that begin with "# ". Returns the length of the text in bytes. -ENOENT if the journal has
- * no such entry, -ENOMEM. */
+ * call, and its reply in lines that begin with "# ". A call that no line makes, as its mode has more than six octal
+ * digits, is a comment; it was refused. Returns the length of the text in bytes. -ENOENT if the journal has no such
+ * entry, -ENOMEM. */
 int64_t wt_entry(struct wt_tree *tree, uint64_t place, void *out, size_t out_len);
 
 /* Runs a line of a script, such as `mkdir /d 755`, and stores its text, truncated to out_len bytes. Returns the length

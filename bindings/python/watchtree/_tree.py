@@ -33,7 +33,7 @@ class Entry(NamedTuple):
     place: int
     """Its sequence number: the first call of a tree has 1."""
     line: str
-    """The line of a script that makes the call, without a newline."""
+    """The line of a script that makes the call, without a newline; a comment if none does, as the mode is too large."""
     reply: str
     """What the line prints, as Tree.line() returns it."""
 

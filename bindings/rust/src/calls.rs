@@ -28,7 +28,7 @@ impl From<RawStat> for Stat {
 pub struct Entry {
     /// The sequence number: the first call of a tree has 1.
     pub place: u64,
-    /// The line of a script that makes the call, without a newline.
+    /// The line of a script that makes the call, without a newline; a comment if none does, as the mode is too large.
     pub line: String,
     /// What the line prints.
     pub reply: String,
