@@ -288,6 +288,28 @@ class Journals(unittest.TestCase):
         with self.assertRaises(OSError):
             tree.entries()
 
+    def test_a_run_of_threads_is_a_script(self):
+        with Tree() as tree, Tree() as replay:
+            instance = tree.inotify(20)
+            instance.add_watch("/")
+
+            def call(name):
+                for _ in range(200):
+                    tree.create(f"/{name}")
+                    instance.read(64)
+                    tree.rename(f"/{name}", f"/{name}{name}")
+                    tree.unlink(f"/{name}{name}")
+
+            threads = [threading.Thread(target=call, args=(name,)) for name in "abc"]
+            for thread in threads:
+                thread.start()
+            for thread in threads:
+                thread.join()
+            entries = [*tree.entries()]
+            self.assertEqual([replay.line(it.line) for it in entries], [it.reply for it in entries])
+            self.assertEqual(replay.script(), tree.script())
+            self.assertGreater(len(entries), 1800)
+
     def test_a_long_entry(self):
         with Tree() as tree:
             names = [f"{i:03}" + "n" * 200 for i in range(100)]
