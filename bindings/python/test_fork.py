@@ -68,6 +68,12 @@ class Told:
         self.replies.append(self.tree.line(line, 9))
 
 
+def text_of(entries):
+    """Returns the script that has the entries of a journal."""
+    lines = [line for it in entries for line in (it.line, *(f"# {reply}" for reply in it.reply.splitlines()))]
+    return "".join(f"{it}\n" for it in lines)
+
+
 class Random(unittest.TestCase):
     seed = SEED
 
@@ -103,6 +109,7 @@ class Random(unittest.TestCase):
                     told.give(random_line(rng))
                 entries, text = [*tree.entries()], tree.script()
                 self.assertEqual([it.place for it in entries], [*range(1, len(told.lines) + 1)])
+                self.assertEqual(text_of(entries), text)
                 for line, reply, entry in zip(told.lines, told.replies, entries):
                     self.assertEqual(replay.line(entry.line), entry.reply)
                     if not line.startswith("hex"):
@@ -244,8 +251,7 @@ class Journals(unittest.TestCase):
         self.assertEqual(entries[3:6:2], [Entry(4, "create /d/f 644", "ok 3\n"), Entry(6, "mkdir /d 755", "err EEXIST 17\n")])
         self.assertEqual(len(entries), 7)
         self.assertEqual(entries[6].reply.splitlines()[0], "ok 32")
-        text = "".join(f"{it.line}\n" + "".join(f"# {reply}\n" for reply in it.reply.splitlines()) for it in entries)
-        self.assertEqual(tree.script(), text)
+        self.assertEqual(tree.script(), text_of(entries))
 
     def test_a_call_that_no_line_makes(self):
         with Tree() as tree, Tree() as replay:
