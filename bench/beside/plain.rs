@@ -1,6 +1,9 @@
 //! The calls of a script by a plain Rust program, for benchmarks: what one would write by hand over std's collections, with
 //! a journal, and without a contract or a proof. It reads a script on standard input and prints what watchtree prints for the
 //! scripts of bench/. Of other scripts it may refuse by another error, or stop at a line with a fault.
+//!
+//! With the words `fork COUNT`, for bench/fork, it then copies the tree so often: without its journal, or, with the word
+//! `cut` after them, with the snapshot of a cut.
 
 use std::collections::{BTreeMap, HashMap, VecDeque};
 use std::io::{self, Read, Write};
@@ -39,6 +42,7 @@ const IN_ISDIR: u32 = 0x4000_0000;
 const IN_ONESHOT: u32 = 0x8000_0000;
 const IN_MASK_ADD: u32 = 0x2000_0000;
 
+#[derive(Clone)]
 enum Call {
     Create(Vec<u8>, u32),
     Mkdir(Vec<u8>, u32),
@@ -71,17 +75,20 @@ enum Reply {
     Refused(Errno),
 }
 
+#[derive(Clone)]
 struct Entry {
     _caller: u32,
     _call: Call,
     _reply: Reply,
 }
 
+#[derive(Clone)]
 enum Body {
     File(Vec<u8>),
     Directory(BTreeMap<Box<[u8]>, usize>),
 }
 
+#[derive(Clone)]
 struct Node {
     number: u32,
     mode: u32,
@@ -89,7 +96,7 @@ struct Node {
     body: Body,
 }
 
-#[derive(PartialEq)]
+#[derive(Clone, PartialEq)]
 struct Event {
     wd: i32,
     mask: u32,
@@ -97,7 +104,7 @@ struct Event {
     name: Option<Rc<[u8]>>,
 }
 
-#[derive(Default)]
+#[derive(Clone, Default)]
 struct Instance {
     watches: HashMap<u32, (i32, u32)>,
     numbers: HashMap<i32, u32>,
@@ -137,6 +144,7 @@ impl Instance {
     }
 }
 
+#[derive(Clone)]
 struct Tree {
     nodes: Vec<Option<Node>>,
     free: Vec<usize>,
@@ -797,5 +805,21 @@ fn main() -> io::Result<()> {
             text.clear();
         }
     }
-    out.write_all(&text)
+    out.write_all(&text)?;
+    copy(tree, &std::env::args().skip(1).collect::<Vec<_>>());
+    Ok(())
+}
+
+fn copy(mut tree: Tree, words: &[String]) {
+    if let [fork, count, rest @ ..] = words {
+        assert_eq!(fork, "fork");
+        if rest.is_empty() {
+            tree.journal.clear();
+        } else {
+            tree.cut();
+        }
+        for _ in 0..number(count) {
+            std::mem::forget(std::hint::black_box(tree.clone()));
+        }
+    }
 }

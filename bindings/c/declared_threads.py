@@ -2,9 +2,9 @@
 
 usage: declared_threads.py HEADER HEADER-FOR-THREADS FOLDER-OF-RUST-SOURCES LIBRARY.so
 
-Each call wt_X of a tree has a call wtt_X with the same parameters; `wtt_read` has a time limit more, `wtt_open` stores
-its tree, `wtt_fd` is new. The bits of a mask are those of <sys/inotify.h>, by name and value, in Rust and in Python.
-Afterwards each declaration and each bit is changed, a word at a time, and each change must be seen.
+Each call wt_X of a tree has a call wtt_X with the same parameters; `wtt_read` has a time limit more, `wtt_open` and
+`wtt_fork` store their tree, `wtt_fd` is new. The bits of a mask are those of <sys/inotify.h>, by name and value, in Rust
+and in Python. Afterwards each declaration and each bit is changed, a word at a time, and each change must be seen.
 """
 import re
 import shutil
@@ -17,6 +17,7 @@ from declarations import IN_RUST, ROW, in_c, in_rust
 
 OWN = {
     "wtt_open": "int64_t wtt_open(struct wtt **tree)",
+    "wtt_fork": "int64_t wtt_fork(struct wtt *tree, struct wtt **fork)",
     "wtt_close": "void wtt_close(struct wtt *tree)",
     "wtt_shutdown": "void wtt_shutdown(struct wtt *tree)",
     "wtt_fd": "int64_t wtt_fd(struct wtt *tree, uint32_t instance)",

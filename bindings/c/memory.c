@@ -36,6 +36,19 @@ static void on_files(struct wt_tree *t, int k) {
     if (k == 3) TRY(wt_cut(t));
 }
 
+/* A fork, and entries of the journal as text. The tree goes on as if there had been none. */
+static void on_fork(struct wt_tree *t) {
+    struct wt_tree fork = WT_TREE_INIT;
+    char out[512] = "";
+    TRY(wt_fork(t, &fork)), TRY(wt_rename(&fork, PATH("/d"), PATH("/e/y"))), TRY(wt_read(&fork, 2, out, sizeof out));
+    for (int i = 0; i < 64; i++) note(out[i]);
+    for (int64_t place = wt_first_place(&fork); place <= wt_last_place(&fork); place++) {
+        int64_t count = TRY(wt_entry(&fork, (uint64_t)place, out, sizeof out));
+        for (int64_t i = 0; i < count && i < (int64_t)sizeof out; i++) note(out[i]);
+    }
+    wt_close(&fork);
+}
+
 static void run(long fail) {
     struct wt_tree t = WT_TREE_INIT;
     char out[512];
@@ -44,6 +57,7 @@ static void run(long fail) {
     TRY(wt_inotify_init(&t, 16)), TRY(wt_inotify_init(&t, 3)), TRY(wt_inotify_add_watch(&t, 1, PATH("/d"), 0xfff));
     TRY(wt_inotify_add_watch(&t, 2, PATH("/d"), 0xfff)), TRY(wt_inotify_add_watch(&t, 2, PATH("/e"), 0xfff));
     for (int k = 0; k < 6; k++) on_files(&t, k);
+    on_fork(&t);
     for (uint32_t i = 1; i <= 2; i++) {
         int64_t count;
         while ((count = TRY(wt_read(&t, i, out, sizeof out))) > 0)

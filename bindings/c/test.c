@@ -23,7 +23,7 @@ static void is(const char *what, int line, int64_t number, int64_t wanted) {
 
 /* A tree that is not open answers -EBADF to each call, and closing it does nothing. */
 static void closed_trees(void) {
-    struct wt_tree t = WT_TREE_INIT;
+    struct wt_tree t = WT_TREE_INIT, fork = WT_TREE_INIT;
     struct wt_stat s = { 7, 7, 7, 7, 7 };
     char out[8] = "before";
     uint32_t number = 7;
@@ -43,7 +43,8 @@ static void closed_trees(void) {
         IS(wt_bytes_waiting(&t, 1), -EBADF), IS(wt_ready(&t, &number, 1), -EBADF), HOLDS(number == 7);
         IS(wt_peek_stat(&t, PATH("/d"), &s), -EBADF), IS(wt_peek_list(&t, PATH("/"), out, sizeof out), -EBADF);
         IS(wt_path_of(&t, 1, out, sizeof out), -EBADF);
-        IS(wt_peek_pread(&t, PATH("/d"), 0, out, sizeof out), -EBADF);
+        IS(wt_peek_pread(&t, PATH("/d"), 0, out, sizeof out), -EBADF), IS(wt_fork(&t, &fork), -EBADF), HOLDS(!fork.ready);
+        IS(wt_first_place(&t), -EBADF), IS(wt_last_place(&t), -EBADF), IS(wt_entry(&t, 1, out, sizeof out), -EBADF);
         HOLDS(!strcmp(out, "before") && s.links == 7 && s.is_directory == 7);
         if (turn == 0) IS(wt_open(&t), 0), IS(wt_open(&t), -EBUSY);
     }
@@ -173,6 +174,63 @@ static void peeks(struct wt_tree *t) {
     for (uint32_t i = 130; i < 133; i++) IS(wt_inotify_close(t, i), 0);
 }
 
+/* Looks whether two trees answer alike: numbers, cookies, overflow. */
+static void alike(struct wt_tree *t, struct wt_tree *u) {
+    char out[2][256];
+    HOLDS(wt_create(t, PATH("/d/g"), 0644) == wt_create(u, PATH("/d/g"), 0644));
+    IS(wt_rename(t, PATH("/d/f"), PATH("/d/h")), 0), IS(wt_rename(u, PATH("/d/f"), PATH("/d/h")), 0);
+    IS(wt_read(t, 1, out[0], 256), 48), IS(wt_read(u, 1, out[1], 256), 48), HOLDS(!memcmp(out[0], out[1], 48));
+    HOLDS(wt_last_place(t) == wt_last_place(u) && wt_inotify_init(t, 1) == wt_inotify_init(u, 1));
+}
+
+/* A fork answers as its tree, and neither sees what the other does. */
+static void forks(void) {
+    struct wt_tree t = WT_TREE_INIT, fork = WT_TREE_INIT, last = WT_TREE_INIT;
+    struct wt_stat s;
+    char out[8];
+    IS(wt_open(&t), 0), IS(wt_mkdir(&t, PATH("/d"), 0755), 2), IS(wt_inotify_init(&t, 1), 1);
+    IS(wt_inotify_add_watch(&t, 1, PATH("/d"), IN_CREATE | IN_MOVE), 1), IS(wt_create(&t, PATH("/d/f"), 0644), 3);
+    IS(wt_fork(&t, &fork), 0), IS(wt_fork(&t, &fork), -EBUSY), IS(wt_fork(&fork, &last), 0);
+    IS(wt_last_place(&fork), 4), IS(wt_first_place(&fork), 5), IS(wt_first_place(&t), 1), IS(wt_waiting(&fork, 1), 1);
+    IS(wt_entry(&fork, 4, out, sizeof out), -ENOENT), IS(wt_entry(&fork, 5, out, sizeof out), -ENOENT);
+    alike(&t, &fork);
+    IS(wt_unlink(&fork, PATH("/d/g")), 0), IS(wt_peek_stat(&t, PATH("/d/g"), &s), 0), IS(wt_inotify_close(&t, 1), 0);
+    IS(wt_waiting(&fork, 1), 0), IS(wt_last_place(&last), 4);
+    wt_close(&t);
+    IS(wt_mkdir(&fork, PATH("/e"), 0755), 5), IS(wt_open(&t), 0), wt_close(&fork);
+    IS(wt_fork(&last, &fork), 0);
+    alike(&last, &fork);
+    wt_close(&last), wt_close(&fork), wt_close(&t);
+}
+
+static void is_entry(struct wt_tree *t, uint64_t place, const char *wanted) {
+    char out[128] = "";
+    IS(wt_entry(t, place, out, sizeof out - 1), (int64_t)strlen(wanted));
+    if (strcmp(out, wanted)) printf("entry %" PRIu64 " is %s, and not %s\n", place, out, wanted), failed = 1;
+}
+
+/* The entries of the journal, and where it begins and ends. */
+static void entries(void) {
+    struct wt_tree t = WT_TREE_INIT;
+    char out[8] = "-------";
+    IS(wt_open(&t), 0), IS(wt_first_place(&t), 1), IS(wt_last_place(&t), 0), IS(wt_entry(&t, 0, out, 8), -ENOENT);
+    IS(wt_entry(&t, 1, out, 8), -ENOENT), IS(wt_entry(&t, UINT64_MAX, NULL, 0), -ENOENT);
+    IS(wt_mkdir(&t, PATH("/d"), 0755), 2), IS(wt_mkdir(&t, PATH("/d"), 0755), -EEXIST), IS(wt_inotify_init(&t, 9), 1);
+    IS(wt_inotify_add_watch(&t, 1, PATH("/d"), IN_CREATE), 1), IS(wt_create(&t, PATH("/d/a b"), 0644), 3);
+    IS(wt_line(&t, 7, PATH("hex 1 4096"), NULL, 0), 73), IS(wt_line(&t, 7, PATH("init"), NULL, 0), 5);
+    is_entry(&t, 1, "mkdir /d 755\n# ok 2\n"), is_entry(&t, 2, "mkdir /d 755\n# err EEXIST 17\n");
+    is_entry(&t, 3, "init 9\n# ok 1\n"), is_entry(&t, 5, "create /d/a%20b 644\n# ok 3\n");
+    is_entry(&t, 7, "init 7\n# ok 2\n");
+    IS(wt_entry(&t, 1, out, 3), 20), HOLDS(!memcmp(out, "mkd----", 7)), IS(wt_entry(&t, 8, out, 8), -ENOENT);
+    IS(wt_first_place(&t), 1), IS(wt_last_place(&t), 7), IS(wt_cut(&t), 7), IS(wt_first_place(&t), 8);
+    IS(wt_last_place(&t), 7), IS(wt_entry(&t, 7, out, 8), -ENOENT), IS(wt_chmod(&t, PATH("/d"), 0700), 0);
+    IS(wt_last_place(&t), 8), is_entry(&t, 8, "chmod /d 700\n# ok\n");
+    IS(wt_chmod(&t, PATH("/d"), 01000000), -EINVAL), IS(wt_chmod(&t, PATH("/d"), 0777777), -EINVAL);
+    is_entry(&t, 9, "# chmod /d 1000000 (no line of a script makes this call)\n# err EINVAL 22\n");
+    is_entry(&t, 10, "chmod /d 777777\n# err EINVAL 22\n");
+    wt_close(&t);
+}
+
 /* The version, and each number that has a text: those of errno(3) have the words of strerror(3). */
 static void texts(void) {
     char out[80] = "", file[16] = "", wanted[80];
@@ -249,6 +307,8 @@ int main(void) {
     refused_files(&t);
     instances(&t);
     peeks(&t);
+    forks();
+    entries();
     texts();
     lines(&t);
     limits(&t);

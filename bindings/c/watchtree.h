@@ -3,7 +3,8 @@
  * Each call returns what the system call of its name returns, with a negative errno in place of -1 and errno; numbers
  * from 1001 on are this library's own. A call on a tree that is not open returns -EBADF.
  * A path is absolute, and is given as a pointer and a length in bytes; it need not end with a zero byte.
- * A struct wt_tree begins as zero bytes, is changed only by these functions, and is never copied while it is open.
+ * A struct wt_tree begins as zero bytes, is changed only by these functions, and is never copied while it is open:
+ * wt_fork makes a second tree.
  * Only one thread may use a tree at a time; it may move between threads. watchtree_threads.h is for threads that share
  * one.
  */
@@ -38,6 +39,10 @@ enum {
 int64_t wt_open(struct wt_tree *tree);
 /* Closes a tree, and frees its memory. A tree that is not open stays so. */
 void wt_close(struct wt_tree *tree);
+/* Opens *fork as an independent tree with the same files, instances, watches and waiting records, the same last sequence
+ * number, and an empty journal: it answers from now on exactly as tree does. 0; -EBADF if tree is not open, -EBUSY if
+ * fork is open, -ENOMEM, and fork is then as it was. It is not a call of the tree. */
+int64_t wt_fork(struct wt_tree *tree, struct wt_tree *fork);
 /* Cuts the journal of calls, which can then take 1,000,000 more, and returns the sequence number of the last call. */
 int64_t wt_cut(struct wt_tree *tree);
 
@@ -73,7 +78,7 @@ int64_t wt_read(struct wt_tree *tree, uint32_t instance, void *out, size_t out_l
 int64_t wt_waiting(struct wt_tree *tree, uint32_t instance);
 int64_t wt_inotify_close(struct wt_tree *tree, uint32_t instance);
 
-/* From here to wt_path_of: not calls of the tree. They have no entry in the journal, and raise no event. */
+/* From here to wt_entry: not calls of the tree. They have no entry in the journal, and raise no event. */
 /* Returns the length of all waiting records in bytes, as ioctl(2) with FIONREAD on an inotify descriptor. */
 int64_t wt_bytes_waiting(struct wt_tree *tree, uint32_t instance);
 /* The numbers of the open instances that have a record waiting, in ascending order, as many as fit: out_len counts
@@ -87,6 +92,15 @@ int64_t wt_peek_pread(struct wt_tree *tree, const char *path, size_t path_len, u
 /* The first path, in the order of names, of the file with this number (wt_stat's), truncated to out_len bytes. Returns
  * the length of the path in bytes, and -ENOENT if no file has this number. It looks at each path of the tree. */
 int64_t wt_path_of(struct wt_tree *tree, uint64_t number, void *out, size_t out_len);
+/* Return the sequence numbers of the first entry of the journal, one more than that of the last call before the last
+ * wt_cut, and of its last call: if the first is greater, the journal is empty. */
+int64_t wt_first_place(struct wt_tree *tree);
+int64_t wt_last_place(struct wt_tree *tree);
+/* The journal's entry with a sequence number as text, truncated to out_len bytes: the line of a script that makes the
+ * call, and its reply in lines that begin with "# ". A call that no line makes, as its mode has more than six octal
+ * digits, is a comment; it was refused. Returns the length of the text in bytes. -ENOENT if the journal has no such
+ * entry, -ENOMEM. */
+int64_t wt_entry(struct wt_tree *tree, uint64_t place, void *out, size_t out_len);
 
 /* Runs a line of a script, such as `mkdir /d 755`, and stores its text, truncated to out_len bytes. Returns the length
  * of the text in bytes: if it is more than out_len, wt_text returns the text again. queue is the limit of an instance

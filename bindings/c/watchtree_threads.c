@@ -137,13 +137,13 @@ static struct listened *listen_to(struct wtt *t, uint32_t instance) NEEDS_LOCK {
     return *at = it;
 }
 
-UNCHECKED int64_t wtt_open(struct wtt **tree) {
+/* Stores a tree that is not open. 0, or the errno of mmap(2) or madvise(2). */
+static int64_t new_tree(struct wtt **tree) {
     *tree = NULL;
     struct wtt *t = mmap(NULL, sizeof *t, PROT_READ | PROT_WRITE, MAP_PRIVATE | MAP_ANONYMOUS, -1, 0);
     if (t == MAP_FAILED) return -errno;
-    int64_t number = madvise(t, sizeof *t, MADV_WIPEONFORK) ? -errno : 0;
-    if (!number) number = wt_open(tree_of(t));
-    if (number) {
+    if (madvise(t, sizeof *t, MADV_WIPEONFORK)) {
+        int64_t number = -errno;
         munmap(t, sizeof *t);
         return number;
     }
@@ -151,6 +151,38 @@ UNCHECKED int64_t wtt_open(struct wtt **tree) {
     pthread_cond_init(&t->left, NULL);
     *tree = t;
     return 0;
+}
+
+/* Frees a new tree if opening it failed, and returns what opening it returned. */
+static int64_t opened(struct wtt **tree, int64_t number) {
+    if (number) {
+        wtt_close(*tree);
+        *tree = NULL;
+    }
+    return number;
+}
+
+int64_t wtt_open(struct wtt **tree) {
+    int64_t number = new_tree(tree);
+    struct wtt *t = *tree;
+    if (number) return number;
+    lock(t);
+    number = wt_open(tree_of(t));
+    unlock(t);
+    return opened(tree, number);
+}
+
+/* Nobody knows the fork yet, so its lock, which comes first, keeps nobody waiting. */
+int64_t wtt_fork(struct wtt *t, struct wtt **fork) {
+    int64_t number = new_tree(fork);
+    struct wtt *copy = *fork;
+    if (number) return number;
+    lock(copy);
+    lock(t);
+    number = wt_fork(tree_of(t), tree_of(copy));
+    unlock(t);
+    unlock(copy);
+    return opened(fork, number);
 }
 
 /* Ends each instance and the tree. Threads that wait are woken, and leave once they have the lock. */
@@ -312,3 +344,6 @@ CALL(peek_list, (struct wtt *t, const char *path, size_t n, void *out, size_t m)
 CALL(peek_pread, (struct wtt *t, const char *path, size_t n, uint64_t offset, void *out, size_t m),
      wt_peek_pread(tree_of(t), path, n, offset, out, m))
 CALL(path_of, (struct wtt *t, uint64_t file, void *out, size_t m), wt_path_of(tree_of(t), file, out, m))
+CALL(first_place, (struct wtt *t), wt_first_place(tree_of(t)))
+CALL(last_place, (struct wtt *t), wt_last_place(tree_of(t)))
+CALL(entry, (struct wtt *t, uint64_t place, void *out, size_t m), wt_entry(tree_of(t), place, out, m))

@@ -21,6 +21,11 @@ struct wtt;
 /* Opens a tree and stores it in *tree. 0, -ENOMEM, or the errno of mmap(2) or madvise(2) (MADV_WIPEONFORK, Linux 4.14);
  * *tree is then NULL. */
 int64_t wtt_open(struct wtt **tree);
+/* Opens a tree as wt_fork does and stores it in *fork: an independent tree, with a lock of its own, that answers from now
+ * on exactly as tree does. Calls of other threads on tree wait only while it is copied. Neither threads that wait nor
+ * descriptors are copied: wtt_fd makes a descriptor of an instance of the fork. 0, -EBADF if tree is not open, or the
+ * errors of wtt_open; *fork is then NULL. It has nothing to do with fork(2). */
+int64_t wtt_fork(struct wtt *tree, struct wtt **fork);
 /* Ends a tree and its instances, and frees their memory. Every call returns -EBADF from then on, also one that waits in
  * another thread. */
 void wtt_shutdown(struct wtt *tree);
@@ -74,6 +79,9 @@ int64_t wtt_peek_stat(struct wtt *tree, const char *path, size_t path_len, struc
 int64_t wtt_peek_list(struct wtt *tree, const char *path, size_t path_len, void *out, size_t out_len);
 int64_t wtt_peek_pread(struct wtt *tree, const char *path, size_t path_len, uint64_t offset, void *out, size_t out_len);
 int64_t wtt_path_of(struct wtt *tree, uint64_t number, void *out, size_t out_len);
+int64_t wtt_first_place(struct wtt *tree);
+int64_t wtt_last_place(struct wtt *tree);
+int64_t wtt_entry(struct wtt *tree, uint64_t place, void *out, size_t out_len);
 int64_t wtt_line(struct wtt *tree, uint32_t queue, const char *line, size_t line_len, void *out, size_t out_len);
 
 #ifdef __cplusplus

@@ -7,6 +7,7 @@ from html.parser import HTMLParser
 
 import watchtree_trace
 import watchtree_trace_page
+from watchtree import Mask, Tree
 
 TOP = os.path.dirname(os.path.dirname(os.path.dirname(os.path.realpath(__file__))))
 VOID = {"meta", "input", "br"}
@@ -70,6 +71,18 @@ class Trace(unittest.TestCase):
         self.assertEqual((page.open, page.outside), ([], []))
         # Three of them are the key.
         self.assertEqual([page.marks.count(it) for it in ("joined", "merged", "lost")], [26, 2, 2])
+
+    def test_a_journal_is_a_script(self):
+        with Tree() as tree, tree.inotify() as instance:
+            instance.add_watch("/", Mask.CREATE)
+            tree.create("/a")
+            instance.read()
+            with self.assertRaises(FileExistsError):
+                tree.mkdir("/a")
+            of_tree, of_text = watchtree_trace.run(tree), run_of(tree.script())
+        for run in of_tree, of_text:
+            self.assertEqual([(it.number, it.reply) for it in run.calls][2:], [(5, "ok 2"), (7, "ok 32"), (10, "err EEXIST 17")])
+            self.assertEqual(fates(run, 1), [(5, "CREATE", "joined", 7)])
 
     def test_a_line_that_is_no_command_is_a_fault(self):
         with self.assertRaisesRegex(watchtree_trace.Fault, "line 2: unknown command"):

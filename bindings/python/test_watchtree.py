@@ -229,7 +229,8 @@ def random_calls(seed):
 
 
 def test_program(program, seed):
-    """As many random calls answer the same through the module and the program, and as lines through line()."""
+    """As many random calls answer the same through the module and the program, and as lines through line(). So do those
+    of a journal that is printed as a script."""
     scribe = random_calls(seed)
     script = "".join(f"{it}\n" for it in scribe.lines).encode()
     ran = subprocess.run([program, "run"], input=script, capture_output=True, check=True)
@@ -244,6 +245,14 @@ def test_program(program, seed):
     assert len(kinds) == 19 and accepted > CALLS / 10
     with Tree() as tree:
         assert "".join(tree.line(it) for it in scribe.lines) == wanted
+    # The journal as a script, which the program takes up to 1 MiB of.
+    with Tree() as tree:
+        for line in scribe.lines[: CALLS // 4]:
+            if line != "cut":
+                tree.line(line)
+        script, wanted = tree.script(), "".join(it.reply for it in tree.entries())
+    ran = subprocess.run([program, "run"], input=script.encode(), capture_output=True, check=True)
+    assert ran.stdout.decode() == wanted
     print(f"{len(scribe.lines)} calls of seed {seed}, {accepted} of them accepted")
 
 

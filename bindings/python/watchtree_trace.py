@@ -3,6 +3,8 @@
     python3 watchtree_trace.py run.script >run.html
     python3 watchtree_trace.py --queue 16 <run.script >run.html
 
+The journal of a tree, printed by `tree.script()`, is a script too; `run(tree)` takes it from the tree.
+
 The page is one file that needs no network. Its first columns have the calls with their replies. Each instance has a lane:
 a mark for each record that was raised, which says whether it joined the queue, was merged into an equal record that
 waited last, or was lost to a full queue; a line that fills as the queue does; and a bracket over what one read took.
@@ -13,7 +15,7 @@ computed here by the rule of inotify(7), and compared after each call with how m
 
 import argparse
 import sys
-from typing import Dict, List, NamedTuple, Optional, TextIO
+from typing import Dict, Iterable, List, NamedTuple, Optional, Union
 
 import watchtree_trace_page
 from watchtree import OWN, QUEUE, Event, Instance, Mask, Tree
@@ -179,10 +181,10 @@ def count_of(command: str, records: List[str]) -> int:
     return count
 
 
-def run(script: TextIO, queue: int = QUEUE) -> Run:
-    """Runs a script, line by line."""
+def run(script: Union[Iterable[str], Tree], queue: int = QUEUE) -> Run:
+    """Runs a script, line by line: that of a file, or the journal of a tree."""
     done = Run(queue)
-    for at, line in enumerate(script, 1):
+    for at, line in enumerate(script.script().splitlines() if isinstance(script, Tree) else script, 1):
         done.step(at, line.rstrip("\n"))
     return done
 

@@ -1,11 +1,11 @@
 /* Writers, readers and closers on one tree at the same time. Three writers rename files back and forth, and every instance
  * is notified: two are read by threads that wait, one by two threads in turn, one by epoll level-triggered and one
  * edge-triggered. The cookies rise by one with each rename, so each reader sees whether a record was lost or came
- * twice. Meanwhile instances are opened, waited for by one thread, and closed by another. */
+ * twice. Meanwhile instances are opened, waited for by one thread, and closed by another, and the tree is forked. */
 #include "checks.h"
 #include <sys/epoll.h>
 
-enum { WRITERS = 3, RENAMES = 120000, RECORDS = 2 * RENAMES, KEPT = 5, BEHIND = 30000, CLOSED = 300 };
+enum { WRITERS = 3, RENAMES = 120000, RECORDS = 2 * RENAMES, KEPT = 5, BEHIND = 30000, CLOSED = 300, FORKS = 60 };
 
 static struct wtt *tree;
 static uint32_t instances[KEPT];
@@ -169,6 +169,30 @@ static void *close_others(void *of) {
     return of;
 }
 
+/* Forks the tree. What waited then waits in the fork, in order, and nobody else reads or changes it. */
+static void *fork_often(void *of) {
+    char bytes[8192];
+    struct wt_stat s;
+    for (int turn = 0; turn < FORKS; turn++) {
+        struct wtt *copy;
+        uint32_t last = 0;
+        int64_t count, waited = 0;
+        IS(wtt_fork(tree, &copy), 0), IS(wtt_first_place(copy), wtt_last_place(copy) + 1);
+        int64_t waiting = wtt_waiting(copy, instances[0]);
+        while ((count = wtt_read(copy, instances[0], bytes, sizeof bytes, 0)) > 0)
+            for (int64_t at = 0; at < count; at += 32, waited++) {
+                struct inotify_event event;
+                memcpy(&event, bytes + at, sizeof event);
+                if (last) IS(event.cookie, event.mask == IN_MOVED_FROM ? last + 1 : last);
+                last = event.cookie;
+            }
+        IS(count, -EAGAIN), IS(waited, waiting), HOLDS(wtt_mkdir(copy, PATH("/d/own"), 0755) > 0);
+        wtt_close(copy);
+    }
+    IS(wtt_peek_stat(tree, PATH("/d/own"), &s), -ENOENT);
+    return of;
+}
+
 int main(void) {
     IS(wtt_open(&tree), 0), IS(wtt_mkdir(tree, PATH("/d"), 0755), 2);
     for (int i = 0; i < KEPT; i++) {
@@ -180,13 +204,13 @@ int main(void) {
         start(wait_and_read, (void *)0L), start(wait_and_read, (void *)1L), start(share_reading, NULL),
         start(share_reading, NULL), start(poll_level, NULL), start(poll_edge, NULL), start(read_until_closed, NULL),
         start(close_others, NULL), start(write_to_tree, (void *)0L), start(write_to_tree, (void *)1L),
-        start(write_to_tree, (void *)2L),
+        start(write_to_tree, (void *)2L), start(fork_often, NULL),
     };
     for (size_t i = 0; i < sizeof threads / sizeof *threads; i++) join(threads[i]);
     long all = 0;
     for (int i = 0; i < KEPT; i++) IS(wtt_waiting(tree, instances[i]), 0), all += records[i];
     for (int i = 1; i <= RENAMES; i++) IS(seen[i], 3);
     wtt_close(tree);
-    printf("%d writers, 7 readers, %d closes: %ld records, none lost, none twice\n", WRITERS, CLOSED, all);
+    printf("%d writers, 7 readers, %d closes, %d forks: %ld records, none lost, none twice\n", WRITERS, CLOSED, FORKS, all);
     return all < 1000000;
 }

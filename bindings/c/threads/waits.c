@@ -1,4 +1,5 @@
-/* What waiting promises: time limits, closes, cancellation, fork, descriptors, and what happens without memory. */
+/* What waiting promises: time limits, closes, cancellation, fork(2), forks of a tree, descriptors, and what happens without
+ * memory. */
 #include "checks.h"
 #include <poll.h>
 #include <sys/epoll.h>
@@ -168,6 +169,7 @@ static int in_child(uint32_t instance) {
     IS(wtt_mkdir(tree, PATH("/x"), 0755), -EBADF), IS(wtt_stat(tree, PATH("/"), &s), -EBADF);
     IS(wtt_read(tree, instance, bytes, sizeof bytes, -1), -EBADF), IS(wtt_fd(tree, instance), -EBADF);
     IS(wtt_line(tree, 64, PATH("list /"), name, sizeof name), -EBADF), IS(wtt_cut(tree), -EBADF);
+    IS(wtt_fork(tree, &own), -EBADF), HOLDS(!own);
     wtt_close(tree);
     IS(wtt_open(&own), 0), IS(wtt_mkdir(own, PATH("/x"), 0755), 2);
     wtt_close(own);
@@ -191,6 +193,27 @@ static void forks(void) {
     HOLDS(wtt_mkdir(tree, PATH("/y"), 0755) > 0);
     IS((long)join(reader), 32);
     IS(wtt_inotify_close(tree, instance), 0), IS(wtt_inotify_close(tree, other), 0), close(fd);
+}
+
+/* A fork has the instances of its tree, and neither its descriptors nor its threads. */
+static void copies(void) {
+    uint32_t instance = instance_on("/d", IN_CREATE);
+    int fd = (int)wtt_fd(tree, instance);
+    struct wtt *copy = NULL, *none = tree;
+    pthread_t reader = start(read_one, &instance);
+    wait_for_waits(1);
+    IS(wtt_fork(tree, &copy), 0), HOLDS(wtt_create(copy, PATH("/d/a"), 0644) > 0);
+    HOLDS(!is_readable(fd)), IS(wtt_waiting(tree, instance), 0);
+    int own = (int)wtt_fd(copy, instance);
+    HOLDS(is_readable(own)), IS(wtt_read(copy, instance, bytes, sizeof bytes, -1), 32), HOLDS(!is_readable(own));
+    HOLDS(wtt_create(tree, PATH("/d/a"), 0644) > 0), IS((long)join(reader), 32), HOLDS(!is_readable(own));
+    IS(wtt_inotify_close(tree, instance), 0), HOLDS(is_readable(fd)), IS(wtt_waiting(copy, instance), 0);
+    wtt_shutdown(copy);
+    HOLDS(is_readable(own)), IS(wtt_fork(copy, &none), -EBADF), HOLDS(!none);
+    wtt_close(copy), close(own), close(fd);
+    none = tree;
+    fail_next(1), IS(wtt_fork(tree, &none), -ENOMEM), HOLDS(!none);
+    IS(wtt_unlink(tree, PATH("/d/a")), 0);
 }
 
 /* After each of many calls a descriptor is readable exactly if records wait. */
@@ -327,10 +350,10 @@ static void end_of_tree(void) {
 int main(void) {
     IS(wtt_open(&tree), 0), IS(wtt_mkdir(tree, PATH("/d"), 0755), 2);
     void (*const parts[])(void) = {
-        time_limits, two_readers, closes, cancellation, pending_cancellation, forks,
+        time_limits, two_readers, closes, cancellation, pending_cancellation, forks, copies,
         texts, levels, edges, owners, without_memory, shutdowns, end_of_tree,
     };
     for (size_t i = 0; i < sizeof parts / sizeof *parts; i++) forget_waits(), parts[i]();
-    puts("time limits, closes, cancellation, fork, descriptors, memory: as promised");
+    puts("time limits, closes, cancellation, forks, descriptors, memory: as promised");
     return 0;
 }

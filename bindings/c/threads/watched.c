@@ -21,6 +21,7 @@ static void touch(struct wt_tree *t) {
     }
 #define TREE struct wt_tree *t
 #define WITH_PATH struct wt_tree *t, const char *p, size_t n
+WRAP(wt_fork, (TREE, struct wt_tree *f), (t, f))
 WRAP(wt_cut, (TREE), (t))
 WRAP(wt_mkdir, (WITH_PATH, uint32_t a), (t, p, n, a))
 WRAP(wt_create, (WITH_PATH, uint32_t a), (t, p, n, a))
@@ -46,6 +47,9 @@ WRAP(wt_peek_stat, (WITH_PATH, struct wt_stat *a), (t, p, n, a))
 WRAP(wt_peek_list, (WITH_PATH, void *q, size_t m), (t, p, n, q, m))
 WRAP(wt_peek_pread, (WITH_PATH, uint64_t a, void *q, size_t m), (t, p, n, a, q, m))
 WRAP(wt_path_of, (TREE, uint64_t a, void *q, size_t m), (t, a, q, m))
+WRAP(wt_first_place, (TREE), (t))
+WRAP(wt_last_place, (TREE), (t))
+WRAP(wt_entry, (TREE, uint64_t a, void *q, size_t m), (t, a, q, m))
 WRAP(wt_inotify_close, (TREE, uint32_t i), (t, i))
 WRAP(wt_line, (TREE, uint32_t i, const char *p, size_t n, void *q, size_t m), (t, i, p, n, q, m))
 WRAP(wt_text, (TREE, void *q, size_t m), (t, q, m))

@@ -14,6 +14,8 @@ this library's own (JOURNAL_FULL and others). A path is a str, bytes or os.PathL
 Threads may share a tree and its instances: each call takes the lock of the tree. A tree or an instance that is closed,
 and a tree in a child of os.fork(), raises OSError with EBADF.
 
+`tree.fork()` is an independent tree like this one, and `tree.script()` the calls so far as a script.
+
 `instance.read(timeout=)`, `for event in instance` and `async for event in instance` wait for events; `watchtree.watchdog`
 has an observer for handlers of the watchdog package; `watchtree.explore` runs event code under many schedules.
 docs/PYTHON.md has an example of each.
@@ -26,11 +28,12 @@ from ._errors import COOKIES_SPENT, JOURNAL_FULL, NUMBERS_SPENT, OWN, error_text
 from ._events import Event, Mask, parse
 from ._instance import Instance
 from ._library import QUEUE, find_library, load, version
-from ._tree import RENAME_EXCHANGE, RENAME_NOREPLACE, AnyPath, Stat, Tree
+from ._tree import RENAME_EXCHANGE, RENAME_NOREPLACE, AnyPath, Entry, Stat, Tree
 
 __all__ = [
     "AnyPath",
     "COOKIES_SPENT",
+    "Entry",
     "Event",
     "Instance",
     "JOURNAL_FULL",

@@ -24,14 +24,17 @@ class Instance:
 
     Threads may share it; each record goes to one of them. `for event in instance` waits for events, and ends when the
     instance is closed; so does `async for`. Both take records from the queue in batches: leaving the loop loses none of
-    them, since all methods that read take the rest of the batch first. fileno() does not report that rest.
+    them, since all methods that read take the rest of the batch first, and a fork of the tree has it too. fileno() does
+    not report that rest.
+
+    `number` is its number, as lines of scripts have it: Tree.instance() takes it, of the tree and of its forks.
     """
 
     def __init__(self, tree: "Tree", number: int) -> None:
         self.tree = tree
         self.number = number
-        # The rest of a batch, and the descriptor of fileno().
-        self._ahead: Deque[bytes] = deque()
+        # The rest of a batch, which each object for this instance takes from, and the descriptor of fileno().
+        self._ahead: Deque[bytes] = tree._batches.setdefault(number, deque())
         self._fd = -1
 
     def __del__(self) -> None:
@@ -62,6 +65,7 @@ class Instance:
     def close(self) -> None:
         """Closes the instance, and wakes whoever waits for it."""
         self.tree._call("wtt_inotify_close", self.number)
+        self.tree._batches.pop(self.number, None)
 
     @property
     def waiting(self) -> int:

@@ -53,6 +53,10 @@ CALLS = {
     "wtt_peek_list": (*_BYTES, *_OUT),
     "wtt_peek_pread": (*_BYTES, _U64, *_OUT),
     "wtt_path_of": (_U64, *_OUT),
+    "wtt_first_place": (),
+    "wtt_last_place": (),
+    "wtt_entry": (_U64, *_OUT),
+    "wtt_fork": (ctypes.POINTER(ctypes.c_void_p),),
 }
 # The parameters of each function that takes no tree.
 PLAIN = {"wt_version": _OUT, "wt_error_text": (ctypes.c_int64, *_OUT)}

@@ -4,7 +4,8 @@ import ctypes
 import errno
 import os
 import threading
-from typing import List, NamedTuple, Optional, Union
+from collections import deque
+from typing import Deque, Dict, Iterator, List, NamedTuple, Optional, Tuple, Union
 
 from ._errors import fail
 from ._instance import Instance
@@ -26,6 +27,23 @@ class Stat(NamedTuple):
     size: int
 
 
+class Entry(NamedTuple):
+    """An entry of a tree's journal: a call and its reply."""
+
+    place: int
+    """Its sequence number: the first call of a tree has 1."""
+    line: str
+    """The line of a script that makes the call, without a newline; a comment if none does, as the mode is too large."""
+    reply: str
+    """What the line prints, as Tree.line() returns it."""
+
+
+def entry_of(place: int, text: str) -> Entry:
+    """Returns an entry that has a text: a line, and a reply whose lines begin with `# `."""
+    line, *reply = text.splitlines()
+    return Entry(place, line, "".join(f"{it[2:]}\n" for it in reply))
+
+
 class Tree:
     """A tree, which has only the root at first. It is closed at the end of a `with`, by close(), or when it is deleted.
 
@@ -33,14 +51,20 @@ class Tree:
     """
 
     def __init__(self, library: Optional[ctypes.CDLL] = None) -> None:
-        self._library = library or default_library()
-        # What takes more than one call, such as line(), has a lock of its own.
-        self._several = threading.RLock()
-        self._process = os.getpid()
-        self._at = ctypes.c_void_p()
+        self._begin(library or default_library())
         number = self._library.wtt_open(ctypes.byref(self._at))
         if number < 0:
             fail(-number)
+
+    def _begin(self, library: ctypes.CDLL) -> None:
+        """Sets what each tree has, also a fork, before it is opened."""
+        self._library = library
+        # What takes more than one call, such as line(), has a lock of its own.
+        self._several = threading.RLock()
+        self._process = os.getpid()
+        # The rest of the batch of each instance, by its number.
+        self._batches: Dict[int, Deque[bytes]] = {}
+        self._at = ctypes.c_void_p()
 
     def __del__(self) -> None:
         # No thread is in a call now: a method has a reference to its tree.
@@ -76,6 +100,41 @@ class Tree:
         if os.getpid() != self._process:
             fail(errno.EBADF)
         return self._several
+
+    def fork(self) -> "Tree":
+        """Returns an independent tree with the same files, instances, watches and waiting records.
+
+        It answers from now on exactly as this one does, with the same numbers and cookies, and neither sees what the
+        other does. Its journal is empty, and its sequence numbers continue. `instance()` reaches its instances: they
+        have the rest of a batch too, and descriptors of their own.
+        """
+        fork: Tree = Tree.__new__(Tree)
+        fork._begin(self._library)
+        # (no thread takes a batch from the queue meanwhile)
+        with self._lock():
+            self._call("wtt_fork", ctypes.byref(fork._at))
+            fork._batches = {number: deque(batch) for number, batch in list(self._batches.items()) if batch}
+        return fork
+
+    def instance(self, number: int) -> Instance:
+        """Returns the open instance with a number, which is that of the same instance in a fork. EBADF if none is open."""
+        self._call("wtt_waiting", unsigned(number))
+        return Instance(self, number)
+
+    def entries(self) -> Iterator[Entry]:
+        """Returns the entries of the journal in order: those of the calls before this one.
+
+        The journal begins after the last cut(), or where a fork began. The entries of later calls are not among them, and
+        a cut ends them.
+        """
+        return (entry_of(place, text) for place, text in self._journal(*self._bounds()))
+
+    def script(self) -> str:
+        """Returns the journal as a script: each call as its line, and its reply in lines that begin with `# `.
+
+        Run on a new tree, or on one like that where the journal begins, it makes the same calls with the same replies.
+        """
+        return "".join(text for _, text in self._journal(*self._bounds()))
 
     def cut(self) -> int:
         """Cuts the journal of calls, and returns the sequence number of the last one."""
@@ -158,6 +217,21 @@ class Tree:
         out = (ctypes.c_uint32 * INSTANCES)()
         count = self._call("wtt_ready", out, len(out))
         return out[:count]
+
+    def _bounds(self) -> Tuple[int, int]:
+        """Returns the sequence numbers of the first and the last entry of the journal."""
+        # (the last one first: if another thread cuts the journal in between, none is left)
+        last = self._call("wtt_last_place")
+        return self._call("wtt_first_place"), last
+
+    def _journal(self, first: int, last: int) -> Iterator[Tuple[int, str]]:
+        """Yields entries and their texts, as long as they are there."""
+        for place in range(first, last + 1):
+            try:
+                text = self._text("wtt_entry", place)
+            except FileNotFoundError:
+                return
+            yield place, os.fsdecode(text)
 
     def _read(self, name: str, path: AnyPath, count: int, offset: int) -> bytes:
         out = ctypes.create_string_buffer(max(unsigned(count), 1))

@@ -1,6 +1,7 @@
 //! The calls that `Tree` and `SharedTree` have in common.
 use crate::sys::RawStat;
 use std::ffi::OsString;
+use std::fmt;
 use std::os::raw::c_char;
 use std::os::unix::ffi::{OsStrExt, OsStringExt};
 use std::path::Path;
@@ -19,6 +20,35 @@ impl From<RawStat> for Stat {
     fn from(raw: RawStat) -> Stat {
         let RawStat { links, size, number, mode, is_directory } = raw;
         Stat { number, is_directory: is_directory != 0, mode, links, size }
+    }
+}
+
+/// An entry of a tree's journal: a call and its reply. It is printed as a line of a script and comments.
+#[derive(Clone, Debug, PartialEq, Eq)]
+pub struct Entry {
+    /// The sequence number: the first call of a tree has 1.
+    pub place: u64,
+    /// The line of a script that makes the call, without a newline; a comment if none does, as the mode is too large.
+    pub line: String,
+    /// What the line prints.
+    pub reply: String,
+}
+
+impl Entry {
+    /// The entry that has a text: a line, and a reply whose lines begin with `# `.
+    pub(crate) fn new(place: u64, text: &[u8]) -> Entry {
+        let text = String::from_utf8_lossy(text);
+        let mut lines = text.lines();
+        let line = lines.next().unwrap_or_default().to_string();
+        let reply = lines.map(|it| format!("{}\n", it.strip_prefix("# ").unwrap_or(it))).collect();
+        Entry { place, line, reply }
+    }
+}
+
+impl fmt::Display for Entry {
+    fn fmt(&self, f: &mut fmt::Formatter<'_>) -> fmt::Result {
+        writeln!(f, "{}", self.line)?;
+        self.reply.lines().try_for_each(|line| writeln!(f, "# {line}"))
     }
 }
 
@@ -61,7 +91,7 @@ macro_rules! calls {
     ([$($receiver:tt)+], $me:ident, $sys:ident, $prefix:ident: $cut:ident $mkdir:ident $create:ident $write:ident
      $pread:ident $truncate:ident $chmod:ident $link:ident $unlink:ident $rmdir:ident $rename:ident $rename2:ident
      $stat:ident $list:ident $peek_stat:ident $peek_list:ident $peek_pread:ident
-     $path_of:ident) => {
+     $path_of:ident $first_place:ident $last_place:ident $entry:ident) => {
         /// Cuts the journal of calls, and returns the sequence number of the last one.
         pub fn cut($($receiver)+) -> Result<u64, Error> {
             answer(unsafe { $sys::$cut($me.$prefix()) })
@@ -179,6 +209,32 @@ macro_rules! calls {
                 unsafe { $sys::$path_of($me.$prefix(), u64::from(number), buffer, out.len()) }
             })?;
             Ok(OsString::from_vec(path).into())
+        }
+
+        /// The entries of the journal in order: those of the calls before this one.
+        ///
+        /// The journal begins after the last `cut`, or where a fork began. The entries of later calls are not among
+        /// them, and a cut ends them.
+        pub fn entries($($receiver)+) -> Result<impl Iterator<Item = Result<Entry, Error>> + '_, Error> {
+            // (the last one first: if another thread cuts the journal in between, none is left)
+            let last = answer(unsafe { $sys::$last_place($me.$prefix()) })?;
+            let first = answer(unsafe { $sys::$first_place($me.$prefix()) })?;
+            let entry = move |place| {
+                all_of(|out| {
+                    let buffer = out.as_mut_ptr().cast();
+                    unsafe { $sys::$entry($me.$prefix(), place, buffer, out.len()) }
+                })
+                .map(|text| Entry::new(place, &text))
+            };
+            Ok((first..=last).map(entry).take_while(|it| *it != Err(Error::NONE)))
+        }
+
+        /// The journal as a script: each call as its line, and its reply in lines that begin with `# `.
+        ///
+        /// Run on a new tree, or on one like that where the journal begins, it makes the same calls with the same
+        /// replies.
+        pub fn script($($receiver)+) -> Result<String, Error> {
+            $me.entries()?.map(|it| it.map(|it| it.to_string())).collect()
         }
     };
 }

@@ -11,6 +11,8 @@ pub struct Error(pub i32);
 impl Error {
     /// No record waits (`EAGAIN`).
     pub const AGAIN: Error = Error(11);
+    /// There is no such file, or the journal has no such entry (`ENOENT`).
+    pub(crate) const NONE: Error = Error(2);
     /// The instance or the tree is closed (`EBADF`).
     pub const CLOSED: Error = Error(9);
     /// The journal has 1,000,000 calls since the last [`Tree::cut`](crate::Tree::cut).

@@ -2,7 +2,7 @@
 use crate::calls::{all_of, calls, names, numbers, text};
 use crate::error::answer;
 use crate::sys::{self, RawShared, RawStat};
-use crate::{Error, Events, Stat};
+use crate::{Entry, Error, Events, Stat};
 use std::ffi::OsString;
 use std::os::raw::c_int;
 use std::os::unix::ffi::OsStringExt;
@@ -13,7 +13,7 @@ use std::sync::{Arc, Mutex, PoisonError};
 use std::time::{Duration, Instant};
 
 /// A tree that several threads use at the same time. Each clone is the same tree, and it is closed when the last clone
-/// and the last instance are dropped.
+/// and the last instance are dropped. [`fork`](SharedTree::fork) makes another tree.
 ///
 /// ```
 /// use std::thread;
@@ -61,7 +61,35 @@ impl SharedTree {
     pub fn open() -> Result<SharedTree, Error> {
         let mut raw = ptr::null_mut();
         answer(unsafe { sys::wtt_open(&mut raw) })?;
-        Ok(SharedTree { handle: Arc::new(Handle { raw, line: Mutex::new(()) }) })
+        Ok(SharedTree::of(raw))
+    }
+
+    fn of(raw: *mut RawShared) -> SharedTree {
+        SharedTree { handle: Arc::new(Handle { raw, line: Mutex::new(()) }) }
+    }
+
+    /// Makes an independent tree with the same files, instances, watches and waiting records. (A clone is the same
+    /// tree.)
+    ///
+    /// It answers from now on exactly as this one does, with the same numbers and cookies, and neither sees what the
+    /// other does. Its journal is empty, and its sequence numbers continue. [`instance`](SharedTree::instance) reaches
+    /// its instances, which have descriptors of their own.
+    ///
+    /// ```
+    /// use watchtree::{mask, SharedTree};
+    ///
+    /// let tree = SharedTree::open()?;
+    /// let instance = tree.inotify(16)?;
+    /// instance.add_watch("/", mask::CREATE)?;
+    /// let fork = tree.fork()?;
+    /// fork.create("/f", 0o644)?;
+    /// assert_eq!((instance.waiting()?, fork.instance(instance.number())?.waiting()?), (0, 1));
+    /// # Ok::<(), watchtree::Error>(())
+    /// ```
+    pub fn fork(&self) -> Result<SharedTree, Error> {
+        let mut raw = ptr::null_mut();
+        answer(unsafe { sys::wtt_fork(self.raw(), &mut raw) })?;
+        Ok(SharedTree::of(raw))
     }
 
     fn raw(&self) -> *mut RawShared {
@@ -70,7 +98,7 @@ impl SharedTree {
 
     calls!([&self], self, sys, raw: wtt_cut wtt_mkdir wtt_create wtt_write wtt_pread wtt_truncate wtt_chmod wtt_link
         wtt_unlink wtt_rmdir wtt_rename wtt_rename2 wtt_stat wtt_list wtt_peek_stat
-        wtt_peek_list wtt_peek_pread wtt_path_of);
+        wtt_peek_list wtt_peek_pread wtt_path_of wtt_first_place wtt_last_place wtt_entry);
 
     /// Closes the tree now, for all clones and instances: every call is [`Error::CLOSED`] from then on, also one that
     /// waits in another thread.
@@ -81,18 +109,20 @@ impl SharedTree {
     /// Makes an instance whose queue holds at most `limit` records, 1 to 65,535.
     pub fn inotify(&self, limit: u32) -> Result<SharedInstance, Error> {
         let number = answer(unsafe { sys::wtt_inotify_init(self.raw(), limit) })? as u32;
-        let fd = answer(unsafe { sys::wtt_fd(self.raw(), number) });
-        match fd {
-            Ok(fd) => {
-                // A new descriptor, which belongs to the caller.
-                let fd = unsafe { OwnedFd::from_raw_fd(fd as RawFd) };
-                Ok(SharedInstance { tree: self.clone(), number, fd })
-            }
-            Err(error) => {
-                unsafe { sys::wtt_inotify_close(self.raw(), number) };
-                Err(error)
-            }
-        }
+        self.instance(number).map_err(|error| {
+            unsafe { sys::wtt_inotify_close(self.raw(), number) };
+            error
+        })
+    }
+
+    /// The open instance with a number: one of a fork, or one that a line made. [`Error::CLOSED`] if none is open.
+    ///
+    /// It is closed when the first `SharedInstance` of it is dropped.
+    pub fn instance(&self, number: u32) -> Result<SharedInstance, Error> {
+        let fd = answer(unsafe { sys::wtt_fd(self.raw(), number) })?;
+        // A new descriptor, which belongs to the caller.
+        let fd = unsafe { OwnedFd::from_raw_fd(fd as RawFd) };
+        Ok(SharedInstance { tree: self.clone(), number, fd })
     }
 
     /// The numbers of the open instances that have a record waiting, rising.

@@ -62,17 +62,22 @@ calls_of_trees! {
     wt_peek_list wtt_peek_list(path: *const c_char, path_len: usize, out: *mut c_void, out_len: usize);
     wt_peek_pread wtt_peek_pread(path: *const c_char, path_len: usize, offset: u64, out: *mut c_void, out_len: usize);
     wt_path_of wtt_path_of(number: u64, out: *mut c_void, out_len: usize);
+    wt_first_place wtt_first_place();
+    wt_last_place wtt_last_place();
+    wt_entry wtt_entry(place: u64, out: *mut c_void, out_len: usize);
     wt_line wtt_line(queue: u32, line: *const c_char, line_len: usize, out: *mut c_void, out_len: usize);
     wt_text wtt_text(out: *mut c_void, out_len: usize);
 }
 
 extern "C" {
     pub fn wt_open(tree: *mut RawTree) -> i64;
+    pub fn wt_fork(tree: *mut RawTree, fork: *mut RawTree) -> i64;
     pub fn wt_close(tree: *mut RawTree);
     pub fn wt_read(tree: *mut RawTree, instance: u32, out: *mut c_void, out_len: usize) -> i64;
     pub fn wt_version(out: *mut c_void, out_len: usize) -> i64;
     pub fn wt_error_text(number: i64, out: *mut c_void, out_len: usize) -> i64;
     pub fn wtt_open(tree: *mut *mut RawShared) -> i64;
+    pub fn wtt_fork(tree: *mut RawShared, fork: *mut *mut RawShared) -> i64;
     pub fn wtt_close(tree: *mut RawShared);
     pub fn wtt_shutdown(tree: *mut RawShared);
     pub fn wtt_read(tree: *mut RawShared, instance: u32, out: *mut c_void, out_len: usize, milliseconds: c_int) -> i64;

@@ -2,13 +2,14 @@
 use crate::calls::{all_of, calls, names, numbers, text};
 use crate::error::answer;
 use crate::sys::{self, RawStat, RawTree};
-use crate::{Error, Events, Stat};
+use crate::{Entry, Error, Events, Stat};
 use std::ffi::OsString;
 use std::os::unix::ffi::OsStringExt;
 use std::path::{Path, PathBuf};
 use std::ptr;
 
-/// The number of an instance of inotify in a [`Tree`].
+/// The number of an instance of inotify in a [`Tree`], which is that of the same instance in its
+/// [clones](Tree::try_clone).
 #[derive(Clone, Copy, Debug, PartialEq, Eq, Hash)]
 pub struct Instance(pub u32);
 
@@ -37,13 +38,38 @@ impl Tree {
         Ok(tree)
     }
 
+    /// Makes an independent tree with the same files, instances, watches and waiting records.
+    ///
+    /// It answers from now on exactly as this one does, with the same numbers and cookies, and neither sees what the
+    /// other does. Its journal is empty, and its sequence numbers continue. An [`Instance`] is that of both.
+    ///
+    /// ```
+    /// use watchtree::{mask, Tree};
+    ///
+    /// let mut tree = Tree::open()?;
+    /// let instance = tree.inotify(16)?;
+    /// tree.add_watch(instance, "/", mask::CREATE)?;
+    /// tree.create("/f", 0o644)?;
+    /// let mut fork = tree.try_clone()?;
+    /// fork.unlink("/f")?;
+    /// assert_eq!((tree.list("/")?.len(), fork.list("/")?.len()), (1, 0));
+    /// assert_eq!(tree.read(instance, 4096)?, fork.read(instance, 4096)?);
+    /// assert_eq!(fork.entries()?.next().expect("a call")?.to_string(), "unlink /f\n# ok\n");
+    /// # Ok::<(), watchtree::Error>(())
+    /// ```
+    pub fn try_clone(&mut self) -> Result<Tree, Error> {
+        let mut fork = Tree { raw: RawTree { at: ptr::null_mut(), ready: false } };
+        answer(unsafe { sys::wt_fork(&mut self.raw, &mut fork.raw) })?;
+        Ok(fork)
+    }
+
     fn raw(&mut self) -> &mut RawTree {
         &mut self.raw
     }
 
     calls!([&mut self], self, sys, raw: wt_cut wt_mkdir wt_create wt_write wt_pread wt_truncate wt_chmod wt_link
         wt_unlink wt_rmdir wt_rename wt_rename2 wt_stat wt_list wt_peek_stat wt_peek_list
-        wt_peek_pread wt_path_of);
+        wt_peek_pread wt_path_of wt_first_place wt_last_place wt_entry);
 
     /// Makes an instance whose queue holds at most `limit` records, 1 to 65,535.
     pub fn inotify(&mut self, limit: u32) -> Result<Instance, Error> {

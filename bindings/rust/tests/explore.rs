@@ -33,7 +33,13 @@ fn is_found<B: Debug + 'static>(
     for _ in 0..20 {
         let again = naive.replay(&read).expect("it fails again");
         assert_eq!((&again.timeline, &again.schedule), (&failure.timeline, schedule));
+        assert_eq!(again.script, failure.script);
     }
+    let mut tree = watchtree::Tree::open().expect("memory for a tree");
+    for line in failure.script.lines() {
+        tree.line(line, QUEUE).expect("it is a line of a script");
+    }
+    assert_eq!(tree.script().as_ref(), Ok(&failure.script));
     let corrected = Explore::new(script, twin, check)?.queues(&[QUEUE]);
     assert!(corrected.replay(schedule).is_none());
     let report = corrected.seeds(0..TWIN_SEEDS)?;

@@ -59,6 +59,33 @@ fn calls_answer() -> Result<(), Error> {
 }
 
 #[test]
+fn a_fork_is_another_tree() -> Result<(), Error> {
+    let tree = SharedTree::open()?;
+    let instance = tree.inotify(16)?;
+    instance.add_watch("/", mask::CREATE)?;
+    tree.create("/f", 0o644)?;
+    let fork = tree.fork()?;
+    let other = fork.instance(instance.number())?;
+    assert!(is_readable(&other, 0));
+    assert_eq!(other.try_read(4096)?, instance.try_read(4096)?);
+    assert!(!is_readable(&other, 0));
+    fork.create("/g", 0o644)?;
+    assert!(is_readable(&other, 0) && !is_readable(&instance, 0));
+    assert_eq!((tree.list("/")?.len(), tree.create("/g", 0o644)?), (1, 3));
+    assert_eq!(fork.script()?.lines().last(), Some("# ok 3"));
+    assert_eq!(tree.entries()?.last().expect("an entry")?.line, "create /g 644");
+    let later = tree.entries()?;
+    tree.cut()?;
+    assert_eq!(later.count(), 0);
+    assert_eq!(fork.instance(2).err(), Some(Error::CLOSED));
+    drop((tree, instance));
+    assert_eq!(other.read(4096)?.iter().count(), 1);
+    fork.shutdown();
+    assert_eq!((fork.fork().err(), fork.script()), (Some(Error::CLOSED), Err(Error::CLOSED)));
+    Ok(())
+}
+
+#[test]
 fn an_instance_is_read_and_closed() -> Result<(), Error> {
     let tree = SharedTree::open()?;
     let instance = tree.inotify(16)?;

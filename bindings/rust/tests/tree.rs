@@ -88,6 +88,70 @@ fn what_does_not_fit_is_asked_for_again() -> Result<(), Error> {
     Ok(())
 }
 
+/// The answers to random calls, the same for the same seed.
+fn answers(tree: &mut Tree, instance: Instance, mut state: u32) -> Vec<Result<u64, Error>> {
+    let mut choose = |count: u32| {
+        state = state.wrapping_mul(1_664_525).wrapping_add(1_013_904_223);
+        (state >> 8) % count
+    };
+    let mut call = |_| {
+        let (path, to) = (format!("/{}", choose(4)), format!("/{}", choose(4)));
+        match choose(6) {
+            0 => tree.create(path, 0o644).map(u64::from),
+            1 => tree.unlink(path).map(|()| 0),
+            2 => tree.rename(path, to).map(|()| 0),
+            3 => tree.write(path, u64::from(choose(9)), b"data"),
+            4 => {
+                tree.read(instance, 16 * choose(9) as usize).map(|it| it.as_bytes().iter().map(|&b| u64::from(b)).sum())
+            }
+            _ => tree.waiting(instance),
+        }
+    };
+    (0..200).map(&mut call).collect()
+}
+
+#[test]
+fn a_clone_answers_as_its_tree() -> Result<(), Error> {
+    let mut tree = Tree::open()?;
+    let instance = tree.inotify(7)?;
+    tree.add_watch(instance, "/", mask::ALL_EVENTS)?;
+    for seed in 0..50 {
+        answers(&mut tree, instance, seed);
+        let (mut first, mut second) = (tree.try_clone()?, tree.try_clone()?);
+        assert_ne!(answers(&mut first, instance, 2 * seed + 1000).len(), 0);
+        let wanted = answers(&mut tree, instance, 2 * seed + 1001);
+        assert_eq!(answers(&mut second, instance, 2 * seed + 1001), wanted);
+        assert_eq!(tree.list("/")?, second.list("/")?);
+        assert_eq!(tree.cut()?, second.cut()?);
+        drop(tree);
+        tree = second.try_clone()?;
+    }
+    Ok(())
+}
+
+#[test]
+fn a_journal_is_a_script() -> Result<(), Error> {
+    let (mut tree, mut replay) = (Tree::open()?, Tree::open()?);
+    assert_eq!((tree.script()?, tree.entries()?.count()), (String::new(), 0));
+    let instance = tree.inotify(7)?;
+    tree.add_watch(instance, "/", mask::CREATE)?;
+    answers(&mut tree, instance, 1);
+    tree.mkdir("/a b", 0o755)?;
+    for entry in tree.entries()? {
+        let entry = entry?;
+        assert_eq!(String::from_utf8_lossy(&replay.line(&entry.line, QUEUE)?), entry.reply, "{entry}");
+    }
+    let script = tree.script()?;
+    assert_eq!(replay.script()?, script);
+    let last = tree.entries()?.last().expect("an entry")?;
+    assert!(script.ends_with(&last.to_string()));
+    assert_eq!((last.line.as_str(), last.place), ("mkdir /a%20b 755", tree.cut()?));
+    assert_eq!(tree.script()?, "");
+    tree.chmod("/", 0o700)?;
+    assert_eq!(tree.script()?, "chmod / 700\n# ok\n");
+    Ok(())
+}
+
 #[test]
 fn the_version_is_that_of_the_crate() {
     assert_eq!(watchtree::version(), Ok(env!("CARGO_PKG_VERSION").to_string()));

@@ -31,6 +31,7 @@ class Outcome(NamedTuple):
     requests: int
     reads: int
     timeline: str
+    script: str
 
     @property
     def kind(self) -> Tuple[object, ...]:
@@ -99,13 +100,18 @@ class Program:
         if timeline and error:
             timeline.failed(where, error)
         schedule = player.schedule(self.setup, self.changes)
-        return Outcome(error, where, schedule, player.requests, player.reads, str(timeline or ""))
+        script = timeline.script if timeline else ""
+        return Outcome(error, where, schedule, player.requests, player.reads, str(timeline or ""), script)
 
     def _judge(self, tree: Tree, player: Player) -> Tuple[Optional[BaseException], str]:
         try:
             believed = believed_by(self._consumer, ExploredTree(tree, player))
         except (Exception, TooManyRequests) as fault:
             return fault, "consumer"
+        finally:
+            # (before the check makes calls)
+            if player.timeline:
+                player.timeline.script = tree.script()
         try:
             if self._check(tree, believed) is False:
                 raise AssertionError("the check returned False")

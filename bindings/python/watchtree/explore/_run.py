@@ -30,6 +30,8 @@ class Failure(NamedTuple):
     timeline: str
     found: Schedule
     """The schedule as it was found."""
+    script: str = ""
+    """The calls of the run and their replies, those of the consumer and the changes: `watchtree run` repeats them."""
 
     def __str__(self) -> str:
         seed = "" if self.seed is None else f" (seed {self.seed})"
@@ -124,7 +126,7 @@ def replay(
     outcome = Program((), (), consumer, check, max_requests).replay(it, has_timeline=True)
     if not outcome.error:
         return None
-    return Failure(None, outcome.schedule, outcome.error, outcome.where, outcome.timeline, it)
+    return Failure(None, outcome.schedule, outcome.error, outcome.where, outcome.timeline, it, outcome.script)
 
 
 def _outcomes(
@@ -150,7 +152,9 @@ def failure_of(program: Program, seed: Optional[int], found: Outcome) -> Failure
     short = shrink(program, found, SHRINKING_RUNS)
     outcome = program.replay(short.schedule, has_timeline=True)
     assert outcome.error
-    return Failure(seed, outcome.schedule, outcome.error, outcome.where, outcome.timeline, found.schedule)
+    return Failure(
+        seed, outcome.schedule, outcome.error, outcome.where, outcome.timeline, found.schedule, outcome.script
+    )
 
 
 def _program(script: str, consumer: Consumer, check: Check, limit: int) -> Program:

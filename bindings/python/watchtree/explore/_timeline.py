@@ -53,6 +53,8 @@ class Timeline:
 
     def __init__(self, setup: Sequence[str]) -> None:
         self._text = [f"{_INDENT}> {it}" for it in setup]
+        self.script = ""
+        """The journal of the run when the consumer has ended, as a script."""
 
     def __str__(self) -> str:
         return "\n".join(self._text)

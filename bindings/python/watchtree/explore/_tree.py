@@ -74,6 +74,7 @@ class ExploredTree(Tree):
         # (the tree belongs to the caller: __init__ of Tree would open one)
         self._tree, self._player = tree, player
         self._library, self._process, self._several = tree._library, tree._process, tree._several
+        self._batches = tree._batches
         self._is_closed = False
 
     def close(self) -> None:
@@ -99,8 +100,20 @@ class ExploredTree(Tree):
         least = min(unsigned(limit), self._player.queue)
         return ExploredInstance(self, self._call("wtt_inotify_init", least))
 
+    def instance(self, number: int) -> ExploredInstance:
+        """Returns an open instance by its number. That is not a request."""
+        if self._is_closed:
+            fail(errno.EBADF)
+        return ExploredInstance(self, self._tree.instance(number).number)
+
     def line(self, line: Union[str, bytes], queue: int = QUEUE) -> NoReturn:
         raise io.UnsupportedOperation("a consumer makes calls: lines belong to the script")
+
+    def fork(self) -> NoReturn:
+        raise io.UnsupportedOperation("a consumer has one tree: the check may fork it")
+
+    def _bounds(self) -> NoReturn:
+        raise io.UnsupportedOperation("a consumer does not read the journal: the check may")
 
 
 def paths(tree: Tree, top: AnyPath = "/") -> "set[str]":

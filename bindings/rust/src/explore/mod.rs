@@ -84,6 +84,8 @@ pub struct Failure {
     pub timeline: String,
     /// The schedule as it was found.
     pub found: Schedule,
+    /// The calls of the run and their replies, those of the consumer and the changes: `watchtree run` repeats them.
+    pub script: String,
 }
 
 impl fmt::Display for Failure {
@@ -183,8 +185,9 @@ impl<'a, B: 'a> Explore<'a, B> {
     pub fn replay(&self, schedule: &Schedule) -> Option<Failure> {
         let outcome = self.program.replay(schedule, true);
         let failed = outcome.failed?;
-        let (part, message, timeline) = (failed.part, failed.message, outcome.timeline);
-        Some(Failure { seed: None, schedule: outcome.schedule, part, message, timeline, found: schedule.clone() })
+        let (part, message, found) = (failed.part, failed.message, schedule.clone());
+        let Outcome { schedule, timeline, script, .. } = outcome;
+        Some(Failure { seed: None, schedule, part, message, timeline, found, script })
     }
 
     /// Counts a run. False if it was the last.

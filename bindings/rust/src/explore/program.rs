@@ -42,6 +42,7 @@ pub(crate) struct Outcome {
     pub schedule: Schedule,
     pub reads: u64,
     pub timeline: String,
+    pub script: String,
     pub plan: Plan,
 }
 
@@ -103,12 +104,17 @@ impl<'a, B> Program<'a, B> {
         }
         let schedule = tree.schedule(&self.setup);
         let timeline = tree.timeline.as_ref().map(ToString::to_string).unwrap_or_default();
-        Outcome { failed, schedule, reads: tree.reads, timeline, plan: tree.plan }
+        Outcome { failed, schedule, reads: tree.reads, timeline, script: tree.script, plan: tree.plan }
     }
 
     fn judge(&self, tree: &mut Tree) -> Option<Failed> {
         let failed = |part, message, place| Some(Failed { part, message, place });
-        match catch(|| (self.consumer)(tree)) {
+        let ended = catch(|| (self.consumer)(tree));
+        // (before the check makes calls)
+        if tree.timeline.is_some() {
+            tree.script = tree.tree.script().expect("memory for the script");
+        }
+        match ended {
             Err(panic) => failed(Part::Consumer, panic.message, panic.place),
             Ok(Err(error)) => failed(Part::Consumer, error.to_string(), error.to_string()),
             Ok(Ok(believed)) => match catch(|| (self.check)(&mut tree.tree, &believed)) {

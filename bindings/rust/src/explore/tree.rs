@@ -21,6 +21,8 @@ pub struct Tree {
     pub(crate) tree: crate::Tree,
     pub(crate) plan: Plan,
     pub(crate) timeline: Option<Timeline>,
+    /// The journal of a run with a timeline, when the consumer has ended.
+    pub(crate) script: String,
     lines: Rc<Vec<String>>,
     limit: u32,
     requests: u32,
@@ -59,6 +61,7 @@ impl Tree {
             tree: crate::Tree::open()?,
             plan,
             timeline: has_timeline.then(Timeline::default),
+            script: String::new(),
             lines: Rc::clone(lines),
             limit,
             requests: 0,
