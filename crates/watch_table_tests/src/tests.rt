@@ -1,9 +1,9 @@
-use crate::{Mask, Watches};
 use bitflags::Flags;
 use record_codec::bits;
 use std::fmt::Debug;
 use std::process::Abort;
 use tree_paths::{Limits, Refusal};
+use watch_table::{Mask, Watches};
 
 // Asserts that two values are equal. Tests assert in these two functions, because the macros in a long body take
 // minutes to prove.
@@ -12,7 +12,7 @@ fn equal<T: PartialEq + Debug + Drop>(rt: &impl Abort, got: T, wanted: T) {
 }
 
 // Asserts a condition.
-fn holds(rt: &impl Abort, what: &str, is_so: bool) {
+pub(crate) fn holds(rt: &impl Abort, what: &str, is_so: bool) {
     assert!(rt; is_so, "{what}");
 }
 

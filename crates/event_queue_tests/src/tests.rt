@@ -1,23 +1,23 @@
-use super::*;
-use record_codec::Name;
-use std::alloc::AllocError;
+use event_queue::{Fit, Offered, Queue};
+use record_codec::{Event, Name, bits};
+use std::alloc::{AllocError, Global};
 use std::fmt::Debug;
 use std::process::Abort;
-use tree_paths::Limits;
+use tree_paths::{Limits, Refusal};
 
 // Asserts that two values are equal. Tests assert in these two functions, because the macros in a long body take
 // minutes to prove.
-fn equal<T: PartialEq + Debug + Drop>(rt: &impl Abort, got: T, wanted: T) {
+pub(crate) fn equal<T: PartialEq + Debug + Drop>(rt: &impl Abort, got: T, wanted: T) {
     assert_eq!(rt; got, wanted);
 }
 
 // Asserts a condition.
-fn holds(rt: &impl Abort, what: &str, is_so: bool) {
+pub(crate) fn holds(rt: &impl Abort, what: &str, is_so: bool) {
     assert!(rt; is_so, "{what}");
 }
 
 // The event of a new file of this name in the directory of watch 1.
-fn made(alloc: Global, name: &[u8]) -> Result<Event, AllocError> {
+pub(crate) fn made(alloc: Global, name: &[u8]) -> Result<Event, AllocError> {
     Ok(Event {
         wd: 1,
         mask: bits::IN_CREATE,
@@ -70,6 +70,16 @@ fn limit_two(rt: HostRuntime) -> Result<(), Refusal> {
     holds(&rt, "!queue.any_fits(1000)", !queue.any_fits(1000));
     holds(&rt, "queue.is_empty()", queue.is_empty());
     Ok(())
+}
+
+// The record that says that events were lost.
+fn overflow_mark() -> Event {
+    Event {
+        wd: -1,
+        mask: bits::IN_Q_OVERFLOW,
+        cookie: 0,
+        name: None,
+    }
 }
 
 // An event of watch 1 that has no name, and so does not allocate.
