@@ -239,6 +239,3 @@ fn is_identical(left: &Event, right: &Event) -> bool
 {
     left == right
 }
-
-#[cfg(test)]
-mod tests;

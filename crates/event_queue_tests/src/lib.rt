@@ -1,5 +1,7 @@
-//! The tests of `event_queue` from outside, in a crate of their own: those in which memory is refused.
+//! Tests of `event_queue` from outside: what is kept, merged and lost, as its users see it.
 #![tactic(auto)]
 
 #[cfg(test)]
 mod refused;
+#[cfg(test)]
+mod tests;

@@ -1,24 +1,12 @@
 //! Failed allocations: that of a new queue, and any later one, of which there is none.
 
+use crate::tests::{equal, holds, made};
 use event_queue::{Offered, Queue};
-use record_codec::{Event, Name, bits};
+use record_codec::Event;
 use refuser::{refuse, refuse_from, was_refused};
-use std::alloc::{AllocError, Global};
-use std::fmt::Debug;
-use std::process::Abort;
+use std::alloc::Global;
 use std::test::Fail;
 use tree_paths::Refusal;
-
-// Asserts that two values are equal. Tests assert in these two functions, because the macros in a long body take
-// minutes to prove.
-fn equal<T: PartialEq + Debug + Drop>(rt: &impl Abort, got: T, wanted: T) {
-    assert_eq!(rt; got, wanted);
-}
-
-// Asserts a condition.
-fn holds(rt: &impl Abort, what: &str, is_so: bool) {
-    assert!(rt; is_so, "{what}");
-}
 
 /// More allocations than a queue makes.
 const MOST: u32 = 9;
@@ -48,16 +36,6 @@ fn each_growth_of_a_new_queue(rt: HostRuntime) {
         let is_well = matches!(count, Some(count) if (count > 0) == has_refuser);
         assert!(rt; is_well, "limit {limit}: {count:?}");
     }
-}
-
-// The event of a new file of this name in the directory of watch 1.
-fn made(alloc: Global, name: &[u8]) -> Result<Event, AllocError> {
-    Ok(Event {
-        wd: 1,
-        mask: bits::IN_CREATE,
-        cookie: 0,
-        name: Name::new(alloc, name)?,
-    })
 }
 
 // What becomes of each event, in a queue from which one is taken before the fifth and before the sixth.

@@ -145,6 +145,3 @@ fn missing_at(nodes: &Slab<Node>, key: usize) -> Found
         _ => Found::missing(false),
     }
 }
-
-#[cfg(test)]
-mod tests;

@@ -1,4 +1,5 @@
 mod refused;
+mod steps;
 
 use inode_table::{Kind, Table};
 use record_codec::Bytes;

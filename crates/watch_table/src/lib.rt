@@ -10,6 +10,3 @@ pub use laws::{descriptors_end_for_good, descriptors_tell_files, watches_stay_so
 pub use mask::Mask;
 pub use rows::WatchRows;
 pub use watches::Watches;
-
-#[cfg(test)]
-mod tests;

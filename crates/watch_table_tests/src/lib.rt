@@ -1,5 +1,7 @@
-//! The tests of `watch_table` from outside, in a crate of their own: those in which memory is refused.
+//! Tests of `watch_table` from outside: masks, watches and limits, as its users see them.
 #![tactic(auto)]
 
 #[cfg(test)]
 mod refused;
+#[cfg(test)]
+mod tests;

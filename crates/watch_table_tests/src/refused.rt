@@ -1,17 +1,12 @@
 //! Fault injection: each allocation fails in turn. Also the calls that do not allocate.
 
+use crate::tests::holds;
 use record_codec::bits;
 use refuser::{refuse, refuse_from, was_refused};
 use std::alloc::Global;
-use std::process::Abort;
 use std::test::Fail;
 use tree_paths::{Limits, Refusal};
 use watch_table::{Mask, Watches};
-
-// Asserts a condition.
-fn holds(rt: &impl Abort, what: &str, is_so: bool) {
-    assert!(rt; is_so, "{what}");
-}
 
 /// More allocations than a call makes.
 const MOST: u32 = 50;
