@@ -67,6 +67,27 @@ impl Queue {
         })
     }
 
+    /// The same queue once more: its limit, and the records that wait, the oldest first. They are in a buffer of their
+    /// own, as large as this one.
+    ///
+    /// # Errors
+    /// `ENOMEM`, where there is no memory for the buffer or for a name.
+    pub fn copy(&self) -> Result<Queue, Refusal>
+        ensures queue { IfOk result (λ queue. queue ≡ self.now) }
+        ensures err { IfErr result (λ refusal. refusal ≡ Enomem) }
+    {
+        let alloc = *self.records.allocator();
+        let mut records = HeapCircularBuffer::with_capacity(alloc, self.records.capacity())?;
+        for event in self.records.iter() {
+            records.push_back(event.copy()?);
+        }
+        Ok(Queue {
+            limit: self.limit,
+            marks: self.marks,
+            records,
+        })
+    }
+
     /// Takes in an event that was raised.
     ///
     /// - Where it is identical to the last record that waits (the same wd, mask, cookie and name), it is merged.

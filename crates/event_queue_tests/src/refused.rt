@@ -103,3 +103,49 @@ fn no_call_takes_memory(rt: HostRuntime) -> Result<(), Fail> {
     holds(&rt, "!is_refused", !is_refused);
     Ok(())
 }
+
+// A full queue: a record whose name takes memory, and the overflow mark.
+fn full(alloc: Global) -> Result<Queue, Refusal> {
+    let mut queue = Queue::with_limit(alloc, 1)?;
+    queue.offer(made(alloc, b"a long name")?);
+    queue.offer(made(alloc, b"b")?);
+    Ok(queue)
+}
+
+// How many allocations a copy makes, if each fails in turn and the answer is ENOMEM. None if an answer is another.
+fn copy_refused(alloc: Global, queue: &Queue) -> Option<u32> {
+    for k in 1..MOST {
+        let _ = refuse(alloc, k);
+        let copied = queue.copy();
+        match (copied, was_refused(alloc)) {
+            (Err(Refusal::Enomem), true) => {}
+            (Ok(copy), false) if copy.bytes() == queue.bytes() => return Some(k - 1),
+            _ => return None,
+        }
+    }
+    None
+}
+
+#[test]
+fn each_growth_of_a_copy(rt: HostRuntime) -> Result<(), Fail> {
+    let alloc = rt.alloc();
+    let has_refuser = refuse(alloc, MOST);
+    let _ = was_refused(alloc);
+    let mut queue = full(alloc)?;
+    let count = copy_refused(alloc, &queue);
+    let is_well = matches!(count, Some(count) if (count > 0) == has_refuser);
+    assert!(rt; is_well, "{count:?}");
+    equal(&rt, waiting(&mut queue), (2, 0, 1, 1, true));
+    Ok(())
+}
+
+#[test]
+fn a_copy_outlives_the_queue(rt: HostRuntime) -> Result<(), Fail> {
+    let alloc = rt.alloc();
+    let queue = full(alloc)?;
+    let mut copy = queue.copy()?;
+    drop(queue);
+    equal(&rt, copy.offer(made(alloc, b"c")?), Offered::Lost);
+    equal(&rt, waiting(&mut copy), (2, 0, 1, 1, true));
+    Ok(())
+}

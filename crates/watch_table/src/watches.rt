@@ -74,6 +74,24 @@ impl Watches {
         }
     }
 
+    /// The same watches once more: of the same files under the same descriptors, with the same next one and limits.
+    ///
+    /// # Errors
+    /// `ENOMEM`, where there is no memory for them.
+    pub fn copy(&self) -> Result<Watches, Refusal>
+        ensures watches { IfOk result (λ watches. watches ≡ self.now) }
+        ensures err { IfErr result (λ refusal. refusal ≡ Enomem) }
+    {
+        Ok(Watches {
+            alloc: self.alloc,
+            by_number: self.by_number.clone()?,
+            by_wd: self.by_wd.clone()?,
+            next_wd: self.next_wd,
+            most_watches: self.most_watches,
+            last_wd: self.last_wd,
+        })
+    }
+
     /// The descriptor and the stored bits of a file's watch. It takes no memory.
     pub fn of(&self, number: u32) -> Option<(i32, u32)>
         ensures { result ≡ watch_of self.now number }
