@@ -1,10 +1,12 @@
 -- Calls as the lines of a script that make them, and entries of a journal as such lines with their replies.
-use Rattle.std.specs.Prelude.{◌≡◌, ℕ, ◌^◌, Bool, true, false, not, ◌&&◌, nat_lt, List, [], ◌∷◌, ◌++◌, length, codes}
-use Rattle.std.specs.Prelude.{decimal, if◌then◌else◌}
+use Rattle.std.specs.Prelude.{◌≡◌, ℕ, ◌^◌, ◌<◌, Bool, true, false, not, ◌&&◌, nat_lt, List, [], ◌∷◌, ◌++◌, length, codes}
+use Rattle.std.specs.Prelude.{All, decimal, if◌then◌else◌, FitsSigned}
 use Rattle.std.specs.Fmt.{digits, signed_decimal}
+use Rattle.std.specs.Int.{w32}
 use Rattle.std.specs.List.{flat_map, join_with_byte}
 use Rattle.std.specs.Str.{byte}
 use Rattle.record_codec.specs.Lines.{printed_name}
+use Rattle.record_codec.specs.Names.{IsBytes, IsName}
 use Rattle.tree_paths.specs.Paths.{path_max, pathname_of}
 use Rattle.tree_paths.specs.Pieces.{runs}
 use Rattle.tree_ops.specs.declared.call.FileCall.{FileCall}
@@ -12,7 +14,8 @@ use Rattle.tree_ops.specs.declared.call.FileCall.TheVariants as file
 use Rattle.tree_core.specs.declared.call.Call.{Call}
 use Rattle.tree_core.specs.declared.call.Call.TheVariants as call
 use Rattle.tree_core.specs.declared.reply.Entry.{Entry}
-use Rattle.watchtree_script.specs.declared.line.OutputFormat.TheVariants.{Records}
+use Rattle.watchtree_script.specs.declared.line.OutputFormat.{OutputFormat}
+use Rattle.watchtree_script.specs.declared.line.OutputFormat.TheVariants.{Plain, Records}
 use Rattle.watchtree_script.specs.Replies.{IsReplyText, hexadecimal}
 use Rattle.watchtree_script.specs.Words.{octal, mode_digits}
 
@@ -95,6 +98,36 @@ has_line (call.Read id bytes) = true
 has_line (call.Pump id bytes) = false
 has_line (call.Close id) = true
 
+-- a path that a line may name
+pub record IsScriptPath (path : List (List ℕ)) : Type 0 where
+  pub names : All IsName path
+  pub short : length (pathname_of path) < path_max
+
+abbrev pub IsScriptFileCall : FileCall → Type 0
+IsScriptFileCall (file.Create path mode) = IsScriptPath path × (mode < octal ^ mode_digits)
+IsScriptFileCall (file.Mkdir path mode) = IsScriptPath path × (mode < octal ^ mode_digits)
+IsScriptFileCall (file.Write path offset bytes) = IsScriptPath path × (offset < 2 ^ 64) × IsBytes bytes
+IsScriptFileCall (file.ReadFile path offset count) = IsScriptPath path × (offset < 2 ^ 64) × (count < 2 ^ 32)
+IsScriptFileCall (file.Truncate path len) = IsScriptPath path × (len < 2 ^ 64)
+IsScriptFileCall (file.Chmod path mode) = IsScriptPath path × (mode < octal ^ mode_digits)
+IsScriptFileCall (file.Link old new) = IsScriptPath old × IsScriptPath new
+IsScriptFileCall (file.Unlink path) = IsScriptPath path
+IsScriptFileCall (file.Rmdir path) = IsScriptPath path
+IsScriptFileCall (file.Rename old new) = IsScriptPath old × IsScriptPath new
+IsScriptFileCall (file.Rename2 old new flags) = IsScriptPath old × IsScriptPath new × (flags < 2 ^ 32)
+IsScriptFileCall (file.Stat path) = IsScriptPath path
+IsScriptFileCall (file.List path) = IsScriptPath path
+
+-- a call that lines make: numbers, bytes and names are those of its type, and it has a line
+abbrev pub IsScriptCall : Call → Type 0
+IsScriptCall (call.File f) = IsScriptFileCall f
+IsScriptCall (call.Init limit is_piped) = (limit < 2 ^ 32) × (is_piped ≡ false)
+IsScriptCall (call.AddWatch id path mask) = (id < 2 ^ 32) × IsScriptPath path × (mask < 2 ^ 32)
+IsScriptCall (call.RmWatch id wd) = (id < 2 ^ 32) × FitsSigned w32 wd
+IsScriptCall (call.Read id bytes) = (id < 2 ^ 32) × (bytes < 2 ^ 32)
+IsScriptCall (call.Pump id bytes) = ⊥
+IsScriptCall (call.Close id) = id < 2 ^ 32
+
 -- ---- the lines
 
 -- the line that makes a call, or a comment where none does
@@ -102,6 +135,11 @@ unfoldable pub call_line : Call → List ℕ
 call_line c =
     if has_line c then call_text c ++ codes "\n"
     else codes "# " ++ call_text c ++ codes " (no line of a script makes this call)\n"
+
+-- how the line of a call shows its reply
+abbrev pub format_of : Call → OutputFormat
+format_of (call.Read id bytes) = Records
+format_of _ = Plain
 
 -- the lines of a text as comments
 abbrev pub commented : List ℕ → List ℕ

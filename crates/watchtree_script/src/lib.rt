@@ -18,5 +18,5 @@ mod words;
 
 pub use calls::{append_call_line, append_entry};
 pub use fault::{RunFault, ScriptFault};
-pub use laws::{journals_are_lawful, texts_are_one};
+pub use laws::{calls_are_read_back, journals_are_lawful, texts_are_one};
 pub use run::{SCRIPT_MAX, print_line, run_script};
