@@ -22,7 +22,8 @@ use Rattle.watchtree_script.specs.declared.line.Line.{Line}
 use Rattle.watchtree_script.specs.declared.line.Line.TheVariants.{Run}
 use Rattle.watchtree_script.specs.declared.line.LineError.{LineError}
 use Rattle.watchtree_script.specs.declared.line.OutputFormat.TheVariants as format
-use Rattle.watchtree_script.specs.CallLines.{IsScriptCall, IsScriptFileCall, IsScriptPath, call_line, call_text, call_words, file_words, format_of, has_line, is_short, is_mode, mode_digits_of, mask_text, path_text}
+use Rattle.watchtree_script.specs.CallLines.{IsScriptCall, IsScriptFileCall, IsScriptPath, call_line, call_text, call_words, file_words, format_of, has_line}
+use Rattle.watchtree_script.specs.CallLines.{is_short, is_mode, mode_digits_of, mask_text, path_text}
 use Rattle.watchtree_script.specs.Commands.{command_of, file_command_of, path_command_of, instance_command_of, line_asked, line_of, line_of_word, words_line}
 use Rattle.watchtree_script.specs.Commands.{refused, path_of, paths_of, a_path, old_and_new, path_and_mode, id_and_bytes, asking}
 use Rattle.watchtree_script.specs.Commands.{write_call, cat_call, truncate_call, rename2_call, watch_call, unwatch_call}
@@ -180,11 +181,13 @@ a-path-read : PathnamesAreParsed → (path : List (List ℕ)) → IsScriptPath p
 unfolding a_path
 a-path-read law path h = rw (path-read path h.names, path-parsed law path h) refl
 
-paths-parsed : PathnamesAreParsed → (old new : List (List ℕ)) → IsScriptPath old → IsScriptPath new → paths_of (pathname_of old) (pathname_of new) ≡ Ok (old, new)
+paths-parsed : PathnamesAreParsed → (old new : List (List ℕ)) → IsScriptPath old → IsScriptPath new
+    → paths_of (pathname_of old) (pathname_of new) ≡ Ok (old, new)
 unfolding paths_of
 paths-parsed law old new h k = rw (path-parsed law old h, path-parsed law new k) refl
 
-old-and-new-read : PathnamesAreParsed → (old new : List (List ℕ)) → IsScriptPath old → IsScriptPath new → old_and_new (path_text old) (path_text new) ≡ Ok (old, new)
+old-and-new-read : PathnamesAreParsed → (old new : List (List ℕ)) → IsScriptPath old → IsScriptPath new
+    → old_and_new (path_text old) (path_text new) ≡ Ok (old, new)
 unfolding old_and_new
 old-and-new-read law old new h k = rw (path-read old h.names, path-read new k.names, paths-parsed law old new h k) refl
 
@@ -342,7 +345,8 @@ has-line (call.Read id bytes) h = refl
 has-line (call.Pump id bytes) h = absurd h
 has-line (call.Close id) h = refl
 
-line-first : (c : Call) (script : List ℕ) → has_line c ≡ true → list_all is_line_byte (call_text c) ≡ true → lines_of (call_line c ++ script) ≡ call_text c ∷ lines_of script
+line-first : (c : Call) (script : List ℕ) → has_line c ≡ true → list_all is_line_byte (call_text c) ≡ true
+    → lines_of (call_line c ++ script) ≡ call_text c ∷ lines_of script
 unfolding call_line
 line-first c script has is =
     rw has

@@ -1,5 +1,6 @@
 -- Words that are printed for a call, as they are read.
-use Rattle.std.proofs.Common.{◌≡◌, ◌==◌, ◌&&◌, ℕ, zero, suc, ◌+◌, ◌*◌, ◌/◌, ◌%◌, ◌-◌, ◌^◌, ◌<◌, ◌≤◌, Bool, true, false, not, leb, ltb, eqb, cond, List, [], ◌∷◌, ◌++◌, length}
+use Rattle.std.proofs.Common.{◌≡◌, ◌==◌, ◌&&◌, ℕ, zero, suc, ◌+◌, ◌*◌, ◌/◌, ◌%◌, ◌-◌, ◌^◌, ◌<◌, ◌≤◌, Bool, true, false, not, leb, ltb, eqb, cond, List, [], ◌∷◌}
+use Rattle.std.proofs.Common.{◌++◌, length}
 use Rattle.std.proofs.Common.{get_or, Option, Some, None, Result, Ok, refl, sym, ap, ◌∙◌, arith, length-append, if◌then◌else◌}
 use Rattle.std.specs.Prelude.{All, ℤ, pos, negsuc, neg_ℤ, FitsSigned, codes, decimal, option_map}
 use Rattle.std.specs.Char.{digit_value, is_digit, is_ascii_graphic}
@@ -48,11 +49,15 @@ spelled-digits radix most greatest n low high small fits within =
 
 pub mode-read : (mode : ℕ) → mode < 8 ^ 6 → mode_word (mode_digits_of mode) ≡ Ok mode
 unfolding mode_word
-mode-read mode small = rw (spelled-digits 8 6 (2 ^ 32 - 1) mode (omega arith) (omega arith) (omega arith) (length-digits 8 5 mode (omega arith) small) (omega arith)) refl
+mode-read mode small =
+    let few = length-digits 8 5 mode (omega arith) small in
+    rw (spelled-digits 8 6 (2 ^ 32 - 1) mode (omega arith) (omega arith) (omega arith) few (omega arith)) refl
 
 pub mask-read : (mask : ℕ) → mask < 2 ^ 32 → mask_word (mask_text mask) ≡ Ok mask
 unfolding mask_word
-mask-read mask small = rw (spelled-digits 16 8 (2 ^ 32 - 1) mask (omega arith) (omega arith) (omega arith) (length-digits 16 7 mask (omega arith) (omega arith)) (omega arith)) refl
+mask-read mask small =
+    let few = length-digits 16 7 mask (omega arith) (omega arith) in
+    rw (spelled-digits 16 8 (2 ^ 32 - 1) mask (omega arith) (omega arith) (omega arith) few (omega arith)) refl
 
 decimal-spelled : (greatest n : ℕ) → n < 2 ^ 64 → n ≤ greatest → number_spelled 10 20 greatest (decimal n) ≡ Some n
 decimal-spelled greatest n small within =
@@ -148,7 +153,8 @@ word-path (name ∷ names) = record {
 
 -- ---- numbers below zero
 
-signed-plain : (ds : List ℕ) (n : ℕ) → IsNumeral 10 ds → from_zero ds ≡ Some (pos n) → or_fault BadNumber (signed_number (behind (codes "-") ds) ds) ≡ Ok (pos n)
+signed-plain : (ds : List ℕ) (n : ℕ) → IsNumeral 10 ds → from_zero ds ≡ Some (pos n)
+    → or_fault BadNumber (signed_number (behind (codes "-") ds) ds) ≡ Ok (pos n)
 signed-plain [] n numeral is = absurd (omega (arith, numeral.0))
 signed-plain (c ∷ cs) n numeral is =
     let digit = numeral.1.0 in

@@ -1,5 +1,6 @@
 -- Calls as the lines of a script that make them, and entries of a journal as such lines with their replies.
-use Rattle.std.specs.Prelude.{◌≡◌, ℕ, ◌^◌, ◌<◌, Bool, true, false, not, ◌&&◌, nat_lt, List, [], ◌∷◌, ◌++◌, length, codes}
+use Rattle.std.specs.Prelude.{◌≡◌, ℕ, ◌^◌, ◌<◌, Bool, true, false, not, ◌&&◌, nat_lt, List, [], ◌∷◌, ◌++◌, length}
+use Rattle.std.specs.Prelude.{codes}
 use Rattle.std.specs.Prelude.{All, decimal, if◌then◌else◌, FitsSigned}
 use Rattle.std.specs.Fmt.{digits, signed_decimal}
 use Rattle.std.specs.Int.{w32}

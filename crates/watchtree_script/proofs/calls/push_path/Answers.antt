@@ -21,6 +21,7 @@ loop-name-preserved-in_ok-append_name c =
 
 pub returns : goal.returns
 returns c =
-    push-names c.args.path.now c.loop-name.names c.args.text.now.items _ c.loop-name.text.items (λ e. let is : c.is_root.result ≡ true = c.is_root.ensures.1 e in cc (is, c.if-is_root.false))
+    push-names c.args.path.now c.loop-name.names c.args.text.now.items _ c.loop-name.text.items
+    (λ e. let is : c.is_root.result ≡ true = c.is_root.ensures.1 e in cc (is, c.if-is_root.false))
     c.in_default.ensures.0 c.in_ok-extend_from_slice.ensures.items
     (rw c.names-names.ensures at c.loop-name.invariant)
