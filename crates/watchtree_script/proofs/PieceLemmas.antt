@@ -97,7 +97,7 @@ no_feed b h = not_feed (b == 10) refl
     not_feed false e = refl
     not_feed true e = let is : b ≡ 10 = eqb-true b 10 e in absurd (let off : is_line_byte 10 ≡ true = ap is_line_byte (sym is) ∙ h in cc)
 
-no_feeds : (bs : List ℕ) → list_all is_line_byte bs ≡ true → All (λ b. (b == 10) ≡ false) bs
+pub no_feeds : (bs : List ℕ) → list_all is_line_byte bs ≡ true → All (λ b. (b == 10) ≡ false) bs
 no_feeds [] h k d lt = absurd (omega (arith, lt))
 no_feeds (b ∷ bs) h zero d lt = no_feed b (and_parts (is_line_byte b) (list_all is_line_byte bs) h).0
 no_feeds (b ∷ bs) h (suc k) d lt = no_feeds bs (and_parts (is_line_byte b) (list_all is_line_byte bs) h).1 k d (omega (arith, lt))

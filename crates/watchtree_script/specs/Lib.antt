@@ -3,6 +3,7 @@ pub mod Words
 pub mod Commands
 pub mod Reading
 pub mod Replies
+pub mod CallLines
 pub mod Script
 pub mod Running
 pub mod Laws

@@ -3,6 +3,7 @@
 //! [`run_script`] reads a whole script, runs it line by line on a new tree, and prints each call's reply.
 #![tactic(auto)]
 
+mod calls;
 mod fault;
 mod laws;
 mod line;
@@ -15,6 +16,7 @@ mod rows;
 mod run;
 mod words;
 
+pub use calls::{append_call_line, append_entry};
 pub use fault::{RunFault, ScriptFault};
-pub use laws::{journals_are_lawful, texts_are_one};
+pub use laws::{calls_are_read_back, journals_are_lawful, texts_are_one};
 pub use run::{SCRIPT_MAX, print_line, run_script};

@@ -140,10 +140,10 @@ fn push_kind(text: &mut Vec<u8>, number: u32, kind: Kind) -> Result<(), AllocErr
     })
 }
 
-// A number behind a space.
+/// Adds a number behind a space.
 #[inline(always)]
-fn push_field(text: &mut Vec<u8>, number: u64) -> Result<(), AllocError>
-    ensures { OnOk result (text.new.items ≡ text.old.items ++ codes " " ++ decimal number) }
+pub(crate) fn push_field<I: Integer>(text: &mut Vec<u8>, number: I) -> Result<(), AllocError>
+    ensures { OnOk result (text.new.items ≡ text.old.items ++ codes " " ++ I.text number) }
 {
     let mut buffer = Buffer::new();
     text.extend_from_slice(b" ")?;
@@ -196,8 +196,8 @@ fn push_read(text: &mut Vec<u8>, format: OutputFormat, bytes: &[u8]) -> Result<(
     }
 }
 
-// Bytes as hexadecimal digits.
-fn push_digits(text: &mut Vec<u8>, bytes: &[u8]) -> Result<(), AllocError>
+/// Adds bytes as hexadecimal digits.
+pub(crate) fn push_digits(text: &mut Vec<u8>, bytes: &[u8]) -> Result<(), AllocError>
     ensures { OnOk result (text.new.items ≡ text.old.items ++ encode_lower bytes.now) }
 {
     for byte in bytes {

@@ -1,3 +1,4 @@
+mod lines;
 mod refused;
 
 use record_codec::Port;
