@@ -1,7 +1,7 @@
 -- Two events pass `==` exactly where they are one.
-use Rattle.std.proofs.Common.{◌≡◌, ℕ, Bool, true, false, List, Option, Some, None, refl, ap, ◌∙◌, nat_eq}
+use Rattle.std.proofs.Common.{◌≡◌, ◌≢◌, ℕ, Bool, true, false, List, Option, Some, None, refl, ap, ◌∙◌, nat_eq}
 use Rattle.std.specs.Bool.{Decides}
-use Rattle.std.specs.Prelude.{◌&&◌}
+use Rattle.std.specs.Prelude.{◌&&◌, negsuc}
 use Rattle.std.specs.Option.{option_eq}
 use Rattle.std.specs.Ordering.{int_eq}
 use Rattle.std.specs.Cmp.Lexicographic.{pointwise}
@@ -44,3 +44,12 @@ event_eq-Decides a b =
 pub is_mark-Decides : (e : Event) → Decides (is_mark e) (e ≡ overflow_mark)
 unfolding is_mark
 is_mark-Decides e = event_eq-Decides e overflow_mark
+
+-- an event of another descriptor is no mark
+pub is_mark_other : (e : Event) → e.wd ≢ negsuc 0 → false ≡ is_mark e
+unfolding overflow_mark
+is_mark_other e other =
+    elim (is_mark e) as (λ b. is_mark e ≡ b → false ≡ b) [
+      | true ↦ λ h. absurd (other (ap (λ (x : Event). x.wd) ((is_mark-Decides e).0 h)))
+      | false ↦ λ h. refl
+    ] refl

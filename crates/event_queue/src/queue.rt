@@ -245,11 +245,15 @@ fn overflow_mark() -> Event
     }
 }
 
-// Whether an event is an overflow mark.
-#[tactic(auto, unfolding(crate::specs::Backlogs::is_mark))]
+// Whether an event is an overflow mark. The descriptor mostly says that it is not.
+#[tactic(auto, using(crate::proofs::EventLemmas::is_mark_other), unfolding(crate::specs::Backlogs::is_mark))]
+#[inline(always)]
 fn is_mark(event: &Event) -> bool
     ensures { result ≡ is_mark event.now }
 {
+    if event.wd != -1 {
+        return false;
+    }
     is_identical(event, &overflow_mark())
 }
 

@@ -1,7 +1,6 @@
 //! The events that notices raise for the watches of an instance.
 
 ghost use Rattle.std.specs.Prelude.{◌≡◌, ◌++◌, [], fold, map, IfOk, IfErr, OnOk};
-ghost use Rattle.std.specs.Option.{option_to_list};
 ghost use Rattle.watch_table.specs.Masks.{has_any};
 ghost use Rattle.watch_table.specs.Watching.{removed, watch_of};
 ghost use Rattle.event_rules.specs.Staging.{staged_end, staged_event};
@@ -170,7 +169,8 @@ fn raise_one(
     Ok(())
 }
 
-// Adds the event of a notice, where the watch asks for it.
+// Adds the event of a notice, where the watch asks for it. It is made in the slot that it is kept in.
+#[inline(always)]
 fn raise_told(
     id: u32,
     notice: &Notice,
@@ -179,9 +179,29 @@ fn raise_told(
 ) -> Result<(), AllocError>
     ensures { OnOk result (events.new.items ≡ events.old.items ++ map (staged_event id) (event_told notice.now watch)) }
 {
-    if let Some(event) = event_told(notice, watch)? {
-        events.push_back(StagedEvent { id, event })?;
+    let Notice::Told {
+        bits, cookie, name, ..
+    } = notice
+    else {
+        return Ok(());
+    };
+    if !asks_for(watch, *bits) {
+        return Ok(());
     }
+    events.reserve(1)?;
+    let name = match name {
+        Some(name) => Some(name.copy()?),
+        None => None,
+    };
+    events.push_back_reserved(StagedEvent {
+        id,
+        event: Event {
+            wd: watch.0,
+            mask: *bits,
+            cookie: *cookie,
+            name,
+        },
+    });
     Ok(())
 }
 
@@ -227,31 +247,5 @@ fn ends_watch(notice: &Notice, watch: (i32, u32)) -> bool
     match notice {
         Notice::Told { bits, .. } => asks_for(watch, *bits) && has_any(watch.1, bits::IN_ONESHOT),
         Notice::Gone { .. } => true,
-    }
-}
-
-// The event of a notice, where the watch asks for it.
-fn event_told(notice: &Notice, watch: (i32, u32)) -> Result<Option<Event>, AllocError>
-    ensures { IfOk result (λ event. option_to_list event ≡ event_told notice.now watch) }
-{
-    match notice {
-        Notice::Told {
-            bits,
-            cookie,
-            name,
-            ..
-        } if asks_for(watch, *bits) => {
-            let name = match name {
-                Some(name) => Some(name.copy()?),
-                None => None,
-            };
-            Ok(Some(Event {
-                wd: watch.0,
-                mask: *bits,
-                cookie: *cookie,
-                name,
-            }))
-        }
-        _ => Ok(None),
     }
 }

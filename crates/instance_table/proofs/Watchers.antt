@@ -97,3 +97,15 @@ unfolding watchers_of
 any-watchers m number q =
     same-tests q (watchers_of m number) ∙ any-filter (λ id. watches_file number (instance_of m id)) q (finmap.keys m)
     ∙ ap (λ b. b && watches_file number (instance_of m q)) (sym (contains_key-keys m q)) ∙ watches-there number (instance_of m q)
+
+-- the watchers of a file rise
+pub watchers-rising : (m : Instances) (number : ℕ) → IsStrictlySortedBy nat_cmp (watchers_of m number)
+unfolding watchers_of
+watchers-rising m number =
+    IsStrictlySortedBy-filter nat_cmp (λ id. watches_file number (instance_of m id)) (finmap.keys m) (rising (entries m) (entries_sorted m))
+
+-- a set of the watchers of a file has those that watch it
+pub watchers-set : (m : Instances) (number : ℕ) (ids : IdSet) (q : ℕ) → finmap.keys ids ≡ watchers_of m number
+    → is_some (finmap.get ids q) ≡ watches_file number (instance_of m q)
+watchers-set m number ids q e =
+    contains_key-keys ids q ∙ sym (same-tests q (finmap.keys ids)) ∙ ap (list_any (λ id. eqb q id)) e ∙ any-watchers m number q

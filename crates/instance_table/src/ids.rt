@@ -63,6 +63,16 @@ impl Ids {
         Ok(())
     }
 
+    /// Puts in rising numbers, in place of those that are there. `Err` is out of memory.
+    pub fn put(&mut self, ids: &[u32]) -> Result<(), AllocError>
+        requires { IsStrictlySortedBy nat_cmp ids.now }
+        ensures { OnOk result (map.keys self.new ≡ ids.now) }
+    {
+        self.ids.clear();
+        self.ids.extend_from_slice(ids)?;
+        Ok(())
+    }
+
     /// Takes out a number, if it is there. It takes no memory.
     pub fn remove(&mut self, id: u32)
         ensures { self.new ≡ map.remove self.old id }

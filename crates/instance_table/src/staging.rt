@@ -88,7 +88,11 @@ impl Instances {
         if is_told_of_late(told, number) {
             return Ok(());
         }
-        add_all(ids, self.watchers(number))
+        let watchers = self.watchers(number);
+        if ids.is_empty() {
+            return ids.put(watchers);
+        }
+        add_all(ids, watchers)
     }
 
     // Stages what notices raise for their recipients.

@@ -1,6 +1,6 @@
 //! Where a name keeps its bytes.
 
-ghost use Rattle.std.specs.Prelude.{◌≡◌, ◌≤◌, ◌<◌, IfOk, IsOk, length};
+ghost use Rattle.std.specs.Prelude.{◌≡◌, ◌≤◌, ◌<◌, ◌-◌, ◌++◌, IfOk, IfSome, IsOk, OnSome, length, replicate};
 ghost use Rattle.record_codec.specs.declared.name.TheConstants.{NAME_IN_PLACE};
 ghost use Rattle.record_codec.specs.Kept.{IsKept, front_of, kept_bytes};
 
@@ -82,6 +82,20 @@ impl Kept {
             Kept::Full(bytes) => bytes,
             Kept::Short { len, bytes } => &bytes[..*len as usize],
             Kept::Long(bytes) => bytes.as_slice(),
+        }
+    }
+
+    /// The bytes with zero bytes behind them, 16 together, if they are fewer.
+    #[inline(always)]
+    pub(crate) fn padded(&self) -> Option<&[u8; 16]>
+        requires { IsKept self.now }
+        ensures fewer { OnSome result (length (kept_bytes self.now) < 16) }
+        ensures padded { IfSome result (λ bytes.
+            bytes.now ≡ kept_bytes self.now ++ replicate (16 - length (kept_bytes self.now)) 0) }
+    {
+        match self {
+            Kept::Short { len, bytes } if *len < 16 => bytes.first_chunk::<16>(),
+            _ => None,
         }
     }
 

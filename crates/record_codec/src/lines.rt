@@ -1,6 +1,7 @@
 //! Names and records as text.
 
-ghost use Rattle.std.specs.Prelude.{◌≡◌, ◌≤◌, ◌+◌, ◌*◌, ◌++◌, length, vec_len, vec_capacity, OnOk, OnErr};
+ghost use Rattle.std.specs.Prelude.{◌≡◌, ◌≤◌, ◌+◌, ◌*◌, ◌++◌, decimal, length, vec_len, vec_capacity, OnOk, OnErr};
+ghost use Rattle.std.specs.Fmt.{signed_decimal};
 ghost use Rattle.std.specs.List.{list_all};
 ghost use Rattle.record_codec.specs.Lines.{is_plain, printed_byte, printed_name, printed_numbers, record_line};
 ghost use Rattle.record_codec.specs.Views.{event_seen};
@@ -18,6 +19,9 @@ const PRINTED_BYTE_LEN: usize = 3;
 
 /// The most bytes that the three numbers of a record line take, with the spaces between them.
 const NUMBERS_LEN: usize = 11 + 1 + 8 + 1 + 10;
+
+/// The most bytes of a name that are printed one by one, which takes fewer instructions than a test of all and a copy.
+const SHORT_NAME_LEN: usize = 8;
 
 /// Adds the printed name at the end: its bytes 0x21 to 0x7e but `%` as they are, each other one as `%` and two
 /// upper-case hexadecimal digits.
@@ -63,7 +67,7 @@ pub fn append_view_line(view: &RecordView<'_>, out: &mut Vec<u8>) -> Result<(), 
         Some(name) => {
             out.reserve(NUMBERS_LEN + 1 + PRINTED_BYTE_LEN * name.len())?;
             add_numbers(view, out);
-            add(out, b" ");
+            out.push_reserved(b' ');
             add_name(name, out);
         }
     }
@@ -77,14 +81,42 @@ fn add_numbers(view: &RecordView<'_>, out: &mut Vec<u8>)
     ensures len { vec_len out.new ≤ vec_len out.old + NUMBERS_LEN }
     ensures room { vec_capacity out.old ≤ vec_capacity out.new }
 {
-    let mut digits = Buffer::new();
-    add(out, digits.format(view.wd).as_bytes());
-    add(out, b" ");
+    add_signed(view.wd, out);
+    out.push_reserved(b' ');
     let mut mask = [0; 8];
     hex::encode_to_slice(view.mask.to_be_bytes().as_slice(), &mut mask).unwrap();
     add(out, &mask);
-    add(out, b" ");
-    add(out, digits.format(view.cookie).as_bytes());
+    out.push_reserved(b' ');
+    add_number(view.cookie, out);
+}
+
+/// Adds a number in decimal.
+fn add_signed(number: i32, out: &mut Vec<u8>)
+    requires { vec_len out.old + 11 ≤ vec_capacity out.old }
+    ensures items { out.new.items ≡ out.old.items ++ signed_decimal number }
+    ensures len { vec_len out.new ≤ vec_len out.old + 11 }
+    ensures room { vec_capacity out.old ≤ vec_capacity out.new }
+{
+    if number >= 0 {
+        return add_number(number as u32, out);
+    }
+    let mut digits = Buffer::new();
+    add(out, digits.format(number).as_bytes());
+}
+
+/// Adds a number in decimal. One digit needs no buffer.
+#[inline(always)]
+fn add_number(number: u32, out: &mut Vec<u8>)
+    requires { vec_len out.old + 10 ≤ vec_capacity out.old }
+    ensures items { out.new.items ≡ out.old.items ++ decimal number }
+    ensures len { vec_len out.new ≤ vec_len out.old + 10 }
+    ensures room { vec_capacity out.old ≤ vec_capacity out.new }
+{
+    if number < 10 {
+        return out.push_reserved(b'0' + number as u8);
+    }
+    let mut digits = Buffer::new();
+    add(out, digits.format(number).as_bytes());
 }
 
 /// Adds the printed name of these bytes.
@@ -92,7 +124,7 @@ fn add_name(name: &[u8], out: &mut Vec<u8>)
     requires { vec_len out.old + PRINTED_BYTE_LEN * length name.now ≤ vec_capacity out.old }
     ensures { out.new.items ≡ out.old.items ++ printed_name name.now }
 {
-    if are_plain(name) {
+    if SHORT_NAME_LEN < name.len() && are_plain(name) {
         return add(out, name);
     }
     for byte in name {
@@ -114,7 +146,7 @@ fn add_byte(byte: u8, out: &mut Vec<u8>)
     ensures room { vec_capacity out.old ≤ vec_capacity out.new }
 {
     if is_plain(byte) {
-        add(out, &[byte]);
+        out.push_reserved(byte);
     } else {
         add(out, percent_encode_byte(byte).as_bytes());
     }

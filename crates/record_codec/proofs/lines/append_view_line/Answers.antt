@@ -13,7 +13,7 @@ returns-in_ok-reserve-in-None-clause-ok c =
 pub returns-in_ok-reserve-in-Some-clause-ok : goal.returns-in_ok-reserve-in-Some-clause-ok
 returns-in_ok-reserve-in-Some-clause-ok c =
     let line = line-some (event_seen c.args.view.now) c.args.out.now.items c.in-Some.name.now (ap option_copied c.in-Some.is) in
-    cc (c.in_ok-reserve-in-Some.ensures.items, c.add_numbers-in-Some.ensures.items, c.add.ensures.items)
+    cc (c.in_ok-reserve-in-Some.ensures.items, c.add_numbers-in-Some.ensures.items, c.push_reserved.ensures.items)
 
 pub overflow_mul-name : goal.overflow_mul-name
 overflow_mul-name c = let h = is_name-length c.in-Some.name.now (c.args.view.now.named c.in-Some.name c.in-Some.is) in omega (arith, h)

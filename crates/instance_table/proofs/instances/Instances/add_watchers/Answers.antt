@@ -1,13 +1,16 @@
-use Rattle.std.proofs.Common.{◌≡◌, ℕ, Bool, true, false, ◌||◌, eqb, is_some, List, [], ◌∷◌, Option, refl, sym, ap, ◌∙◌}
+use Rattle.std.proofs.Common.{◌≡◌, ℕ, Bool, true, false, ◌||◌, eqb, is_some, List, [], ◌∷◌, Option, refl, sym, ap, subst, ◌∙◌}
 use Rattle.std.specs.Prelude.{Result, Ok, Err, OnOk}
 use Rattle.std.specs.FinMap as map
 use Rattle.std.specs.List.{list_any}
 use Rattle.event_rules.specs.declared.notice.Notice.{Notice}
 use Rattle.event_rules.specs.Raised.{told_number}
 use Rattle.instance_table.specs.declared.instance.Instance.{Instance}
+use Rattle.std.specs.List.Sorted.{IsStrictlySortedBy}
+use Rattle.std.specs.Ordering.{nat_cmp}
+use Rattle.instance_table.specs.Ids.{IdSet}
 use Rattle.instance_table.specs.Instances.{instance_of, watches_file}
 use Rattle.instance_table.proofs.Indexed.{is-same}
-use Rattle.instance_table.proofs.Watchers.{any-watchers}
+use Rattle.instance_table.proofs.Watchers.{any-watchers, watchers-rising, watchers-set}
 use Rattle.instance_table.proofs.instances.Instances.add_watchers.Goals as goal
 
 abbrev hears : Option Instance → Notice → Bool
@@ -45,10 +48,26 @@ OnOk-then : {T E : Type 0} {P Q : Type 0} (r : Result T E) → (P → Q) → OnO
 OnOk-then (Ok x) f h = f h
 OnOk-then (Err e) f h = h
 
+pub put-requires : goal.put-requires
+put-requires c =
+    subst (IsStrictlySortedBy nat_cmp) (sym c.watchers-watchers.ensures) (watchers-rising c.args.self.now c.args.number)
+
+or-none : (a b : Bool) → b ≡ false → a ≡ (a || b)
+or-none true b h = refl
+or-none false b h = sym h
+
+pub returns-then-is_empty : goal.returns-then-is_empty
+returns-then-is_empty c =
+    OnOk-then c.put.result
+    (λ puts q. watchers-set c.args.self.now c.args.number c.put.new.self q (puts ∙ c.watchers-watchers.ensures)
+    ∙ or-none (watches_file c.args.number (instance_of c.args.self.now q)) (is_some (map.get c.args.ids.now q))
+    (ap (λ (m : IdSet). is_some (map.get m q)) (c.is_empty.ensures.0 c.if-is_empty.true) ∙ ap is_some (map.get-empty nat_cmp q)))
+    c.put.ensures
+
 pub returns : goal.returns
 returns c =
     OnOk-then c.add_all.result
     (λ puts q. puts q
     ∙ ap (λ b. b || is_some (map.get c.args.ids.now q))
-    (ap (list_any (λ id. eqb q id)) c.watchers.ensures ∙ any-watchers c.args.self.now c.args.number q))
+    (ap (list_any (λ id. eqb q id)) c.watchers-watchers.ensures ∙ any-watchers c.args.self.now c.args.number q))
     c.add_all.ensures
