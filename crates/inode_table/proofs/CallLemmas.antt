@@ -14,7 +14,7 @@ use Rattle.inode_table.specs.TableWorld.{kind_of, file_of}
 use Rattle.inode_table.specs.Stands.{seen_row, look_in}
 use Rattle.inode_table.specs.declared.seen.Seen.{Seen}
 use Rattle.inode_table.proofs.PathLemmas.{is_below-rest}
-use Rattle.inode_table.proofs.ChangeLemmas.{live-what, loses-live, regular-what}
+use Rattle.inode_table.proofs.ChangeLemmas.{live-what, loses-live, regular-what, walk_end}
 use Rattle.inode_table.proofs.FindLemmas.{seen_directory, there-seen}
 use Rattle.inode_table.proofs.SeenLemmas.{is_value, NodeAt, node-at, parent-seen, open-parent, child-there, avoids-seen, avoids-any, root-directory}
 
@@ -77,6 +77,11 @@ module _ (t : Tree) (table : IsTable t.rows) where
       → IfErr r (λ _. look_in t path ≡ None) → result_ok r ≡ at t path
   ok-at path (Ok k) found absent = sym found
   ok-at path (Err e) found absent = sym (there-seen t table path absent)
+
+-- the key at a path, which is under its last name
+pub key-under : (t : Tree) (path parent : List Label) (name : Label) → path ≡ parent ++ name ∷ [] → (k : ℕ) → at t parent ≡ Some k
+    → (found : Option ℕ) → at t path ≡ found → child t.rows k name ≡ found
+key-under t path parent name parts k there found is = sym (walk_end (child t.rows) k parent name there) ∙ ap (at t) (sym parts) ∙ is
 
 -- a node stays where it loses a link
 pub kept-there : (old new : Tree) (node : Option ℕ) → LosesLink old.rows new.rows node → (k : ℕ) → IsSome (what_at old k) → IsSome (what_at new k)

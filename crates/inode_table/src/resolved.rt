@@ -5,7 +5,7 @@ ghost use Rattle.inode_table.specs.Refusals.{parent_of};
 
 use crate::found::Found;
 use std::marker::Model;
-use tree_paths::{Path, PathName};
+use tree_paths::{NamePlace, Path, PathName};
 
 /// A path, and what [`crate::Table::resolve`] found along it, in the table as it was then.
 #[derive(Drop)]
@@ -48,14 +48,24 @@ impl<'a> Resolved<'a> {
         self.path
     }
 
+    /// The last name of the path, where it stands.
+    #[inline(always)]
+    pub(crate) fn last_place(&self) -> NamePlace<'a>
+        requires { self.now.names ≢ [] }
+        ensures { self.now.names ≡ parent_of self.now.names ++ result ∷ [] }
+    {
+        match self.path.last_place() {
+            Some(name) => name,
+            None => unreachable!(),
+        }
+    }
+
     /// The last name of the path.
+    #[inline(always)]
     pub(crate) fn last_name(&self) -> PathName<'a>
         requires { self.now.names ≢ [] }
         ensures { self.now.names ≡ parent_of self.now.names ++ result ∷ [] }
     {
-        match self.path.last_name() {
-            Some(name) => name,
-            None => unreachable!(),
-        }
+        self.last_place().name()
     }
 }

@@ -12,6 +12,8 @@ use Rattle.tree_paths.specs.declared.left.Left.TheVariants.{InText, InList}
 use Rattle.tree_paths.specs.declared.parse.Shape.{Shape}
 use Rattle.tree_paths.specs.declared.path_name.Found.{Found}
 use Rattle.tree_paths.specs.declared.path_name.Found.TheVariants.{InPlace, Lent}
+use Rattle.tree_paths.specs.declared.path_name.Place.{Place}
+use Rattle.tree_paths.specs.declared.path_name.Place.TheVariants as place
 use Rattle.tree_paths.specs.Paths.{names_of, slash, slashed}
 
 -- a name that needs no allocation
@@ -59,6 +61,15 @@ IsLeft (InList names) = Unit {0}
 abbrev pub found_name : Found → List ℕ
 found_name (InPlace name) = name
 found_name (Lent name) = name.now
+
+abbrev pub place_name : Place → List ℕ
+place_name (place.InText name) = name.now
+place_name (place.InList name) = name.now
+
+-- what every NamePlace keeps
+abbrev pub IsPlace : Place → Type 0
+IsPlace (place.InText name) = IsTrue (is_name name.now) × (length name.now ≤ NAME_IN_PLACE)
+IsPlace (place.InList name) = Unit {0}
 
 -- a byte of a name, in a text
 abbrev pub is_other : ℕ → Bool

@@ -9,7 +9,7 @@ ghost use Rattle.tree_paths.specs.Paths.{names_of, parsed, slashed};
 
 use crate::left::{Left, PathNames};
 use crate::parse::{SEPARATOR, Shape, names_in, put_name, squeeze};
-use crate::path_name::PathName;
+use crate::path_name::NamePlace;
 use record_codec::{NAME_IN_PLACE, Name};
 use std::alloc::{AllocError, Global};
 
@@ -135,7 +135,7 @@ impl Kept {
 
     /// The last name.
     #[inline(always)]
-    pub(crate) fn last(&self) -> Option<PathName<'_>>
+    pub(crate) fn last(&self) -> Option<NamePlace<'_>>
         requires { IsKept self.now }
         ensures { MatchOption result (kept_names self.now ≡ [])
             (λ name. kept_names self.now ≡ take (length (kept_names self.now) - 1) (kept_names self.now) ++ name ∷ []) }
@@ -145,7 +145,7 @@ impl Kept {
             Kept::Text(text) => last_in(text),
             Kept::Names(names) => {
                 let (name, _) = names.split_last()?;
-                Some(PathName::lent(name))
+                Some(NamePlace::in_list(name))
             }
         }
     }
@@ -209,7 +209,7 @@ impl Kept {
 
 /// The last name of a text.
 #[inline(always)]
-fn last_in(text: &[u8]) -> Option<PathName<'_>>
+fn last_in(text: &[u8]) -> Option<NamePlace<'_>>
     requires { IsSlashed text.now }
     ensures { MatchOption result (names_of text.now ≡ [])
         (λ name. names_of text.now ≡ take (length (names_of text.now) - 1) (names_of text.now) ++ name ∷ []) }
@@ -217,7 +217,7 @@ fn last_in(text: &[u8]) -> Option<PathName<'_>>
     if text.is_empty() {
         return None;
     }
-    Some(PathName::in_place(&text[last_start(text)..]))
+    Some(NamePlace::in_text(&text[last_start(text)..]))
 }
 
 /// Where the last name of a text begins.

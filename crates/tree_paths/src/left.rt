@@ -4,7 +4,7 @@ ghost use Rattle.std.specs.Prelude.{◌≡◌, ◌∷◌, [], ◌<◌, length, M
 ghost use Rattle.tree_paths.specs.Kept.{left_names, IsLeft, IsSlashed, IsSplit};
 
 use crate::parse::front_len;
-use crate::path_name::PathName;
+use crate::path_name::{NamePlace, PathName};
 use record_codec::Name;
 use std::marker::Model;
 
@@ -41,9 +41,9 @@ impl<'a> PathNames<'a> {
         PathNames { left }
     }
 
-    /// The next name. It takes no memory.
+    /// The next name, where it stands.
     #[inline(always)]
-    pub fn next(&mut self) -> Option<PathName<'a>>
+    pub fn next_place(&mut self) -> Option<NamePlace<'a>>
         ensures { MatchOption result ((self.old ≡ []) × (self.new ≡ [])) (λ name. self.old ≡ name ∷ self.new) }
     {
         match self.left {
@@ -53,14 +53,22 @@ impl<'a> PathNames<'a> {
                 }
                 let (name, behind) = split_first(text);
                 self.left = Left::InText(behind);
-                Some(PathName::in_place(name))
+                Some(NamePlace::in_text(name))
             }
             Left::InList(names) => {
                 let (name, behind) = names.split_first()?;
                 self.left = Left::InList(behind);
-                Some(PathName::lent(name))
+                Some(NamePlace::in_list(name))
             }
         }
+    }
+
+    /// The next name. It takes no memory.
+    #[inline(always)]
+    pub fn next(&mut self) -> Option<PathName<'a>>
+        ensures { MatchOption result ((self.old ≡ []) × (self.new ≡ [])) (λ name. self.old ≡ name ∷ self.new) }
+    {
+        Some(self.next_place()?.name())
     }
 
     /// Whether no name is left.

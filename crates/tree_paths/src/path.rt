@@ -13,7 +13,7 @@ use crate::Refusal;
 use crate::kept::Kept;
 use crate::left::PathNames;
 use crate::parse::{SEPARATOR, shape_of_text};
-use crate::path_name::PathName;
+use crate::path_name::{NamePlace, PathName};
 use record_codec::Name;
 use std::alloc::{AllocError, Global};
 use std::marker::Model;
@@ -94,6 +94,16 @@ impl Path {
         PathNames::of(self.kept.left())
     }
 
+    /// The last name, where it stands. `None` for the root.
+    #[inline(always)]
+    pub fn last_place(&self) -> Option<NamePlace<'_>>
+        ensures parts { MatchOption result (self.now ≡ [])
+            (λ name. self.now ≡ take (length self.now - 1) self.now ++ name ∷ []) }
+        ensures some { IsSome result ↔ (0 < length self.now) }
+    {
+        self.kept.last()
+    }
+
     /// The last name. `None` for the root.
     #[inline(always)]
     pub fn last_name(&self) -> Option<PathName<'_>>
@@ -101,7 +111,7 @@ impl Path {
             (λ name. self.now ≡ take (length self.now - 1) self.now ++ name ∷ []) }
         ensures some { IsSome result ↔ (0 < length self.now) }
     {
-        self.kept.last()
+        Some(self.last_place()?.name())
     }
 
     /// Whether it is the root's.

@@ -1,10 +1,11 @@
-//! A name of a path.
+//! Names of a path.
 
-ghost use Rattle.std.specs.Prelude.{◌≡◌, ◌≤◌, IsTrue, length};
+ghost use Rattle.std.specs.Prelude.{◌≡◌, ◌≤◌, IfOk, IsOk, IsTrue, length};
 ghost use Rattle.record_codec.specs.declared.name.TheConstants.{NAME_IN_PLACE};
 ghost use Rattle.record_codec.specs.Names.{is_name};
 
-use record_codec::Name;
+use record_codec::{NAME_IN_PLACE, Name};
+use std::alloc::AllocError;
 use std::marker::Model;
 
 /// Where a name of a path stands.
@@ -31,6 +32,7 @@ impl<'a> Model for PathName<'a> {
 
 impl<'a> PathName<'a> {
     /// The name of these bytes.
+    #[inline(always)]
     pub(crate) fn in_place(bytes: &[u8]) -> PathName<'a>
         requires name { IsTrue (is_name bytes.now) }
         requires short { length bytes.now ≤ NAME_IN_PLACE }
@@ -57,6 +59,80 @@ impl<'a> PathName<'a> {
         match &self.found {
             Found::InPlace(name) => name,
             Found::Lent(name) => name,
+        }
+    }
+}
+
+/// Where a name of a path stands.
+#[derive(Clone, Copy)]
+pub(crate) enum Place<'a> {
+    InText(&'a [u8]),
+    InList(&'a Name),
+}
+
+/// A name of a path where it stands: its bytes in a text, or a name of a list. It is moved in three words.
+#[derive(Drop)]
+pub struct NamePlace<'a> {
+    place: Place<'a>,
+}
+
+impl<'a> Model for NamePlace<'a> {
+    ghost use Rattle.std.specs.Prelude.{ℕ, List};
+    ghost use Rattle.tree_paths.specs.Kept.{place_name, IsPlace};
+
+    ghost Value = { List ℕ };
+
+    ghost view = { λ name. place_name name.place };
+
+    ghost invariant = { λ name. IsPlace name.place };
+}
+
+impl<'a> NamePlace<'a> {
+    /// The name of these bytes.
+    #[inline(always)]
+    pub(crate) fn in_text(bytes: &'a [u8]) -> NamePlace<'a>
+        requires name { IsTrue (is_name bytes.now) }
+        requires short { length bytes.now ≤ NAME_IN_PLACE }
+        ensures { result ≡ bytes.entry.now }
+    {
+        NamePlace {
+            place: Place::InText(bytes),
+        }
+    }
+
+    /// This name.
+    #[inline(always)]
+    pub(crate) fn in_list(name: &'a Name) -> NamePlace<'a>
+        ensures { result ≡ name.now }
+    {
+        NamePlace {
+            place: Place::InList(name),
+        }
+    }
+
+    /// The name. It takes no memory.
+    #[inline(always)]
+    pub fn name(&self) -> PathName<'a>
+        ensures { result ≡ self.now }
+    {
+        match self.place {
+            Place::InText(bytes) => PathName::in_place(bytes),
+            Place::InList(name) => PathName::lent(name),
+        }
+    }
+
+    /// The name, to be kept. One of at most [`NAME_IN_PLACE`] bytes takes no memory.
+    ///
+    /// # Errors
+    /// `AllocError`, where there is no memory for it.
+    #[inline(always)]
+    pub fn to_name(&self) -> Result<Name, AllocError>
+        ensures short { length self.now ≤ NAME_IN_PLACE → IsOk result }
+        ensures same { IfOk result (λ name. name ≡ self.now) }
+    {
+        match self.place {
+            Place::InText(bytes) => Ok(Name::in_place(bytes)),
+            Place::InList(name) => name.copy(),
         }
     }
 }

@@ -44,12 +44,11 @@ impl Table {
         ensures memory { IfErr result (λ refusal. refusal ≡ Refusal.Enomem) }
     {
         self.rows_law();
-        let last = path.last_name();
-        let name = last.as_name();
-        let copy = name.copy()?;
+        let last = path.last_place();
+        let name = last.to_name()?;
         let directory = self.directory_at(path);
         let content = Content::empty(self.alloc, kind);
-        self.add_node_at(directory, copy, number, mode, content)?;
+        self.add_node_at(directory, name, number, mode, content)?;
         Ok(())
     }
 
@@ -70,12 +69,11 @@ impl Table {
         ensures memory { IfErr result (λ refusal. refusal ≡ Refusal.Enomem) }
     {
         self.rows_law();
-        let last = new.last_name();
-        let name = last.as_name();
-        let copy = name.copy()?;
+        let last = new.last_place();
+        let name = last.to_name()?;
         let key = self.key_at(old);
         let directory = self.directory_at(new);
-        self.add_name_at(directory, copy, key)?;
+        self.add_name_at(directory, name, key)?;
         Ok(())
     }
 
@@ -139,9 +137,11 @@ impl Table {
         let name = last.as_name();
         let other_last = other.last_name();
         let other_name = other_last.as_name();
+        let key = self.key_at(one);
+        let other_key = self.key_at(other);
         let directory = self.directory_at(one);
         let other_directory = self.directory_at(other);
-        self.swap_names_at(directory, name, other_directory, other_name);
+        self.swap_names_at(directory, name, key, other_directory, other_name, other_key);
     }
 
     /// Gives another mode to what stands at a path.
@@ -190,13 +190,13 @@ impl Table {
         self.rows_law();
         let last = old.last_name();
         let name = last.as_name();
-        let other_last = new.last_name();
-        let other_name = other_last.as_name();
-        let copy = other_name.copy()?;
+        let other_last = new.last_place();
+        let other_name = other_last.to_name()?;
+        let key = self.key_at(old);
         let replaced = self.key_if(new);
         let directory = self.directory_at(old);
         let other_directory = self.directory_at(new);
-        self.replace_name_at(directory, name, other_directory, copy)?;
+        self.replace_name_at(directory, name, key, other_directory, other_name, replaced)?;
         Ok(replaced)
     }
 
@@ -215,8 +215,10 @@ impl Table {
         self.rows_law();
         let last = path.last_name();
         let name = last.as_name();
+        let key = self.key_at(path);
         let directory = self.directory_at(path);
-        self.drop_name_at(directory, name)
+        self.drop_name_at(directory, name, key);
+        key
     }
 
     // Takes a node away if it has lost its last name.

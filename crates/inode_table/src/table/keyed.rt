@@ -8,7 +8,7 @@ ghost use Rattle.inode_table.specs.Tree.{at, what_at};
 use super::Table;
 use crate::content::Content;
 use crate::node::{
-    Node, child, lose_any_link, point_child, remove_node, reserve_bytes, set_bytes, set_child,
+    Node, lose_any_link, point_child, remove_node, reserve_bytes, set_bytes, set_child,
     set_len, set_links, set_mode, unset_child, write_bytes,
 };
 use record_codec::Name;
@@ -64,28 +64,20 @@ impl Table {
         Ok(key)
     }
 
-    /// Takes out the name of a file or of an empty directory, and returns its key.
-    pub(crate) fn drop_name_at(&mut self, directory: usize, name: &Name) -> usize
+    /// Takes out the name of a file or of an empty directory, by the key that is under it.
+    pub(crate) fn drop_name_at(&mut self, directory: usize, name: &Name, key: usize)
         requires directory { IsOpen self.old directory }
-        requires there { IsSome (child self.old.rows directory name.now) }
-        requires empty { (x : ℕ) (l : Label) → child self.old.rows directory name.now ≡ Some x
-            → child self.old.rows x l ≡ None }
-        ensures key { child self.old.rows directory name.now ≡ Some result }
+        requires there { child self.old.rows directory name.now ≡ Some key }
+        requires empty { (l : Label) → child self.old.rows key l ≡ None }
         ensures path { (p : List Label) → at self.old p ≡ Some directory
             → DropsPath (at self.old) (at self.new) (p ++ name.now ∷ []) }
-        ensures links { LosesLink self.old.rows self.new.rows (Some result) }
+        ensures links { LosesLink self.old.rows self.new.rows (Some key) }
         ensures world { (w : World) (p : List Label) → Stands self.old w → at self.old p ≡ Some directory
             → Stands self.new (without_path w (p ++ name.now ∷ [])) }
         ensures room { self.new.room ≡ self.old.room }
     {
-        match child(&self.nodes, directory, name) {
-            Some(key) => {
-                unset_child(&mut self.nodes, directory, name);
-                lose_any_link(&mut self.nodes, Some(key));
-                key
-            }
-            None => unreachable!(),
-        }
+        unset_child(&mut self.nodes, directory, name);
+        lose_any_link(&mut self.nodes, Some(key));
     }
 
     /// Takes away a node to which no path leads.
@@ -102,17 +94,21 @@ impl Table {
         remove_node(&mut self.nodes, key);
     }
 
-    /// Moves a name, with all its descendants, to another one, which may be taken.
+    /// Moves a name, with all its descendants, to another one, which may be taken: `key` is under the name, and
+    /// `replaced` under the other one.
     pub(crate) fn replace_name_at(
         &mut self,
         directory: usize,
         name: &Name,
+        key: usize,
         other_directory: usize,
         other_name: Name,
+        replaced: Option<usize>,
     ) -> Result<(), AllocError>
         requires directory { IsOpen self.old directory }
         requires other_directory { IsOpen self.old other_directory }
-        requires there { IsSome (child self.old.rows directory name.now) }
+        requires there { child self.old.rows directory name.now ≡ Some key }
+        requires replaced { child self.old.rows other_directory other_name ≡ replaced }
         requires apart { (p q : List Label) → at self.old p ≡ Some directory → at self.old q ≡ Some other_directory
             → Avoids (p ++ name.now ∷ []) (q ++ other_name ∷ []) }
         requires empty { (y : ℕ) (l : Label) → child self.old.rows other_directory other_name ≡ Some y
@@ -120,38 +116,33 @@ impl Table {
         ensures paths { OnOk result ((p q : List Label)
             → at self.old p ≡ Some directory → at self.old q ≡ Some other_directory
             → MovesPath (at self.old) (at self.new) (p ++ name.now ∷ []) (q ++ other_name ∷ [])) }
-        ensures links { OnOk result
-            (LosesLink self.old.rows self.new.rows (child self.old.rows other_directory other_name)) }
+        ensures links { OnOk result (LosesLink self.old.rows self.new.rows replaced) }
         ensures world { OnOk result ((w : World) (p q : List Label)
             → Stands self.old w → at self.old p ≡ Some directory → at self.old q ≡ Some other_directory
             → Stands self.new (with_move w (p ++ name.now ∷ []) (q ++ other_name ∷ []))) }
         ensures room { OnOk result (self.new.room ≡ self.old.room) }
         ensures err { OnErr result (self.new ≡ self.old) }
     {
-        match child(&self.nodes, directory, name) {
-            Some(key) => {
-                let replaced = child(&self.nodes, other_directory, &other_name);
-                set_child(&mut self.nodes, other_directory, other_name, key)?;
-                unset_child(&mut self.nodes, directory, name);
-                lose_any_link(&mut self.nodes, replaced);
-                Ok(())
-            }
-            None => unreachable!(),
-        }
+        set_child(&mut self.nodes, other_directory, other_name, key)?;
+        unset_child(&mut self.nodes, directory, name);
+        lose_any_link(&mut self.nodes, replaced);
+        Ok(())
     }
 
-    /// Exchanges two names, each with all its descendants.
+    /// Exchanges two names, each with all its descendants, by the keys that are under them.
     pub(crate) fn swap_names_at(
         &mut self,
         directory: usize,
         name: &Name,
+        key: usize,
         other_directory: usize,
         other_name: &Name,
+        other_key: usize,
     )
         requires directory { IsOpen self.old directory }
         requires other_directory { IsOpen self.old other_directory }
-        requires there { IsSome (child self.old.rows directory name.now) }
-        requires other_there { IsSome (child self.old.rows other_directory other_name.now) }
+        requires there { child self.old.rows directory name.now ≡ Some key }
+        requires other_there { child self.old.rows other_directory other_name.now ≡ Some other_key }
         requires below { (p q : List Label) → at self.old p ≡ Some directory → at self.old q ≡ Some other_directory
             → Avoids (p ++ name.now ∷ []) (q ++ other_name.now ∷ []) }
         requires above { (p q : List Label) → at self.old p ≡ Some directory → at self.old q ≡ Some other_directory
@@ -164,12 +155,8 @@ impl Table {
             → Stands self.new (with_swap w (p ++ name.now ∷ []) (q ++ other_name.now ∷ [])) }
         ensures room { self.new.room ≡ self.old.room }
     {
-        if let Some(key) = child(&self.nodes, directory, name)
-            && let Some(other_key) = child(&self.nodes, other_directory, other_name)
-        {
-            point_child(&mut self.nodes, directory, name, other_key);
-            point_child(&mut self.nodes, other_directory, other_name, key);
-        }
+        point_child(&mut self.nodes, directory, name, other_key);
+        point_child(&mut self.nodes, other_directory, other_name, key);
     }
 
     /// Gives one more name to a regular file.

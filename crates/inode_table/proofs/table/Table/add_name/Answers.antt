@@ -8,16 +8,15 @@ use Rattle.inode_table.proofs.StandsLemmas.{number-at}
 use Rattle.inode_table.specs.TableWorld.{world_of}
 use Rattle.inode_table.proofs.TableWorldLemmas.{world_of-is}
 use Rattle.inode_table.specs.Refusals.{parent_of}
-use Rattle.inode_table.proofs.CallLemmas.{named}
 use Rattle.inode_table.proofs.table.Table.add_name.Goals as goal
 
 pub add_name_at-requires-clause-free : goal.add_name_at-requires-clause-free
 add_name_at-requires-clause-free c =
-    free-child c.args.self.now c.rows_law.ensures.table (parent_of c.args.new.now.names) c.in_ok-copy.copy
+    free-child c.args.self.now c.rows_law.ensures.table (parent_of c.args.new.now.names) c.in_ok-name.name
     c.directory_at-directory.result c.directory_at-directory.ensures
     (ap (look_in c.args.self.now)
-    ((λ i. (parent_of c.args.new.now.names) ++ c.in_ok-copy.ensures.same i ∷ [])
-    ∙ sym (named c.args.new.now.names c.last_name-last.result c.as_name-name.result.now c.last_name-last.ensures c.as_name-name.ensures))
+    ((λ i. (parent_of c.args.new.now.names) ++ c.in_ok-name.ensures.same i ∷ [])
+    ∙ sym c.last_place-last.ensures)
     ∙ (ap (λ l. l c.args.new.now.names) (sym c.rows_law.ensures.looks) ∙ c.requires.free))
 
 pub returns-clause-world : goal.returns-clause-world
@@ -31,7 +30,7 @@ returns-clause-world c =
     let v = is_value (what_at t c.key_at-key.result) (live-there t c.rows_law.ensures.table c.args.old.now.names c.key_at-key.result found) in
     subst (λ o. Stands c.add_name_at.new.self (linked w c.args.new.now.names o)) (sym (number-at stands c.args.old.now.names c.key_at-key.result v.0 found v.1))
     (subst (λ p. Stands c.add_name_at.new.self (with_path w p v.0.number))
-    ((λ i. (parent_of c.args.new.now.names) ++ c.in_ok-copy.ensures.same i ∷ [])
-    ∙ sym (named c.args.new.now.names c.last_name-last.result c.as_name-name.result.now c.last_name-last.ensures c.as_name-name.ensures))
+    ((λ i. (parent_of c.args.new.now.names) ++ c.in_ok-name.ensures.same i ∷ [])
+    ∙ sym c.last_place-last.ensures)
     (c.in_ok-add_name_at.ensures.world w (parent_of c.args.new.now.names) v.0 stands c.directory_at-directory.ensures v.1))
     )

@@ -7,30 +7,28 @@ use Rattle.inode_table.proofs.StandsLemmas.{SameFiles-loses, Stands-without_path
 use Rattle.inode_table.proofs.table.Table.drop_name_at.Goals as goal
 use Rattle.inode_table.proofs.table.Table.drop_name_at.Goals.{After-lose_any_link}
 
-dropped : (c : After-lose_any_link) → DropsRow c.args.self.now.rows (rows_of c.lose_any_link.new.nodes) c.args.directory c.args.name.now c.in-Some.key
+dropped : (c : After-lose_any_link) → DropsRow c.args.self.now.rows (rows_of c.lose_any_link.new.nodes) c.args.directory c.args.name.now c.args.key
 dropped c =
     let old = c.args.self.now.rows in
     let mid = rows_of c.unset_child.new.nodes in
     let same : rows_of c.self.inside.nodes ≡ old = ap (λ t. t.rows) c.self.view_is in
     let names : SetsChild old mid c.args.directory c.args.name.now None =
     subst (λ rs. SetsChild rs mid c.args.directory c.args.name.now None) same c.unset_child.ensures.names in
-    let was : child old c.args.directory c.args.name.now ≡ Some c.in-Some.key =
-    ap (λ rs. child rs c.args.directory c.args.name.now) (sym same) ∙ sym c.in-Some.ensures in
     record {
       table = subst IsTable same c.self.invariant;
       directory = c.requires.directory.kind;
       edge =
           SetsEdge-same (child old) (child mid) _ c.args.directory c.args.name.now None
           (SetsEdge-child old mid c.args.directory c.args.name.now None names) c.lose_any_link.ensures.child;
-      was = was;
-      empty = λ l. c.requires.empty c.in-Some.key l was;
+      was = c.requires.there;
+      empty = c.requires.empty;
       links = LosesLink-after old mid _ _ names.what c.lose_any_link.ensures.what;
     }
 
 pub lose_any_link-requires-clause-positive : goal.lose_any_link-requires-clause-positive
 lose_any_link-requires-clause-positive c k is =
     positive_target (rows_of c.self.inside.nodes) (rows_of c.unset_child.new.nodes) c.self.invariant
-    c.unset_child.ensures.names.what c.args.directory c.args.name.now k (sym c.in-Some.ensures ∙ is)
+    c.unset_child.ensures.names.what c.args.directory c.args.name.now k (ap (λ t. child t.rows c.args.directory c.args.name.now) c.self.view_is ∙ c.requires.there ∙ is)
 
 pub invariant_of-self : goal.invariant_of-self
 invariant_of-self c = IsTable-drop (dropped c) c.requires.directory.path c.requires.directory.there

@@ -1,4 +1,4 @@
-use Rattle.std.proofs.Common.{◌≡◌, ◌++◌, ◌∷◌, [], List, IsSome, IfSome, true, false, sym, ap, subst, ◌∙◌}
+use Rattle.std.proofs.Common.{◌≡◌, ◌++◌, ◌∷◌, [], List, Some, IsSome, IfSome, true, false, sym, ap, subst, ◌∙◌}
 use Rattle.inode_table.specs.Changes.{Avoids}
 use Rattle.inode_table.specs.Rows.{Label}
 use Rattle.inode_table.specs.Tree.{Tree, at, what_at}
@@ -10,7 +10,7 @@ use Rattle.inode_table.specs.declared.seen.Seen.{Seen}
 use Rattle.inode_table.proofs.FindLemmas.{live-there}
 use Rattle.inode_table.proofs.SeenLemmas.{open-directory, avoids-seen, avoids-any, empty-below}
 use Rattle.inode_table.proofs.StandsLemmas.{SameFiles-loses, numbers-same}
-use Rattle.inode_table.proofs.CallLemmas.{parent-there, parent-open, child-some, kept-there, if-some}
+use Rattle.inode_table.proofs.CallLemmas.{parent-there, parent-open, key-under, kept-there, if-some}
 use Rattle.inode_table.specs.Refusals.{parent_of}
 use Rattle.inode_table.proofs.CallLemmas.{named}
 use Rattle.inode_table.proofs.table.Table.put_name.Goals as goal
@@ -29,44 +29,48 @@ replace_name_at-requires-clause-directory c =
 
 pub replace_name_at-requires-clause-there : goal.replace_name_at-requires-clause-there
 replace_name_at-requires-clause-there c =
-    child-some c.args.self.now c.rows_law.ensures.table c.args.old.now.names (parent_of c.args.old.now.names) c.as_name-name.result.now
+    key-under c.args.self.now c.args.old.now.names (parent_of c.args.old.now.names) c.as_name-name.result.now
     (named c.args.old.now.names c.last_name-last.result c.as_name-name.result.now c.last_name-last.ensures c.as_name-name.ensures)
-    c.requires.source c.directory_at-directory.result c.directory_at-directory.ensures
+    c.directory_at-directory.result c.directory_at-directory.ensures (Some c.key_at-key.result) c.key_at-key.ensures
+
+pub replace_name_at-requires-clause-replaced : goal.replace_name_at-requires-clause-replaced
+replace_name_at-requires-clause-replaced c =
+    key-under c.args.self.now c.args.new.now.names (parent_of c.args.new.now.names) c.in_ok-other_name.other_name
+    (named c.args.new.now.names c.last_place-other_last.result c.in_ok-other_name.other_name c.last_place-other_last.ensures c.in_ok-other_name.ensures.same)
+    c.directory_at-other_directory.result c.directory_at-other_directory.ensures c.key_if-replaced.result (sym c.key_if-replaced.ensures)
 
 pub replace_name_at-requires-clause-apart : goal.replace_name_at-requires-clause-apart
 replace_name_at-requires-clause-apart c p q to_p to_q =
     let t = c.args.self.now in
     let table = c.rows_law.ensures.table in
     let other_parent = parent_of c.args.new.now.names in
-    let other_name = c.as_name-other_name.result.now in
+    let other_name = c.last_place-other_last.result in
     let from = parent-open t table c.args.old.now.names (parent_of c.args.old.now.names) c.as_name-name.result.now
     (named c.args.old.now.names c.last_name-last.result c.as_name-name.result.now c.last_name-last.ensures c.as_name-name.ensures)
     c.requires.source c.directory_at-directory.result c.directory_at-directory.ensures in
     let directory : is_directory_seen (look_in t other_parent) ≡ true = c.requires.directory in
     let to = open-directory t table other_parent c.directory_at-other_directory.result c.directory_at-other_directory.ensures directory in
     let off = avoids-seen t table c.args.old.now.names c.args.new.now.names other_parent other_name
-    (named c.args.new.now.names c.last_name-other_last.result c.as_name-other_name.result.now c.last_name-other_last.ensures c.as_name-other_name.ensures)
+    c.last_place-other_last.ensures
     c.requires.source directory c.requires.other c.requires.below in
     avoids-any t table c.directory_at-directory.result c.directory_at-other_directory.result
-    (parent_of c.args.old.now.names) other_parent p q c.as_name-name.result.now c.in_ok-copy.copy
+    (parent_of c.args.old.now.names) other_parent p q c.as_name-name.result.now c.in_ok-other_name.other_name
     c.directory_at-directory.ensures c.directory_at-other_directory.ensures from.kind to.kind to_p to_q
-    (subst (λ x. Avoids x (other_parent ++ c.in_ok-copy.copy ∷ []))
+    (subst (λ x. Avoids x (other_parent ++ c.in_ok-other_name.other_name ∷ []))
     (named c.args.old.now.names c.last_name-last.result c.as_name-name.result.now c.last_name-last.ensures c.as_name-name.ensures)
     (subst (Avoids c.args.old.now.names)
-    ((named c.args.new.now.names c.last_name-other_last.result c.as_name-other_name.result.now c.last_name-other_last.ensures
-    c.as_name-other_name.ensures)
-    ∙ (λ i. other_parent ++ sym c.in_ok-copy.ensures.same i ∷ []))
+    (c.last_place-other_last.ensures
+    ∙ (λ i. other_parent ++ sym c.in_ok-other_name.ensures.same i ∷ []))
     off))
 
 pub replace_name_at-requires-clause-empty : goal.replace_name_at-requires-clause-empty
 replace_name_at-requires-clause-empty c =
     let t = c.args.self.now in
     let other_parent = parent_of c.args.new.now.names in
-    empty-below t c.rows_law.ensures.table other_parent c.in_ok-copy.copy c.directory_at-other_directory.result c.directory_at-other_directory.ensures
+    empty-below t c.rows_law.ensures.table other_parent c.in_ok-other_name.other_name c.directory_at-other_directory.result c.directory_at-other_directory.ensures
     (subst (λ x. IfSome (look_in t x) (λ (s : Seen). s.has_names ≡ false))
-    ((named c.args.new.now.names c.last_name-other_last.result c.as_name-other_name.result.now c.last_name-other_last.ensures
-    c.as_name-other_name.ensures)
-    ∙ (λ i. other_parent ++ sym c.in_ok-copy.ensures.same i ∷ []))
+    (c.last_place-other_last.ensures
+    ∙ (λ i. other_parent ++ sym c.in_ok-other_name.ensures.same i ∷ []))
     c.requires.empty)
 
 -- the move is that of the whole paths
@@ -80,10 +84,10 @@ after-move mid w parent other_parent old new name other_name copy e f g h =
 pub returns-clause-world : goal.returns-clause-world
 returns-clause-world c w stands =
     after-move c.replace_name_at.new.self w (parent_of c.args.old.now.names) (parent_of c.args.new.now.names) c.args.old.now.names
-    c.args.new.now.names c.as_name-name.result.now c.as_name-other_name.result.now c.in_ok-copy.copy
+    c.args.new.now.names c.as_name-name.result.now c.last_place-other_last.result c.in_ok-other_name.other_name
     (named c.args.old.now.names c.last_name-last.result c.as_name-name.result.now c.last_name-last.ensures c.as_name-name.ensures)
-    (named c.args.new.now.names c.last_name-other_last.result c.as_name-other_name.result.now c.last_name-other_last.ensures c.as_name-other_name.ensures)
-    c.in_ok-copy.ensures.same
+    c.last_place-other_last.ensures
+    c.in_ok-other_name.ensures.same
     (c.in_ok-replace_name_at.ensures.world w (parent_of c.args.old.now.names)
     (parent_of c.args.new.now.names) stands c.directory_at-directory.ensures c.directory_at-other_directory.ensures)
 

@@ -9,7 +9,7 @@ use Rattle.inode_table.proofs.table.Table.replace_name_at.Goals.{After-lose_any_
 
 moved : (c : After-lose_any_link)
     → MovesRow c.args.self.now.rows (rows_of c.lose_any_link.new.nodes) c.args.directory c.args.name.now c.args.other_directory
-    c.args.other_name c.in-Some.key
+    c.args.other_name c.args.key
 moved c =
     let old = c.args.self.now.rows in
     let first = rows_of c.set_child.new.nodes in
@@ -17,25 +17,25 @@ moved c =
     let from = c.requires.directory in
     let to = c.requires.other_directory in
     MovesRow-from old first (rows_of c.unset_child.new.nodes) _ c.args.directory c.args.name.now c.args.other_directory
-    c.args.other_name c.in-Some.key c.child-replaced.result
+    c.args.other_name c.args.key c.args.replaced
     (subst IsTable same c.self.invariant) from.kind to.kind from.path to.path from.there to.there
     (c.requires.apart from.path to.path from.there to.there)
-    (ap (λ rs. child rs c.args.directory c.args.name.now) (sym same) ∙ sym c.in-Some.ensures)
+    c.requires.there
     c.requires.empty
-    (subst (λ rs. SetsChild rs first c.args.other_directory c.args.other_name (Some c.in-Some.key)) same c.in_ok-set_child-in-Some.ensures.ok)
+    (subst (λ rs. SetsChild rs first c.args.other_directory c.args.other_name (Some c.args.key)) same c.in_ok-set_child.ensures.ok)
     c.unset_child.ensures.names
     c.lose_any_link.ensures.child
-    (c.child-replaced.ensures ∙ ap (λ rs. child rs c.args.other_directory c.args.other_name) same)
+    (sym c.requires.replaced)
     c.lose_any_link.ensures.what
 
 pub lose_any_link-requires-clause-positive : goal.lose_any_link-requires-clause-positive
 lose_any_link-requires-clause-positive c k is =
     positive_target (rows_of c.self.inside.nodes) (rows_of c.unset_child.new.nodes) c.self.invariant
-    (λ j. c.unset_child.ensures.names.what j ∙ c.in_ok-set_child-in-Some.ensures.ok.what j)
-    c.args.other_directory c.args.other_name k (sym c.child-replaced.ensures ∙ is)
+    (λ j. c.unset_child.ensures.names.what j ∙ c.in_ok-set_child.ensures.ok.what j)
+    c.args.other_directory c.args.other_name k (ap (λ t. child t.rows c.args.other_directory c.args.other_name) c.self.view_is ∙ c.requires.replaced ∙ is)
 
-pub invariant_of-self-in-Some : goal.invariant_of-self-in-Some
-invariant_of-self-in-Some c =
+pub invariant_of-self-2 : goal.invariant_of-self-2
+invariant_of-self-2 c =
     let from = c.requires.directory in
     let to = c.requires.other_directory in
     IsTable-move (moved c) from.path to.path from.there to.there (c.requires.apart from.path to.path from.there to.there)

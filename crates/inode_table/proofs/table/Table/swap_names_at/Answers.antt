@@ -12,19 +12,19 @@ use Rattle.inode_table.proofs.table.Table.swap_names_at.Goals.{After-point_child
 
 swapped : (c : After-point_child-2)
     → SwapsRow c.args.self.now.rows (rows_of c.point_child-2.new.nodes) c.args.directory c.args.name.now c.args.other_directory
-    c.args.other_name.now c.in-Some.key c.in-Some-child.other_key
+    c.args.other_name.now c.args.key c.args.other_key
 swapped c =
     let old = c.args.self.now.rows in
     let first = rows_of c.point_child.new.nodes in
     let same : rows_of c.self.inside.nodes ≡ old = ap (λ t. t.rows) c.self.view_is in
     let from = c.requires.directory in
     let to = c.requires.other_directory in
-    SwapsRow-from old first _ c.args.directory c.args.name.now c.args.other_directory c.args.other_name.now c.in-Some.key c.in-Some-child.other_key
+    SwapsRow-from old first _ c.args.directory c.args.name.now c.args.other_directory c.args.other_name.now c.args.key c.args.other_key
     (subst IsTable same c.self.invariant) from.kind to.kind from.path to.path from.there to.there
     (c.requires.below from.path to.path from.there to.there)
-    (ap (λ rs. child rs c.args.directory c.args.name.now) (sym same) ∙ sym c.in-Some.ensures)
-    (ap (λ rs. child rs c.args.other_directory c.args.other_name.now) (sym same) ∙ sym c.in-Some-child.ensures)
-    (subst (λ rs. SetsChild rs first c.args.directory c.args.name.now (Some c.in-Some-child.other_key)) same c.point_child.ensures.names)
+    c.requires.there
+    c.requires.other_there
+    (subst (λ rs. SetsChild rs first c.args.directory c.args.name.now (Some c.args.other_key)) same c.point_child.ensures.names)
     c.point_child-2.ensures.names
 
 pub invariant_of-self : goal.invariant_of-self
@@ -34,11 +34,11 @@ invariant_of-self c =
     IsTable-swap (swapped c) from.path to.path from.there to.there (c.requires.below from.path to.path from.there to.there)
     (c.requires.above from.path to.path from.there to.there)
 
-pub returns-in-Some-child-clause-paths : goal.returns-in-Some-child-clause-paths
-returns-in-Some-child-clause-paths c p q to_p to_q = swap-SwapsPaths (swapped c) p q to_p to_q (c.requires.below p q to_p to_q) (c.requires.above p q to_p to_q)
+pub returns-clause-paths : goal.returns-clause-paths
+returns-clause-paths c p q to_p to_q = swap-SwapsPaths (swapped c) p q to_p to_q (c.requires.below p q to_p to_q) (c.requires.above p q to_p to_q)
 
-pub returns-in-Some-child-clause-world : goal.returns-in-Some-child-clause-world
-returns-in-Some-child-clause-world c w p q stands to_p to_q =
+pub returns-clause-world : goal.returns-clause-world
+returns-clause-world c w p q stands to_p to_q =
     let from = c.requires.directory in
     let to = c.requires.other_directory in
     let below = c.requires.below p q to_p to_q in
