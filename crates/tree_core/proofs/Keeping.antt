@@ -3,7 +3,6 @@ use Rattle.std.proofs.Common.{◌≡◌, ℕ, ◌+◌, ◌^◌, ◌<◌, ◌≤�
 use Rattle.record_codec.specs.Records.{AreEvents}
 use Rattle.tree_paths.specs.declared.limits.Limits.{Limits}
 use Rattle.instance_table.specs.Instances.{WaitingAreEvents}
-use Rattle.tree_core.specs.declared.file_system.FileSystem.{FileSystem}
 use Rattle.tree_core.specs.declared.reply.Entry.{Entry}
 use Rattle.tree_core.specs.declared.snapshot.Snapshot.{Snapshot}
 use Rattle.tree_core.specs.declared.state.State.TheInside.{Inside}
@@ -71,15 +70,15 @@ module _ (a b : Inside) (is : IsKept a) (snapshot : b.snapshot ≡ a.snapshot) (
 pub shown-of : {t u : Tree} {place : ℕ} {s : Snapshot} → t ≡ u → IsSnapshotOf t place s → IsSnapshotOf u place s
 shown-of {t} {u} {place} {s} same shown = subst (λ (x : Tree). IsSnapshotOf x place s) same shown
 
--- a cut: the snapshot of the tree, and no entry
-pub IsKept-cut : TreesAreSound → (a b : Inside) → IsKept a → b.file_system ≡ a.file_system → b.journal.items ≡ [] → (place : ℕ)
+-- a cut, or a fork: the same tree, its snapshot, and no entry
+pub IsKept-cut : TreesAreSound → (a b : Inside) → IsKept a → tree_in b.file_system ≡ tree_in a.file_system → b.journal.items ≡ [] → (place : ℕ)
     → place ≡ last_place (journal_of a) → IsSnapshotOf (now (journal_of a)) place b.snapshot
     → WaitingAreEvents a.file_system.instances → (journal_of b ≡ cut_off (journal_of a)) × IsKept b
-IsKept-cut sound a b is file_system none place at given waits =
+IsKept-cut sound a b is tree none place at given waits =
     let s = journal_of a in
     let shows : IsSnapshotOf (now s) (last_place s) b.snapshot = subst (λ p. IsSnapshotOf (now s) p b.snapshot) at given in
     let whole = pasts-make-whole sound s is.past.0 is.past.1 is.lawful in
-    let limits : (now s).limits ≡ b.file_system.limits = limits-now s ∙ sym (ap (λ (m : FileSystem). m.limits) file_system) in
+    let limits : (now s).limits ≡ b.file_system.limits = limits-now s ∙ sym (ap (λ (t : Tree). t.limits) tree) in
     let told : tree_of b.file_system.limits b.snapshot ≡ now s =
     ap (λ l. tree_of l b.snapshot) (sym limits) ∙ tree_of-snapshot (now s) (last_place s) b.snapshot (sound-now sound s whole.sound) shows in
     let same : journal_of b ≡ cut_off s = λ i. record { start = told i; place = shows.last_place i; entries = none i } in (
@@ -88,8 +87,8 @@ IsKept-cut sound a b is file_system none place at given waits =
         shown = subst (λ (j : Journaled). IsSnapshotOf j.start j.place b.snapshot) (sym same) shows;
         past = subst (λ (j : Journaled). HasPast j.start j.place) (sym same) (HasPast-cut sound s is.past is.lawful);
         lawful = subst (λ (j : Journaled). IsLawfulFrom j.start j.entries) (sym same) tt;
-        stands = ap tree_in file_system ∙ is.stands ∙ now-cut s ∙ ap now (sym same);
-        numbered = subst (λ (m : FileSystem). IsNumbered (tree_in m)) (sym file_system) is.numbered;
+        stands = tree ∙ is.stands ∙ now-cut s ∙ ap now (sym same);
+        numbered = subst IsNumbered (sym tree) is.numbered;
         waited = subst (λ (j : Journaled). WaitingAreEvents j.start.instances) (sym same) (events-of-file_system (now s) a.file_system is.stands waits);
         read = subst (λ (j : Journaled). (id : ℕ) → AreEvents (read_in j.start j.entries id)) (sym same) (λ id. tt);
         few = let least = b.file_system.limits.journal_in.0 in omega (arith, ap length none);

@@ -1,5 +1,7 @@
 -- Lawful journals: their parts, one entry more, what they stand for, and what waits in it.
-use Rattle.std.proofs.Common.{◌≡◌, ℕ, ◌+◌, List, [], ◌∷◌, ◌++◌, length, Option, Some, None, option_map, refl, sym, ap, subst, ◌∙◌, length-append}
+use Rattle.std.proofs.Common.{◌≡◌, ℕ, ◌+◌, List, [], ◌∷◌, ◌++◌, length, map, Option, Some, None, option_map, refl, sym, ap, subst, ◌∙◌}
+use Rattle.std.proofs.Common.{arith, length-append}
+use Rattle.std.proofs.lemmas.List.{length-map}
 use Rattle.tree_paths.specs.declared.limits.Limits.{Limits}
 use Rattle.tree_paths.specs.declared.refusal.Refusal.{Refusal}
 use Rattle.instance_table.specs.declared.instance.Instance.{Instance}
@@ -8,7 +10,7 @@ use Rattle.tree_core.specs.declared.call.Call.{Call}
 use Rattle.tree_core.specs.declared.call.Call.TheVariants as call
 use Rattle.tree_core.specs.declared.reply.Entry.{Entry}
 use Rattle.tree_core.specs.declared.file_system.FileSystem.{FileSystem}
-use Rattle.tree_core.specs.CutLaws.{GoesOn, IsWhole}
+use Rattle.tree_core.specs.CutLaws.{AreAlike, GoesOn, IsWhole}
 use Rattle.tree_core.specs.Journal.{Journaled, HasPast, IsLawfulFrom, IsLawful, IsPast, cut_off, last_place, now}
 use Rattle.tree_core.specs.Journal.{opened, stands_for, tree_after, waiting_in, with_entry}
 use Rattle.tree_core.specs.FileSystems.{tree_in}
@@ -131,6 +133,41 @@ HasPast-cut sound s has lawful =
 pub HasPast-opening : (limits : Limits) → HasPast (opening limits) 0
 unfolding IsLawful stands_for opening
 HasPast-opening limits = ([], record { lawful = tt; places = refl; leads = refl })
+
+-- ---- forks
+
+-- the same calls from one tree have the same lawful replies, and lead to the same tree
+alike-from : (t : Tree) (es fs : List Entry) → map (λ (e : Entry). e.call) es ≡ map (λ (e : Entry). e.call) fs → IsLawfulFrom t es → IsLawfulFrom t fs
+    → (map (λ (e : Entry). e.reply) es ≡ map (λ (e : Entry). e.reply) fs) × (tree_after t es ≡ tree_after t fs)
+alike-from t [] [] same h g = (refl, refl)
+alike-from t [] (f ∷ fs) same h g = absurd (cc)
+alike-from t (e ∷ es) [] same h g = absurd (cc)
+alike-from t (e ∷ es) (f ∷ fs) same h g =
+    let call : e.call ≡ f.call = cc in
+    let later : IsLawfulFrom (after t e.call) fs = subst (λ (c : Call). IsLawfulFrom (after t c) fs) (sym call) g.1 in
+    let calls : map (λ (e : Entry). e.call) es ≡ map (λ (e : Entry). e.call) fs = cc in
+    let rest = alike-from (after t e.call) es fs calls h.1 later in
+    let reply : e.reply ≡ f.reply = h.0 ∙ ap (reply_of t) call ∙ sym g.0 in (
+      λ i. reply i ∷ rest.0 i,
+      rest.1 ∙ ap (λ (c : Call). tree_after (after t c) fs) call,
+    )
+
+same-length : (es fs : List Entry) → map (λ (e : Entry). e.call) es ≡ map (λ (e : Entry). e.call) fs → length es ≡ length fs
+same-length es fs same = sym (length-map es (λ (e : Entry). e.call)) ∙ ap length same ∙ length-map fs (λ (e : Entry). e.call)
+
+-- a state and its fork answer the same calls alike
+pub forks-answer-alike : (s : Journaled) (es fs : List Entry) → map (λ (e : Entry). e.call) es ≡ map (λ (e : Entry). e.call) fs
+    → IsLawfulFrom s.start (s.entries ++ es) → IsLawfulFrom (now s) fs → AreAlike s es fs
+unfolding now
+forks-answer-alike s es fs same ours theirs =
+    let alike = alike-from (now s) es fs same (lawful-rest s.start s.entries es ours) theirs in
+    record {
+      replies = alike.0;
+      trees = tree_after-append s.start s.entries es ∙ alike.1;
+      places = let both = length-append s.entries es in let each = same-length es fs same in omega (arith, both, each);
+    }
+
+-- ---- what waits
 
 -- what waits, by the open instance of a file system
 pub waiting_in-file_system : (t : Tree) (m : FileSystem) (id : ℕ) (o : Option Instance) → tree_in m ≡ t

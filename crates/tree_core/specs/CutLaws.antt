@@ -1,12 +1,13 @@
 -- Laws of journals that are cut.
-use Rattle.std.specs.Prelude.{◌≡◌, ℕ, List, ◌++◌, length}
+use Rattle.std.specs.Prelude.{◌≡◌, ℕ, List, ◌++◌, length, map}
 use Rattle.tree_paths.specs.declared.limits.Limits.{Limits}
 use Rattle.tree_core.specs.declared.reply.Entry.{Entry}
 use Rattle.tree_core.specs.declared.snapshot.Snapshot.{Snapshot}
 use Rattle.tree_core.specs.Tree.{Tree}
 use Rattle.tree_core.specs.Sound.{IsSoundTree}
 use Rattle.tree_core.specs.Snapshots.{IsSnapshotOf}
-use Rattle.tree_core.specs.Journal.{Journaled, IsLawful, IsLawfulFrom, IsPast, last_place, now, stands_for, tree_after}
+use Rattle.tree_core.specs.Journal.{Journaled, IsLawful, IsLawfulFrom, IsPast, cut_off, last_place, now, stands_for}
+use Rattle.tree_core.specs.Journal.{tree_after}
 
 -- a journal that is cut behind its front: the tree at the cut is sound, and the rest is lawful from it and leads where
 -- the whole journal leads. So each call of the rest is answered as in the whole journal
@@ -38,3 +39,17 @@ pub record IsWhole (s : Journaled) (past : List Entry) : Type 0 where
 abbrev pub PastsMakeWhole : Type 0
 PastsMakeWhole =
     (s : Journaled) (past : List Entry) → IsPast s.start s.place past → IsLawfulFrom s.start s.entries → IsWhole s past
+
+-- a state and its fork, each after entries of its own: the replies are the same, and so are the trees that they lead to
+-- and the last sequence numbers
+pub record AreAlike (s : Journaled) (es fs : List Entry) : Type 0 where
+  pub replies : map (λ e. e.reply) es ≡ map (λ e. e.reply) fs
+  pub trees : now (record s { entries = s.entries ++ es }) ≡ now (record (cut_off s) { entries = fs })
+  pub places :
+      last_place (record s { entries = s.entries ++ es }) ≡ last_place (record (cut_off s) { entries = fs })
+
+-- both are alike after the same calls
+abbrev pub ForksAnswerAlike : Type 0
+ForksAnswerAlike =
+    (s : Journaled) (es fs : List Entry) → map (λ e. e.call) es ≡ map (λ e. e.call) fs
+    → IsLawfulFrom s.start (s.entries ++ es) → IsLawfulFrom (now s) fs → AreAlike s es fs

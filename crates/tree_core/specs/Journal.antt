@@ -1,5 +1,6 @@
 -- Journals, and what they stand for.
-use Rattle.std.specs.Prelude.{◌≡◌, ℕ, ◌+◌, ◌^◌, ◌≤◌, ◌⊎◌, List, [], ◌∷◌, ◌++◌, ⊤, Option, option_map, length}
+use Rattle.std.specs.Prelude.{◌≡◌, ℕ, ◌+◌, ◌-◌, ◌^◌, ◌≤◌, ◌⊎◌, List, [], ◌∷◌, ◌++◌, ⊤, Option, None, option_map, length}
+use Rattle.std.specs.Prelude.{if◌then◌else◌, nat_le, slice_get}
 use Rattle.tree_paths.specs.declared.limits.Limits.{Limits}
 use Rattle.instance_table.specs.Instances.{instance_of}
 use Rattle.tree_core.specs.declared.reply.Entry.{Entry}
@@ -48,6 +49,10 @@ with_entry s e = record s { entries = s.entries ++ e ∷ [] }
 -- a state whose journal is cut
 abbrev pub cut_off : Journaled → Journaled
 cut_off s = record { start = now s; place = last_place s; entries = [] }
+
+-- the entry with a sequence number, where one since the cut has it
+abbrev pub entry_at : Journaled → ℕ → Option Entry
+entry_at s place = if nat_le place s.place then None else slice_get s.entries (place - s.place - 1)
 
 -- the journal is full: there are as many entries since the cut as the limit says, or all sequence numbers were given
 abbrev pub IsSpent : Journaled → Type 0

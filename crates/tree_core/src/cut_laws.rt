@@ -1,6 +1,6 @@
 //! Laws of journals that are cut. Each is a function that does nothing, and its contract is the law.
 
-ghost use Rattle.tree_core.specs.CutLaws.{CutsKeepAnswers, PastsMakeWhole, SnapshotsTellAll};
+ghost use Rattle.tree_core.specs.CutLaws.{CutsKeepAnswers, ForksAnswerAlike, PastsMakeWhole, SnapshotsTellAll};
 
 use crate::turn_laws::trees_are_sound;
 
@@ -23,3 +23,9 @@ pub fn pasts_make_whole()
 {
     trees_are_sound();
 }
+
+/// A law: to the same later calls a state and its fork give the same replies, and both then have the same tree and the
+/// same last sequence number. Only a full journal can refuse a call of one alone, as the fork's is empty at first.
+pub fn forks_answer_alike()
+    ensures { ForksAnswerAlike }
+{}

@@ -115,6 +115,24 @@ impl FileSystem {
         })
     }
 
+    /// The same tree once more, with buffers of its own.
+    pub fn copy(&self) -> Result<FileSystem, Refusal>
+        ensures ok { IfOk result (λ m. tree_in m ≡ tree_in self.now) }
+        ensures err { IfErr result (λ refusal. refusal ≡ Enomem) }
+    {
+        Ok(FileSystem {
+            alloc: self.alloc,
+            limits: self.limits,
+            table: self.table.copy()?,
+            next_number: self.next_number,
+            next_cookie: self.next_cookie,
+            next_id: self.next_id,
+            instances: self.instances.copy()?,
+            notices: Notices::new(self.alloc),
+            staging: Staging::new(self.alloc),
+        })
+    }
+
     /// A snapshot of the tree after the entry with this sequence number.
     pub fn snapshot(&self, place: u64) -> Result<Snapshot, Refusal>
         ensures ok { IfOk result (IsSnapshotOf (tree_in self.now) place) }

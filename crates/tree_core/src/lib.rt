@@ -11,7 +11,7 @@ mod state;
 mod turn_laws;
 
 pub use call::Call;
-pub use cut_laws::{cuts_keep_answers, pasts_make_whole, snapshots_tell_all};
+pub use cut_laws::{cuts_keep_answers, forks_answer_alike, pasts_make_whole, snapshots_tell_all};
 pub use queue_laws::{
     bytes_are_of_records, closed_instances_hear_nothing, events_are_accounted_for,
     reads_are_in_order,

@@ -7,7 +7,8 @@ ghost use Rattle.tree_core.specs.Histories.{pumped};
 ghost use Rattle.tree_core.specs.Applied.{Applies, receipt_of};
 ghost use Rattle.tree_core.specs.Calls.{IsKeptAs, IsSpelled, takes_memory};
 ghost use Rattle.tree_core.specs.QueueLaws.{RecordsAreEvents};
-ghost use Rattle.tree_core.specs.Journal.{HasPast, IsLawfulFrom, cut_off, last_place, now, opened, waiting_in};
+ghost use Rattle.tree_core.specs.Journal.{HasPast, IsLawfulFrom, cut_off, entry_at, last_place, now, opened};
+ghost use Rattle.tree_core.specs.Journal.{waiting_in};
 ghost use Rattle.tree_core.specs.Snapshots.{IsSnapshotOf};
 ghost use Rattle.tree_core.specs.Sound.{IsSoundTree};
 ghost use Rattle.std.specs.Option.{option_copied};
@@ -25,6 +26,7 @@ use std::alloc::{AllocError, Global};
 use std::marker::Model;
 use tree_paths::{Limits, Refusal};
 
+mod forking;
 mod paths;
 mod peeking;
 
@@ -233,6 +235,15 @@ impl State {
         ensures { option_copied result ≡ last_or None self.now.entries }
     {
         self.journal.last()
+    }
+
+    /// The entry with this sequence number. `None` where no entry since the last cut has it. It takes constant time.
+    pub fn entry(&self, place: u64) -> Option<&Entry>
+        ensures { option_copied result ≡ entry_at self.now place }
+    {
+        let since_cut = place.checked_sub(self.snapshot.place)?;
+        let index = since_cut.checked_sub(1)?;
+        self.journal.get(index as usize)
     }
 
     /// The sequence number of the last entry, whether it was cut off or not: 0 where there is none.
