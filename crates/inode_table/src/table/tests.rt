@@ -346,17 +346,30 @@ impl Calls {
             Step::Counts(nodes) => Ok(self.table.nodes.len() == nodes),
         }
     }
+
+    // The index of the first step that fails, if any.
+    fn failed(&mut self, steps: &[Step]) -> Result<Option<usize>, Refusal> {
+        for (index, step) in steps.iter().enumerate() {
+            if !self.step(*step)? {
+                return Ok(Some(index));
+            }
+        }
+        Ok(None)
+    }
+
+    // The same calls, made on a copy of the table.
+    fn copy(&self) -> Result<Calls, Refusal> {
+        Ok(Calls {
+            alloc: self.alloc,
+            table: self.table.copy()?,
+        })
+    }
 }
 
 // The index of the first step that fails, if any. The steps begin with a new table.
 fn failed(alloc: Global, steps: &[Step]) -> Result<Option<usize>, Refusal> {
     let mut calls = Calls::new(alloc)?;
-    for (place, step) in steps.iter().enumerate() {
-        if !calls.step(*step)? {
-            return Ok(Some(place));
-        }
-    }
-    Ok(None)
+    calls.failed(steps)
 }
 
 #[test]
@@ -504,6 +517,54 @@ fn a_file_is_written_in_place(rt: HostRuntime) -> Result<(), Fail> {
         Step::Holds("/f", "\0x\0\0"),
     ];
     assert_eq!(rt; failed(rt.alloc(), &steps)?, None);
+    Ok(())
+}
+
+// A table with a directory, a file of two paths, and a free slot before them.
+fn linked(alloc: Global) -> Result<Calls, Refusal> {
+    let mut calls = Calls::new(alloc)?;
+    calls.failed(&[
+        Step::Create("/lost", 2),
+        Step::Mkdir("/d", 3),
+        Step::Create("/d/f", 4),
+        Step::Link("/d/f", "/g"),
+        Step::Write("/g", 0, "shared"),
+        Step::Unlink("/lost"),
+    ])?;
+    Ok(calls)
+}
+
+// What that table holds.
+const LINKED: [Step; 7] = [
+    Step::Lists("/", "d g "),
+    Step::Lists("/d", "f "),
+    Step::Has("/d", Kind::Directory, 0o750, 1),
+    Step::Is("/d/f", 4),
+    Step::Has("/g", Kind::Regular, 0o644, 2),
+    Step::Holds("/d/f", "shared"),
+    Step::Counts(3),
+];
+
+// Changes each part of it.
+const CHANGED: [Step; 6] = [
+    Step::Write("/g", 0, "S"),
+    Step::Unlink("/d/f"),
+    Step::Mkdir("/d/e", 5),
+    Step::SetMode("/d", 0o700),
+    Step::Lists("/d", "e "),
+    Step::Holds("/g", "Shared"),
+];
+
+#[test]
+fn a_copy_shares_nothing(rt: HostRuntime) -> Result<(), Fail> {
+    let mut calls = linked(rt.alloc())?;
+    let mut copy = calls.copy()?;
+    assert_eq!(rt; copy.failed(&LINKED)?, None);
+    assert_eq!(rt; copy.failed(&CHANGED)?, None);
+    assert_eq!(rt; calls.failed(&LINKED)?, None);
+    let mut other = calls.copy()?;
+    assert_eq!(rt; calls.failed(&CHANGED)?, None);
+    assert_eq!(rt; other.failed(&LINKED)?, None);
     Ok(())
 }
 
