@@ -8,7 +8,7 @@ use Rattle.inode_table.specs.declared.node.Node.{Node}
 use Rattle.inode_table.specs.Copies.{IsNodeCopy}
 use Rattle.inode_table.specs.Flat.{names_in}
 use Rattle.inode_table.specs.Kept.{rows_of, row_of, IsTable}
-use Rattle.inode_table.specs.Rows.{Body, File, Names, Label, Row, What, row_under, child, what, shown, key_in, same_label}
+use Rattle.inode_table.specs.Rows.{Body, File, Names, Label, Row, What, child, what, shown, key_in, same_label}
 use Rattle.inode_table.specs.Tree.{Tree}
 use Rattle.inode_table.specs.TableWorld.{world_in}
 use Rattle.inode_table.specs.Walk.{walk}
