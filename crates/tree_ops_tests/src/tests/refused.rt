@@ -1,5 +1,5 @@
-//! Fault injection: each allocation of `carry_out`, of a table's rows and of its copy fails in turn. Also tested are the
-//! calls that take no memory. Without the shim each is called once.
+//! Fault injection: each allocation of `carry_out`, of a table's rows and of its copy fails in turn. Also tested are
+//! the calls that take no memory. Without the shim each is called once.
 
 use super::*;
 use inode_table::FileRow;
