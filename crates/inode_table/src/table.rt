@@ -20,6 +20,7 @@ use std::marker::Model;
 use tree_paths::Refusal;
 
 mod changing;
+mod copying;
 mod files;
 mod flat;
 mod keyed;

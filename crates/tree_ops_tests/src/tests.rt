@@ -55,6 +55,16 @@ impl Calls {
         })
     }
 
+    // The same calls, to be made on a copy of the table.
+    fn fork(&self) -> Result<Calls, Refusal> {
+        Ok(Calls {
+            alloc: self.alloc,
+            table: self.table.copy()?,
+            counts: self.counts,
+            limits: self.limits,
+        })
+    }
+
     /// Says that all cookies are spent.
     fn spend_cookies(&mut self) {
         self.counts.next_cookie = 0;

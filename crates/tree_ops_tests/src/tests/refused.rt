@@ -1,5 +1,5 @@
-//! Fault injection: each allocation of `carry_out`, and of a table's rows, fails in turn. Also tested are the calls
-//! that take no memory. Without the shim each is called once.
+//! Fault injection: each allocation of `carry_out`, of a table's rows and of its copy fails in turn. Also tested are
+//! the calls that take no memory. Without the shim each is called once.
 
 use super::*;
 use inode_table::FileRow;
@@ -187,6 +187,37 @@ fn each_growth_of_the_rows(rt: HostRuntime) -> Result<(), Fail> {
         let is_well = matches!(count, Some(count) if (count > 0) == has_refuser);
         assert!(rt; is_well, "{count:?}");
     }
+    Ok(())
+}
+
+// How many allocations a copy of a table takes. Each was made to fail, with the table as it was. `None` if a result was
+// wrong.
+fn copy_refused_in_turn(alloc: Global) -> Result<Option<u32>, Refusal> {
+    let twin = prepared(alloc)?;
+    let calls = prepared(alloc)?;
+    for k in 1..MOST {
+        let _ = refuse(alloc, k);
+        let told = calls.table.copy();
+        let is_refused = was_refused(alloc);
+        if !are_alike(&calls.table, &twin.table)? {
+            return Ok(None);
+        }
+        match (told, is_refused) {
+            (Err(Refusal::Enomem), true) => {}
+            (Ok(copy), false) if are_alike(&copy, &twin.table)? => return Ok(Some(k - 1)),
+            _ => return Ok(None),
+        }
+    }
+    Ok(None)
+}
+
+#[test]
+fn each_allocation_of_a_copy(rt: HostRuntime) -> Result<(), Fail> {
+    let alloc = rt.alloc();
+    let has_refuser = has_refuser(alloc);
+    let count = copy_refused_in_turn(alloc)?;
+    let is_well = matches!(count, Some(count) if (count > 0) == has_refuser);
+    assert!(rt; is_well, "{count:?}");
     Ok(())
 }
 

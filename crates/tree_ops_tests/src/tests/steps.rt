@@ -127,15 +127,19 @@ fn is_step_well(calls: &mut Calls, step: Step) -> Result<bool, Refusal> {
     }
 }
 
-// The index of the first step that fails, if any. The steps begin with a new table.
-fn failed(alloc: Global, steps: &[Step]) -> Result<Option<usize>, Refusal> {
-    let mut calls = Calls::new(alloc, Limits::full())?;
+// The index of the first step that fails, if any.
+fn failed_of(calls: &mut Calls, steps: &[Step]) -> Result<Option<usize>, Refusal> {
     for (place, it) in steps.iter().enumerate() {
-        if !is_step_well(&mut calls, *it)? {
+        if !is_step_well(calls, *it)? {
             return Ok(Some(place));
         }
     }
     Ok(None)
+}
+
+// The same of steps that begin with a new table.
+fn failed(alloc: Global, steps: &[Step]) -> Result<Option<usize>, Refusal> {
+    failed_of(&mut Calls::new(alloc, Limits::full())?, steps)
 }
 
 #[test]
@@ -355,5 +359,56 @@ fn content_is_set(rt: HostRuntime) -> Result<(), Fail> {
         sets_content(&mut table, &path, bytes, b"bytes"),
         Ok(true),
     );
+    Ok(())
+}
+
+// A table with a directory, a file of two paths, and a free slot before them.
+fn linked(alloc: Global) -> Result<Calls, Refusal> {
+    let mut calls = Calls::new(alloc, Limits::full())?;
+    failed_of(
+        &mut calls,
+        &[
+            Step::Create("/lost"),
+            Step::Mkdir("/d"),
+            Step::Create("/d/f"),
+            Step::Link("/d/f", "/g"),
+            Step::Write("/g", 0, "shared"),
+            Step::Unlink("/lost"),
+        ],
+    )?;
+    Ok(calls)
+}
+
+// What that table holds.
+const LINKED: [Step; 7] = [
+    Step::Lists("/", "d g "),
+    Step::Lists("/d", "f "),
+    Step::Has("/d", Kind::Directory, 0o750, 1),
+    Step::Is("/d/f", 4),
+    Step::Has("/g", Kind::Regular, 0o644, 2),
+    Step::Holds("/d/f", "shared"),
+    Step::Counts(3),
+];
+
+// Changes each part of it.
+const CHANGED: [Step; 6] = [
+    Step::Write("/g", 0, "S"),
+    Step::Unlink("/d/f"),
+    Step::Mkdir("/d/e"),
+    Step::Chmod("/d", 0o700),
+    Step::Lists("/d", "e "),
+    Step::Holds("/g", "Shared"),
+];
+
+#[test]
+fn a_copy_shares_nothing(rt: HostRuntime) -> Result<(), Fail> {
+    let mut calls = linked(rt.alloc())?;
+    let mut copy = calls.fork()?;
+    equal(&rt, failed_of(&mut copy, &LINKED), Ok(None));
+    equal(&rt, failed_of(&mut copy, &CHANGED), Ok(None));
+    equal(&rt, failed_of(&mut calls, &LINKED), Ok(None));
+    let mut other = calls.fork()?;
+    equal(&rt, failed_of(&mut calls, &CHANGED), Ok(None));
+    equal(&rt, failed_of(&mut other, &LINKED), Ok(None));
     Ok(())
 }
