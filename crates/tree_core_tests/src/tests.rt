@@ -10,6 +10,7 @@ mod paths;
 mod peeks;
 mod refusals;
 mod refused;
+mod steps;
 
 use inode_table::Kind;
 use record_codec::{Bytes, Event, Name, encode};
