@@ -141,7 +141,7 @@ fn what_a_tree_says_of_itself(rt: HostRuntime) -> Result<(), Fail> {
 // The call is plain, or one that pipes are for, as wanted.
 fn is_plain(rt: &impl Abort, call: Result<Call, Refusal>, wanted: bool) {
     let call = call.expect(rt, "a call");
-    assert_eq!(rt; call.is_plain(), wanted);
+    equal(rt, call.is_plain(), wanted);
 }
 
 #[test]

@@ -7,7 +7,7 @@ use std::test::Fail;
 
 // The cut answers this sequence number, and the journal is empty.
 fn cuts(rt: &impl Abort, state: &mut State, place: u64) {
-    assert_eq!(rt; state.cut(), Ok(place));
+    equal(rt, state.cut(), Ok(place));
     equal(rt, state.journal().len(), 0);
 }
 
@@ -151,7 +151,8 @@ fn a_cut_makes_room(rt: HostRuntime) -> Result<(), Fail> {
 // The call answers the same on both trees, with the same sequence number. Whether it gave records.
 fn both_tell(rt: &impl Abort, one: &mut State, other: &mut State, call: &Call) -> bool {
     let told = made(one, call);
-    assert_eq!(rt; made(other, call), told);
+    let other = made(other, call);
+    holds(rt, "both trees answer the same", other == told);
     matches!(
         told,
         Ok(Receipt {

@@ -157,7 +157,7 @@ fn pumping(
         instance: room.0,
         bytes: room.1,
     };
-    assert!(rt; is_of(state, &call, &receipt, &kept));
+    holds(rt, "it is its entry", is_of(state, &call, &receipt, &kept));
     is_wanted(rt, receipt.reply, wanted);
     events
 }
@@ -172,7 +172,7 @@ fn pumps(rt: &impl Abort, state: &mut State, alloc: Global, room: (u32, u32), li
 // The pump is refused so, and gives no records.
 fn refuses_to_pump(rt: &impl Abort, state: &mut State, room: (u32, u32), refusal: Refusal) {
     let events = pumping(rt, state, room, Ok(Reply::Refused(refusal)));
-    assert!(rt; events.is_none());
+    holds(rt, "no records", events.is_none());
 }
 
 #[test]
@@ -235,7 +235,7 @@ fn is_copied(call: &Call) -> bool {
 // The call and its copy are equal.
 fn copies(rt: &impl Abort, call: Result<Call, Refusal>) {
     let call = call.expect(rt, "a call");
-    assert!(rt; is_copied(&call));
+    holds(rt, "the copy is equal", is_copied(&call));
 }
 
 #[test]

@@ -30,8 +30,8 @@ fn reads(rt: &impl Abort, state: &State, path: &Path, offset: u64, wanted: &[u8]
 // So many instances have a record waiting, and a buffer for three numbers then has these.
 fn ready(rt: &impl Abort, state: &State, count: usize, ids: [u32; 3]) {
     let mut out = [9; 3];
-    assert_eq!(rt; state.ready(&mut out), count);
-    assert_eq!(rt; out, ids);
+    equal(rt, state.ready(&mut out), count);
+    equal(rt, out, ids);
 }
 
 #[test]
