@@ -10,6 +10,7 @@ mod paths;
 mod peeks;
 mod refusals;
 mod refused;
+mod steps;
 
 use inode_table::Kind;
 use record_codec::{Bytes, Event, Name, encode};
@@ -73,7 +74,7 @@ fn answered(state: &mut State, call: Result<Call, Refusal>) -> Result<(Reply, bo
 // The reply is the one that is wanted.
 fn is_wanted(rt: &impl Abort, reply: Reply, wanted: Result<Reply, Refusal>) {
     let wanted = wanted.expect(rt, "a reply");
-    assert_eq!(rt; reply, wanted);
+    equal(rt, reply, wanted);
 }
 
 // The call answers what is wanted, and so the journal has it.
@@ -85,43 +86,41 @@ fn tells(
 ) {
     let (reply, is_journaled) = answered(state, call).expect(rt, "a receipt");
     is_wanted(rt, reply, wanted);
-    assert!(rt; is_journaled);
+    holds(rt, "the journal has it", is_journaled);
 }
 
 // The call is not refused.
 fn does(rt: &impl Abort, state: &mut State, call: Result<Call, Refusal>) {
     let told = answered(state, call);
-    assert!(rt;
-        !matches!(told, Ok((Reply::Refused(_), _)) | Err(_)),
-        "{told:?}"
-    );
+    let is_done = !matches!(told, Ok((Reply::Refused(_), _)) | Err(_));
+    holds(rt, "the call is not refused", is_done);
 }
 
 // The call is refused so, and what waits for the first two instances is as before.
 fn refuses(rt: &impl Abort, state: &mut State, call: Result<Call, Refusal>, refusal: Refusal) {
     let before = (state.waiting(1), state.waiting(2));
     tells(rt, state, call, Ok(Reply::Refused(refusal)));
-    assert_eq!(rt; (state.waiting(1), state.waiting(2)), before);
+    equal(rt, (state.waiting(1), state.waiting(2)), before);
 }
 
 // So many records wait for the instance.
 fn waits(rt: &impl Abort, state: &State, instance: u32, count: usize) {
-    assert_eq!(rt; state.waiting(instance), Some(count));
+    equal(rt, state.waiting(instance), Some(count));
 }
 
 // There is no such instance.
 fn is_not_open(rt: &impl Abort, state: &State, instance: u32) {
-    assert_eq!(rt; state.waiting(instance), None);
+    equal(rt, state.waiting(instance), None);
 }
 
 // The journal has so many entries.
 fn journals(rt: &impl Abort, state: &State, count: usize) {
-    assert_eq!(rt; state.journal().len(), count);
+    equal(rt, state.journal().len(), count);
 }
 
 // The journal takes so many more entries.
 fn has_room_for(rt: &impl Abort, state: &State, count: u64) {
-    assert_eq!(rt; state.free_entries(), count);
+    equal(rt, state.free_entries(), count);
 }
 
 // The instance has just these records to read.

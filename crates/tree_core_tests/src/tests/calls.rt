@@ -1,5 +1,6 @@
 //! Each call with its answer.
 
+use super::steps::{Ask, Gives, Step, call, takes};
 use super::*;
 use std::test::Fail;
 
@@ -7,25 +8,22 @@ use std::test::Fail;
 fn files_are_made_and_written(rt: HostRuntime) -> Result<(), Fail> {
     let alloc = rt.alloc();
     let tree = &mut opened(alloc, Limits::full())?;
-    tells(&rt, tree, create(alloc, "/f"), number(2));
-    tells(&rt, tree, write(alloc, "/f", 3, b"ab"), count(2));
-    tells(
+    takes(
         &rt,
         tree,
-        read_file(alloc, "/f", 0, 10),
-        contents(alloc, b"\0\0\0ab"),
+        alloc,
+        &[
+            Step::Tells(Ask::Create("/f"), Gives::Number(2)),
+            Step::Tells(Ask::Write("/f", 3, "ab"), Gives::Count(2)),
+            Step::Tells(Ask::ReadFile("/f", 0, 10), Gives::Contents("\0\0\0ab")),
+            Step::Tells(Ask::ReadFile("/f", 9, 1), Gives::Contents("")),
+            Step::Tells(Ask::Stat("/f"), Gives::File(2, 0o644, 1, 5)),
+            Step::Tells(Ask::Stat("/"), Gives::Directory(1, 0o755)),
+            Step::Tells(Ask::Truncate("/f", 1), Gives::Filed),
+            Step::Tells(Ask::Chmod("/f", 0o600), Gives::Filed),
+            Step::Tells(Ask::Stat("/f"), Gives::File(2, 0o600, 1, 1)),
+        ],
     );
-    tells(
-        &rt,
-        tree,
-        read_file(alloc, "/f", 9, 1),
-        contents(alloc, b""),
-    );
-    tells(&rt, tree, stat(alloc, "/f"), file(2, 0o644, 1, 5));
-    tells(&rt, tree, stat(alloc, "/"), directory(1, 0o755));
-    tells(&rt, tree, truncate(alloc, "/f", 1), filed());
-    tells(&rt, tree, chmod(alloc, "/f", 0o600), filed());
-    tells(&rt, tree, stat(alloc, "/f"), file(2, 0o600, 1, 1));
     Ok(())
 }
 
@@ -33,17 +31,24 @@ fn files_are_made_and_written(rt: HostRuntime) -> Result<(), Fail> {
 fn names_are_given_and_taken(rt: HostRuntime) -> Result<(), Fail> {
     let alloc = rt.alloc();
     let tree = &mut opened(alloc, Limits::full())?;
-    tells(&rt, tree, mkdir(alloc, "/d"), number(2));
-    tells(&rt, tree, create(alloc, "/d/f"), number(3));
-    tells(&rt, tree, link(alloc, "/d/f", "/g"), filed());
-    tells(&rt, tree, stat(alloc, "/g"), file(3, 0o644, 2, 0));
-    tells(&rt, tree, unlink(alloc, "/d/f"), filed());
-    tells(&rt, tree, rename(alloc, "/g", "/h"), filed());
-    tells(&rt, tree, list(alloc, "/"), names(alloc, "/d/h"));
-    tells(&rt, tree, rmdir(alloc, "/d"), filed());
-    tells(&rt, tree, list(alloc, "/"), names(alloc, "/h"));
-    tells(&rt, tree, stat(alloc, "/h"), file(3, 0o644, 1, 0));
-    tells(&rt, tree, mkdir(alloc, "/d"), number(4));
+    takes(
+        &rt,
+        tree,
+        alloc,
+        &[
+            Step::Tells(Ask::Mkdir("/d"), Gives::Number(2)),
+            Step::Tells(Ask::Create("/d/f"), Gives::Number(3)),
+            Step::Tells(Ask::Link("/d/f", "/g"), Gives::Filed),
+            Step::Tells(Ask::Stat("/g"), Gives::File(3, 0o644, 2, 0)),
+            Step::Tells(Ask::Unlink("/d/f"), Gives::Filed),
+            Step::Tells(Ask::Rename("/g", "/h"), Gives::Filed),
+            Step::Tells(Ask::List("/"), Gives::Names("/d/h")),
+            Step::Tells(Ask::Rmdir("/d"), Gives::Filed),
+            Step::Tells(Ask::List("/"), Gives::Names("/h")),
+            Step::Tells(Ask::Stat("/h"), Gives::File(3, 0o644, 1, 0)),
+            Step::Tells(Ask::Mkdir("/d"), Gives::Number(4)),
+        ],
+    );
     Ok(())
 }
 
@@ -51,29 +56,26 @@ fn names_are_given_and_taken(rt: HostRuntime) -> Result<(), Fail> {
 fn instances_are_made_and_closed(rt: HostRuntime) -> Result<(), Fail> {
     let alloc = rt.alloc();
     let tree = &mut opened(alloc, Limits::full())?;
-    tells(&rt, tree, init(10), instance(1));
-    tells(&rt, tree, init_piped(10), instance(2));
-    tells(&rt, tree, watch(alloc, 1, "/", 0x100), wd(1));
-    tells(&rt, tree, watch(alloc, 2, "/", 0x40), wd(1));
-    tells(&rt, tree, create(alloc, "/f"), number(2));
-    tells(&rt, tree, rename(alloc, "/f", "/g"), filed());
-    tells(
+    takes(
         &rt,
         tree,
-        read(1, 32),
-        records(alloc, &[(1, 0x100, 0, "f")]),
+        alloc,
+        &[
+            Step::Tells(Ask::Init(10), Gives::Instance(1)),
+            Step::Tells(Ask::InitPiped(10), Gives::Instance(2)),
+            Step::Tells(Ask::Watch(1, "/", 0x100), Gives::Wd(1)),
+            Step::Tells(Ask::Watch(2, "/", 0x40), Gives::Wd(1)),
+            Step::Tells(Ask::Create("/f"), Gives::Number(2)),
+            Step::Tells(Ask::Rename("/f", "/g"), Gives::Filed),
+            Step::Tells(Ask::Read(1, 32), Gives::One((1, 0x100, 0, "f"))),
+            Step::Tells(Ask::Pump(2, 32), Gives::One((1, 0x40, 1, "f"))),
+            Step::Tells(Ask::Unwatch(1, 1), Gives::Done),
+            Step::Tells(Ask::Read(1, 16), Gives::One((1, 0x8000, 0, ""))),
+            Step::Tells(Ask::Close(1), Gives::Done),
+            Step::Tells(Ask::Close(2), Gives::Done),
+            Step::Tells(Ask::Init(10), Gives::Instance(3)),
+        ],
     );
-    tells(&rt, tree, pump(2, 32), records(alloc, &[(1, 0x40, 1, "f")]));
-    tells(&rt, tree, unwatch(1, 1), done());
-    tells(
-        &rt,
-        tree,
-        read(1, 16),
-        records(alloc, &[(1, 0x8000, 0, "")]),
-    );
-    tells(&rt, tree, close(1), done());
-    tells(&rt, tree, close(2), done());
-    tells(&rt, tree, init(10), instance(3));
     Ok(())
 }
 
@@ -93,10 +95,17 @@ fn first_record(alloc: Global) -> Result<Reply, Refusal> {
 fn five_calls(rt: HostRuntime) -> Result<(), Fail> {
     let alloc = rt.alloc();
     let tree = &mut opened(alloc, Limits::full())?;
-    tells(&rt, tree, mkdir(alloc, "/d"), number(2));
-    tells(&rt, tree, init(10), instance(1));
-    tells(&rt, tree, watch(alloc, 1, "/d", 0x100), wd(1));
-    tells(&rt, tree, create(alloc, "/d/f"), number(3));
+    takes(
+        &rt,
+        tree,
+        alloc,
+        &[
+            Step::Tells(Ask::Mkdir("/d"), Gives::Number(2)),
+            Step::Tells(Ask::Init(10), Gives::Instance(1)),
+            Step::Tells(Ask::Watch(1, "/d", 0x100), Gives::Wd(1)),
+            Step::Tells(Ask::Create("/d/f"), Gives::Number(3)),
+        ],
+    );
     tells(&rt, tree, read(1, ALL), first_record(alloc));
     journals(&rt, tree, 5);
     Ok(())
@@ -106,14 +115,21 @@ fn five_calls(rt: HostRuntime) -> Result<(), Fail> {
 fn what_a_tree_says_of_itself(rt: HostRuntime) -> Result<(), Fail> {
     let alloc = rt.alloc();
     let tree = &mut opened(alloc, Limits::full())?;
-    journals(&rt, tree, 0);
-    does(&rt, tree, create(alloc, "/f"));
-    does(&rt, tree, init(10));
-    does(&rt, tree, watch(alloc, 1, "/f", 0x2));
-    does(&rt, tree, truncate(alloc, "/f", 0));
-    waits(&rt, tree, 1, 1);
-    is_not_open(&rt, tree, 0);
-    is_not_open(&rt, tree, 2);
+    takes(
+        &rt,
+        tree,
+        alloc,
+        &[
+            Step::Journals(0),
+            Step::Does(Ask::Create("/f")),
+            Step::Does(Ask::Init(10)),
+            Step::Does(Ask::Watch(1, "/f", 0x2)),
+            Step::Does(Ask::Truncate("/f", 0)),
+            Step::Waits(1, 1),
+            Step::IsNotOpen(0),
+            Step::IsNotOpen(2),
+        ],
+    );
     watch_it(&rt, tree, 2, &[1]);
     watch_it(&rt, tree, 1, &[]);
     watch_it(&rt, tree, 3, &[]);
@@ -125,20 +141,24 @@ fn what_a_tree_says_of_itself(rt: HostRuntime) -> Result<(), Fail> {
 // The call is plain, or one that pipes are for, as wanted.
 fn is_plain(rt: &impl Abort, call: Result<Call, Refusal>, wanted: bool) {
     let call = call.expect(rt, "a call");
-    assert_eq!(rt; call.is_plain(), wanted);
+    equal(rt, call.is_plain(), wanted);
 }
 
 #[test]
 fn plain_calls(rt: HostRuntime) -> Result<(), Fail> {
     let alloc = rt.alloc();
-    is_plain(&rt, mkdir(alloc, "/d"), true);
-    is_plain(&rt, init(1), true);
-    is_plain(&rt, init_piped(1), false);
-    is_plain(&rt, watch(alloc, 1, "/d", 1), true);
-    is_plain(&rt, unwatch(1, 1), true);
-    is_plain(&rt, read(1, 1), true);
-    is_plain(&rt, pump(1, 1), false);
-    is_plain(&rt, close(1), true);
+    for (ask, is_it) in [
+        (Ask::Mkdir("/d"), true),
+        (Ask::Init(1), true),
+        (Ask::InitPiped(1), false),
+        (Ask::Watch(1, "/d", 1), true),
+        (Ask::Unwatch(1, 1), true),
+        (Ask::Read(1, 1), true),
+        (Ask::Pump(1, 1), false),
+        (Ask::Close(1), true),
+    ] {
+        is_plain(&rt, call(alloc, ask), is_it);
+    }
     Ok(())
 }
 

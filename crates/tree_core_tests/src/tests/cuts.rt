@@ -1,12 +1,13 @@
 //! Cuts: the tree goes on as if there had been none.
 
 use super::dice::{Dice, guessed};
+use super::steps::{Ask, Step, takes};
 use super::*;
 use std::test::Fail;
 
 // The cut answers this sequence number, and the journal is empty.
 fn cuts(rt: &impl Abort, state: &mut State, place: u64) {
-    assert_eq!(rt; state.cut(), Ok(place));
+    equal(rt, state.cut(), Ok(place));
     equal(rt, state.journal().len(), 0);
 }
 
@@ -63,9 +64,16 @@ fn keeps(state: &State, at: usize, record: Record) -> bool {
 // A queue of two records was offered four: the last two are lost.
 fn overfull(rt: &impl Abort, alloc: Global) -> Result<State, Refusal> {
     let mut tree = opened(alloc, Limits::full())?;
-    does(rt, &mut tree, init(2));
-    does(rt, &mut tree, mkdir(alloc, "/d"));
-    does(rt, &mut tree, watch(alloc, 1, "/d", 0x100));
+    takes(
+        rt,
+        &mut tree,
+        alloc,
+        &[
+            Step::Does(Ask::Init(2)),
+            Step::Does(Ask::Mkdir("/d")),
+            Step::Does(Ask::Watch(1, "/d", 0x100)),
+        ],
+    );
     for path in ["/d/a", "/d/b", "/d/c", "/d/d"] {
         does(rt, &mut tree, create(alloc, path));
     }
@@ -106,10 +114,17 @@ fn what_waited_at_a_cut_is_read(rt: HostRuntime) -> Result<(), Fail> {
 fn events_merge_over_a_cut(rt: HostRuntime) -> Result<(), Fail> {
     let alloc = rt.alloc();
     let tree = &mut opened(alloc, Limits::full())?;
-    does(&rt, tree, init(10));
-    does(&rt, tree, create(alloc, "/f"));
-    does(&rt, tree, watch(alloc, 1, "/f", 0x2));
-    does(&rt, tree, write(alloc, "/f", 0, b"a"));
+    takes(
+        &rt,
+        tree,
+        alloc,
+        &[
+            Step::Does(Ask::Init(10)),
+            Step::Does(Ask::Create("/f")),
+            Step::Does(Ask::Watch(1, "/f", 0x2)),
+            Step::Does(Ask::Write("/f", 0, "a")),
+        ],
+    );
     cuts(&rt, tree, 4);
     tells_at(&rt, tree, 5, write(alloc, "/f", 1, b"b"), count(1));
     hears(&rt, tree, alloc, 1, &[(1, 0x2, 0, "")]);
@@ -136,7 +151,8 @@ fn a_cut_makes_room(rt: HostRuntime) -> Result<(), Fail> {
 // The call answers the same on both trees, with the same sequence number. Whether it gave records.
 fn both_tell(rt: &impl Abort, one: &mut State, other: &mut State, call: &Call) -> bool {
     let told = made(one, call);
-    assert_eq!(rt; made(other, call), told);
+    let other = made(other, call);
+    holds(rt, "both trees answer the same", other == told);
     matches!(
         told,
         Ok(Receipt {

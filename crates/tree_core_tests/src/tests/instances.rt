@@ -1,5 +1,6 @@
 //! Many instances: who receives events, and which numbers are given.
 
+use super::steps::{Ask, Gives, Step, takes};
 use super::*;
 use std::test::Fail;
 
@@ -32,9 +33,16 @@ fn two_of_many_hear(rt: HostRuntime) -> Result<(), Fail> {
     watch_it(&rt, tree, 2, &[1, MOST]);
     does(&rt, tree, truncate(alloc, "/f", 3));
     all_others_are_silent(&rt, tree);
-    hears(&rt, tree, alloc, 1, &[(1, 0x2, 0, "")]);
-    hears(&rt, tree, alloc, MOST, &[(1, 0x2, 0, "")]);
-    hears_nothing(&rt, tree, 1);
+    takes(
+        &rt,
+        tree,
+        alloc,
+        &[
+            Step::Hears(1, (1, 0x2, 0, "")),
+            Step::Hears(MOST, (1, 0x2, 0, "")),
+            Step::HearsNothing(1),
+        ],
+    );
     Ok(())
 }
 
@@ -42,18 +50,32 @@ fn two_of_many_hear(rt: HostRuntime) -> Result<(), Fail> {
 fn numbers_of_closed_instances_stay_taken(rt: HostRuntime) -> Result<(), Fail> {
     let alloc = rt.alloc();
     let tree = &mut many(&rt, alloc)?;
-    refuses(&rt, tree, init(10), Refusal::Emfile);
-    does(&rt, tree, truncate(alloc, "/f", 3));
-    tells(&rt, tree, close(1), done());
+    takes(
+        &rt,
+        tree,
+        alloc,
+        &[
+            Step::Refuses(Ask::Init(10), Refusal::Emfile),
+            Step::Does(Ask::Truncate("/f", 3)),
+            Step::Tells(Ask::Close(1), Gives::Done),
+        ],
+    );
     watch_it(&rt, tree, 2, &[MOST]);
-    is_not_open(&rt, tree, 1);
-    tells(&rt, tree, init(10), instance(129));
-    refuses(&rt, tree, init(10), Refusal::Emfile);
-    refuses(&rt, tree, read(1, ALL), Refusal::Ebadf);
-    hears_nothing(&rt, tree, 129);
-    does(&rt, tree, truncate(alloc, "/f", 0));
-    hears(&rt, tree, alloc, MOST, &[(1, 0x2, 0, "")]);
-    hears_nothing(&rt, tree, 129);
+    takes(
+        &rt,
+        tree,
+        alloc,
+        &[
+            Step::IsNotOpen(1),
+            Step::Tells(Ask::Init(10), Gives::Instance(129)),
+            Step::Refuses(Ask::Init(10), Refusal::Emfile),
+            Step::Refuses(Ask::Read(1, ALL), Refusal::Ebadf),
+            Step::HearsNothing(129),
+            Step::Does(Ask::Truncate("/f", 0)),
+            Step::Hears(MOST, (1, 0x2, 0, "")),
+            Step::HearsNothing(129),
+        ],
+    );
     Ok(())
 }
 
@@ -61,11 +83,18 @@ fn numbers_of_closed_instances_stay_taken(rt: HostRuntime) -> Result<(), Fail> {
 fn who_watches_is_known(rt: HostRuntime) -> Result<(), Fail> {
     let alloc = rt.alloc();
     let tree = &mut opened(alloc, Limits::full())?;
-    does(&rt, tree, create(alloc, "/f"));
-    does(&rt, tree, init(10));
-    does(&rt, tree, init(10));
-    does(&rt, tree, watch(alloc, 2, "/f", 0x2));
-    does(&rt, tree, watch(alloc, 1, "/f", 0x8000_0004));
+    takes(
+        &rt,
+        tree,
+        alloc,
+        &[
+            Step::Does(Ask::Create("/f")),
+            Step::Does(Ask::Init(10)),
+            Step::Does(Ask::Init(10)),
+            Step::Does(Ask::Watch(2, "/f", 0x2)),
+            Step::Does(Ask::Watch(1, "/f", 0x8000_0004)),
+        ],
+    );
     watch_it(&rt, tree, 2, &[1, 2]);
     does(&rt, tree, chmod(alloc, "/f", 0o600));
     watch_it(&rt, tree, 2, &[2]);

@@ -1,5 +1,6 @@
 //! Copies of calls and replies, what is kept of a call, and pumps.
 
+use super::steps::{Ask, Gives, Step, call, reply, takes};
 use super::*;
 use record_codec::Events;
 use std::test::Fail;
@@ -61,17 +62,21 @@ fn pair(alloc: Global) -> Result<(State, State), Refusal> {
 fn calls_are_kept(rt: HostRuntime) -> Result<(), Fail> {
     let alloc = rt.alloc();
     let trees = &mut pair(alloc)?;
-    keeps(&rt, trees, init(10));
-    keeps(&rt, trees, init_piped(10));
-    keeps(&rt, trees, watch(alloc, 1, "/", 0xfff));
-    keeps(&rt, trees, create(alloc, "/f"));
-    keeps(&rt, trees, write(alloc, "/f", 0, b"abc"));
-    keeps(&rt, trees, create(alloc, "/f"));
-    keeps(&rt, trees, rename(alloc, "/f", "/g"));
-    keeps(&rt, trees, read(1, ALL));
-    keeps(&rt, trees, pump(2, 64));
-    keeps(&rt, trees, unwatch(1, 1));
-    keeps(&rt, trees, close(1));
+    for ask in [
+        Ask::Init(10),
+        Ask::InitPiped(10),
+        Ask::Watch(1, "/", 0xfff),
+        Ask::Create("/f"),
+        Ask::Write("/f", 0, "abc"),
+        Ask::Create("/f"),
+        Ask::Rename("/f", "/g"),
+        Ask::Read(1, ALL),
+        Ask::Pump(2, 64),
+        Ask::Unwatch(1, 1),
+        Ask::Close(1),
+    ] {
+        keeps(&rt, trees, call(alloc, ask));
+    }
     Ok(())
 }
 
@@ -107,18 +112,22 @@ fn calls_are_recorded(rt: HostRuntime) -> Result<(), Fail> {
     let alloc = rt.alloc();
     let trees = &mut pair(alloc)?;
     holds(&rt, "no entry", trees.1.last_entry().is_none());
-    records_alike(&rt, trees, init(10));
-    records_alike(&rt, trees, init_piped(10));
-    records_alike(&rt, trees, watch(alloc, 1, "/", 0xfff));
-    records_alike(&rt, trees, create(alloc, "/f"));
-    records_alike(&rt, trees, write(alloc, "/f", 0, b"abc"));
-    records_alike(&rt, trees, read_file(alloc, "/f", 1, 9));
-    records_alike(&rt, trees, list(alloc, "/"));
-    records_alike(&rt, trees, create(alloc, "/f"));
-    records_alike(&rt, trees, read(1, ALL));
-    records_alike(&rt, trees, pump(2, 64));
-    records_alike(&rt, trees, unwatch(1, 1));
-    records_alike(&rt, trees, close(1));
+    for ask in [
+        Ask::Init(10),
+        Ask::InitPiped(10),
+        Ask::Watch(1, "/", 0xfff),
+        Ask::Create("/f"),
+        Ask::Write("/f", 0, "abc"),
+        Ask::ReadFile("/f", 1, 9),
+        Ask::List("/"),
+        Ask::Create("/f"),
+        Ask::Read(1, ALL),
+        Ask::Pump(2, 64),
+        Ask::Unwatch(1, 1),
+        Ask::Close(1),
+    ] {
+        records_alike(&rt, trees, call(alloc, ask));
+    }
     Ok(())
 }
 
@@ -148,7 +157,7 @@ fn pumping(
         instance: room.0,
         bytes: room.1,
     };
-    assert!(rt; is_of(state, &call, &receipt, &kept));
+    holds(rt, "it is its entry", is_of(state, &call, &receipt, &kept));
     is_wanted(rt, receipt.reply, wanted);
     events
 }
@@ -163,17 +172,24 @@ fn pumps(rt: &impl Abort, state: &mut State, alloc: Global, room: (u32, u32), li
 // The pump is refused so, and gives no records.
 fn refuses_to_pump(rt: &impl Abort, state: &mut State, room: (u32, u32), refusal: Refusal) {
     let events = pumping(rt, state, room, Ok(Reply::Refused(refusal)));
-    assert!(rt; events.is_none());
+    holds(rt, "no records", events.is_none());
 }
 
 #[test]
 fn pumps_move_records(rt: HostRuntime) -> Result<(), Fail> {
     let alloc = rt.alloc();
     let tree = &mut opened(alloc, Limits::full())?;
-    does(&rt, tree, init_piped(10));
-    does(&rt, tree, watch(alloc, 1, "/", 0x10c));
-    does(&rt, tree, create(alloc, "/f"));
-    does(&rt, tree, chmod(alloc, "/", 0o700));
+    takes(
+        &rt,
+        tree,
+        alloc,
+        &[
+            Step::Does(Ask::InitPiped(10)),
+            Step::Does(Ask::Watch(1, "/", 0x10c)),
+            Step::Does(Ask::Create("/f")),
+            Step::Does(Ask::Chmod("/", 0o700)),
+        ],
+    );
     let first = [(1, 0x100, 0, "f"), (1, 0x8, 0, "f")];
     pumps(&rt, tree, alloc, (1, 79), &first);
     waits(&rt, tree, 1, 1);
@@ -187,9 +203,16 @@ fn pumps_move_records(rt: HostRuntime) -> Result<(), Fail> {
 fn refused_pumps_move_nothing(rt: HostRuntime) -> Result<(), Fail> {
     let alloc = rt.alloc();
     let tree = &mut opened(alloc, Limits::full())?;
-    does(&rt, tree, init_piped(10));
-    does(&rt, tree, init(10));
-    does(&rt, tree, watch(alloc, 1, "/", 0x100));
+    takes(
+        &rt,
+        tree,
+        alloc,
+        &[
+            Step::Does(Ask::InitPiped(10)),
+            Step::Does(Ask::Init(10)),
+            Step::Does(Ask::Watch(1, "/", 0x100)),
+        ],
+    );
     refuses_to_pump(&rt, tree, (1, ALL), Refusal::Eagain);
     refuses_to_pump(&rt, tree, (2, ALL), Refusal::NotPiped);
     refuses_to_pump(&rt, tree, (3, ALL), Refusal::Ebadf);
@@ -212,20 +235,24 @@ fn is_copied(call: &Call) -> bool {
 // The call and its copy are equal.
 fn copies(rt: &impl Abort, call: Result<Call, Refusal>) {
     let call = call.expect(rt, "a call");
-    assert!(rt; is_copied(&call));
+    holds(rt, "the copy is equal", is_copied(&call));
 }
 
 #[test]
 fn copies_of_calls(rt: HostRuntime) -> Result<(), Fail> {
     let alloc = rt.alloc();
-    copies(&rt, rename(alloc, "/a/b", "/c"));
-    copies(&rt, write(alloc, "/a", 5, b"xy"));
-    copies(&rt, init_piped(2));
-    copies(&rt, watch(alloc, 1, "/a/b", 3));
-    copies(&rt, unwatch(1, -1));
-    copies(&rt, read(1, 2));
-    copies(&rt, pump(1, 2));
-    copies(&rt, close(1));
+    for ask in [
+        Ask::Rename("/a/b", "/c"),
+        Ask::Write("/a", 5, "xy"),
+        Ask::InitPiped(2),
+        Ask::Watch(1, "/a/b", 3),
+        Ask::Unwatch(1, -1),
+        Ask::Read(1, 2),
+        Ask::Pump(1, 2),
+        Ask::Close(1),
+    ] {
+        copies(&rt, call(alloc, ask));
+    }
     Ok(())
 }
 
@@ -239,16 +266,20 @@ fn copies_reply(rt: &impl Abort, reply: Result<Reply, Refusal>) {
 #[test]
 fn copies_of_replies(rt: HostRuntime) -> Result<(), Fail> {
     let alloc = rt.alloc();
-    copies_reply(&rt, filed());
-    copies_reply(&rt, number(2));
-    copies_reply(&rt, count(3));
-    copies_reply(&rt, file(2, 0o644, 1, 5));
-    copies_reply(&rt, contents(alloc, b"abc"));
-    copies_reply(&rt, names(alloc, "/a/b"));
-    copies_reply(&rt, instance(1));
-    copies_reply(&rt, wd(1));
-    copies_reply(&rt, records(alloc, &[(1, 0x100, 0, "f")]));
-    copies_reply(&rt, done());
+    for gives in [
+        Gives::Filed,
+        Gives::Number(2),
+        Gives::Count(3),
+        Gives::File(2, 0o644, 1, 5),
+        Gives::Contents("abc"),
+        Gives::Names("/a/b"),
+        Gives::Instance(1),
+        Gives::Wd(1),
+        Gives::One((1, 0x100, 0, "f")),
+        Gives::Done,
+    ] {
+        copies_reply(&rt, reply(alloc, gives));
+    }
     copies_reply(&rt, Ok(Reply::Refused(Refusal::Eagain)));
     Ok(())
 }

@@ -1,5 +1,6 @@
 //! Each limit at its last value.
 
+use super::steps::{Ask, Gives, Step, takes};
 use super::*;
 use std::test::Fail;
 
@@ -8,10 +9,17 @@ fn moving(rt: &impl Abort, alloc: Global) -> Result<State, Refusal> {
     let mut limits = Limits::full();
     limits.cookies = 2;
     let mut tree = opened(alloc, limits)?;
-    does(rt, &mut tree, create(alloc, "/a"));
-    does(rt, &mut tree, link(alloc, "/a", "/l"));
-    does(rt, &mut tree, init(10));
-    does(rt, &mut tree, watch(alloc, 1, "/", 0xc0));
+    takes(
+        rt,
+        &mut tree,
+        alloc,
+        &[
+            Step::Does(Ask::Create("/a")),
+            Step::Does(Ask::Link("/a", "/l")),
+            Step::Does(Ask::Init(10)),
+            Step::Does(Ask::Watch(1, "/", 0xc0)),
+        ],
+    );
     Ok(tree)
 }
 
@@ -19,12 +27,19 @@ fn moving(rt: &impl Abort, alloc: Global) -> Result<State, Refusal> {
 fn the_last_cookie(rt: HostRuntime) -> Result<(), Fail> {
     let alloc = rt.alloc();
     let tree = &mut moving(&rt, alloc)?;
-    tells(&rt, tree, rename(alloc, "/a", "/b"), filed());
-    tells(&rt, tree, rename(alloc, "/b", "/a"), filed());
-    refuses(&rt, tree, rename(alloc, "/a", "/c"), Refusal::CookiesSpent);
-    tells(&rt, tree, list(alloc, "/"), names(alloc, "/a/l"));
-    tells(&rt, tree, rename(alloc, "/a", "/l"), filed());
-    tells(&rt, tree, stat(alloc, "/a"), file(2, 0o644, 2, 0));
+    takes(
+        &rt,
+        tree,
+        alloc,
+        &[
+            Step::Tells(Ask::Rename("/a", "/b"), Gives::Filed),
+            Step::Tells(Ask::Rename("/b", "/a"), Gives::Filed),
+            Step::Refuses(Ask::Rename("/a", "/c"), Refusal::CookiesSpent),
+            Step::Tells(Ask::List("/"), Gives::Names("/a/l")),
+            Step::Tells(Ask::Rename("/a", "/l"), Gives::Filed),
+            Step::Tells(Ask::Stat("/a"), Gives::File(2, 0o644, 2, 0)),
+        ],
+    );
     let moves = [
         (1, 0x40, 1, "a"),
         (1, 0x80, 1, "b"),
@@ -43,18 +58,20 @@ fn the_second_cookie_of_an_exchange(rt: HostRuntime) -> Result<(), Fail> {
     let mut limits = Limits::full();
     limits.cookies = 1;
     let tree = &mut opened(alloc, limits)?;
-    does(&rt, tree, create(alloc, "/a"));
-    does(&rt, tree, mkdir(alloc, "/b"));
-    refuses(
+    takes(
         &rt,
         tree,
-        exchange(alloc, "/a", "/b"),
-        Refusal::CookiesSpent,
+        alloc,
+        &[
+            Step::Does(Ask::Create("/a")),
+            Step::Does(Ask::Mkdir("/b")),
+            Step::Refuses(Ask::Exchange("/a", "/b"), Refusal::CookiesSpent),
+            Step::Tells(Ask::Exchange("/a", "/a"), Gives::Filed),
+            Step::Tells(Ask::Stat("/a"), Gives::File(2, 0o644, 1, 0)),
+            Step::Tells(Ask::Rename("/a", "/c"), Gives::Filed),
+            Step::Refuses(Ask::Rename("/b", "/d"), Refusal::CookiesSpent),
+        ],
     );
-    tells(&rt, tree, exchange(alloc, "/a", "/a"), filed());
-    tells(&rt, tree, stat(alloc, "/a"), file(2, 0o644, 1, 0));
-    tells(&rt, tree, rename(alloc, "/a", "/c"), filed());
-    refuses(&rt, tree, rename(alloc, "/b", "/d"), Refusal::CookiesSpent);
     Ok(())
 }
 
@@ -64,13 +81,20 @@ fn the_last_file_number(rt: HostRuntime) -> Result<(), Fail> {
     let mut limits = Limits::full();
     limits.numbers = 3;
     let tree = &mut opened(alloc, limits)?;
-    tells(&rt, tree, create(alloc, "/a"), number(2));
-    tells(&rt, tree, mkdir(alloc, "/b"), number(3));
-    refuses(&rt, tree, create(alloc, "/c"), Refusal::NumbersSpent);
-    refuses(&rt, tree, mkdir(alloc, "/c"), Refusal::NumbersSpent);
-    tells(&rt, tree, unlink(alloc, "/a"), filed());
-    refuses(&rt, tree, create(alloc, "/a"), Refusal::NumbersSpent);
-    tells(&rt, tree, list(alloc, "/"), names(alloc, "/b"));
+    takes(
+        &rt,
+        tree,
+        alloc,
+        &[
+            Step::Tells(Ask::Create("/a"), Gives::Number(2)),
+            Step::Tells(Ask::Mkdir("/b"), Gives::Number(3)),
+            Step::Refuses(Ask::Create("/c"), Refusal::NumbersSpent),
+            Step::Refuses(Ask::Mkdir("/c"), Refusal::NumbersSpent),
+            Step::Tells(Ask::Unlink("/a"), Gives::Filed),
+            Step::Refuses(Ask::Create("/a"), Refusal::NumbersSpent),
+            Step::Tells(Ask::List("/"), Gives::Names("/b")),
+        ],
+    );
     Ok(())
 }
 
@@ -81,63 +105,83 @@ fn the_last_byte_and_link(rt: HostRuntime) -> Result<(), Fail> {
     limits.file_bytes = 4;
     limits.links = 1;
     let tree = &mut opened(alloc, limits)?;
-    does(&rt, tree, create(alloc, "/f"));
-    tells(&rt, tree, write(alloc, "/f", 0, b"abcd"), count(4));
-    refuses(&rt, tree, write(alloc, "/f", 4, b"e"), Refusal::Efbig);
-    refuses(
+    takes(
         &rt,
         tree,
-        write(alloc, "/f", u64::MAX, b"e"),
-        Refusal::Efbig,
-    );
-    tells(&rt, tree, write(alloc, "/f", u64::MAX, b""), count(0));
-    refuses(&rt, tree, truncate(alloc, "/f", 5), Refusal::Efbig);
-    tells(&rt, tree, truncate(alloc, "/f", 4), filed());
-    refuses(&rt, tree, link(alloc, "/f", "/g"), Refusal::Emlink);
-    tells(&rt, tree, stat(alloc, "/f"), file(2, 0o644, 1, 4));
-    tells(
-        &rt,
-        tree,
-        read_file(alloc, "/f", 0, 9),
-        contents(alloc, b"abcd"),
+        alloc,
+        &[
+            Step::Does(Ask::Create("/f")),
+            Step::Tells(Ask::Write("/f", 0, "abcd"), Gives::Count(4)),
+            Step::Refuses(Ask::Write("/f", 4, "e"), Refusal::Efbig),
+            Step::Refuses(Ask::Write("/f", u64::MAX, "e"), Refusal::Efbig),
+            Step::Tells(Ask::Write("/f", u64::MAX, ""), Gives::Count(0)),
+            Step::Refuses(Ask::Truncate("/f", 5), Refusal::Efbig),
+            Step::Tells(Ask::Truncate("/f", 4), Gives::Filed),
+            Step::Refuses(Ask::Link("/f", "/g"), Refusal::Emlink),
+            Step::Tells(Ask::Stat("/f"), Gives::File(2, 0o644, 1, 4)),
+            Step::Tells(Ask::ReadFile("/f", 0, 9), Gives::Contents("abcd")),
+        ],
     );
     Ok(())
 }
 
 #[test]
 fn the_last_instance(rt: HostRuntime) -> Result<(), Fail> {
+    let alloc = rt.alloc();
     let mut limits = Limits::full();
     limits.instances = 1;
-    let tree = &mut opened(rt.alloc(), limits)?;
-    tells(&rt, tree, init(1), instance(1));
-    refuses(&rt, tree, init(1), Refusal::Emfile);
-    refuses(&rt, tree, init_piped(1), Refusal::Emfile);
-    tells(&rt, tree, close(1), done());
-    tells(&rt, tree, init_piped(1), instance(2));
-    refuses(&rt, tree, init(1), Refusal::Emfile);
+    let tree = &mut opened(alloc, limits)?;
+    takes(
+        &rt,
+        tree,
+        alloc,
+        &[
+            Step::Tells(Ask::Init(1), Gives::Instance(1)),
+            Step::Refuses(Ask::Init(1), Refusal::Emfile),
+            Step::Refuses(Ask::InitPiped(1), Refusal::Emfile),
+            Step::Tells(Ask::Close(1), Gives::Done),
+            Step::Tells(Ask::InitPiped(1), Gives::Instance(2)),
+            Step::Refuses(Ask::Init(1), Refusal::Emfile),
+        ],
+    );
     Ok(())
 }
 
 #[test]
 fn the_last_instance_number(rt: HostRuntime) -> Result<(), Fail> {
+    let alloc = rt.alloc();
     let mut limits = Limits::full();
     limits.ids = 1;
-    let tree = &mut opened(rt.alloc(), limits)?;
-    tells(&rt, tree, init(1), instance(1));
-    refuses(&rt, tree, init(1), Refusal::Emfile);
-    tells(&rt, tree, close(1), done());
-    refuses(&rt, tree, init(1), Refusal::Emfile);
-    is_not_open(&rt, tree, 2);
+    let tree = &mut opened(alloc, limits)?;
+    takes(
+        &rt,
+        tree,
+        alloc,
+        &[
+            Step::Tells(Ask::Init(1), Gives::Instance(1)),
+            Step::Refuses(Ask::Init(1), Refusal::Emfile),
+            Step::Tells(Ask::Close(1), Gives::Done),
+            Step::Refuses(Ask::Init(1), Refusal::Emfile),
+            Step::IsNotOpen(2),
+        ],
+    );
     Ok(())
 }
 
 // The files /a, /b and /c, numbers 2 to 4, and instance 1.
 fn three_files(rt: &impl Abort, alloc: Global, limits: Limits) -> Result<State, Refusal> {
     let mut tree = opened(alloc, limits)?;
-    does(rt, &mut tree, create(alloc, "/a"));
-    does(rt, &mut tree, create(alloc, "/b"));
-    does(rt, &mut tree, create(alloc, "/c"));
-    does(rt, &mut tree, init(10));
+    takes(
+        rt,
+        &mut tree,
+        alloc,
+        &[
+            Step::Does(Ask::Create("/a")),
+            Step::Does(Ask::Create("/b")),
+            Step::Does(Ask::Create("/c")),
+            Step::Does(Ask::Init(10)),
+        ],
+    );
     Ok(tree)
 }
 
@@ -150,11 +194,18 @@ fn the_last_watch(rt: HostRuntime) -> Result<(), Fail> {
     tells(&rt, tree, watch(alloc, 1, "/a", 0x4), wd(1));
     refuses(&rt, tree, watch(alloc, 1, "/b", 0x4), Refusal::Enospc);
     watch_it(&rt, tree, 3, &[]);
-    tells(&rt, tree, watch(alloc, 1, "/a", 0x2), wd(1));
-    does(&rt, tree, chmod(alloc, "/b", 0o600));
-    hears_nothing(&rt, tree, 1);
-    tells(&rt, tree, unwatch(1, 1), done());
-    tells(&rt, tree, watch(alloc, 1, "/b", 0x4), wd(2));
+    takes(
+        &rt,
+        tree,
+        alloc,
+        &[
+            Step::Tells(Ask::Watch(1, "/a", 0x2), Gives::Wd(1)),
+            Step::Does(Ask::Chmod("/b", 0o600)),
+            Step::HearsNothing(1),
+            Step::Tells(Ask::Unwatch(1, 1), Gives::Done),
+            Step::Tells(Ask::Watch(1, "/b", 0x4), Gives::Wd(2)),
+        ],
+    );
     Ok(())
 }
 
@@ -164,14 +215,21 @@ fn the_last_watch_descriptor(rt: HostRuntime) -> Result<(), Fail> {
     let mut limits = Limits::full();
     limits.wds = 2;
     let tree = &mut three_files(&rt, alloc, limits)?;
-    tells(&rt, tree, watch(alloc, 1, "/a", 0x4), wd(1));
-    tells(&rt, tree, watch(alloc, 1, "/b", 0x4), wd(2));
-    refuses(&rt, tree, watch(alloc, 1, "/c", 0x4), Refusal::Enospc);
-    tells(&rt, tree, unwatch(1, 1), done());
-    refuses(&rt, tree, watch(alloc, 1, "/c", 0x4), Refusal::Enospc);
-    refuses(&rt, tree, watch(alloc, 1, "/a", 0x4), Refusal::Enospc);
-    tells(&rt, tree, watch(alloc, 1, "/b", 0x2), wd(2));
-    hears(&rt, tree, alloc, 1, &[(1, 0x8000, 0, "")]);
+    takes(
+        &rt,
+        tree,
+        alloc,
+        &[
+            Step::Tells(Ask::Watch(1, "/a", 0x4), Gives::Wd(1)),
+            Step::Tells(Ask::Watch(1, "/b", 0x4), Gives::Wd(2)),
+            Step::Refuses(Ask::Watch(1, "/c", 0x4), Refusal::Enospc),
+            Step::Tells(Ask::Unwatch(1, 1), Gives::Done),
+            Step::Refuses(Ask::Watch(1, "/c", 0x4), Refusal::Enospc),
+            Step::Refuses(Ask::Watch(1, "/a", 0x4), Refusal::Enospc),
+            Step::Tells(Ask::Watch(1, "/b", 0x2), Gives::Wd(2)),
+            Step::Hears(1, (1, 0x8000, 0, "")),
+        ],
+    );
     Ok(())
 }
 
@@ -181,13 +239,20 @@ fn the_greatest_queue(rt: HostRuntime) -> Result<(), Fail> {
     let mut limits = Limits::full();
     limits.queue = 1;
     let tree = &mut opened(alloc, limits)?;
-    refuses(&rt, tree, init(2), Refusal::Einval);
-    refuses(&rt, tree, init(0), Refusal::Einval);
-    tells(&rt, tree, init(1), instance(1));
-    does(&rt, tree, watch(alloc, 1, "/", 0x100));
-    does(&rt, tree, create(alloc, "/a"));
-    does(&rt, tree, create(alloc, "/b"));
-    does(&rt, tree, create(alloc, "/c"));
+    takes(
+        &rt,
+        tree,
+        alloc,
+        &[
+            Step::Refuses(Ask::Init(2), Refusal::Einval),
+            Step::Refuses(Ask::Init(0), Refusal::Einval),
+            Step::Tells(Ask::Init(1), Gives::Instance(1)),
+            Step::Does(Ask::Watch(1, "/", 0x100)),
+            Step::Does(Ask::Create("/a")),
+            Step::Does(Ask::Create("/b")),
+            Step::Does(Ask::Create("/c")),
+        ],
+    );
     hears(
         &rt,
         tree,
@@ -200,11 +265,19 @@ fn the_greatest_queue(rt: HostRuntime) -> Result<(), Fail> {
 
 #[test]
 fn the_queue_of_full_limits(rt: HostRuntime) -> Result<(), Fail> {
-    let tree = &mut opened(rt.alloc(), Limits::full())?;
-    refuses(&rt, tree, init(65_536), Refusal::Einval);
-    refuses(&rt, tree, init_piped(u32::MAX), Refusal::Einval);
-    tells(&rt, tree, init(65_535), instance(1));
-    hears_nothing(&rt, tree, 1);
+    let alloc = rt.alloc();
+    let tree = &mut opened(alloc, Limits::full())?;
+    takes(
+        &rt,
+        tree,
+        alloc,
+        &[
+            Step::Refuses(Ask::Init(65_536), Refusal::Einval),
+            Step::Refuses(Ask::InitPiped(u32::MAX), Refusal::Einval),
+            Step::Tells(Ask::Init(65_535), Gives::Instance(1)),
+            Step::HearsNothing(1),
+        ],
+    );
     Ok(())
 }
 
@@ -263,13 +336,23 @@ fn the_last_entry(rt: HostRuntime) -> Result<(), Fail> {
     let mut limits = Limits::full();
     limits.journal = 2;
     let tree = &mut opened(alloc, limits)?;
-    has_room_for(&rt, tree, 2);
-    tells(&rt, tree, init_piped(1), instance(1));
-    tells(&rt, tree, watch(alloc, 1, "/", 0x100), wd(1));
-    has_room_for(&rt, tree, 0);
+    takes(
+        &rt,
+        tree,
+        alloc,
+        &[
+            Step::HasRoom(2),
+            Step::Tells(Ask::InitPiped(1), Gives::Instance(1)),
+            Step::Tells(Ask::Watch(1, "/", 0x100), Gives::Wd(1)),
+            Step::HasRoom(0),
+        ],
+    );
     has_no_entry(&rt, tree, alloc);
-    has_room_for(&rt, tree, 0);
-    journals(&rt, tree, 2);
-    waits(&rt, tree, 1, 0);
+    takes(
+        &rt,
+        tree,
+        alloc,
+        &[Step::HasRoom(0), Step::Journals(2), Step::Waits(1, 0)],
+    );
     Ok(())
 }

@@ -1,5 +1,6 @@
 //! Paths of files by their numbers.
 
+use super::steps::{Ask, Step, takes};
 use super::*;
 use std::test::Fail;
 
@@ -14,9 +15,16 @@ fn a_file_has_a_first_path(rt: HostRuntime) -> Result<(), Fail> {
     let alloc = rt.alloc();
     let tree = &mut opened(alloc, Limits::full())?;
     leads(&rt, tree, alloc, 1, "/");
-    does(&rt, tree, mkdir(alloc, "/d"));
-    does(&rt, tree, create(alloc, "/m"));
-    does(&rt, tree, link(alloc, "/m", "/d/z"));
+    takes(
+        &rt,
+        tree,
+        alloc,
+        &[
+            Step::Does(Ask::Mkdir("/d")),
+            Step::Does(Ask::Create("/m")),
+            Step::Does(Ask::Link("/m", "/d/z")),
+        ],
+    );
     leads(&rt, tree, alloc, 2, "/d");
     leads(&rt, tree, alloc, 3, "/d/z");
     does(&rt, tree, rename(alloc, "/d", "/y"));

@@ -1,5 +1,6 @@
 //! What stands in a tree and what waits, for callers that make no call.
 
+use super::steps::{Ask, Step, takes};
 use super::*;
 use std::test::Fail;
 
@@ -29,17 +30,24 @@ fn reads(rt: &impl Abort, state: &State, path: &Path, offset: u64, wanted: &[u8]
 // So many instances have a record waiting, and a buffer for three numbers then has these.
 fn ready(rt: &impl Abort, state: &State, count: usize, ids: [u32; 3]) {
     let mut out = [9; 3];
-    assert_eq!(rt; state.ready(&mut out), count);
-    assert_eq!(rt; out, ids);
+    equal(rt, state.ready(&mut out), count);
+    equal(rt, out, ids);
 }
 
 #[test]
 fn a_peek_makes_no_call(rt: HostRuntime) -> Result<(), Fail> {
     let alloc = rt.alloc();
     let tree = &mut opened(alloc, Limits::full())?;
-    does(&rt, tree, create(alloc, "/f"));
-    does(&rt, tree, write(alloc, "/f", 0, b"abc"));
-    does(&rt, tree, mkdir(alloc, "/d"));
+    takes(
+        &rt,
+        tree,
+        alloc,
+        &[
+            Step::Does(Ask::Create("/f")),
+            Step::Does(Ask::Write("/f", 0, "abc")),
+            Step::Does(Ask::Mkdir("/d")),
+        ],
+    );
     is_wanted(&rt, seen(alloc, tree, "/f")?, file(2, 0o644, 1, 3));
     is_wanted(
         &rt,

@@ -149,7 +149,7 @@ fn are_alike(one: &mut State, other: &mut State, alloc: Global) -> Result<bool, 
 }
 
 /// The outcome of a call of which one allocation was to fail.
-#[derive(Clone, Copy, Debug, PartialEq, Eq)]
+#[derive(Clone, Copy)]
 enum Came {
     /// The allocation failed, and all was well.
     Refused,
@@ -159,7 +159,7 @@ enum Came {
 }
 
 /// Which of the ways a call goes: `apply`, `record`, or `keep` and, of a pump, `pump`.
-#[derive(Clone, Copy, Debug, PartialEq, Eq)]
+#[derive(Clone, Copy)]
 enum Way {
     Apply,
     Record,
@@ -287,7 +287,7 @@ fn each_growth_of_each_call(rt: HostRuntime) -> Result<(), Fail> {
     for way in WAYS {
         let least = counts_of_calls(alloc, way)?;
         let is_well = matches!(least, Some(least) if (least > 0) == has_refuser);
-        assert!(rt; is_well, "{way:?}: {least:?}");
+        holds(&rt, "each call in this way", is_well);
     }
     Ok(())
 }
@@ -299,7 +299,7 @@ fn each_growth_of_each_step(rt: HostRuntime) -> Result<(), Fail> {
     for steps in 0..STEPS {
         let way = WAYS[steps as usize % 3];
         let count = refused_in_turn(alloc, steps, &step_of(alloc, steps)?, way)?;
-        assert!(rt; count.is_some(), "step {steps}");
+        holds(&rt, "the step", count.is_some());
     }
     Ok(())
 }
@@ -397,7 +397,7 @@ fn each_growth_of_a_cut(rt: HostRuntime) -> Result<(), Fail> {
     for steps in [0, 16, STEPS] {
         let count = cut_refused_in_turn(alloc, steps)?;
         let is_well = matches!(count, Some(count) if (count > 0) == has_refuser);
-        assert!(rt; is_well, "after {steps}: {count:?}");
+        holds(&rt, "the cut", is_well);
     }
     Ok(())
 }
@@ -510,7 +510,7 @@ fn two_hundred_growths_do(rt: HostRuntime) -> Result<(), Fail> {
         let _ = refuse_from(alloc, 201);
         let told = tree.apply(CALLER, call);
         let _ = was_refused(alloc);
-        assert!(rt; is_carried_out(&told), "call {which}: {told:?}");
+        holds(&rt, "the call", is_carried_out(&told));
     }
     Ok(())
 }
