@@ -1,4 +1,4 @@
-//! Failed allocations: that of a new queue, and any later one, of which there is none.
+//! Failed allocations: those of a new queue and of a copy. No other call makes one.
 
 use event_queue::{Offered, Queue};
 use record_codec::{Event, Name, bits};
@@ -129,7 +129,7 @@ fn no_call_takes_memory(rt: HostRuntime) -> Result<(), Fail> {
 // A full queue: a record whose name takes memory, and the overflow mark.
 fn full(alloc: Global) -> Result<Queue, Refusal> {
     let mut queue = Queue::with_limit(alloc, 1)?;
-    queue.offer(made(alloc, b"a long name")?);
+    queue.offer(made(alloc, b"a name that takes more bytes than its record has")?);
     queue.offer(made(alloc, b"b")?);
     Ok(queue)
 }
@@ -157,7 +157,7 @@ fn each_growth_of_a_copy(rt: HostRuntime) -> Result<(), Fail> {
     let count = copy_refused(alloc, &queue);
     let is_well = matches!(count, Some(count) if (count > 0) == has_refuser);
     assert!(rt; is_well, "{count:?}");
-    equal(&rt, waiting(&mut queue), (2, 0, 1, 1, true));
+    equal(&rt, waiting(&mut queue), (0, 0, 1, 1, true));
     Ok(())
 }
 
@@ -168,6 +168,6 @@ fn a_copy_outlives_the_queue(rt: HostRuntime) -> Result<(), Fail> {
     let mut copy = queue.copy()?;
     drop(queue);
     equal(&rt, copy.offer(made(alloc, b"c")?), Offered::Lost);
-    equal(&rt, waiting(&mut copy), (2, 0, 1, 1, true));
+    equal(&rt, waiting(&mut copy), (0, 0, 1, 1, true));
     Ok(())
 }
