@@ -160,14 +160,3 @@ fn each_growth_of_a_copy(rt: HostRuntime) -> Result<(), Fail> {
     equal(&rt, waiting(&mut queue), (0, 0, 1, 1, true));
     Ok(())
 }
-
-#[test]
-fn a_copy_outlives_the_queue(rt: HostRuntime) -> Result<(), Fail> {
-    let alloc = rt.alloc();
-    let queue = full(alloc)?;
-    let mut copy = queue.copy()?;
-    drop(queue);
-    equal(&rt, copy.offer(made(alloc, b"c")?), Offered::Lost);
-    equal(&rt, waiting(&mut copy), (0, 0, 1, 1, true));
-    Ok(())
-}
