@@ -18,7 +18,7 @@ use tree_paths::Refusal;
 
 /// The records of an inotify instance that wait to be read, the oldest first.
 ///
-/// [`Queue::with_limit`] allocates the whole buffer. No other call allocates, and none of them fails.
+/// [`Queue::with_limit`] and [`Queue::copy`] allocate a whole buffer. No other call allocates, and none of them fails.
 #[derive(Debug)]
 pub struct Queue {
     limit: u32,

@@ -6,3 +6,4 @@ mod Staged
 mod Waiting
 mod Watchers
 mod Readied
+mod Copied

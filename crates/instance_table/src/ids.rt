@@ -35,6 +35,16 @@ impl Model for Ids {
     ghost invariant = { λ a. IsStrictlySortedBy nat_cmp a.ids.items };
 }
 
+impl Clone for Ids {
+    ghost is_clone = { λ ids copy. copy ≡ ids };
+
+    fn clone(&self) -> Result<Ids, AllocError> {
+        Ok(Ids {
+            ids: self.ids.clone()?,
+        })
+    }
+}
+
 impl Ids {
     /// No numbers. It takes no memory.
     pub fn new(alloc: Global) -> Ids

@@ -1,5 +1,5 @@
 //! Who watches each file.
-ghost use Rattle.std.specs.Prelude.{◌≡◌, ◌↔◌, IsTrue, ℕ, ◌==◌, ◌&&◌, ◌||◌, false, not, OnOk, OnErr};
+ghost use Rattle.std.specs.Prelude.{◌≡◌, ◌↔◌, IsTrue, ℕ, ◌==◌, ◌&&◌, ◌||◌, false, not, IfOk, OnOk, OnErr};
 ghost use Rattle.std.specs.FinMap as map;
 ghost use Rattle.instance_table.specs.Index.{HasNoEmptyRow, ids_under, is_noted};
 
@@ -32,6 +32,17 @@ impl Index {
             alloc,
             watchers: BTreeMap::new(alloc),
         }
+    }
+
+    /// The same index once more. `Err` is out of memory.
+    pub fn copy(&self) -> Result<Index, AllocError>
+        ensures noted { IfOk result (λ index. (n q : ℕ) → is_noted index n q ≡ is_noted self.now n q) }
+        ensures rows { IfOk result (λ index. HasNoEmptyRow self.now → HasNoEmptyRow index) }
+    {
+        Ok(Index {
+            alloc: self.alloc,
+            watchers: self.watchers.clone()?,
+        })
     }
 
     /// Notes that an instance watches a file. `Err` is out of memory.

@@ -1,6 +1,10 @@
 //! An open instance.
 
+ghost use Rattle.std.specs.Prelude.{◌≡◌, IfOk, IfErr};
+ghost use Rattle.tree_paths.specs.declared.refusal.Refusal.TheVariants.{Enomem};
+
 use event_queue::Queue;
+use tree_paths::Refusal;
 use watch_table::Watches;
 
 /// An open instance of inotify(7).
@@ -20,5 +24,19 @@ impl Drop for Instance {
             watches: _,
             queue: _,
         } = self;
+    }
+}
+
+impl Instance {
+    // The same instance once more.
+    pub(crate) fn copy(&self) -> Result<Instance, Refusal>
+        ensures instance { IfOk result (λ instance. instance ≡ self.now) }
+        ensures err { IfErr result (λ refusal. refusal ≡ Enomem) }
+    {
+        Ok(Instance {
+            is_piped: self.is_piped,
+            watches: self.watches.copy()?,
+            queue: self.queue.copy()?,
+        })
     }
 }

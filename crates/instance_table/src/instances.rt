@@ -30,6 +30,7 @@ use std::marker::Model;
 use tree_paths::{Limits, Refusal};
 use watch_table::{Mask, Watches};
 
+mod copying;
 mod ready;
 
 /// The open instances of inotify(7) by their numbers, with an index of who watches each file.

@@ -269,3 +269,20 @@ fn all_of_many_hear(rt: HostRuntime) -> Result<(), Fail> {
     holds(&rt, "each_heard(&instances)", each_heard(&instances));
     Ok(())
 }
+
+#[test]
+fn a_copy_hears_alone(rt: HostRuntime) -> Result<(), Fail> {
+    let alloc = rt.alloc();
+    let instances = three(alloc)?;
+    let mut copy = instances.copy()?;
+    tell(alloc, &mut copy, told(IN_CREATE))?;
+    equal(&rt, waiting(&instances, 2), 0);
+    drop(instances);
+    equal(&rt, copy.watchers(FILE), [1, 2].as_slice());
+    holds(
+        &rt,
+        "waits(&copy, 2, 0, 1, IN_CREATE)",
+        waits(&copy, 2, 0, 1, IN_CREATE),
+    );
+    Ok(())
+}

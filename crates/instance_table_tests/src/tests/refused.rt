@@ -242,3 +242,30 @@ fn some_calls_take_no_memory(rt: HostRuntime) -> Result<(), Fail> {
     holds(&rt, "are_done && !is_refused", are_done && !is_refused);
     Ok(())
 }
+
+// How many allocations a copy makes, if each fails in turn and the copy is alike. None if not.
+fn copy_refused(alloc: Global, instances: &Instances) -> Option<u32> {
+    for k in 1..MOST {
+        let _ = refuse(alloc, k);
+        let copied = instances.copy();
+        match (copied, was_refused(alloc)) {
+            (Err(Refusal::Enomem), true) => {}
+            (Ok(copy), false) if are_alike(&copy, instances) => return Some(k - 1),
+            _ => return None,
+        }
+    }
+    None
+}
+
+#[test]
+fn each_growth_of_a_copy(rt: HostRuntime) -> Result<(), Fail> {
+    let alloc = rt.alloc();
+    let has_refuser = has_refuser(alloc);
+    let twin = three(alloc)?;
+    let instances = three(alloc)?;
+    let count = copy_refused(alloc, &instances);
+    let is_well = matches!(count, Some(count) if (count > 0) == has_refuser);
+    assert!(rt; is_well, "{count:?}");
+    holds(&rt, "as they were", are_alike(&instances, &twin));
+    Ok(())
+}
