@@ -1,5 +1,7 @@
 //! Calls as lines of scripts, and entries with their replies as comments.
 
+ghost use Rattle.std.specs.Prelude.{◌≡◌};
+
 use super::*;
 use record_codec::{Bytes, Event, Name, encode};
 use refuser::{refuse, was_refused};
@@ -92,7 +94,9 @@ fn calls_that_no_line_makes(rt: HostRuntime) -> Result<(), Fail> {
 }
 
 // An entry of caller 1, with this reply to a read.
-fn entry_of(reply: Reply) -> Entry {
+fn entry_of(reply: Reply) -> Entry
+    ensures { result.reply ≡ reply }
+{
     Entry {
         caller: 1,
         call: Call::Read {
