@@ -57,7 +57,6 @@ impl Instances {
     }
 
     /// Delivers what was staged: each instance receives its events, and its watches end. It takes no memory.
-    #[inline(never)]
     pub fn tell(&mut self, notices: &[Notice], staging: &mut Staging)
         requires { IsStaged self.old notices.now staging.old }
         ensures { self.new ≡ all_changed self.old (told notices.now) }
