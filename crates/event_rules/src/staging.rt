@@ -180,7 +180,10 @@ fn raise_told(
     ensures { OnOk result (events.new.items ≡ events.old.items ++ map (staged_event id) (event_told notice.now watch)) }
 {
     let Notice::Told {
-        bits, cookie, name, ..
+        bits,
+        cookie,
+        name,
+        ..
     } = notice
     else {
         return Ok(());
