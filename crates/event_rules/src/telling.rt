@@ -51,7 +51,7 @@ impl Notices {
         ensures { OnOk result (self.new ≡ self.old
             ++ to_dir (look (world_of at.now.tree)) at.now.path.names kind event cookie) }
     {
-        let Some(name) = at.as_path().last_name() else {
+        let Some(name) = at.as_path().last_place() else {
             return Ok(());
         };
         let Some(directory) = at.directory() else {
@@ -61,7 +61,7 @@ impl Notices {
             number: directory.number,
             bits: about(kind, event),
             cookie,
-            name: Some(name.as_name().copy()?),
+            name: Some(name.to_name()?),
         })
     }
 

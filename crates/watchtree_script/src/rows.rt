@@ -295,10 +295,10 @@ impl<'a> Parser<'a> {
         ensures { MatchResult result (λ word. self.now.words ≡ word.now ∷ [])
             (λ error. (error ≡ LineError.Fault ScriptFault.WrongNumber) × ((length self.now.words == 1) ≡ false)) }
     {
-        self.words
-            .copied()
-            .one()
-            .ok_or(LineError::Fault(ScriptFault::WrongNumber))
+        match self.words.copied().one() {
+            Some(word) => Ok(word),
+            None => Err(LineError::Fault(ScriptFault::WrongNumber)),
+        }
     }
 
     /// The only two words.
@@ -306,10 +306,10 @@ impl<'a> Parser<'a> {
         ensures { MatchResult result (λ words. self.now.words ≡ words.0.now ∷ words.1.now ∷ [])
             (λ error. (error ≡ LineError.Fault ScriptFault.WrongNumber) × ((length self.now.words == 2) ≡ false)) }
     {
-        self.words
-            .copied()
-            .two()
-            .ok_or(LineError::Fault(ScriptFault::WrongNumber))
+        match self.words.copied().two() {
+            Some((first, second)) => Ok((first, second)),
+            None => Err(LineError::Fault(ScriptFault::WrongNumber)),
+        }
     }
 
     /// The only three words.
@@ -317,10 +317,10 @@ impl<'a> Parser<'a> {
         ensures { MatchResult result (λ words. self.now.words ≡ words.0.now ∷ words.1.now ∷ words.2.now ∷ [])
             (λ error. (error ≡ LineError.Fault ScriptFault.WrongNumber) × ((length self.now.words == 3) ≡ false)) }
     {
-        self.words
-            .copied()
-            .three()
-            .ok_or(LineError::Fault(ScriptFault::WrongNumber))
+        match self.words.copied().three() {
+            Some((first, second, third)) => Ok((first, second, third)),
+            None => Err(LineError::Fault(ScriptFault::WrongNumber)),
+        }
     }
 }
 

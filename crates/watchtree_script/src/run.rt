@@ -178,7 +178,9 @@ fn print_script_line(
 {
     text.clear();
     match read_line(*text.allocator(), queue, line) {
-        Ok(line) => Ok(push_line(text, state, line)?),
+        Ok(Line::Run { call, format }) => Ok(push_call(text, state, call, format)?),
+        Ok(Line::Cut) => Ok(push_cut(text, state)?),
+        Ok(Line::Silent) => Ok(()),
         Err(LineError::Refused(refusal)) => Ok(push_refusal(text, refusal)?),
         Err(LineError::PathMemory) => Ok(push_refusal(text, Refusal::Enomem)?),
         Err(LineError::Memory) => Err(RunFault::Memory),
@@ -189,19 +191,15 @@ fn print_script_line(
     }
 }
 
-/// Does what a line asks for, and adds what it prints to an empty text.
-fn push_line(text: &mut Vec<u8>, state: &mut State, line: Line) -> Result<(), AllocError>
+/// Cuts the journal, and adds the reply to an empty text.
+fn push_cut(text: &mut Vec<u8>, state: &mut State) -> Result<(), AllocError>
     requires { text.old.items ≡ [] }
-    ensures ok { OnOk result (PrintsLine state.old (Ok line) text.new.items state.new) }
-    ensures left { OnErr result (MayHaveRun state.old (Ok line) state.new) }
+    ensures ok { OnOk result (PrintsLine state.old (Ok Line.Cut) text.new.items state.new) }
+    ensures left { OnErr result (MayHaveRun state.old (Ok Line.Cut) state.new) }
 {
-    match line {
-        Line::Silent => Ok(()),
-        Line::Cut => match state.cut() {
-            Ok(place) => push_ok(text, place),
-            Err(refusal) => push_refusal(text, refusal),
-        },
-        Line::Run { call, format } => push_call(text, state, call, format),
+    match state.cut() {
+        Ok(place) => push_ok(text, place),
+        Err(refusal) => push_refusal(text, refusal),
     }
 }
 

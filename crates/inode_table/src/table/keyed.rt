@@ -8,8 +8,8 @@ ghost use Rattle.inode_table.specs.Tree.{at, what_at};
 use super::Table;
 use crate::content::Content;
 use crate::node::{
-    Node, lose_any_link, point_child, remove_node, reserve_bytes, set_bytes, set_child,
-    set_len, set_links, set_mode, unset_child, write_bytes,
+    Node, lose_any_link, point_child, remove_node, reserve_bytes, set_bytes, set_child, set_len,
+    set_links, set_mode, unset_child, write_bytes,
 };
 use record_codec::Name;
 use std::alloc::AllocError;

@@ -13,4 +13,4 @@ returns c =
     let parts : p ≡ parent_of p ++ name ∷ [] = subst (λ q. q ≡ parent_of q ++ name ∷ []) c.as_path.ensures c.in-Some.ensures.parts in
     let there = to_dir-there seen_at p (parent_of p) name c.in-Some-directory.directory c.args.kind c.args.event c.args.cookie
     parts refl (sym c.directory.ensures ∙ c.in-Some-directory.is) in
-    rw (there, ← c.about.ensures, ← (c.in_ok-copy.ensures.same ∙ c.as_name.ensures)) c.push.ensures
+    rw (there, ← c.about.ensures, ← c.in_ok-to_name.ensures.same) c.push.ensures

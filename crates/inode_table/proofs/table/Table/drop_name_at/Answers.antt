@@ -28,7 +28,8 @@ dropped c =
 pub lose_any_link-requires-clause-positive : goal.lose_any_link-requires-clause-positive
 lose_any_link-requires-clause-positive c k is =
     positive_target (rows_of c.self.inside.nodes) (rows_of c.unset_child.new.nodes) c.self.invariant
-    c.unset_child.ensures.names.what c.args.directory c.args.name.now k (ap (λ t. child t.rows c.args.directory c.args.name.now) c.self.view_is ∙ c.requires.there ∙ is)
+    c.unset_child.ensures.names.what c.args.directory c.args.name.now k
+    (ap (λ t. child t.rows c.args.directory c.args.name.now) c.self.view_is ∙ c.requires.there ∙ is)
 
 pub invariant_of-self : goal.invariant_of-self
 invariant_of-self c = IsTable-drop (dropped c) c.requires.directory.path c.requires.directory.there

@@ -67,7 +67,8 @@ pub replace_name_at-requires-clause-empty : goal.replace_name_at-requires-clause
 replace_name_at-requires-clause-empty c =
     let t = c.args.self.now in
     let other_parent = parent_of c.args.new.now.names in
-    empty-below t c.rows_law.ensures.table other_parent c.in_ok-other_name.other_name c.directory_at-other_directory.result c.directory_at-other_directory.ensures
+    empty-below t c.rows_law.ensures.table other_parent c.in_ok-other_name.other_name c.directory_at-other_directory.result
+    c.directory_at-other_directory.ensures
     (subst (λ x. IfSome (look_in t x) (λ (s : Seen). s.has_names ≡ false))
     (c.last_place-other_last.ensures
     ∙ (λ i. other_parent ++ sym c.in_ok-other_name.ensures.same i ∷ []))
