@@ -125,6 +125,25 @@ IsOpened None number new =
     ((number ≡ pos 0) × IsOpening new)
     ⊎ ((number ≡ refused_number Enomem) × (new ≡ None))
 
+-- ---- a tree that is forked
+
+-- the same tree with the same last sequence number, an empty journal, and no text
+abbrev pub IsFork : Journaled → Option Opened → Type 0
+IsFork s (Some fork) = (fork.state ≡ cut_off s) × (fork.text.items ≡ [])
+IsFork s None = ⊥
+
+-- it opens as a fork, or answers why not and stays as it is
+abbrev pub IsOpenedAsFork : Journaled → Option Opened → ℤ → Option Opened → Type 0
+IsOpenedAsFork s (Some old) number new = (number ≡ refused_number Ebusy) × (new ≡ Some old)
+IsOpenedAsFork s None number new =
+    ((number ≡ pos 0) × IsFork s new)
+    ⊎ ((number ≡ refused_number Enomem) × (new ≡ None))
+
+-- the same, of the fork of a tree that may not be open
+abbrev pub IsForked : Option Opened → Option Opened → ℤ → Option Opened → Type 0
+IsForked (Some content) old number new = IsOpenedAsFork content.state old number new
+IsForked None old number new = (number ≡ refused_number Ebadf) × (new ≡ old)
+
 -- ---- a journal that is cut
 
 -- it is cut, and answers the sequence number of the last entry; or there is no memory for it, and all stays as it is

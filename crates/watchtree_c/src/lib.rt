@@ -22,7 +22,7 @@ pub use instances::{
     wt_inotify_add_watch, wt_inotify_close, wt_inotify_init, wt_inotify_rm_watch, wt_read,
     wt_waiting,
 };
-pub use life::{wt_close, wt_cut, wt_open};
+pub use life::{wt_close, wt_cut, wt_fork, wt_open};
 pub use line::{wt_line, wt_text};
 pub use meanings::{wt_error_text, wt_version};
 pub use opened::Opened;
