@@ -3,6 +3,7 @@
 mod calls;
 mod cuts;
 mod dice;
+mod forks;
 mod instances;
 mod keeping;
 mod limits;

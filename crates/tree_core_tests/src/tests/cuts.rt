@@ -62,7 +62,7 @@ fn keeps(state: &State, at: usize, record: Record) -> bool {
 }
 
 // A queue of two records was offered four: the last two are lost.
-fn overfull(rt: &impl Abort, alloc: Global) -> Result<State, Refusal> {
+pub(super) fn overfull(rt: &impl Abort, alloc: Global) -> Result<State, Refusal> {
     let mut tree = opened(alloc, Limits::full())?;
     takes(
         rt,
@@ -131,6 +131,30 @@ fn events_merge_over_a_cut(rt: HostRuntime) -> Result<(), Fail> {
     Ok(())
 }
 
+// Whether the entry with this sequence number has this reply.
+fn has_entry(state: &State, place: u64, reply: &Reply) -> bool {
+    match state.entry(place) {
+        Some(entry) => entry.reply == *reply,
+        None => false,
+    }
+}
+
+#[test]
+fn entries_since_a_cut(rt: HostRuntime) -> Result<(), Fail> {
+    let alloc = rt.alloc();
+    let tree = &mut overfull(&rt, alloc)?;
+    holds(&rt, "the first", has_entry(tree, 1, &instance(1)?));
+    cuts(&rt, tree, 7);
+    does(&rt, tree, create(alloc, "/d/e"));
+    does(&rt, tree, close(1));
+    holds(&rt, "the first since", has_entry(tree, 8, &number(7)?));
+    holds(&rt, "the last", has_entry(tree, 9, &done()?));
+    for place in [0, 1, 7, 10, u64::MAX] {
+        holds(&rt, "no entry", tree.entry(place).is_none());
+    }
+    Ok(())
+}
+
 #[test]
 fn a_cut_makes_room(rt: HostRuntime) -> Result<(), Fail> {
     let alloc = rt.alloc();
@@ -149,7 +173,7 @@ fn a_cut_makes_room(rt: HostRuntime) -> Result<(), Fail> {
 }
 
 // The call answers the same on both trees, with the same sequence number. Whether it gave records.
-fn both_tell(rt: &impl Abort, one: &mut State, other: &mut State, call: &Call) -> bool {
+pub(super) fn both_tell(rt: &impl Abort, one: &mut State, other: &mut State, call: &Call) -> bool {
     let told = made(one, call);
     let other = made(other, call);
     holds(rt, "both trees answer the same", other == told);

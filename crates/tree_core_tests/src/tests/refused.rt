@@ -402,6 +402,60 @@ fn each_growth_of_a_cut(rt: HostRuntime) -> Result<(), Fail> {
     Ok(())
 }
 
+// The outcome of a fork whose allocation `k` fails. The twin is the same tree.
+fn fork_refused_at(
+    alloc: Global,
+    tree: &mut State,
+    twin: &mut State,
+    k: u32,
+) -> Result<Came, Refusal> {
+    let _ = refuse(alloc, k);
+    let told = tree.fork();
+    let was_refused = was_refused(alloc);
+    match told {
+        Ok(mut fork) if !was_refused => {
+            twin.cut()?;
+            let is_done = kept_alike(&fork, twin) && are_alike(&mut fork, twin, alloc)?;
+            Ok(if is_done { Came::Done } else { Came::Wrong })
+        }
+        Err(Refusal::Enomem) if was_refused => {
+            let is_as_before = kept_alike(tree, twin) && are_alike(tree, twin, alloc)?;
+            Ok(if is_as_before {
+                Came::Refused
+            } else {
+                Came::Wrong
+            })
+        }
+        _ => Ok(Came::Wrong),
+    }
+}
+
+// How many allocations a fork makes after so many steps, if all is well when each fails in turn. None if not.
+fn fork_refused_in_turn(alloc: Global, steps: u32) -> Result<Option<u32>, Refusal> {
+    for k in 1..10 * MOST {
+        let mut tree = after_a_cut(alloc, steps)?;
+        let mut twin = after_a_cut(alloc, steps)?;
+        match fork_refused_at(alloc, &mut tree, &mut twin, k)? {
+            Came::Refused => {}
+            Came::Done => return Ok(Some(k - 1)),
+            Came::Wrong => return Ok(None),
+        }
+    }
+    Ok(None)
+}
+
+#[test]
+fn each_growth_of_a_fork(rt: HostRuntime) -> Result<(), Fail> {
+    let alloc = rt.alloc();
+    let has_refuser = has_refuser(alloc);
+    for steps in [0, 16, STEPS] {
+        let count = fork_refused_in_turn(alloc, steps)?;
+        let is_well = matches!(count, Some(count) if (count > 0) == has_refuser);
+        assert!(rt; is_well, "after {steps}: {count:?}");
+    }
+    Ok(())
+}
+
 #[test]
 fn what_a_tree_says_of_itself_takes_no_memory(rt: HostRuntime) -> Result<(), Fail> {
     let alloc = rt.alloc();
