@@ -1,5 +1,6 @@
 -- What a state knows of its journal, over its changes.
-use Rattle.std.proofs.Common.{◌≡◌, ℕ, ◌+◌, ◌^◌, ◌<◌, ◌≤◌, List, [], ◌∷◌, ◌++◌, length, sym, ap, subst, ◌∙◌, arith, length-append}
+use Rattle.std.proofs.Common.{All, ◌≡◌, ℕ, ◌+◌, ◌^◌, ◌<◌, ◌≤◌, List, [], ◌∷◌, ◌++◌, length, sym, ap, subst, ◌∙◌, arith, length-append}
+use Rattle.std.proofs.lemmas.List.Elements.{All-nil, All-push}
 use Rattle.record_codec.specs.Records.{AreEvents}
 use Rattle.tree_paths.specs.declared.limits.Limits.{Limits}
 use Rattle.instance_table.specs.Instances.{WaitingAreEvents}
@@ -8,6 +9,7 @@ use Rattle.tree_core.specs.declared.snapshot.Snapshot.{Snapshot}
 use Rattle.tree_core.specs.declared.state.State.TheInside.{Inside}
 use Rattle.tree_core.specs.Tree.{Tree, opening, reply_of, after}
 use Rattle.tree_core.specs.Journal.{Journaled, HasPast, IsLawfulFrom, cut_off, last_place, now, opened, with_entry}
+use Rattle.tree_core.specs.Calls.{IsSpelled}
 use Rattle.tree_core.specs.FileSystems.{tree_in, IsNumbered}
 use Rattle.tree_core.specs.Histories.{read_in}
 use Rattle.tree_core.specs.Kept.{IsKept, journal_of, tree_of}
@@ -15,7 +17,7 @@ use Rattle.tree_core.specs.Snapshots.{IsSnapshotOf}
 use Rattle.tree_core.specs.TurnLaws.{TreesAreSound}
 use Rattle.tree_core.proofs.Lawful.{HasPast-cut, HasPast-opening, lawful-entry, limits-now, now-cut, now-entry, now-opened, pasts-make-whole, sound-now}
 use Rattle.tree_core.proofs.Shown.{tree_of-snapshot}
-use Rattle.tree_core.proofs.Spelled.{events-of-file_system, read-events, read-more}
+use Rattle.tree_core.proofs.Spelled.{events-of-file_system, read-events, read-more, reply-spelled}
 
 module _ (a b : Inside) (is : IsKept a) (snapshot : b.snapshot ≡ a.snapshot) (limits : b.file_system.limits ≡ a.file_system.limits) where
   shown-still : IsSnapshotOf (journal_of b).start (journal_of b).place b.snapshot
@@ -34,6 +36,7 @@ module _ (a b : Inside) (is : IsKept a) (snapshot : b.snapshot ≡ a.snapshot) (
         numbered = subst IsNumbered (sym tree) is.numbered;
         waited = subst (λ (s : Journaled). WaitingAreEvents s.start.instances) same is.waited;
         read = subst (λ (s : Journaled). (id : ℕ) → AreEvents (read_in s.start s.entries id)) same is.read;
+        spelled = subst (All (λ (e : Entry). IsSpelled e.reply)) (sym items) is.spelled;
         few = subst (λ (p : Limits × List Entry). length p.1 ≤ p.0.journal) (λ i. (sym limits i, sym items i)) is.few;
         small = subst (λ (s : Journaled). last_place s < 2 ^ 64) same is.small;
       }
@@ -52,6 +55,9 @@ module _ (a b : Inside) (is : IsKept a) (snapshot : b.snapshot ≡ a.snapshot) (
       let more-read : (id : ℕ) → AreEvents (read_in (journal_of a).start (a.journal.items ++ e ∷ []) id) =
       λ id. read-more (journal_of a).start a.journal.items e id (is.read id)
       (read-events t (events-of-file_system t a.file_system is.stands waits) e.call id) in
+      let own : IsSpelled e.reply = subst IsSpelled (sym reply) (reply-spelled (tree_in a.file_system) waits e.call) in
+      let more-spelled : All (λ (f : Entry). IsSpelled f.reply) (a.journal.items ++ e ∷ []) =
+      All-push (λ (f : Entry). IsSpelled f.reply) a.journal.items e is.spelled own in
       record {
         shown = shown-still;
         past = subst (λ (s : Journaled). HasPast s.start s.place) same is.past;
@@ -62,6 +68,7 @@ module _ (a b : Inside) (is : IsKept a) (snapshot : b.snapshot ≡ a.snapshot) (
         numbered = numbered;
         waited = subst (λ (s : Journaled). WaitingAreEvents s.start.instances) same is.waited;
         read = subst (λ (s : Journaled). (id : ℕ) → AreEvents (read_in s.start s.entries id)) same more-read;
+        spelled = subst (All (λ (f : Entry). IsSpelled f.reply)) (sym items) more-spelled;
         few = subst (λ (p : Limits × List Entry). length p.1 ≤ p.0.journal) (λ i. (sym limits i, sym items i)) (omega (arith, more, room));
         small = subst (λ (s : Journaled). last_place s < 2 ^ 64) same (omega (arith, more, small));
       }
@@ -91,6 +98,7 @@ IsKept-cut sound a b is tree none place at given waits =
         numbered = subst IsNumbered (sym tree) is.numbered;
         waited = subst (λ (j : Journaled). WaitingAreEvents j.start.instances) (sym same) (events-of-file_system (now s) a.file_system is.stands waits);
         read = subst (λ (j : Journaled). (id : ℕ) → AreEvents (read_in j.start j.entries id)) (sym same) (λ id. tt);
+        spelled = subst (All (λ (e : Entry). IsSpelled e.reply)) (sym none) (All-nil (λ (e : Entry). IsSpelled e.reply));
         few = let least = b.file_system.limits.journal_in.0 in omega (arith, ap length none);
         small = subst (λ (j : Journaled). last_place j < 2 ^ 64) (sym same) (let h = is.small in omega arith);
       },
@@ -114,6 +122,7 @@ IsKept-new sound limits b file_system numbered none shows waits =
         waited =
             subst (λ (j : Journaled). WaitingAreEvents j.start.instances) (sym same) (events-of-file_system (opening limits) b.file_system file_system waits);
         read = subst (λ (j : Journaled). (id : ℕ) → AreEvents (read_in j.start j.entries id)) (sym same) (λ id. tt);
+        spelled = subst (All (λ (e : Entry). IsSpelled e.reply)) (sym none) (All-nil (λ (e : Entry). IsSpelled e.reply));
         few = let least = b.file_system.limits.journal_in.0 in omega (arith, ap length none);
         small = subst (λ (j : Journaled). last_place j < 2 ^ 64) (sym same) (omega arith);
       },

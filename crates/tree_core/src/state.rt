@@ -239,7 +239,8 @@ impl State {
 
     /// The entry with this sequence number. `None` where no entry since the last cut has it. It takes constant time.
     pub fn entry(&self, place: u64) -> Option<&Entry>
-        ensures { option_copied result ≡ entry_at self.now place }
+        ensures entry { option_copied result ≡ entry_at self.now place }
+        ensures spelled { IfSome (entry_at self.now place) (λ e. IsSpelled e.reply) }
     {
         let since_cut = place.checked_sub(self.snapshot.place)?;
         let index = since_cut.checked_sub(1)?;
