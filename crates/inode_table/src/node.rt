@@ -13,7 +13,6 @@ use crate::content::Content;
 use record_codec::Name;
 use slab::Slab;
 use std::alloc::AllocError;
-use tree_paths::NamePlace;
 
 /// A file or a directory: its number, its mode bits, how many paths lead to it, and what it holds.
 pub struct Node {
@@ -198,12 +197,4 @@ pub(crate) fn child(nodes: &Slab<Node>, directory: usize, name: &Name) -> Option
         } => names.get(name).copied(),
         _ => None,
     }
-}
-
-/// The key under the name in the directory, by a name of a path.
-#[inline(always)]
-pub(crate) fn child_at(nodes: &Slab<Node>, directory: usize, name: &NamePlace) -> Option<usize>
-    ensures { result ≡ child (rows_of nodes.now) directory name.now }
-{
-    child(nodes, directory, name.name().as_name())
 }

@@ -9,10 +9,11 @@ ghost use Rattle.inode_table.specs.Found.{found_of};
 use super::{ROOT, Table, missing_at};
 use crate::found::Found;
 use crate::key::Key;
-use crate::node::child_at;
+use crate::node::child;
 use crate::resolved::Resolved;
 use crate::seen::Seen;
-use tree_paths::{NamePlace, Path, PathNames, Refusal};
+use record_codec::Name;
+use tree_paths::{Path, PathName, PathNames, Refusal};
 
 impl Table {
     ghost use Rattle.inode_table.specs.World.{look};
@@ -29,7 +30,7 @@ impl Table {
     {
         self.rows_law();
         let mut names = path.names();
-        let Some(first) = names.next_place() else {
+        let Some(first) = names.next() else {
             return Resolved {
                 path,
                 directory: Found::at(Key::of(ROOT)),
@@ -46,7 +47,7 @@ impl Table {
 
     // The keys of the directory of the last name and of what stands under that, or why there are none.
     #[inline(always)]
-    fn walk<'a>(&self, first: NamePlace<'a>, behind: PathNames<'a>) -> (Found, Found)
+    fn walk<'a>(&self, first: PathName<'a>, behind: PathNames<'a>) -> (Found, Found)
         ensures directory { IsFound self.now (parent_of (first.entry ∷ behind.entry)) (found_of result.0) }
         ensures here { IsFound self.now (first.entry ∷ behind.entry) (found_of result.1) }
     {
@@ -54,8 +55,8 @@ impl Table {
         let mut name = first;
         let mut names = behind;
         let mut directory = ROOT;
-        while let Some(next) = names.next_place() {
-            match child_at(&self.nodes, directory, &name) {
+        while let Some(next) = names.next() {
+            match child(&self.nodes, directory, name.as_name()) {
                 Some(key) => directory = key,
                 None => {
                     let missing = missing_at(&self.nodes, directory);
@@ -66,7 +67,7 @@ impl Table {
         }
         (
             Found::at(Key::of(directory)),
-            self.resolve_in(directory, &name),
+            self.resolve_in(directory, name.as_name()),
         )
     }
 
@@ -125,13 +126,13 @@ impl Table {
     }
 
     // What stands under a name at a key.
-    fn resolve_in(&self, directory: usize, name: &NamePlace) -> Found
+    fn resolve_in(&self, directory: usize, name: &Name) -> Found
         requires there { IsSome (what_at self.now directory) }
         ensures { (p : List Label) → at self.now p ≡ Some directory
             → IsFound self.now (p ++ name.now ∷ []) (found_of result) }
     {
         self.rows_law();
-        match child_at(&self.nodes, directory, name) {
+        match child(&self.nodes, directory, name) {
             Some(key) => Found::at(Key::of(key)),
             None => missing_at(&self.nodes, directory),
         }
