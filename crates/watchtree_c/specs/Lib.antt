@@ -6,3 +6,4 @@ pub mod Listings
 pub mod Lines
 pub mod Meanings
 pub mod Peeks
+pub mod Entries

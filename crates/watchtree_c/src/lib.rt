@@ -6,6 +6,7 @@
 mod answers;
 mod files;
 mod instances;
+mod journal;
 mod life;
 mod line;
 mod meanings;
@@ -22,6 +23,7 @@ pub use instances::{
     wt_inotify_add_watch, wt_inotify_close, wt_inotify_init, wt_inotify_rm_watch, wt_read,
     wt_waiting,
 };
+pub use journal::{wt_entry, wt_first_place, wt_last_place};
 pub use life::{wt_close, wt_cut, wt_fork, wt_open};
 pub use line::{wt_line, wt_text};
 pub use meanings::{wt_error_text, wt_version};
