@@ -135,6 +135,10 @@ fn each_growth_of_a_copy(rt: HostRuntime) -> Result<(), Fail> {
     let count = copy_refused(alloc, &queue);
     let is_well = matches!(count, Some(count) if (count > 0) == has_refuser);
     assert!(rt; is_well, "{count:?}");
+    // The copy stays full where the queue is emptied.
+    let mut copy = queue.copy()?;
     equal(&rt, waiting(&mut queue), (0, 0, 1, 1, true));
+    equal(&rt, copy.offer(made(alloc, b"c")?), Offered::Lost);
+    equal(&rt, waiting(&mut copy), (0, 0, 1, 1, true));
     Ok(())
 }

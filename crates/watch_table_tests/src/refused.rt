@@ -9,7 +9,7 @@ use tree_paths::{Limits, Refusal};
 use watch_table::{Mask, Watches};
 
 /// More allocations than a call makes.
-const MOST: u32 = 50;
+const MOST: u32 = 200;
 
 /// Watches enough for two nodes of an ordered map.
 const FILES: u32 = 40;
@@ -130,5 +130,42 @@ fn some_calls_take_no_memory(rt: HostRuntime) -> Result<(), Fail> {
     let is_told = are_told(&mut watches);
     let is_refused = was_refused(alloc);
     holds(&rt, "is_told && !is_refused", is_told && !is_refused);
+    Ok(())
+}
+
+// How many allocations a copy makes, if each fails in turn and the copy is alike. None if not.
+fn copy_refused(alloc: Global, watches: &Watches) -> Option<u32> {
+    for k in 1..MOST {
+        let _ = refuse(alloc, k);
+        let copied = watches.copy();
+        match (copied, was_refused(alloc)) {
+            (Err(Refusal::Enomem), true) => {}
+            (Ok(copy), false) if are_alike(&copy, watches) => return Some(k - 1),
+            _ => return None,
+        }
+    }
+    None
+}
+
+#[test]
+fn each_growth_of_a_copy(rt: HostRuntime) -> Result<(), Fail> {
+    let alloc = rt.alloc();
+    let has_refuser = refuse(alloc, MOST);
+    let _ = was_refused(alloc);
+    let twin = watching(alloc, FILES, &Limits::full())?;
+    let watches = watching(alloc, FILES, &Limits::full())?;
+    let count = copy_refused(alloc, &watches);
+    let is_well = matches!(count, Some(count) if (count > 0) == has_refuser);
+    assert!(rt; is_well, "{count:?}");
+    holds(&rt, "as they were", are_alike(&watches, &twin));
+    // The next watch of the copy is its own.
+    let mut copy = watches.copy()?;
+    drop(watches);
+    let wd = watch(&mut copy, number_of(FILES), bits::IN_CREATE);
+    holds(
+        &rt,
+        "a descriptor of its own",
+        wd == Ok(41) && !are_alike(&copy, &twin),
+    );
     Ok(())
 }
