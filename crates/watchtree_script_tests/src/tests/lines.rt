@@ -4,17 +4,13 @@ ghost use Rattle.std.specs.Prelude.{◌≡◌};
 
 use super::*;
 use record_codec::{Bytes, Event, Name, encode};
-use refuser::{refuse, was_refused};
 use tree_core::{Call, Entry, Reply, State};
 use tree_ops::Answer;
 use tree_paths::{Limits, Names, Refusal};
 use watchtree_script::{append_call_line, append_entry, calls_are_read_back, print_line};
 
-/// More allocations than an entry here takes.
-const MOST: u32 = 60;
-
 /// What stands before the line of a call.
-const FRONT: &[u8] = b"# run 1\n";
+pub(super) const FRONT: &[u8] = b"# run 1\n";
 
 // Runs a line, and compares the line of the call that it made.
 fn compare_line(
@@ -94,7 +90,7 @@ fn calls_that_no_line_makes(rt: HostRuntime) -> Result<(), Fail> {
 }
 
 // An entry of caller 1, with this reply to a read.
-fn entry_of(reply: Reply) -> Entry
+pub(super) fn entry_of(reply: Reply) -> Entry
     ensures { result.reply ≡ reply }
 {
     Entry {
@@ -108,7 +104,7 @@ fn entry_of(reply: Reply) -> Entry
 }
 
 // The names `a b` and `c`.
-fn two_names(alloc: Global) -> Result<Names, Fail> {
+pub(super) fn two_names(alloc: Global) -> Result<Names, Fail> {
     let mut names = Vec::new(alloc);
     names.push(Name::new(alloc, b"a b")?.ok_or("no name")?)?;
     names.push(Name::new(alloc, b"c")?.ok_or("no name")?)?;
@@ -154,30 +150,5 @@ fn an_entry_with_records(rt: HostRuntime) -> Result<(), Fail> {
     append_read(rt.alloc(), &mut text)?;
     let wanted = b"read 1 64\n# ok 48\n#   1 00000100 0 f\n#   -1 00004000 0\n";
     equal(&rt, text.as_slice(), wanted.as_slice());
-    Ok(())
-}
-
-// Each allocation fails in turn: the text is then as it was.
-#[test]
-fn an_entry_without_memory(rt: HostRuntime) -> Result<(), Fail> {
-    let alloc = rt.alloc();
-    let entry = entry_of(Reply::File(Answer::Names(two_names(alloc)?)));
-    let wanted = b"# run 1\nread 1 64\n# ok 2\n#   a%20b\n#   c\n";
-    for k in 1..MOST {
-        let mut text = Vec::from_slice(alloc, FRONT)?;
-        let _ = refuse(alloc, k);
-        let told = append_entry(&entry, &mut text);
-        let is_refused = was_refused(alloc);
-        let kept = if told.is_ok() {
-            wanted.as_slice()
-        } else {
-            FRONT
-        };
-        equal(&rt, told.is_err(), is_refused);
-        equal(&rt, text.as_slice(), kept);
-        if !is_refused {
-            return Ok(());
-        }
-    }
     Ok(())
 }

@@ -1,10 +1,13 @@
-//! Fault injection: each allocation of a line fails in turn. Without the shim each line is run once.
+//! Fault injection: each allocation of a line, and of an entry as text, fails in turn. Without the shim each is made
+//! once.
 
+use super::lines::{FRONT, entry_of, two_names};
 use super::*;
 use refuser::{refuse, was_refused};
-use tree_core::State;
+use tree_core::{Reply, State};
+use tree_ops::Answer;
 use tree_paths::{Limits, Refusal};
-use watchtree_script::print_line;
+use watchtree_script::{append_entry, print_line};
 
 /// More allocations than a line here makes.
 const MOST: u32 = 60;
@@ -117,6 +120,31 @@ fn a_word_without_memory_ends_a_line(rt: HostRuntime) -> Result<(), Fail> {
         let _ = was_refused(alloc);
         equal(&rt, told == Err(RunFault::Memory), has_refuser);
         equal(&rt, state.journal().len() == 4, has_refuser);
+    }
+    Ok(())
+}
+
+// Each allocation fails in turn: the text is then as it was.
+#[test]
+fn an_entry_without_memory(rt: HostRuntime) -> Result<(), Fail> {
+    let alloc = rt.alloc();
+    let entry = entry_of(Reply::File(Answer::Names(two_names(alloc)?)));
+    let wanted = b"# run 1\nread 1 64\n# ok 2\n#   a%20b\n#   c\n";
+    for k in 1..MOST {
+        let mut text = Vec::from_slice(alloc, FRONT)?;
+        let _ = refuse(alloc, k);
+        let told = append_entry(&entry, &mut text);
+        let is_refused = was_refused(alloc);
+        let kept = if told.is_ok() {
+            wanted.as_slice()
+        } else {
+            FRONT
+        };
+        equal(&rt, told.is_err(), is_refused);
+        equal(&rt, text.as_slice(), kept);
+        if !is_refused {
+            return Ok(());
+        }
     }
     Ok(())
 }
