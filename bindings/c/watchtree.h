@@ -45,10 +45,6 @@ void wt_close(struct wt_tree *tree);
 int64_t wt_fork(struct wt_tree *tree, struct wt_tree *fork);
 /* Cuts the journal of calls, which can then take 1,000,000 more, and returns the sequence number of the last call. */
 int64_t wt_cut(struct wt_tree *tree);
-/* Opens fork as an independent tree with the same files, instances, watches and waiting records, the same last sequence
- * number, and an empty journal; wt_text has no text of it yet. 0, -EBADF if tree is not open, -EBUSY if fork is open (so
- * also if it is tree itself), -ENOMEM. After an error fork is as it was. */
-int64_t wt_fork(struct wt_tree *tree, struct wt_tree *fork);
 
 /* Return the number of the new directory or file. A file is made as by open(2) with O_CREAT | O_EXCL, then close(2). */
 int64_t wt_mkdir(struct wt_tree *tree, const char *path, size_t path_len, uint32_t mode);

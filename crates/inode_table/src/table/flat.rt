@@ -38,7 +38,7 @@ fn all_paths(alloc: Global, nodes: &Slab<Node>) -> Result<Vec<(Path, u32)>, Allo
     ensures { IfOk result (λ found. ArePaths (rows_of nodes.now) found.items) }
 {
     let mut found = Vec::with_capacity(alloc, nodes.len())?;
-    let mut pending = Vec::new(alloc);
+    let mut pending = Vec::with_capacity(alloc, nodes.len())?;
     pending.push((Path::root(), ROOT))?;
     while let Some((path, key)) = pending.pop() {
         let number = visit(alloc, nodes, &path, key, &mut pending)?;

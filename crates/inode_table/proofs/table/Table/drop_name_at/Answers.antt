@@ -1,4 +1,4 @@
-use Rattle.std.proofs.Common.{◌≡◌, Some, None, sym, ap, subst, ◌∙◌}
+use Rattle.std.proofs.Common.{◌≡◌, None, ap, subst, ◌∙◌}
 use Rattle.inode_table.specs.Kept.{rows_of, IsTable}
 use Rattle.inode_table.specs.Rows.{child}
 use Rattle.inode_table.specs.Changes.{SetsChild}

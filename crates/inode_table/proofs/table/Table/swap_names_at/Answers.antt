@@ -1,6 +1,5 @@
-use Rattle.std.proofs.Common.{◌≡◌, Some, sym, ap, subst, ◌∙◌}
+use Rattle.std.proofs.Common.{◌≡◌, Some, ap, subst}
 use Rattle.inode_table.specs.Kept.{rows_of, IsTable}
-use Rattle.inode_table.specs.Rows.{child}
 use Rattle.inode_table.specs.Changes.{SetsChild}
 use Rattle.inode_table.proofs.ChangeLemmas.{SwapsRow, SwapsRow-from, IsTable-swap, swap-SwapsPaths}
 use Rattle.std.specs.Option.{option_map}

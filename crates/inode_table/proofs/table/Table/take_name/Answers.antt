@@ -1,12 +1,11 @@
-use Rattle.std.proofs.Common.{◌≡◌, ◌++◌, ◌∷◌, [], Some, None, false, is_some, sym, ap, subst, ◌∙◌}
+use Rattle.std.proofs.Common.{◌≡◌, Some, None, false, is_some, sym, ap, subst, ◌∙◌}
 use Rattle.inode_table.specs.Rows.{child}
-use Rattle.inode_table.specs.Tree.{at}
 use Rattle.inode_table.specs.World.{without_path}
-use Rattle.inode_table.specs.Stands.{Stands, look_in}
+use Rattle.inode_table.specs.Stands.{Stands}
 use Rattle.inode_table.specs.TableWorld.{number_of}
 use Rattle.inode_table.specs.declared.seen.Seen.{Seen}
 use Rattle.inode_table.proofs.TreeLemmas.{same_some}
-use Rattle.inode_table.proofs.SeenLemmas.{some-and, node-at, child-there, childless}
+use Rattle.inode_table.proofs.SeenLemmas.{some-and, node-at, childless}
 use Rattle.inode_table.proofs.StandsLemmas.{SameFiles-loses, numbers-same}
 use Rattle.inode_table.proofs.CallLemmas.{parent-there, parent-open, key-under}
 use Rattle.inode_table.specs.Refusals.{parent_of}

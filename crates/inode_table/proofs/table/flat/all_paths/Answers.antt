@@ -5,7 +5,7 @@ use Rattle.inode_table.proofs.table.flat.all_paths.Goals as goal
 
 pub loop-path-init : goal.loop-path-init
 loop-path-init c = walk-start (rows_of c.args.nodes.now) c.in_ok-found.found.items c.push.new.self.items c.requires c.in_ok-found.ensures.items
-    (c.in_ok-push.ensures.items ∙ ap (λ es. es ++ (c.root.result, 0) ∷ []) c.new-pending.ensures.items ∙ ap (λ p. (p, 0) ∷ []) c.root.ensures)
+    (c.in_ok-push.ensures.items ∙ ap (λ es. es ++ (c.root.result, 0) ∷ []) c.in_ok-pending.ensures.items ∙ ap (λ p. (p, 0) ∷ []) c.root.ensures)
 
 pub visit-requires : goal.visit-requires
 visit-requires c =
