@@ -63,12 +63,12 @@ passed : {A E : Type 0} (t : Bool) (x : Result A E) (e : E) (y : A) → (if t th
 passed true x e y h = absurd (cc)
 passed false x e y h = (refl, h)
 
-record IsAsked {A : Type 0} (how : OutputFormat) (f : A → Call) (r : Result A LineError) (c : Call) : Type 0 where
+record IsAsked {A : Type 0} (f : A → Call) (r : Result A LineError) (c : Call) : Type 0 where
   pub value : A
   pub was : r ≡ Ok value
   pub made : c ≡ f value
 
-asked : {A : Type 0} (how format : OutputFormat) (f : A → Call) (r : Result A LineError) (c : Call) → asking how f r ≡ Ok (Run c format) → IsAsked how f r c
+asked : {A : Type 0} (how format : OutputFormat) (f : A → Call) (r : Result A LineError) (c : Call) → asking how f r ≡ Ok (Run c format) → IsAsked f r c
 asked how format f (Ok x) c h = record { value = x; was = refl; made = cc }
 asked how format f (Err e) c h = absurd (cc)
 
