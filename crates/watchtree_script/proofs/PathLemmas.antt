@@ -1,5 +1,5 @@
 -- A text is refused as no path for its bytes alone. Out of memory is answered as the call's ENOMEM.
-use Rattle.std.proofs.Common.{◌≡◌, ℕ, ◌-◌, Bool, true, false, not, ◌&&◌, nat_eq, nat_lt, List, [], length, Result, Ok, Err, refl, ap, subst, inl, inr}
+use Rattle.std.proofs.Common.{◌≡◌, ℕ, ◌-◌, Bool, true, false, not, ◌&&◌, nat_eq, nat_lt, List, length, Result, Ok, Err, refl, ap, subst, inl, inr}
 use Rattle.std.specs.Prelude.{◌⊎◌, cond, nat_le, slice_index, IfErr}
 use Rattle.std.specs.List.{list_any}
 use Rattle.tree_paths.specs.declared.refusal.Refusal.{Refusal}

@@ -1,12 +1,12 @@
 -- Calls that are printed as lines are read back.
-use Rattle.std.proofs.Common.{All, ◌≡◌, ◌==◌, ◌&&◌, ◌||◌, ℕ, zero, suc, ◌^◌, ◌<◌, ◌≤◌, Bool, true, false, not, cond, leb, List, [], ◌∷◌, ◌++◌, length}
-use Rattle.std.proofs.Common.{Some, Result, Ok, refl, sym, ap, ◌∙◌, arith, append_assoc}
+use Rattle.std.proofs.Common.{All, ◌≡◌, ◌==◌, ◌&&◌, ℕ, zero, suc, ◌^◌, ◌<◌, true, false, not, leb, List, [], ◌∷◌, ◌++◌, length}
+use Rattle.std.proofs.Common.{Some, Ok, refl, ap, ◌∙◌, arith, append_assoc}
 use Rattle.std.specs.Prelude.{filter, codes, decimal, FitsSigned, ℤ}
 use Rattle.std.specs.Char.{is_ascii_graphic}
 use Rattle.std.specs.Fmt.{signed_decimal}
 use Rattle.std.specs.Int.{w32}
 use Rattle.std.specs.List.{join_with_byte, list_all}
-use Rattle.std.proofs.lemmas.Bool.{and_from, and_parts, cond-true, cond-false, leb-true, lt-ltb, ne_eqb, or_right}
+use Rattle.std.proofs.lemmas.Bool.{and_from, and_parts, cond-true, leb-true, lt-ltb, ne_eqb, or_right}
 use Rattle.std.proofs.lemmas.List.Folds.{list_all-append}
 use Rattle.std.proofs.lemmas.List.Splits.{slice_split_at, slice_split_none}
 use Rattle.record_codec.specs.Names.{IsBytes, IsName}
@@ -18,13 +18,11 @@ use Rattle.tree_core.specs.declared.call.Call.{Call}
 use Rattle.tree_core.specs.declared.call.Call.TheVariants as call
 use Rattle.watchtree_script.specs.declared.line.Command.{Command}
 use Rattle.watchtree_script.specs.declared.line.Command.TheVariants as command
-use Rattle.watchtree_script.specs.declared.line.Line.{Line}
 use Rattle.watchtree_script.specs.declared.line.Line.TheVariants.{Run}
-use Rattle.watchtree_script.specs.declared.line.LineError.{LineError}
 use Rattle.watchtree_script.specs.declared.line.OutputFormat.TheVariants as format
-use Rattle.watchtree_script.specs.CallLines.{IsScriptCall, IsScriptFileCall, IsScriptPath, call_line, call_text, call_words, file_words, format_of, has_line}
+use Rattle.watchtree_script.specs.CallLines.{IsScriptCall, IsScriptFileCall, IsScriptPath, call_line, call_text, call_words, format_of, has_line}
 use Rattle.watchtree_script.specs.CallLines.{is_short, is_mode, mode_digits_of, mask_text, path_text}
-use Rattle.watchtree_script.specs.Commands.{command_of, file_command_of, path_command_of, instance_command_of, line_asked, line_of, line_of_word, words_line}
+use Rattle.watchtree_script.specs.Commands.{command_of, file_command_of, path_command_of, instance_command_of, line_asked, line_of, words_line}
 use Rattle.watchtree_script.specs.Commands.{refused, path_of, paths_of, a_path, old_and_new, path_and_mode, id_and_bytes, asking}
 use Rattle.watchtree_script.specs.Commands.{write_call, cat_call, truncate_call, rename2_call, watch_call, unwatch_call}
 use Rattle.watchtree_script.specs.Laws.{CallsAreReadBack}

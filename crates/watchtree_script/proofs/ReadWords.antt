@@ -1,8 +1,8 @@
 -- Words that are printed for a call, as they are read.
-use Rattle.std.proofs.Common.{◌≡◌, ◌==◌, ◌&&◌, ℕ, zero, suc, ◌+◌, ◌*◌, ◌/◌, ◌%◌, ◌-◌, ◌^◌, ◌<◌, ◌≤◌, Bool, true, false, not, leb, ltb, eqb, cond, List, [], ◌∷◌}
+use Rattle.std.proofs.Common.{◌≡◌, ◌==◌, ℕ, suc, ◌+◌, ◌*◌, ◌/◌, ◌%◌, ◌-◌, ◌^◌, ◌<◌, ◌≤◌, Bool, true, false, not, leb, ltb, List, [], ◌∷◌}
 use Rattle.std.proofs.Common.{◌++◌, length}
-use Rattle.std.proofs.Common.{get_or, Option, Some, None, Result, Ok, refl, sym, ap, ◌∙◌, arith, length-append, if◌then◌else◌}
-use Rattle.std.specs.Prelude.{All, ℤ, pos, negsuc, neg_ℤ, FitsSigned, codes, decimal, option_map}
+use Rattle.std.proofs.Common.{get_or, Option, Some, Result, Ok, refl, ap, ◌∙◌, arith, if◌then◌else◌}
+use Rattle.std.specs.Prelude.{All, ℤ, pos, negsuc, FitsSigned, codes, decimal}
 use Rattle.std.specs.Char.{digit_value, is_digit, is_ascii_graphic}
 use Rattle.std.specs.Fmt.{digits, digit_glyph, signed_decimal}
 use Rattle.std.specs.Int.{w32}

@@ -17,7 +17,7 @@ use Rattle.watchtree_script.specs.declared.line.OutputFormat.TheVariants as form
 use Rattle.watchtree_script.specs.declared.line.Line.{Line}
 use Rattle.watchtree_script.specs.declared.line.Line.TheVariants.{Silent, Cut, Run}
 use Rattle.watchtree_script.specs.declared.line.LineError.{LineError}
-use Rattle.watchtree_script.specs.declared.line.LineError.TheVariants.{Fault, Refused, Memory}
+use Rattle.watchtree_script.specs.declared.line.LineError.TheVariants.{Fault, Refused}
 use Rattle.watchtree_script.specs.Lines.{words_of, is_silent, is_line_byte}
 use Rattle.watchtree_script.specs.Words.{path_word, mode_word, mask_word, u32_word, u64_word, i32_word, hex_word}
 

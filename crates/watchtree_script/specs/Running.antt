@@ -1,14 +1,12 @@
 -- What the functions that run a part of a script answer. No public clause cites this module.
-use Rattle.std.specs.Prelude.{◌≡◌, ◌⊎◌, ⊤, ℕ, List, ◌++◌, Option, Result, Err, IfSome}
+use Rattle.std.specs.Prelude.{◌≡◌, ◌⊎◌, ⊤, ℕ, List, ◌++◌, Option, Err, IfSome}
 use Rattle.std.specs.Io.KnownBytes.{Appends}
 use Rattle.tree_core.specs.Journal.{Journaled}
 use Rattle.watchtree_script.specs.declared.fault.RunFault.{RunFault}
 use Rattle.watchtree_script.specs.declared.fault.RunFault.TheVariants as faults
-use Rattle.watchtree_script.specs.declared.line.Line.{Line}
-use Rattle.watchtree_script.specs.declared.line.LineError.{LineError}
 use Rattle.watchtree_script.specs.declared.line.LineError.TheVariants.{Fault}
 use Rattle.watchtree_script.specs.Commands.{line_of}
-use Rattle.watchtree_script.specs.Script.{PrintsLine, MayHaveRun, IsTooLong}
+use Rattle.watchtree_script.specs.Script.{PrintsLine, IsTooLong}
 
 -- why a script is not read
 abbrev pub ReadTells : RunFault → Option (List ℕ) → Type 0

@@ -1,4 +1,4 @@
-use Rattle.std.proofs.Common.{◌≡◌, ◌∷◌, [], List, ap, ◌∙◌, append_assoc, true, rules}
+use Rattle.std.proofs.Common.{◌≡◌, ◌∷◌, [], ap, ◌∙◌, append_assoc, true, rules}
 use Rattle.watchtree_script.specs.CallLines.{path_text}
 use Rattle.watchtree_script.proofs.CallLemmas.{printed-root, push-name, push-names}
 use Rattle.watchtree_script.proofs.calls.push_path.Goals as goal

@@ -1,4 +1,4 @@
-use Rattle.std.proofs.Common.{sym, ◌∙◌, ◌<◌, length, arith}
+use Rattle.std.proofs.Common.{◌<◌, length, arith}
 use Rattle.std.proofs.lemmas.List.{drop-drop}
 use Rattle.watchtree_script.proofs.PieceLemmas.{from-index, line-cut, line-end}
 use Rattle.watchtree_script.proofs.lines.cut_printable.Goals as goal
