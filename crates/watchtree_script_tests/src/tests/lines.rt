@@ -7,7 +7,9 @@ use record_codec::{Bytes, Event, Name, encode};
 use tree_core::{Call, Entry, Reply, State};
 use tree_ops::Answer;
 use tree_paths::{Limits, Names, Refusal};
-use watchtree_script::{append_call_line, append_entry, calls_are_read_back, print_line};
+use watchtree_script::{
+    append_call_line, append_entry, calls_are_read_back, lines_ask_for_script_calls, print_line,
+};
 
 /// What stands before the line of a call.
 pub(super) const FRONT: &[u8] = b"# run 1\n";
@@ -67,6 +69,7 @@ fn calls_as_lines(rt: HostRuntime) -> Result<(), Fail> {
         compare_line(&rt, &mut state, &mut text, line, wanted)?;
     }
     calls_are_read_back();
+    lines_ask_for_script_calls();
     Ok(())
 }
 
