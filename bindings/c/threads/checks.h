@@ -43,6 +43,8 @@ static inline void wait_for_post(sem_t *semaphore) {
 /* Of watched.c. Returns once so many waits have begun since the last call or since forget_waits. */
 void wait_for_waits(unsigned wanted);
 void forget_waits(void);
+/* From now on a thread whose wait is over leaves it only once another wait has begun. */
+void hold_until_next_wait(void);
 /* Makes the next allocations of the layer fail. */
 void fail_next(int count_of);
 #endif

@@ -338,6 +338,8 @@ static void end_of_tree(void) {
         pthread_t readers[] = { start(read_one, &instances[0]), start(read_one, &instances[1]) };
         wait_for_waits(2);
         HOLDS(!is_readable(fd));
+        /* In the first turn no reader leaves before the close waits for them. */
+        if (turn == 0) hold_until_next_wait();
         wtt_close(tree);
         IS((long)join(readers[0]), -EBADF), IS((long)join(readers[1]), -EBADF);
         HOLDS(is_readable(fd));

@@ -59,6 +59,7 @@ WRAP(wt_text, (TREE, void *q, size_t m), (t, q, m))
 static pthread_mutex_t lock = PTHREAD_MUTEX_INITIALIZER;
 static pthread_cond_t changed = PTHREAD_COND_INITIALIZER;
 static unsigned waits;
+static bool is_held; /* threads whose wait is over stay in it until another one begins */
 
 int __real_pthread_cond_wait(pthread_cond_t *it, pthread_mutex_t *held);
 int __wrap_pthread_cond_wait(pthread_cond_t *it, pthread_mutex_t *held);
@@ -68,13 +69,28 @@ int __wrap_pthread_cond_timedwait(pthread_cond_t *it, pthread_mutex_t *held, con
 static void count(void) {
     pthread_mutex_lock(&lock);
     waits++;
+    is_held = false;
     pthread_cond_broadcast(&changed);
     pthread_mutex_unlock(&lock);
 }
 
+static void stay_if_held(void) {
+    pthread_mutex_lock(&lock);
+    while (is_held) __real_pthread_cond_wait(&changed, &lock);
+    pthread_mutex_unlock(&lock);
+}
+
+void hold_until_next_wait(void) {
+    pthread_mutex_lock(&lock);
+    is_held = true;
+    pthread_mutex_unlock(&lock);
+}
+
 int __wrap_pthread_cond_wait(pthread_cond_t *it, pthread_mutex_t *held) {
-    if (held != &lock) count();
-    return __real_pthread_cond_wait(it, held);
+    count();
+    int error = __real_pthread_cond_wait(it, held);
+    stay_if_held();
+    return error;
 }
 
 int __wrap_pthread_cond_timedwait(pthread_cond_t *it, pthread_mutex_t *held, const struct timespec *end) {
