@@ -18,7 +18,7 @@ from pathlib import Path
 from declarations import in_c, in_rust, plain
 
 PLAIN = {"u32": "uint32_t", "i32": "int32_t", "u64": "uint64_t", "i64": "int64_t", "bool": "bool", "*mut u8": "void *"}
-STRUCTS = {"Tree": "wt_tree", "Stat": "wt_stat"}
+STRUCTS = {"TreeHandle": "wt_tree", "Stat": "wt_stat"}
 SIZES = {"void *": ctypes.c_void_p, "bool": ctypes.c_bool, "uint64_t": ctypes.c_uint64, "uint32_t": ctypes.c_uint32}
 # What the layout of C gives each struct: its size in bytes.
 WANTED_SIZES = {"wt_tree": 16, "wt_stat": 32}
@@ -56,7 +56,7 @@ def fields(text, name):
         return None
     found = []
     for field, kind in re.findall(r"^\s*(?:pub )?(\w+): ([^,{]+),$", body[1], re.M):
-        if kind in STRUCTS or kind == "Held":
+        if kind in STRUCTS or kind == "OpenTree":
             found += fields(text, kind) or [("?", kind)]
         elif kind != "Global":
             found.append((PLAIN.get(kind, kind), field))

@@ -23,30 +23,30 @@ use Rattle.event_rules.specs.declared.notice.Notice.TheVariants.{Told, Gone}
 use Rattle.event_rules.specs.Table.{about, answers_byte, exchange_told, has_byte, kind_seen, move_told, no_counts}
 use Rattle.event_rules.specs.Table.{notices_of, path_lost, rename_told, swap_told, to_dir, to_self, told_in}
 use Rattle.event_rules.specs.Raised.{event_bit}
-use Rattle.event_rules.specs.Laws.{AreAmong, AreTied, IsTied, Mark, cookies_from, is_move, marks_told, moves_in, moves_with}
+use Rattle.event_rules.specs.Laws.{IsSubsequence, AreTied, IsTied, Mark, cookies_from, is_move, marks_told, moves_in, moves_with}
 use Rattle.event_rules.proofs.EveryCall as every
 
 -- ---- some of a list, in order
 
-none-among : (ys : List Mark) → AreAmong [] ys
+none-among : (ys : List Mark) → IsSubsequence [] ys
 none-among ys = tt
 
-pub among-append : (xs us ys vs : List Mark) → AreAmong xs ys → AreAmong us vs → AreAmong (xs ++ us) (ys ++ vs)
+pub among-append : (xs us ys vs : List Mark) → IsSubsequence xs ys → IsSubsequence us vs → IsSubsequence (xs ++ us) (ys ++ vs)
 among-append [] us [] vs h k = k
 among-append [] us (y ∷ ys) vs h k = more us y (ys ++ vs) (among-append [] us ys vs tt k)
   where
-    more : (us : List Mark) (y : Mark) (zs : List Mark) → AreAmong us zs → AreAmong us (y ∷ zs)
+    more : (us : List Mark) (y : Mark) (zs : List Mark) → IsSubsequence us zs → IsSubsequence us (y ∷ zs)
     more [] y zs h = tt
     more (u ∷ us) y zs h = inr h
 among-append (x ∷ xs) us [] vs h k = absurd h
 among-append (x ∷ xs) us (y ∷ ys) vs (inl here) k = inl (here.0, among-append xs us ys vs here.1 k)
 among-append (x ∷ xs) us (y ∷ ys) vs (inr later) k = inr (among-append (x ∷ xs) us ys vs later k)
 
-pub among-itself : (xs : List Mark) → AreAmong xs xs
+pub among-itself : (xs : List Mark) → IsSubsequence xs xs
 among-itself [] = tt
 among-itself (x ∷ xs) = inl (refl, among-itself xs)
 
-pub among-trans : (xs ys zs : List Mark) → AreAmong xs ys → AreAmong ys zs → AreAmong xs zs
+pub among-trans : (xs ys zs : List Mark) → IsSubsequence xs ys → IsSubsequence ys zs → IsSubsequence xs zs
 among-trans [] ys zs h k = tt
 among-trans (x ∷ xs) [] zs h k = absurd h
 among-trans (x ∷ xs) (y ∷ ys) [] h k = absurd k
@@ -73,7 +73,7 @@ marks_told-append (Gone number ∷ ms) ns = marks_told-append ms ns
 
 pub tied-append : (xs ys ms ns : List Mark) → AreTied xs ms → AreTied ys ns → AreTied (xs ++ ys) (ms ++ ns)
 tied-append xs ys ms ns h k = record {
-  among = subst (λ l. AreAmong l (xs ++ ys)) (sym (moves_in-append ms ns)) (among-append (moves_in ms) (moves_in ns) xs ys h.among k.among);
+  among = subst (λ l. IsSubsequence l (xs ++ ys)) (sym (moves_in-append ms ns)) (among-append (moves_in ms) (moves_in ns) xs ys h.among k.among);
   others = All-append IsTied ms ns h.others k.others;
 }
 
@@ -95,7 +95,7 @@ tied-still (Told number bits cookie name ∷ ns) h =
     let here = All-head IsStill (Told number bits cookie name) ns h in
     let rest = tied-still ns (All-tail IsStill (Told number bits cookie name) ns h) in
     record {
-      among = subst (λ b. AreAmong (if b then (event_bit bits, cookie) ∷ moves_in (marks_told ns) else moves_in (marks_told ns)) []) (sym here.0) rest.among;
+      among = subst (λ b. IsSubsequence (if b then (event_bit bits, cookie) ∷ moves_in (marks_told ns) else moves_in (marks_told ns)) []) (sym here.0) rest.among;
       others = All-cons IsTied (bits, cookie) (marks_told ns) (λ _. here.1) rest.others;
     }
 tied-still (Gone number ∷ ns) h = tied-still ns (All-tail IsStill (Gone number) ns h)

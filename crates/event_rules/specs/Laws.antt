@@ -52,10 +52,10 @@ moves_with [] = []
 moves_with (cookie ∷ cookies) = (IN_MOVED_FROM, cookie) ∷ (IN_MOVED_TO, cookie) ∷ moves_with cookies
 
 -- these are some of the others, in their order
-abbrev pub AreAmong : List Mark → List Mark → Type 0
-AreAmong [] ys = Unit {0}
-AreAmong (x ∷ xs) [] = ⊥
-AreAmong (x ∷ xs) (y ∷ ys) = ((x ≡ y) × AreAmong xs ys) ⊎ AreAmong (x ∷ xs) ys
+abbrev pub IsSubsequence : List Mark → List Mark → Type 0
+IsSubsequence [] ys = Unit {0}
+IsSubsequence (x ∷ xs) [] = ⊥
+IsSubsequence (x ∷ xs) (y ∷ ys) = ((x ≡ y) × IsSubsequence xs ys) ⊎ IsSubsequence (x ∷ xs) ys
 
 -- the event is that of a move, or has no cookie
 abbrev pub IsTied : Mark → Type 0
@@ -63,7 +63,7 @@ IsTied m = is_move m ≡ false → m.1 ≡ NO_COOKIE
 
 -- the events of moves are some of these, in their order, and all other events have no cookie
 pub record AreTied (moves ms : List Mark) : Type 0 where
-  pub among : AreAmong (moves_in ms) moves
+  pub among : IsSubsequence (moves_in ms) moves
   pub others : All IsTied ms
 
 -- ---- of events

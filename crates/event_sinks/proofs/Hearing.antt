@@ -10,7 +10,7 @@ use Rattle.event_sinks.specs.declared.listener.Cause.{Cause}
 use Rattle.event_sinks.specs.declared.listener.Cause.TheVariants as cause
 use Rattle.event_sinks.specs.declared.listener.Step.{Step}
 use Rattle.event_sinks.specs.declared.listener.Step.TheVariants as step
-use Rattle.event_sinks.specs.Listeners.{ListenerState, HasRecords, IsEndedBy, IsSoundListener, IsTook, IsTurn, Puts, Reaches, Steps, Takes}
+use Rattle.event_sinks.specs.Listeners.{ListenerState, HasRecords, IsEndedBy, IsSoundListener, TookBatches, IsTurn, Puts, Reaches, Steps, Takes}
 use Rattle.shared_tree.specs.Handed.{records_of}
 
 records_of-snoc : (bs : List Batch) (b : Batch) → records_of (bs ++ b ∷ []) ≡ records_of bs ++ b.records
@@ -36,7 +36,7 @@ within_more started list list' more within e = omega (arith, length-append list 
 
 took_after : (handed : List Batch) (b : Batch) (started : ℕ) (list list' : List Event) (why : Option Cause)
     → started ≤ length list → drop started list ≡ records_of handed → Puts list b.records list' why
-    → IsTook (handed ++ b ∷ []) (drop started list') why
+    → TookBatches (handed ++ b ∷ []) (drop started list') why
 took_after handed b started list list' None within took puts =
     took_more handed started list list' b.records within took puts.1 ∙ sym (records_of-snoc handed b)
 took_after handed b started list list' (Some cause.Last) within took puts =
@@ -79,10 +79,10 @@ ended_after handed b list list' (Some cause.Memory) had puts = absurd puts
 -- a batch was taken
 takes_sound : (old : ListenerState) (b : Batch) (new : ListenerState) → IsSoundListener old → Takes old b new → IsSoundListener new
 takes_sound old b new h t =
-    let Took : Option Cause → Type 0 = λ o. IsTook old.handed (drop old.started old.list) o in
+    let Took : Option Cause → Type 0 = λ o. TookBatches old.handed (drop old.started old.list) o in
     let Ended : Option Cause → Type 0 = λ o. IsEndedBy old.handed o in
-    let TookNow : List Batch → Type 0 = λ bs. IsTook bs (drop new.started new.list) new.cause in
-    let TookFrom : ℕ → Type 0 = λ n. IsTook (old.handed ++ b ∷ []) (drop n new.list) new.cause in
+    let TookNow : List Batch → Type 0 = λ bs. TookBatches bs (drop new.started new.list) new.cause in
+    let TookFrom : ℕ → Type 0 = λ n. TookBatches (old.handed ++ b ∷ []) (drop n new.list) new.cause in
     let EndedNow : List Batch → Type 0 = λ bs. IsEndedBy bs new.cause in
     let WithinFrom : ℕ → Type 0 = λ n. n ≤ length new.list in
     let took : drop old.started old.list ≡ records_of old.handed = subst Took t.on h.took in
@@ -106,7 +106,7 @@ takes_sound old b new h t =
 -- there was no memory for one more batch
 stays_sound : (old : ListenerState) → IsSoundListener old → old.cause ≡ None → IsSoundListener (record old { is_open = false; cause = Some cause.Memory })
 stays_sound old h on =
-    let Took : Option Cause → Type 0 = λ o. IsTook old.handed (drop old.started old.list) o in
+    let Took : Option Cause → Type 0 = λ o. TookBatches old.handed (drop old.started old.list) o in
     let Ended : Option Cause → Type 0 = λ o. IsEndedBy old.handed o in
     record {
       received = h.received;

@@ -50,13 +50,13 @@ abbrev pub state_of_ended : {S : Type 0} → (S → List Event) → (S → Bool)
 state_of_ended record_list is_open e = state_of record_list is_open e.intake (Some e.cause)
 
 -- the first of some records, and not all
-abbrev pub IsCutOf : List Event → List Event → Type 0
-IsCutOf all part = (k : ℕ) × (k < length all) × (part ≡ take k all)
+abbrev pub IsProperPrefix : List Event → List Event → Type 0
+IsProperPrefix all part = (k : ℕ) × (k < length all) × (part ≡ take k all)
 
 -- the sink took the records that were handed, in order; where it refused one, those before it
-abbrev pub IsTook : List Batch → List Event → Option Cause → Type 0
-IsTook handed taken (Some (cause.Sink fault)) = IsCutOf (records_of handed) taken
-IsTook handed taken _ = taken ≡ records_of handed
+abbrev pub TookBatches : List Batch → List Event → Option Cause → Type 0
+TookBatches handed taken (Some (cause.Sink fault)) = IsProperPrefix (records_of handed) taken
+TookBatches handed taken _ = taken ≡ records_of handed
 
 abbrev pub HasRecords : Batch → Type 0
 HasRecords b = b.records ≢ []
@@ -71,7 +71,7 @@ IsEndedBy handed _ = All HasRecords handed
 -- records of that, and is open until there is a cause to end
 pub record IsSoundListener (h : ListenerState) : Type 0 where
   pub received : (earlier : List Batch) × (h.feed.received ≡ earlier ++ h.handed)
-  pub took : IsTook h.handed (drop h.started h.list) h.cause
+  pub took : TookBatches h.handed (drop h.started h.list) h.cause
   pub ended : IsEndedBy h.handed h.cause
   pub open_until : h.is_open ≡ is_none h.cause
   pub within : h.started ≤ length h.list

@@ -53,14 +53,14 @@ fn overflow() -> Event {
 
 /// Takes `step` bytes a call at most. With `room` bytes taken it fails `faults` times, and then goes on.
 #[derive(Drop)]
-struct Sheet<'a> {
+struct ShortWriter<'a> {
     text: &'a mut Vec<u8>,
     step: usize,
     room: usize,
     faults: usize,
 }
 
-impl Write for Sheet<'_> {
+impl Write for ShortWriter<'_> {
     fn write(&mut self, buf: &[u8]) -> io::Result<usize> {
         let mut count = buf.len().min(self.step);
         if self.faults > 0 {
@@ -84,11 +84,11 @@ impl Write for Sheet<'_> {
 
 /// Counts the bytes, wherever it went.
 #[derive(Drop)]
-struct Meter {
+struct CountingWriter {
     bytes: Arc<AtomicU64, Global>,
 }
 
-impl Write for Meter {
+impl Write for CountingWriter {
     fn write(&mut self, buf: &[u8]) -> io::Result<usize> {
         self.bytes.fetch_add(buf.len() as u64, Ordering::SeqCst);
         Ok(buf.len())
@@ -195,7 +195,7 @@ fn written(
     text: &mut Vec<u8>,
 ) -> Result<(Option<SinkFault>, u64), Fail> {
     let event = created(alloc)?;
-    let sheet = Sheet {
+    let sheet = ShortWriter {
         text,
         step,
         room,
@@ -280,7 +280,7 @@ fn a_drop_closes(rt: HostRuntime) -> Result<(), Fail> {
 fn a_dropped_box_closes(rt: HostRuntime) -> Result<(), Fail> {
     let alloc = rt.alloc();
     let bytes = Arc::new(alloc, AtomicU64::new(0))?;
-    let meter = Meter {
+    let meter = CountingWriter {
         bytes: Arc::try_clone(&bytes)?,
     };
     let mut sink: Box<dyn Sink> = Box::new(alloc, LineSink::new(alloc, meter))?;
@@ -296,7 +296,7 @@ fn passes_a_refusal_on(rt: HostRuntime) -> Result<(), Fail> {
     let alloc = rt.alloc();
     let event = created(alloc)?;
     let mut text = Vec::with_capacity(alloc, 99)?;
-    let sheet = Sheet {
+    let sheet = ShortWriter {
         text: &mut text,
         step: 99,
         room: 10,

@@ -6,7 +6,7 @@ use Rattle.std.specs.Result.{result_ok}
 use Rattle.inode_table.specs.Changes.{Avoids, IsOpen, LosesLink, with_bytes}
 use Rattle.inode_table.specs.Rows.{Label, What, row_under, child}
 use Rattle.inode_table.specs.Kept.{is_directory, IsTable}
-use Rattle.inode_table.specs.Tree.{Tree, at, what_at}
+use Rattle.inode_table.specs.Tree.{TableValue, at, what_at}
 use Rattle.tree_paths.specs.Paths.{is_below}
 use Rattle.inode_table.specs.World as world
 use Rattle.inode_table.specs.Refusals.{is_directory_seen, parent_of}
@@ -26,7 +26,7 @@ some-from (Some x) h = refl
 pub named : (path : List Label) (last name : Label) → path ≡ parent_of path ++ last ∷ [] → name ≡ last → path ≡ parent_of path ++ name ∷ []
 named path last name parts same = parts ∙ ap (λ (l : Label). parent_of path ++ l ∷ []) (sym same)
 
-module _ (t : Tree) (table : IsTable t.rows) where
+module _ (t : TableValue) (table : IsTable t.rows) where
   -- a path that is there, cut at its last name
   module _ (path parent : List Label) (name : Label) (parts : path ≡ parent ++ name ∷ []) (there : IsSome (look_in t path)) where
     pub node-of : (s : Seen) × NodeAt t (parent ++ name ∷ []) s
@@ -79,12 +79,12 @@ module _ (t : Tree) (table : IsTable t.rows) where
   ok-at path (Err e) found absent = sym (there-seen t table path absent)
 
 -- the key at a path, which is under its last name
-pub key-under : (t : Tree) (path parent : List Label) (name : Label) → path ≡ parent ++ name ∷ [] → (k : ℕ) → at t parent ≡ Some k
+pub key-under : (t : TableValue) (path parent : List Label) (name : Label) → path ≡ parent ++ name ∷ [] → (k : ℕ) → at t parent ≡ Some k
     → (found : Option ℕ) → at t path ≡ found → child t.rows k name ≡ found
 key-under t path parent name parts k there found is = sym (walk_end (child t.rows) k parent name there) ∙ ap (at t) (sym parts) ∙ is
 
 -- a node stays where it loses a link
-pub kept-there : (old new : Tree) (node : Option ℕ) → LosesLink old.rows new.rows node → (k : ℕ) → IsSome (what_at old k) → IsSome (what_at new k)
+pub kept-there : (old new : TableValue) (node : Option ℕ) → LosesLink old.rows new.rows node → (k : ℕ) → IsSome (what_at old k) → IsSome (what_at new k)
 kept-there old new node loses k there = sym (live-what new.rows k) ∙ sym (loses-live loses k) ∙ live-what old.rows k ∙ there
 
 pub if-some : (P : ℕ → Type 0) (o : Option ℕ) → ((k : ℕ) → o ≡ Some k → P k) → IfSome o P
@@ -93,7 +93,7 @@ if-some P (Some k) h = h k refl
 
 -- ---- the contents of a file
 
-pub file-regular : (t : Tree) (p : List Label) (k : ℕ) (v : What) → at t p ≡ Some k → what_at t k ≡ Some v
+pub file-regular : (t : TableValue) (p : List Label) (k : ℕ) (v : What) → at t p ≡ Some k → what_at t k ≡ Some v
     → is_directory_seen (look_in t p) ≡ false → is_none v.bytes ≡ false
 file-regular t p k v found is regular =
     regular-what t.rows k v is

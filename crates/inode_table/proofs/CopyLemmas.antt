@@ -9,7 +9,7 @@ use Rattle.inode_table.specs.Copies.{IsNodeCopy}
 use Rattle.inode_table.specs.Flat.{names_in}
 use Rattle.inode_table.specs.Kept.{rows_of, row_of, IsTable}
 use Rattle.inode_table.specs.Rows.{Body, File, Names, Label, Row, What, child, what, shown, key_in, same_label}
-use Rattle.inode_table.specs.Tree.{Tree}
+use Rattle.inode_table.specs.Tree.{TableValue}
 use Rattle.inode_table.specs.TableWorld.{world_in}
 use Rattle.inode_table.specs.Walk.{walk}
 use Rattle.inode_table.proofs.ChangeLemmas.{IsTable-same}
@@ -65,6 +65,6 @@ module _ (nodes copy : Slab Node) (same : IsSlabClone IsNodeCopy nodes copy) whe
   -- with the same world
   pub world-copy : IsTable (rows_of nodes) → world_in (rows_of copy) ≡ world_in (rows_of nodes)
   world-copy table =
-      let old : Tree = record { rows = rows_of nodes; room = 0 } in
-      let new : Tree = record { rows = rows_of copy; room = 0 } in
+      let old : TableValue = record { rows = rows_of nodes; room = 0 } in
+      let new : TableValue = record { rows = rows_of copy; room = 0 } in
       world_of-is {t = new} (Stands-same {old = old} (IsTable-copy table) (λ p i. walk (λ k l. child-copy k l i) 0 p) what-copy (Stands-world_of old table))

@@ -23,7 +23,7 @@ use Rattle.inode_table.specs.Rows.{Row, Rows, What, shown, what}
 use Rattle.inode_table.specs.Kept.{row_of, rows_of}
 use Rattle.inode_table.specs.Stands.{Stands}
 use Rattle.inode_table.specs.TableWorld.{file_of}
-use Rattle.inode_table.specs.Tree.{Tree}
+use Rattle.inode_table.specs.Tree.{TableValue}
 use Rattle.inode_table.specs.World.{File, World}
 use Rattle.inode_table.proofs.EntriesLemmas.{In, In-find, In-map, In-unmap, entries-of, find-In, in_order}
 use Rattle.inode_table.proofs.TreeLemmas.{same_some, some_none}
@@ -135,7 +135,7 @@ rows-back : (rows : List FileRow) → map file_row (map entry_of rows) ≡ rows
 rows-back [] = refl
 rows-back (row ∷ rows) = ap (λ rs. row ∷ rs) (rows-back rows)
 
-module _ (t : Tree) (w : World) (stands : Stands t w) (rows : List FileRow) (moved : IsPermutation (rows_in t.rows) rows)
+module _ (t : TableValue) (w : World) (stands : Stands t w) (rows : List FileRow) (moved : IsPermutation (rows_in t.rows) rows)
     (rise : IsNonDecreasingBy number_in rows) where
   es : List (ℕ × File)
   es = map entry_of rows
@@ -174,7 +174,7 @@ module _ (t : Tree) (w : World) (stands : Stands t w) (rows : List FileRow) (mov
   rows-of = sym (rows-back rows) ∙ ap (map file_row) (entries-of nat_cmp_total nat_cmp-IsAntisymmetric es w.files up found)
 
 -- the rows of all nodes, sorted by number
-pub files-rows : (t : Tree) (w : World) (s : Slab Node) (rows sorted : List FileRow) → t.rows ≡ rows_of s → Stands t w
+pub files-rows : (t : TableValue) (w : World) (s : Slab Node) (rows sorted : List FileRow) → t.rows ≡ rows_of s → Stands t w
     → rows ≡ map (λ (e : ℕ × Node). row_shown (shown (row_of e.1))) (entries s)
     → IsPermutation rows sorted → IsNonDecreasingBy (λ (row : FileRow). row.number) sorted → sorted ≡ map file_row (finmap.entries w.files)
 files-rows t w s rows sorted same stands all moved rise =

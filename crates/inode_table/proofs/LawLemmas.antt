@@ -5,7 +5,7 @@ use Rattle.std.specs.FinMap as finmap
 use Rattle.inode_table.specs.Walk.{walk}
 use Rattle.inode_table.specs.Rows.{Label, Row, row_under, child, shown, bytes_in}
 use Rattle.inode_table.specs.Kept.{is_directory, is_directory_row}
-use Rattle.inode_table.specs.Tree.{Tree, at, what_at}
+use Rattle.inode_table.specs.Tree.{TableValue, at, what_at}
 use Rattle.inode_table.specs.World as world
 use Rattle.inode_table.specs.World.{World, IsWorld, IsDirectoryAt, file_at}
 use Rattle.inode_table.specs.TableWorld.{IsNodeOf, kind_of, file_of}
@@ -24,7 +24,7 @@ directory-kind : (o : Option (List ℕ)) → kind_of o ≡ Directory → is_none
 directory-kind None e = refl
 directory-kind (Some x) e = absurd (cc)
 
-module _ {t : Tree} {w : World} (stands : Stands t w) where
+module _ {t : TableValue} {w : World} (stands : Stands t w) where
   row-directory : (k : ℕ) (r : Row) → row_under t.rows k ≡ Some r → is_directory t.rows k ≡ is_none (bytes_in r.body)
   row-directory k r is = ap (λ o. option_map_or is_directory_row o false) is
 

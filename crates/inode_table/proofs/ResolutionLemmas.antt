@@ -12,7 +12,7 @@ use Rattle.inode_table.specs.World.{look}
 use Rattle.inode_table.specs.Refusals.{Look, find, is_directory_seen, longest_there, parent_of}
 use Rattle.inode_table.specs.Rows.{Label, child}
 use Rattle.inode_table.specs.Stands.{look_in, seen_at}
-use Rattle.inode_table.specs.Tree.{Tree, at}
+use Rattle.inode_table.specs.Tree.{TableValue, at}
 use Rattle.inode_table.specs.Kept.{is_directory, IsTable}
 use Rattle.inode_table.specs.Walk.{walk}
 use Rattle.inode_table.proofs.FindLemmas.{absent-seen, found-none, live-there, stops-absent, stops-missing, take-whole, there-seen}
@@ -44,7 +44,7 @@ find-below seen q l none below =
     ∙ ap why (ap (longest_there seen (q ++ l ∷ [])) (one-more q l) ∙ step ∙ longest-more seen q (l ∷ []) (length q) (omega arith))
     ∙ sym (ap (λ b. if b then None else why (longest_there seen q (length q))) (ap is_some none))
 
-module _ (t : Tree) (table : IsTable t.rows) where
+module _ (t : TableValue) (table : IsTable t.rows) where
   pub found-at : (p : List Label) (k j : ℕ) → at t p ≡ Some k → j ≡ k → IsFound t p (Ok j)
   found-at p k j there same =
       record {
@@ -88,7 +88,7 @@ module _ (t : Tree) (table : IsTable t.rows) where
       missing-at p e (stops-missing t table p e stops) (absent-seen t table p (stops-absent t table p e stops))
 
 -- what was found stays found where no path and no file is another one
-pub resolved-kept : (t u : Tree) → ((p : List Label) → at u p ≡ at t p) → world_of u ≡ world_of t → (path : ResolvedPath)
+pub resolved-kept : (t u : TableValue) → ((p : List Label) → at u p ≡ at t p) → world_of u ≡ world_of t → (path : ResolvedPath)
     → IsResolved t path → IsResolved u path
 resolved-kept t u paths same path is = record { here = kept path.names path.here is.here; directory = kept (parent_of path.names) path.directory is.directory }
   where
@@ -140,7 +140,7 @@ parent-append (l ∷ m ∷ front) x p = parent-cons l m (front ++ x ∷ p) ∙ a
 parent-one : (front : List Label) (x : Label) → parent_of (front ++ x ∷ []) ≡ front
 parent-one front x = parent-append front x [] ∙ append-nil front
 
-module _ (t : Tree) (table : IsTable t.rows) where
+module _ (t : TableValue) (table : IsTable t.rows) where
   pub walk-parent : (whole : List Label) (name : Label) (left : List Label) (key found : ℕ)
       → WalksTo (child t.rows) whole name left key → left ≡ [] → found ≡ key → IsFound t (parent_of whole) (Ok found)
   walk-parent whole name left key found w none same =

@@ -15,7 +15,7 @@ use borrow.Author.Tests.{eqb-true}
 use Rattle.inode_table.specs.Walk.{walk}
 use Rattle.inode_table.specs.Rows.{Label, Body, File, Names, Row, Rows, What, row_under, child, what, shown, key_in, same_label}
 use Rattle.inode_table.specs.Kept.{is_directory, IsTable}
-use Rattle.inode_table.specs.Tree.{Tree, at, what_at}
+use Rattle.inode_table.specs.Tree.{TableValue, at, what_at}
 use Rattle.inode_table.specs.Flat.{names_in, number_under}
 use Rattle.inode_table.specs.Paths.{path_cmp}
 use Rattle.inode_table.specs.World as world
@@ -170,7 +170,7 @@ module _ (rs : Rows) (table : IsTable rs) where
 
 -- ---- the paths
 
-paths-none : (t : Tree) (ps : List (List Label)) (p : List Label) → number_under t.rows p ≡ None → map.get (paths_among t.rows ps) p ≡ None
+paths-none : (t : TableValue) (ps : List (List Label)) (p : List Label) → number_under t.rows p ≡ None → map.get (paths_among t.rows ps) p ≡ None
 paths-none t [] p none = get-empty path_cmp p
 paths-none t (q ∷ ps) p none =
     elim (number_under t.rows q) as (λ o. number_under t.rows q ≡ o → map.get (with_number (paths_among t.rows ps) q o) p ≡ None) [
@@ -180,7 +180,7 @@ paths-none t (q ∷ ps) p none =
           ∙ paths-none t ps p none
     ] refl
 
-paths-some : (t : Tree) (ps : List (List Label)) (p : List Label) (n : ℕ) → In ps p → number_under t.rows p ≡ Some n
+paths-some : (t : TableValue) (ps : List (List Label)) (p : List Label) (n : ℕ) → In ps p → number_under t.rows p ≡ Some n
     → map.get (paths_among t.rows ps) p ≡ Some n
 paths-some t [] p n has is = absurd has
 paths-some t (q ∷ ps) p n has is =
@@ -235,7 +235,7 @@ module _ (rs : Rows) (table : IsTable rs) where
 
 -- ---- the world of a table
 
-pub Stands-world_of : (t : Tree) → IsTable t.rows → Stands t (world_of t)
+pub Stands-world_of : (t : TableValue) → IsTable t.rows → Stands t (world_of t)
 unfolding world_in
 Stands-world_of t table = record {
   table = table;
@@ -252,7 +252,7 @@ Stands-world_of t table = record {
 }
 
 -- two worlds for which a table stands
-pub Stands-one : {t : Tree} {v w : World} → Stands t v → Stands t w → v ≡ w
+pub Stands-one : {t : TableValue} {v w : World} → Stands t v → Stands t w → v ≡ w
 Stands-one {t} {v} {w} one other =
     let paths = map.same_map path_total path_exact v.paths w.paths (λ p. one.paths p ∙ sym (other.paths p)) in
     let files = map.same_map nat_cmp_total nat_cmp-IsAntisymmetric v.files w.files (λ n.
@@ -268,28 +268,28 @@ Stands-one {t} {v} {w} one other =
     λ i. record { paths = paths i; files = files i }
 
 -- the world of a table is the one for which it stands
-pub world_of-is : {t : Tree} {w : World} → Stands t w → world_of t ≡ w
+pub world_of-is : {t : TableValue} {w : World} → Stands t w → world_of t ≡ w
 world_of-is {t} stands = Stands-one (Stands-world_of t stands.table) stands
 
 -- the same is seen of both
-pub look-world : (t : Tree) → IsTable t.rows → look (world_of t) ≡ look_in t
+pub look-world : (t : TableValue) → IsTable t.rows → look (world_of t) ≡ look_in t
 look-world t table = looks-same (Stands-world_of t table)
 
 -- ---- keys
 
-pub numbered : (t : Tree) (k : ℕ) → is_some (what_at t k) ≡ true → is_some (number_of t (Some k)) ≡ true
+pub numbered : (t : TableValue) (k : ℕ) → is_some (what_at t k) ≡ true → is_some (number_of t (Some k)) ≡ true
 numbered t k there = by (what_at t k) there
   where
     by : (o : Option What) → is_some o ≡ true → is_some (option_map (λ (v : What). v.number) o) ≡ true
     by None e = e
     by (Some v) e = refl
 
-pub file-under : {t : Tree} → Stands t (world_of t) → (k : ℕ) (r : Row) → row_under t.rows k ≡ Some r → file_under t k ≡ Some (file_of (shown r))
+pub file-under : {t : TableValue} → Stands t (world_of t) → (k : ℕ) (r : Row) → row_under t.rows k ≡ Some r → file_under t k ≡ Some (file_of (shown r))
 file-under {t} stands k r is =
     ap (λ o. option_and_then (map.get (world_of t).files) (option_map (λ (v : What). v.number) (option_map shown o))) is
     ∙ stands.files k (shown r) (ap (option_map shown) is)
 
-pub numbered-file : (t : Tree) (k : ℕ) (P : world.File → Type 0) → IsSomeAnd (file_under t k) P → is_some (number_of t (Some k)) ≡ true
+pub numbered-file : (t : TableValue) (k : ℕ) (P : world.File → Type 0) → IsSomeAnd (file_under t k) P → is_some (number_of t (Some k)) ≡ true
 numbered-file t k P h = by (number_of t (Some k)) h
   where
     by : (o : Option ℕ) → IsSomeAnd (option_and_then (map.get (world_of t).files) o) P → is_some o ≡ true

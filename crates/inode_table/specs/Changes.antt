@@ -4,7 +4,7 @@ use Rattle.std.specs.Option.{option_map}
 use Rattle.inode_table.specs.Bytes.{resized, written}
 use Rattle.inode_table.specs.Rows.{Rows, Label, What, child, what, same_label, Body, bytes_in, key_in}
 use Rattle.inode_table.specs.Kept.{is_directory}
-use Rattle.inode_table.specs.Tree.{Tree, at}
+use Rattle.inode_table.specs.Tree.{TableValue, at}
 
 module _ {N : Type 0} where
   -- the path has one more end
@@ -44,7 +44,7 @@ pub record SetsChild (old new : Rows) (directory : ℕ) (name : Label) (key : Op
   pub what : (k : ℕ) → what new k ≡ what old k
 
 -- a directory to which a path leads
-pub record IsOpen (t : Tree) (directory : ℕ) : Type 0 where
+pub record IsOpen (t : TableValue) (directory : ℕ) : Type 0 where
   pub path : List Label
   pub there : at t path ≡ Some directory
   pub kind : is_directory t.rows directory ≡ true

@@ -7,7 +7,7 @@ use Rattle.std.specs.FinMap as finmap
 use Rattle.inode_table.specs.Rows.{Label, Row, Rows, What, what}
 use Rattle.inode_table.specs.Flat.{names_in, number_under}
 use Rattle.inode_table.specs.Paths.{path_cmp}
-use Rattle.inode_table.specs.Tree.{Tree, what_at}
+use Rattle.inode_table.specs.Tree.{TableValue, what_at}
 use Rattle.inode_table.specs.World.{World, File}
 use Rattle.inode_table.specs.declared.seen.Kind.{Kind}
 use Rattle.inode_table.specs.declared.seen.Kind.TheVariants.{Regular, Directory}
@@ -20,7 +20,7 @@ kind_of (Some bytes) = Regular
 abbrev pub file_of : What → world.File
 file_of v = record { kind = kind_of v.bytes; mode = v.mode; bytes = unwrap_or v.bytes [] }
 
-abbrev pub number_of : Tree → Option ℕ → Option ℕ
+abbrev pub number_of : TableValue → Option ℕ → Option ℕ
 number_of t o = option_and_then (λ k. option_map (λ (v : What). v.number) (what_at t k)) o
 
 abbrev pub names_of_row : Option Row → List Label
@@ -62,11 +62,11 @@ world_in rs = record {
 }
 
 -- the world that contracts see of a table, whatever its capacity
-abbrev pub world_of : Tree → World
+abbrev pub world_of : TableValue → World
 world_of t = world_in t.rows
 
 -- a node of the table has this number, and is this file
-abbrev pub IsNodeOf : Tree → ℕ → File → Type 0
+abbrev pub IsNodeOf : TableValue → ℕ → File → Type 0
 IsNodeOf t n f = (k : ℕ) × (v : What) × (what_at t k ≡ Some v) × (v.number ≡ n) × (file_of v ≡ f)
 
 -- every number of a file is below this one
@@ -74,5 +74,5 @@ abbrev pub HasNumbersBelow : World → ℕ → Type 0
 HasNumbersBelow w next = (n : ℕ) → IsSome (finmap.get w.files n) → n < next
 
 -- the file of a key
-abbrev pub file_under : Tree → ℕ → Option File
+abbrev pub file_under : TableValue → ℕ → Option File
 file_under t k = option_and_then (finmap.get (world_of t).files) (number_of t (Some k))

@@ -53,9 +53,9 @@ impl Model for Table {
     ghost use Rattle.std.specs.Prelude.{◌-◌};
     ghost use Rattle.slab.specs.Slab.{slab_len};
     ghost use Rattle.inode_table.specs.Kept.{rows_of, IsTable};
-    ghost use Rattle.inode_table.specs.Tree.{Tree};
+    ghost use Rattle.inode_table.specs.Tree.{TableValue};
 
-    ghost Value = { Tree };
+    ghost Value = { TableValue };
 
     ghost view = { λ a. record { rows = rows_of a.nodes; room = a.nodes.capacity - slab_len a.nodes } };
 

@@ -18,7 +18,7 @@ use Rattle.event_rules.specs.Raised.{events_of, told_number, watches_after}
 use Rattle.instance_table.specs.declared.instance.Instance.{Instance}
 use Rattle.instance_table.specs.declared.staging.Staging.{Staging}
 use Rattle.instance_table.specs.Instances.{Instances, NobodyWatches, instance_of, changed, all_changed, told, watches_file}
-use Rattle.instance_table.specs.Heard.{ended_all, ends, heard_all, hears}
+use Rattle.instance_table.specs.Heard.{ended_all, ends, delivered_all, hears}
 use Rattle.instance_table.specs.Staging.{IsStaged, wds_to}
 use Rattle.instance_table.proofs.Indexed.{changed-there, changed-none, changed-not, changed-twice, get-put, is-same}
 
@@ -96,10 +96,10 @@ fold-ends [] i = refl
 fold-ends (d ∷ ds) i = fold-ends ds (ends d i)
 
 pub heard-told : (s : Staging) (m : Instances) (ns : List Notice) → IsStaged m ns s
-    → ended_all (heard_all m s.staged.events.items) s.staged.drops.items ≡ all_changed m (told ns)
+    → ended_all (delivered_all m s.staged.events.items) s.staged.drops.items ≡ all_changed m (told ns)
 heard-told s m ns staged =
-    same_map nat_cmp_total nat_cmp-IsAntisymmetric (ended_all (heard_all m hs) ds) (all_changed m (told ns)) (λ q.
-    get-steps (λ (d : StagedEnd). d.id) ends ds (heard_all m hs) q
+    same_map nat_cmp_total nat_cmp-IsAntisymmetric (ended_all (delivered_all m hs) ds) (all_changed m (told ns)) (λ q.
+    get-steps (λ (d : StagedEnd). d.id) ends ds (delivered_all m hs) q
     ∙ ap (option_map (λ i. fold (λ i d. ends d i) i (filter (λ (d : StagedEnd). eqb q d.id) ds))) (get-steps (λ (h : StagedEvent). h.id) hears hs m q)
     ∙ both q (instance_of m q) refl ∙ sym (get-all_changed m (told ns) q))
   where
@@ -148,14 +148,14 @@ fold-more : (b : Rattle.event_queue.specs.Backlogs.Backlog) (es : List Event) (e
 fold-more b [] e = refl
 fold-more b (x ∷ es) e = fold-more (after_offer b x) es e
 
-heard-append : (xs ys : List StagedEvent) (m : Instances) → heard_all m (xs ++ ys) ≡ heard_all (heard_all m xs) ys
+heard-append : (xs ys : List StagedEvent) (m : Instances) → delivered_all m (xs ++ ys) ≡ delivered_all (delivered_all m xs) ys
 heard-append [] ys m = refl
 heard-append (x ∷ xs) ys m = heard-append xs ys (changed m x.id (hears x))
 
 pub hears-all : List Event → Instance → Instance
 hears-all es i = record i { queue = fold after_offer i.queue es }
 
-heard-run : (id : ℕ) (es : List Event) (m : Instances) → heard_all m (map (staged_event id) es) ≡ changed m id (hears-all es)
+heard-run : (id : ℕ) (es : List Event) (m : Instances) → delivered_all m (map (staged_event id) es) ≡ changed m id (hears-all es)
 unfolding hears-all
 heard-run id [] m = sym (changed-not m id)
 heard-run id (e ∷ es) m =
@@ -164,10 +164,10 @@ heard-run id (e ∷ es) m =
 
 -- the instances after a run, and then the others
 pub run-heard : (m n : Instances) (id : ℕ) (es : List Event) (all rest : List StagedEvent) → all ≡ map (staged_event id) es ++ rest
-    → n ≡ changed m id (λ i. record i { queue = fold after_offer i.queue es }) → heard_all n rest ≡ heard_all m all
+    → n ≡ changed m id (λ i. record i { queue = fold after_offer i.queue es }) → delivered_all n rest ≡ delivered_all m all
 unfolding hears-all
 run-heard m n id es all rest is so =
-    ap (λ x. heard_all x rest) (so ∙ sym (heard-run id es m)) ∙ sym (heard-append (map (staged_event id) es) rest m) ∙ ap (heard_all m) (sym is)
+    ap (λ x. delivered_all x rest) (so ∙ sym (heard-run id es m)) ∙ sym (heard-append (map (staged_event id) es) rest m) ∙ ap (delivered_all m) (sym is)
 
 -- one event more of a run
 pub run-more : (id : ℕ) (es : List Event) (h : StagedEvent) (all rest more : List StagedEvent) → eqb h.id id ≡ true

@@ -115,12 +115,12 @@ module _ {X Y : Type 0} (id_of : X → ℕ) (what : X → Y) (label : ℕ → Y 
 -- ---- all of them
 
 module _ (m : Instances) (ns : List Notice) (ids : IdSet)
-    (hear : (q : ℕ) → is_some (finmap.get ids q) ≡ list_any (λ (n : Notice). watches_file (told_number n) (instance_of m q)) ns)
+    (deliver_to : (q : ℕ) → is_some (finmap.get ids q) ≡ list_any (λ (n : Notice). watches_file (told_number n) (instance_of m q)) ns)
     (items : List ℕ) (k : ℕ) (is : items ≡ finmap.keys ids) (done : length items ≤ k) where
   hearing : (q : ℕ) (i : Instance) → instance_of m q ≡ Some i
       → list_any (λ id. eqb q id) (take k items) ≡ list_any (λ (n : Notice). is_some (watch_of i.watches (told_number n))) ns
   hearing q i e =
-      ap (list_any (λ id. eqb q id)) (take_all k items done ∙ is) ∙ same-tests q (finmap.keys ids) ∙ sym (contains_key-keys ids q) ∙ hear q
+      ap (list_any (λ id. eqb q id)) (take_all k items done ∙ is) ∙ same-tests q (finmap.keys ids) ∙ sym (contains_key-keys ids q) ∙ deliver_to q
       ∙ ap (λ o. list_any (λ (n : Notice). watches_file (told_number n) o) ns) e
 
   -- where there is nothing for the others, what is staged for the recipients is all there is

@@ -15,8 +15,8 @@ abbrev pub ends : StagedEnd → Instance → Instance
 ends d i = record i { watches = removed i.watches d.wd }
 
 -- the instances once each event was delivered, and once each of the watches ended
-abbrev pub heard_all : Instances → List StagedEvent → Instances
-heard_all m hs = fold (λ m h. changed m h.id (hears h)) m hs
+abbrev pub delivered_all : Instances → List StagedEvent → Instances
+delivered_all m hs = fold (λ m h. changed m h.id (hears h)) m hs
 
 abbrev pub ended_all : Instances → List StagedEnd → Instances
 ended_all m ds = fold (λ m d. changed m d.id (ends d)) m ds

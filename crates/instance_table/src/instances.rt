@@ -12,7 +12,7 @@ ghost use Rattle.watch_table.specs.Masks.{mask_fault};
 ghost use Rattle.watch_table.specs.Watching.{add_refusal, added, removed, watch_of, wd_added};
 ghost use Rattle.instance_table.specs.Index.{HasNoEmptyRow, is_noted};
 ghost use Rattle.instance_table.specs.Rows.{instance_row};
-ghost use Rattle.instance_table.specs.Heard.{heard_all};
+ghost use Rattle.instance_table.specs.Heard.{delivered_all};
 ghost use Rattle.instance_table.specs.Instances.{NobodyWatches, WaitingAreEvents, after_read, changed, instance_of};
 ghost use Rattle.instance_table.specs.Instances.{new_instance, unwatching, waiting_of, watchers_of, watching};
 
@@ -256,13 +256,13 @@ impl Instances {
 
     // Raises an event, and the events for the same instance that directly follow it. The index `next` is tried first,
     // and is then the one behind the instance.
-    pub(crate) fn hear(
+    pub(crate) fn deliver_to(
         &mut self,
         first: StagedEvent,
         events: &mut VecDeque<StagedEvent>,
         next: &mut usize,
     )
-        ensures heard { heard_all self.new events.new.items ≡ heard_all self.old (first ∷ events.old.items) }
+        ensures heard { delivered_all self.new events.new.items ≡ delivered_all self.old (first ∷ events.old.items) }
         ensures fewer { deque_len events.new ≤ deque_len events.old }
     {
         let Ok(place) = place_of(&self.opened, first.id, *next) else {

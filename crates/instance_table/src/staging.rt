@@ -13,7 +13,7 @@ ghost use Rattle.event_rules.specs.Staging.{staged_event};
 ghost use Rattle.record_codec.specs.declared.event.Event.{Event};
 ghost use Rattle.instance_table.specs.declared.instance.Instance.{Instance};
 ghost use Rattle.instance_table.specs.Instances.{all_changed, instance_of, told, watches_file};
-ghost use Rattle.instance_table.specs.Heard.{ended_all, heard_all};
+ghost use Rattle.instance_table.specs.Heard.{ended_all, delivered_all};
 ghost use Rattle.instance_table.specs.Staging.{IsStaged, events_to, wds_to};
 
 use crate::ids::Ids;
@@ -28,7 +28,7 @@ use tree_paths::Refusal;
 /// What notices raise for their recipients. Its buffers are kept from one call to the next.
 #[derive(Drop)]
 pub struct Staging {
-    pub(crate) hearers: Ids,
+    pub(crate) recipients: Ids,
     pub(crate) staged: Staged,
 }
 
@@ -36,7 +36,7 @@ impl Staging {
     /// Nothing. It takes no memory.
     pub fn new(alloc: Global) -> Staging {
         Staging {
-            hearers: Ids::new(alloc),
+            recipients: Ids::new(alloc),
             staged: Staged::new(alloc),
         }
     }
@@ -52,21 +52,21 @@ impl Instances {
         ensures staged { OnOk result (IsStaged self.now notices.now staging.new) }
         ensures memory { IfErr result (λ refusal. refusal ≡ Enomem) }
     {
-        self.hearers(notices, &mut staging.hearers)?;
-        self.stage_each(notices, &staging.hearers, &mut staging.staged)
+        self.recipients(notices, &mut staging.recipients)?;
+        self.stage_each(notices, &staging.recipients, &mut staging.staged)
     }
 
     /// Delivers what was staged: each instance receives its events, and its watches end. It takes no memory.
-    pub fn tell(&mut self, notices: &[Notice], staging: &mut Staging)
+    pub fn deliver(&mut self, notices: &[Notice], staging: &mut Staging)
         requires { IsStaged self.old notices.now staging.old }
         ensures { self.new ≡ all_changed self.old (told notices.now) }
     {
-        self.hear_each(&mut staging.staged.events);
+        self.deliver_each(&mut staging.staged.events);
         self.end_each(&staging.staged.drops);
     }
 
     // The instances that watch a file of which one of the notices is.
-    fn hearers(&self, notices: &[Notice], ids: &mut Ids) -> Result<(), AllocError>
+    fn recipients(&self, notices: &[Notice], ids: &mut Ids) -> Result<(), AllocError>
         ensures { OnOk result ((q : ℕ) → is_some (finmap.get ids.new q)
             ≡ list_any (λ n. watches_file (told_number n) (instance_of self.now q)) notices.now) }
     {
@@ -85,7 +85,7 @@ impl Instances {
         ensures { OnOk result ((q : ℕ) → is_some (finmap.get ids.new q)
             ≡ (watches_file number (instance_of self.now q) || is_some (finmap.get ids.old q))) }
     {
-        if is_told_of_late(told, number) {
+        if is_recent(told, number) {
             return Ok(());
         }
         let watchers = self.watchers(number);
@@ -99,10 +99,10 @@ impl Instances {
     fn stage_each(
         &self,
         notices: &[Notice],
-        hearers: &Ids,
+        recipients: &Ids,
         staged: &mut Staged,
     ) -> Result<(), Refusal>
-        requires { (q : ℕ) → is_some (finmap.get hearers.now q)
+        requires { (q : ℕ) → is_some (finmap.get recipients.now q)
             ≡ list_any (λ n. watches_file (told_number n) (instance_of self.now q)) notices.now }
         ensures events { OnOk result ((q : ℕ) (i : Instance) → instance_of self.now q ≡ Some i
             → events_to q staged.new.events.items ≡ events_of i.watches notices.now) }
@@ -113,7 +113,7 @@ impl Instances {
         unwatched_files_raise_nothing();
         staged.clear();
         let mut next = 0;
-        for id in hearers.as_slice() {
+        for id in recipients.as_slice() {
             let Some(instance) = self.get_next(*id, &mut next) else {
                 unreachable!()
             };
@@ -123,12 +123,12 @@ impl Instances {
     }
 
     // Raises events, one after the other.
-    fn hear_each(&mut self, events: &mut VecDeque<StagedEvent>)
-        ensures { self.new ≡ heard_all self.old events.old.items }
+    fn deliver_each(&mut self, events: &mut VecDeque<StagedEvent>)
+        ensures { self.new ≡ delivered_all self.old events.old.items }
     {
         let mut next = 0;
         while let Some(first) = events.pop_front() {
-            self.hear(first, events, &mut next);
+            self.deliver_to(first, events, &mut next);
         }
     }
 
@@ -144,7 +144,7 @@ impl Instances {
 }
 
 // Whether one of the last two notices is for this file: a call mostly notifies an object and its directory alternately.
-fn is_told_of_late(notices: &[Notice], number: u32) -> bool
+fn is_recent(notices: &[Notice], number: u32) -> bool
     ensures { IsTrue result → list_any (λ n. told_number n == number) notices.now ≡ true }
 {
     let late = notices.len().saturating_sub(2);

@@ -61,7 +61,7 @@ fn tell(alloc: Global, instances: &mut Instances, notice: Notice) -> Result<(), 
     notices.push(notice)?;
     let mut staging = Staging::new(alloc);
     instances.stage(&notices, &mut staging)?;
-    instances.tell(&notices, &mut staging);
+    instances.deliver(&notices, &mut staging);
     Ok(())
 }
 

@@ -28,7 +28,7 @@ use Rattle.shared_tree.specs.PipeEnds.{Piped}
 use Rattle.shared_tree.specs.Seats.{Seated}
 use Rattle.shared_tree.specs.Handed.{AreOfEvents, batch, handed_by, handed_from, handed_since, hands, piped_by, piped_of, where_done, deliver}
 use Rattle.shared_tree.specs.Calls.{JoinsJournal, HasPipe, IsForPipe}
-use Rattle.shared_tree.specs.Held.{closed_of, end_of, IsFilled, IsHeldWhole, IsLooked, IsReady, Rises}
+use Rattle.shared_tree.specs.Held.{closed_of, end_of, IsFilled, IsHeldWhole, IsPipeFound, IsReady, Rises}
 use Rattle.shared_tree.proofs.Steps.{Told, end_of-handed, hands-none, next-init, plain-makes-none, opened-by, piped_by-cases, IsMade, WasOpen}
 
 -- ---- lists of numbers
@@ -362,7 +362,7 @@ some-open o (i, e) = ap is_some e
 
 module _ (tells : Told) (ns : List ℕ) (ps : List Piped) (t : Tree) (place : ℕ) (at : Option ℕ) where
   -- the pipe that was looked for is ready for what is pumped
-  pumps-ready : (id bytes : ℕ) (rs : List Event) (r : Reply) → IsLooked ns ps t (Some id) at
+  pumps-ready : (id bytes : ℕ) (rs : List Event) (r : Reply) → IsPipeFound ns ps t (Some id) at
       → reply_of t (call.Pump id bytes) ≡ r → IsReady ns ps at (option_map (batch id place) (where_records r rs))
   pumps-ready id bytes rs (reply.Records bs) looked e =
       let there = (tells t (call.Pump id bytes)).pumped id bytes bs refl e in
@@ -373,10 +373,10 @@ module _ (tells : Told) (ns : List ℕ) (ps : List Piped) (t : Tree) (place : �
   pumps-ready id bytes rs reply.Done looked e = tt
   pumps-ready id bytes rs (reply.Refused why) looked e = tt
 
-  pub pump-ready : (id bytes : ℕ) → IsLooked ns ps t (Some id) at → IsReady ns ps at (handed_by t place (call.Pump id bytes))
+  pub pump-ready : (id bytes : ℕ) → IsPipeFound ns ps t (Some id) at → IsReady ns ps at (handed_by t place (call.Pump id bytes))
   pump-ready id bytes looked = pumps-ready id bytes (read_by t (call.Pump id bytes) id) (reply_of t (call.Pump id bytes)) looked refl
 
-  closes-ready : (id : ℕ) (r : Reply) → IsLooked ns ps t (Some id) at → reply_of t (call.Close id) ≡ r → IsReady ns ps at (where_done r (batch id place []))
+  closes-ready : (id : ℕ) (r : Reply) → IsPipeFound ns ps t (Some id) at → reply_of t (call.Close id) ≡ r → IsReady ns ps at (where_done r (batch id place []))
   closes-ready id reply.Done looked e = let there = (tells t (call.Close id)).closed id refl e in looked (some-open (instance_of t.instances id) there)
   closes-ready id (reply.Records bs) looked e = tt
   closes-ready id (reply.File a) looked e = tt
@@ -385,7 +385,7 @@ module _ (tells : Told) (ns : List ℕ) (ps : List Piped) (t : Tree) (place : �
   closes-ready id (reply.Refused why) looked e = tt
 
   -- and for the end batch
-  pub end-ready : (c : Call) → IsLooked ns ps t (closed_of c) at → IsReady ns ps at (end_of (closed_of c) place (reply_of t c))
+  pub end-ready : (c : Call) → IsPipeFound ns ps t (closed_of c) at → IsReady ns ps at (end_of (closed_of c) place (reply_of t c))
   end-ready (call.File f) looked = tt
   end-ready (call.Init limit is_piped) looked = tt
   end-ready (call.AddWatch from p mask) looked = tt

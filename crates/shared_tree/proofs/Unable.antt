@@ -6,8 +6,8 @@ use Rattle.tree_paths.specs.declared.refusal.Refusal.{Refusal}
 use Rattle.tree_paths.specs.declared.refusal.Refusal.TheVariants.{Enomem, JournalFull, PipeFull}
 use Rattle.tree_core.specs.declared.call.Call.{Call}
 use Rattle.tree_core.specs.Journal.{IsSpent, Journaled, last_place, now}
-use Rattle.shared_tree.specs.Calls.{IsForPipe, IsUnable, IsWhyNot, is_spent}
-use Rattle.shared_tree.specs.Held.{IsLacking}
+use Rattle.shared_tree.specs.Calls.{IsForPipe, IsOutOfSpace, RefusalOf, is_spent}
+use Rattle.shared_tree.specs.Held.{LacksSpace}
 
 or-right : (b : Bool) → (b || true) ≡ true
 or-right true = refl
@@ -28,12 +28,12 @@ not-spent s free = by (nat_le s.start.limits.journal (length s.entries)) (nat_le
     by false true e f = absurd (free (inr (leb-true (2 ^ 64) (last_place s + 1) f)))
     by false false e f = refl
 
-pub unable : (s : Journaled) (e : Refusal) → IsLacking s e → IsUnable s e
+pub unable : (s : Journaled) (e : Refusal) → LacksSpace s e → IsOutOfSpace s e
 unable s e (inl (is, full)) = ap (λ b. first_row (row b JournalFull ∷ Some Enomem ∷ [])) (spent s full) ∙ ap Some (sym is)
 unable s e (inr (is, free)) = ap (λ b. first_row (row b JournalFull ∷ Some Enomem ∷ [])) (not-spent s free) ∙ ap Some (sym is)
 
-pub why-not : (s : Journaled) (c : Call) (e : Refusal) → IsLacking s e → IsWhyNot s c e
+pub why-not : (s : Journaled) (c : Call) (e : Refusal) → LacksSpace s e → RefusalOf s c e
 why-not s c e h = record { says_full = false; for_pipe = λ no. absurd (cc); first = unable s e h }
 
-pub why-full : (s : Journaled) (c : Call) (e : Refusal) → e ≡ PipeFull → IsForPipe (now s) c → IsWhyNot s c e
+pub why-full : (s : Journaled) (c : Call) (e : Refusal) → e ≡ PipeFull → IsForPipe (now s) c → RefusalOf s c e
 why-full s c e is at = record { says_full = true; for_pipe = λ _. at; first = ap Some (sym is) }

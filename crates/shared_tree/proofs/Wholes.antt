@@ -22,7 +22,7 @@ use Rattle.tree_core.specs.Journal.{Journaled, IsLawful, IsLawfulFrom, IsPast, c
 use Rattle.tree_core.specs.Tree.{Tree, opening, reply_of, after}
 use Rattle.tree_core.proofs.Lawful.{limits-now, tree_after-append}
 use Rattle.shared_tree.specs.declared.pipe.Batch.{Batch}
-use Rattle.shared_tree.specs.Calls.{JoinsJournal, HandsOver, TreeWithPipes, IsForPipe, IsSent, IsWhyNot, tree_with_pipes}
+use Rattle.shared_tree.specs.Calls.{JoinsJournal, HandsOver, TreeWithPipes, IsForPipe, IsSent, RefusalOf, tree_with_pipes}
 use Rattle.shared_tree.specs.Handed.{AreOfEvents, batch, handed, handed_by, handed_from, handed_since, hands, piped_by, CutsPartBatches, deliver}
 use Rattle.shared_tree.specs.Held.{IsFilled, IsHeld, IsHeldWhole, Rises, closed_of, end_of, whole}
 use Rattle.shared_tree.specs.Law.{HasPipesOfPiped}
@@ -191,12 +191,12 @@ held-cut-either law s new ns xss total (Err e) lawful held done same = subst (λ
 -- ---- why a call is not carried out
 
 pub pump-why : (s : Journaled) (ns : List ℕ) (xss : List (List Batch)) (total id bytes : ℕ) (e : Refusal)
-    → IsHeld s ns xss total → (e ≡ PipeFull) × IsFilled ns (now s) (Some id) → IsWhyNot s (call.Pump id bytes) e
+    → IsHeld s ns xss total → (e ≡ PipeFull) × IsFilled ns (now s) (Some id) → RefusalOf s (call.Pump id bytes) e
 pump-why s ns xss total id bytes e held full = why-full s (call.Pump id bytes) e full.0 (pump-full s ns total xss id bytes held full.1)
 
 pub close-why : (s : Journaled) (ns : List ℕ) (xss : List (List Batch)) (total : ℕ) (c : Call) (closed : Option ℕ)
     (e : Refusal)
-    → IsHeld s ns xss total → closed ≡ closed_of c → (e ≡ PipeFull) × IsFilled ns (now s) closed → IsWhyNot s c e
+    → IsHeld s ns xss total → closed ≡ closed_of c → (e ≡ PipeFull) × IsFilled ns (now s) closed → RefusalOf s c e
 close-why s ns xss total c closed e held shut full = why-full s c e full.0 (close-full s ns total xss c held (subst (IsFilled ns (now s)) shut full.1))
 
 -- ---- what was handed before the cut, and since

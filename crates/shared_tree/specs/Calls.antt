@@ -72,11 +72,11 @@ abbrev pub unable_rows : Bool → Journaled → List (Option Refusal)
 unable_rows says_full old = row says_full PipeFull ∷ row (is_spent old) JournalFull ∷ Some Enomem ∷ []
 
 -- a call for which no pipe is looked for
-abbrev pub IsUnable : Journaled → Refusal → Type 0
-IsUnable old e = first_row (unable_rows false old) ≡ Some e
+abbrev pub IsOutOfSpace : Journaled → Refusal → Type 0
+IsOutOfSpace old e = first_row (unable_rows false old) ≡ Some e
 
 -- a call for which one may be: what is said to be full is the pipe of an open instance, which is pumped or closed
-pub record IsWhyNot (old : Journaled) (c : Call) (e : Refusal) : Type 0 where
+pub record RefusalOf (old : Journaled) (c : Call) (e : Refusal) : Type 0 where
   pub says_full : Bool
   pub for_pipe : says_full ≡ true → IsForPipe (now old) c
   pub first : first_row (unable_rows says_full old) ≡ Some e

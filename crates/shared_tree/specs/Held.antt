@@ -19,8 +19,8 @@ use Rattle.shared_tree.specs.Handed.{AreOfEvents, batch, handed_since, piped_of,
 -- ---- what is wanting
 
 -- the journal is full; or it is not, and there is no memory
-abbrev pub IsLacking : Journaled → Refusal → Type 0
-IsLacking old e = ((e ≡ JournalFull) × IsSpent old) ⊎ ((e ≡ Enomem) × ¬ IsSpent old)
+abbrev pub LacksSpace : Journaled → Refusal → Type 0
+LacksSpace old e = ((e ≡ JournalFull) × IsSpent old) ⊎ ((e ≡ Enomem) × ¬ IsSpent old)
 
 -- ---- numbers that rise
 
@@ -56,9 +56,9 @@ HasRoom ps None = ⊤
 HasRoom ps (Some k) = FreeAt ps k
 
 -- the pipe of an instance was looked up, and has a free slot if the instance is open
-abbrev pub IsLooked : List ℕ → List Piped → Tree → Option ℕ → Option ℕ → Type 0
-IsLooked ns ps t None at = ⊤
-IsLooked ns ps t (Some id) at = IsSome (instance_of t.instances id) → IsPlaceOf ns id at × HasRoom ps at
+abbrev pub IsPipeFound : List ℕ → List Piped → Tree → Option ℕ → Option ℕ → Type 0
+IsPipeFound ns ps t None at = ⊤
+IsPipeFound ns ps t (Some id) at = IsSome (instance_of t.instances id) → IsPlaceOf ns id at × HasRoom ps at
 
 -- the pipe of an instance that is open is full
 abbrev pub IsFilled : List ℕ → Tree → Option ℕ → Type 0

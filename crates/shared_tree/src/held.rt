@@ -15,9 +15,9 @@ ghost use Rattle.tree_core.specs.TurnLaws.{EndsOnce};
 ghost use Rattle.shared_tree.specs.Pipes.{feed_of};
 ghost use Rattle.shared_tree.specs.Seats.{passing};
 ghost use Rattle.shared_tree.specs.Handed.{AreOfEvents, batch, handed_since};
-ghost use Rattle.shared_tree.specs.Calls.{tree_with_pipes, JoinsJournal, HandsOver, IsSent, IsUnable, IsWhyNot};
+ghost use Rattle.shared_tree.specs.Calls.{tree_with_pipes, JoinsJournal, HandsOver, IsSent, IsOutOfSpace, RefusalOf};
 ghost use Rattle.shared_tree.specs.Law.{AtEach, HasCookiesInTurn, HasPipesOfPiped, IsTold, RefusedAddsNothing};
-ghost use Rattle.shared_tree.specs.Held.{sents, closed_of, end_of, IsLacking};
+ghost use Rattle.shared_tree.specs.Held.{sents, closed_of, end_of, LacksSpace};
 
 use crate::book::Book;
 use crate::pipe::{Batch, Feed, Pipe, open_pipe};
@@ -89,7 +89,7 @@ fn make_room(core: &State, kept: &mut Vec<Kept>) -> Result<(), Refusal>
     ensures items { kept.new.items ≡ kept.old.items }
     ensures room { OnOk result (vec_len kept.new < vec_capacity kept.new) }
     ensures free { OnOk result (¬ IsSpent core.now) }
-    ensures errors { IfErr result (λ e. IsLacking core.now e) }
+    ensures errors { IfErr result (λ e. LacksSpace core.now e) }
 {
     check_room(core)?;
     kept.reserve(1)?;
@@ -107,7 +107,7 @@ fn enter<L: Ledger>(
     ensures total { OnOk result (book.new.total ≡ book.old.total + 1) }
     ensures room { OnOk result (¬ IsSpent core.old) }
     ensures err { OnErr result ((core.new ≡ core.old) × (seat.new ≡ seat.old) × (book.new.total ≡ book.old.total)) }
-    ensures errors { IfErr result (λ e. IsLacking core.old e) }
+    ensures errors { IfErr result (λ e. LacksSpace core.old e) }
 {
     let Seat {
         number,
@@ -135,7 +135,7 @@ fn enter_pump<L: Ledger>(
     ensures total { OnOk result (book.new.total ≡ book.old.total + 1) }
     ensures room { OnOk result (¬ IsSpent core.old) }
     ensures err { OnErr result ((core.new ≡ core.old) × (seat.new ≡ seat.old) × (book.new.total ≡ book.old.total)) }
-    ensures errors { IfErr result (λ e. IsLacking core.old e) }
+    ensures errors { IfErr result (λ e. LacksSpace core.old e) }
 {
     let Seat {
         number,
@@ -199,7 +199,7 @@ fn make_pipe(
     ensures ends { pipes.new.ends ≡ pipes.old.ends }
     ensures room { OnOk result (IsTrue pipes.new.has_room) }
     ensures empty { IfOk result (λ r. (r.0.sent ≡ []) × (r.1.received ≡ []) × (r.1.slots ≡ slots)) }
-    ensures errors { IfErr result (λ e. IsLacking core.now e) }
+    ensures errors { IfErr result (λ e. LacksSpace core.now e) }
 {
     check_room(core)?;
     pipes.reserve()?;
@@ -290,7 +290,7 @@ impl<L: Ledger> Held<L> {
         ensures hands { IfOk result (λ r. HandsOver self.old call r self.new) }
         ensures room { OnOk result (¬ IsSpent self.old.state) }
         ensures err { OnErr result ((self.new ≡ self.old) × (seat.new ≡ seat.old)) }
-        ensures errors { IfErr result (λ e. IsWhyNot self.old.state call e) }
+        ensures errors { IfErr result (λ e. RefusalOf self.old.state call e) }
     {
         replies_tell();
         let Held {
@@ -326,7 +326,7 @@ impl<L: Ledger> Held<L> {
         ensures hands { IfOk result (λ r. HandsOver self.old (Pump instance bytes) r self.new) }
         ensures room { OnOk result (¬ IsSpent self.old.state) }
         ensures err { OnErr result ((self.new ≡ self.old) × (seat.new ≡ seat.old)) }
-        ensures errors { IfErr result (λ e. IsWhyNot self.old.state (Pump instance bytes) e) }
+        ensures errors { IfErr result (λ e. RefusalOf self.old.state (Pump instance bytes) e) }
     {
         replies_tell();
         let Held {
@@ -363,7 +363,7 @@ impl<L: Ledger> Held<L> {
         ensures hands { IfOk result (λ r. HandsOver self.old (Init limit true) r.0 self.new) }
         ensures room { OnOk result (¬ IsSpent self.old.state) }
         ensures err { OnErr result ((self.new ≡ self.old) × (seat.new ≡ seat.old)) }
-        ensures errors { IfErr result (λ e. IsUnable self.old.state e) }
+        ensures errors { IfErr result (λ e. IsOutOfSpace self.old.state e) }
     {
         replies_tell();
         let Held {

@@ -6,7 +6,7 @@ ghost use Rattle.tree_core.specs.declared.call.Call.TheVariants.{Init};
 ghost use Rattle.tree_core.specs.Journal.{now};
 ghost use Rattle.shared_tree.specs.Pipes.{feed_of};
 ghost use Rattle.shared_tree.specs.Handed.{piped_by, deliver};
-ghost use Rattle.shared_tree.specs.Held.{sents, pushed_at, FreeAt, IsFilled, IsLooked, IsPlaceOf, IsReady, IsRising};
+ghost use Rattle.shared_tree.specs.Held.{sents, pushed_at, FreeAt, IsFilled, IsPipeFound, IsPlaceOf, IsReady, IsRising};
 ghost use Rattle.shared_tree.specs.Held.{Rises};
 
 use crate::pipe::{Batch, Feed, Pipe};
@@ -90,7 +90,7 @@ impl Pipes {
     ) -> Result<Option<usize>, Refusal>
         ensures numbers { self.new.numbers ≡ self.old.numbers }
         ensures sent { sents self.new.ends ≡ sents self.old.ends }
-        ensures ok { IfOk result (λ at. IsLooked self.new.numbers self.new.ends (now core.now) target at) }
+        ensures ok { IfOk result (λ at. IsPipeFound self.new.numbers self.new.ends (now core.now) target at) }
         ensures err { IfErr result (λ e. (e ≡ PipeFull) × IsFilled self.old.numbers (now core.now) target) }
     {
         let Pipes { numbers, ends } = self;

@@ -14,7 +14,7 @@ use Rattle.event_queue.specs.declared.offered.Offered.{Offered}
 use Rattle.event_queue.specs.declared.offered.Offered.TheVariants.{Kept, Merged, Marked, Lost}
 use Rattle.event_queue.specs.Backlogs.{joining, overflow_mark}
 use Rattle.event_rules.specs.declared.notice.Notice.{Notice}
-use Rattle.event_rules.specs.Laws.{AreAmong, AreTied, HasWatch, IsPartOf, IsTied, Mark, TellsNothing, is_move, marks_of, moves_in, moves_with}
+use Rattle.event_rules.specs.Laws.{IsSubsequence, AreTied, HasWatch, IsPartOf, IsTied, Mark, TellsNothing, is_move, marks_of, moves_in, moves_with}
 use Rattle.event_rules.specs.declared.notice.TheConstants.{NO_COOKIE}
 use Rattle.event_rules.specs.Raised.{event_bit, watches_after}
 use Rattle.event_rules.specs.Table.{notices_of}
@@ -78,7 +78,7 @@ with-All P (x ∷ xs) h =
     All-cons (λ (m : Mark). P m.1) (IN_MOVED_FROM, x) ((IN_MOVED_TO, x) ∷ moves_with xs) here
     (All-cons (λ (m : Mark). P m.1) (IN_MOVED_TO, x) (moves_with xs) here (with-All P xs (All-tail P x xs h)))
 
-among-All : (P : Mark → Type 0) (xs ys : List Mark) → AreAmong xs ys → All P ys → All P xs
+among-All : (P : Mark → Type 0) (xs ys : List Mark) → IsSubsequence xs ys → All P ys → All P xs
 among-All P [] ys h all = All-nil P
 among-All P (x ∷ xs) [] h all = absurd h
 among-All P (x ∷ xs) (y ∷ ys) (inl here) all = All-cons P x xs (subst P (sym here.0) (All-head P y ys all)) (among-All P xs ys here.1 (All-tail P y ys all))

@@ -177,7 +177,7 @@ impl FileSystem {
             Rest::Nothing => {}
             Rest::Notify => self
                 .instances
-                .tell(self.notices.as_slice(), &mut self.staging),
+                .deliver(self.notices.as_slice(), &mut self.staging),
             Rest::Take {
                 instance,
                 place,

@@ -102,16 +102,16 @@ impl State {
             &self.file_system.limits,
             self.snapshot.place,
         ) {
-            return Err(give_up(call, refusal));
+            return Err(drop_cold(call, refusal));
         }
         self.file_system.instances.law();
         let Begun { reply, rest } = match self.file_system.begin(&call) {
             Ok(begun) => begun,
-            Err(refusal) => return Err(give_up(call, refusal)),
+            Err(refusal) => return Err(drop_cold(call, refusal)),
         };
         let given = match reply.copy() {
             Ok(given) => given,
-            Err(refusal) => return Err(give_up(call, refusal)),
+            Err(refusal) => return Err(drop_cold(call, refusal)),
         };
         self.file_system.finish(rest);
         self.journal.push_reserved(Entry {
@@ -139,12 +139,12 @@ impl State {
             &self.file_system.limits,
             self.snapshot.place,
         ) {
-            return Err(give_up(call, refusal));
+            return Err(drop_cold(call, refusal));
         }
         self.file_system.instances.law();
         let Begun { reply, rest } = match self.file_system.begin(&call) {
             Ok(begun) => begun,
-            Err(refusal) => return Err(give_up(call, refusal)),
+            Err(refusal) => return Err(drop_cold(call, refusal)),
         };
         self.file_system.finish(rest);
         self.journal.push_reserved(Entry {
@@ -333,7 +333,7 @@ fn make_room(journal: &mut Vec<Entry>, limits: &Limits, place: u64) -> Result<()
 // Drops a call that was not answered, away from what calls mostly do.
 #[cold]
 #[inline(never)]
-fn give_up(_call: Call, refusal: Refusal) -> Refusal
+fn drop_cold(_call: Call, refusal: Refusal) -> Refusal
     ensures { result ≡ refusal }
 {
     refusal

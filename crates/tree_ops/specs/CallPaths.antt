@@ -2,7 +2,7 @@
 use Rattle.std.specs.Prelude.{◌≡◌, ℕ, List, Option, Some, None}
 use Rattle.std.specs.Option.{unwrap_or}
 use Rattle.inode_table.specs.Resolution.{IsResolved, ResolvedPath}
-use Rattle.inode_table.specs.Tree.{Tree}
+use Rattle.inode_table.specs.Tree.{TableValue}
 use Rattle.tree_ops.specs.declared.call.FileCall.{FileCall}
 use Rattle.tree_ops.specs.declared.call.FileCall.TheVariants.{Create, Write, ReadFile, Truncate, Chmod, Mkdir, Link}
 use Rattle.tree_ops.specs.declared.call.FileCall.TheVariants.{Unlink, Rmdir, Rename, Rename2, Stat, List as Listed}
@@ -36,7 +36,7 @@ other_path_of call = unwrap_or (new_path_of call) (path_of call)
 
 -- a path as it is resolved on a table
 pub record LookupValue : Type 0 where
-  pub tree : Tree
+  pub tree : TableValue
   pub path : ResolvedPath
 
 -- the path of a call, or the old one, and the new one, or the path once more
@@ -46,12 +46,12 @@ pub record ResolvedPaths : Type 0 where
 
 -- a call, and its paths as they are resolved on a table
 pub record PathsValue : Type 0 where
-  pub tree : Tree
+  pub tree : TableValue
   pub call : FileCall
   pub paths : ResolvedPaths
 
 -- these are the paths of the call, resolved on this table
-pub record ArePathsOf (t : Tree) (call : FileCall) (paths : ResolvedPaths) : Type 0 where
+pub record ArePathsOf (t : TableValue) (call : FileCall) (paths : ResolvedPaths) : Type 0 where
   pub path : IsResolved t paths.path
   pub other_path : IsResolved t paths.other_path
   pub names : paths.path.names ≡ path_of call

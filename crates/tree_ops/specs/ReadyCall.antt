@@ -3,7 +3,7 @@ use Rattle.std.specs.Prelude.{◌≡◌, None}
 use Rattle.tree_paths.specs.declared.limits.Limits.{Limits}
 use Rattle.inode_table.specs.Resolution.{IsResolved, ResolvedPath}
 use Rattle.inode_table.specs.TableWorld.{HasNumbersBelow, world_of}
-use Rattle.inode_table.specs.Tree.{Tree}
+use Rattle.inode_table.specs.Tree.{TableValue}
 use Rattle.tree_ops.specs.declared.call.Counts.{Counts}
 use Rattle.tree_ops.specs.declared.call.FileCall.{FileCall}
 use Rattle.tree_ops.specs.declared.moves.Moves.{Moves}
@@ -31,12 +31,12 @@ plan_with p counts moves = record {
 
 -- a plan, and the table that it was made on
 pub record ReadyValue : Type 0 where
-  pub tree : Tree
+  pub tree : TableValue
   pub plan : PlanValue
 
 -- no row refuses the call on this table, under some limits, the number of each file is below the next one, the plan
 -- says what the call moves, and the paths of the call are resolved on the table
-pub record IsReady (t : Tree) (plan : PlanValue) : Type 0 where
+pub record IsReady (t : TableValue) (plan : PlanValue) : Type 0 where
   pub limits : Limits
   pub accepted : refused (world_of t) limits plan.counts plan.call ≡ None
   pub moves : plan.moves ≡ moves_of (world_of t) plan.call

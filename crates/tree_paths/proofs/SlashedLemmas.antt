@@ -13,7 +13,7 @@ use Rattle.std.proofs.lemmas.Bool.Decides.{Decides-eqb}
 use Rattle.std.specs.Cmp.Lexicographic.{pointwise}
 use Rattle.std.specs.Str.{bytes_eq}
 use Rattle.record_codec.specs.Names.{is_name, is_name_byte}
-use Rattle.tree_paths.specs.Kept.{IsSlashed, IsSplit, IsLastStart, is_in_place, is_other, shape_of}
+use Rattle.tree_paths.specs.PathText.{IsSlashed, IsSplit, IsLastStart, is_in_place, is_other, shape_of}
 use Rattle.tree_paths.specs.declared.parse.Shape.{Shape}
 use Rattle.tree_paths.specs.Paths.{names_of, parsed, is_below, IsBelow, slashed}
 use Rattle.tree_paths.specs.Pieces.{pieces, is_nonempty}

@@ -1,6 +1,6 @@
 pub mod Bounds
 pub mod Greatest
-pub mod Kept
+pub mod PathText
 pub mod Paths
 pub mod Pieces
 pub mod Refusals

@@ -1,7 +1,7 @@
 //! Names that are left to read.
 
 ghost use Rattle.std.specs.Prelude.{◌≡◌, ◌∷◌, [], ◌<◌, length, MatchOption, IsTrue, ◌↔◌};
-ghost use Rattle.tree_paths.specs.Kept.{left_names, IsLeft, IsSlashed, IsSplit};
+ghost use Rattle.tree_paths.specs.PathText.{left_names, IsLeft, IsSlashed, IsSplit};
 
 use crate::parse::front_len;
 use crate::path_name::{NamePlace, PathName};
@@ -23,7 +23,7 @@ pub struct PathNames<'a> {
 
 impl<'a> Model for PathNames<'a> {
     ghost use Rattle.std.specs.Prelude.{ℕ, List};
-    ghost use Rattle.tree_paths.specs.Kept.{left_names, IsLeft};
+    ghost use Rattle.tree_paths.specs.PathText.{left_names, IsLeft};
 
     ghost Value = { List (List ℕ) };
 

@@ -1,7 +1,6 @@
 //! Paths, refusals and limits of a file tree.
 #![tactic(auto)]
 
-mod kept;
 mod laws;
 mod left;
 mod limits;
@@ -9,6 +8,7 @@ mod names;
 mod parse;
 mod path;
 mod path_name;
+mod path_text;
 mod refusal;
 
 pub use laws::{is_below_tells_proper_prefixes, parsed_names_are_names, pathnames_are_parsed};

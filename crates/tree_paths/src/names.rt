@@ -6,7 +6,7 @@ ghost use Rattle.std.specs.Cmp.Rules.{comparing};
 ghost use Rattle.std.specs.Cmp.Lexicographic.{pointwise};
 
 use crate::Refusal;
-use crate::kept::copies;
+use crate::path_text::copies;
 use record_codec::Name;
 use std::marker::Model;
 

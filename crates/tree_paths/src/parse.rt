@@ -5,7 +5,7 @@ ghost use Rattle.std.specs.Prelude.{if◌then◌else◌, length, take, slice_ind
 ghost use Rattle.std.specs.List.{list_any, list_all};
 ghost use Rattle.record_codec.specs.Names.{is_name_byte};
 ghost use Rattle.tree_paths.specs.declared.refusal.Refusal.TheVariants.{Einval, Enametoolong};
-ghost use Rattle.tree_paths.specs.Kept.{shape_of};
+ghost use Rattle.tree_paths.specs.PathText.{shape_of};
 ghost use Rattle.tree_paths.specs.Pieces.{is_nonempty};
 ghost use Rattle.tree_paths.specs.Paths.{parsed, names_of, is_null, is_dots, is_long, slash, slashed};
 

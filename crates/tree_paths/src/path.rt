@@ -6,14 +6,14 @@ ghost use Rattle.std.specs.Prelude.{nat_eq};
 ghost use Rattle.std.proofs.Common.{rules};
 ghost use Rattle.std.specs.Cmp.Rules.{comparing};
 ghost use Rattle.std.specs.Cmp.Lexicographic.{pointwise};
-ghost use Rattle.tree_paths.specs.Kept.{IsSlashed};
+ghost use Rattle.tree_paths.specs.PathText.{IsSlashed};
 ghost use Rattle.tree_paths.specs.Paths.{is_below, names_of};
 
 use crate::Refusal;
-use crate::kept::Kept;
 use crate::left::PathNames;
 use crate::parse::{SEPARATOR, shape_of_text};
 use crate::path_name::{NamePlace, PathName};
+use crate::path_text::PathText;
 use record_codec::Name;
 use std::alloc::{AllocError, Global};
 use std::marker::Model;
@@ -22,7 +22,7 @@ use std::marker::Model;
 /// names.
 #[derive(Debug)]
 pub struct Path {
-    kept: Kept,
+    kept: PathText,
 }
 
 impl Drop for Path {
@@ -33,7 +33,7 @@ impl Drop for Path {
 
 impl Model for Path {
     ghost use Rattle.std.specs.Prelude.{ℕ, List};
-    ghost use Rattle.tree_paths.specs.Kept.{kept_names, IsKept};
+    ghost use Rattle.tree_paths.specs.PathText.{kept_names, IsKept};
 
     ghost Value = { List (List ℕ) };
 
@@ -76,7 +76,7 @@ impl Path {
     {
         let shape = shape_of_text(text)?;
         Ok(Path {
-            kept: Kept::of(alloc, text, shape)?,
+            kept: PathText::of(alloc, text, shape)?,
         })
     }
 
@@ -84,7 +84,9 @@ impl Path {
     pub fn root() -> Path
         ensures { result ≡ [] }
     {
-        Path { kept: Kept::root() }
+        Path {
+            kept: PathText::root(),
+        }
     }
 
     /// The names, from the root on. The root's own path has none.

@@ -23,7 +23,7 @@ pub struct PathName<'a> {
 
 impl<'a> Model for PathName<'a> {
     ghost use Rattle.std.specs.Prelude.{ℕ, List};
-    ghost use Rattle.tree_paths.specs.Kept.{found_name};
+    ghost use Rattle.tree_paths.specs.PathText.{found_name};
 
     ghost Value = { List ℕ };
 
@@ -78,7 +78,7 @@ pub struct NamePlace<'a> {
 
 impl<'a> Model for NamePlace<'a> {
     ghost use Rattle.std.specs.Prelude.{ℕ, List};
-    ghost use Rattle.tree_paths.specs.Kept.{place_name, IsPlace};
+    ghost use Rattle.tree_paths.specs.PathText.{place_name, IsPlace};
 
     ghost Value = { List ℕ };
 

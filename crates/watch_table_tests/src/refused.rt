@@ -50,14 +50,14 @@ fn are_alike(one: &Watches, other: &Watches) -> bool {
 
 // How many allocations the next watch makes, if all stays as it was when each fails in turn. None if not.
 fn refused_in_turn(alloc: Global, count: u32) -> Result<Option<u32>, Refusal> {
-    let twin = watching(alloc, count, &Limits::full())?;
+    let control = watching(alloc, count, &Limits::full())?;
     let next = watching(alloc, count.saturating_add(1), &Limits::full())?;
     let mut watches = watching(alloc, count, &Limits::full())?;
     for k in 1..MOST {
         let _ = refuse(alloc, k);
         let told = watch(&mut watches, number_of(count), bits::IN_CREATE);
         match (told, was_refused(alloc)) {
-            (Err(Refusal::Enomem), true) if are_alike(&watches, &twin) => {}
+            (Err(Refusal::Enomem), true) if are_alike(&watches, &control) => {}
             (Ok(_), false) if are_alike(&watches, &next) => return Ok(Some(k - 1)),
             _ => return Ok(None),
         }
@@ -152,12 +152,12 @@ fn each_growth_of_a_copy(rt: HostRuntime) -> Result<(), Fail> {
     let alloc = rt.alloc();
     let has_refuser = refuse(alloc, MOST);
     let _ = was_refused(alloc);
-    let twin = watching(alloc, FILES, &Limits::full())?;
+    let control = watching(alloc, FILES, &Limits::full())?;
     let watches = watching(alloc, FILES, &Limits::full())?;
     let count = copy_refused(alloc, &watches);
     let is_well = matches!(count, Some(count) if (count > 0) == has_refuser);
     assert!(rt; is_well, "{count:?}");
-    holds(&rt, "as they were", are_alike(&watches, &twin));
+    holds(&rt, "as they were", are_alike(&watches, &control));
     // The next watch of the copy is its own.
     let mut copy = watches.copy()?;
     drop(watches);
@@ -165,7 +165,7 @@ fn each_growth_of_a_copy(rt: HostRuntime) -> Result<(), Fail> {
     holds(
         &rt,
         "a descriptor of its own",
-        wd == Ok(41) && !are_alike(&copy, &twin),
+        wd == Ok(41) && !are_alike(&copy, &control),
     );
     Ok(())
 }

@@ -12,7 +12,7 @@ use Rattle.watchtree_c.specs.Owned.{Content}
 use Rattle.watchtree_c.specs.contracts.opened.Opened as Opened
 use Rattle.watchtree_c.proofs.opened.Opened.TheLaws as opened
 use Rattle.watchtree_c.specs.contracts.parts.Parts as Parts
-use Rattle.watchtree_c.specs.contracts.tree.Held as Held
+use Rattle.watchtree_c.specs.contracts.tree.OpenTree as OpenTree
 
 abbrev pub E : Bx
 E =
@@ -26,7 +26,7 @@ abbrev pub FromParts : Slot 0
 FromParts = plain (λ _. Parts.the_row Opened.the_row Heap.the_row ghosts)
 
 abbrev pub FromHeld : Slot 0
-FromHeld = plain (λ _. Held.the_row)
+FromHeld = plain (λ _. OpenTree.the_row)
 
 -- a content that is there
 pub content_of : (o : Option Content) → is_some o ≡ true → (x : Content) × (o ≡ Some x)

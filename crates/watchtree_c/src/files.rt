@@ -10,7 +10,7 @@ ghost use Rattle.watchtree_c.specs.Calls.{read_call, stat_call, list_call};
 ghost use Rattle.watchtree_c.specs.Listings.{Lists, ended};
 
 use crate::answers::{count_number, fill, put, reply_number};
-use crate::tree::Tree;
+use crate::tree::TreeHandle;
 use inode_table::Kind;
 use record_codec::{Bytes, Name};
 use std::alloc::Global;
@@ -20,7 +20,7 @@ use tree_paths::{Path, Refusal};
 
 /// As mkdir(2), but it answers the number of the directory.
 #[unsafe(no_mangle)]
-pub extern "C" fn wt_mkdir(alloc: Global, tree: &mut Tree, path: &[u8], mode: u32) -> i64
+pub extern "C" fn wt_mkdir(alloc: Global, tree: &mut TreeHandle, path: &[u8], mode: u32) -> i64
     ensures { Answers (IsReply tree.old.held.state (mkdir_call path.now mode) tree.new.held.state) result }
 {
     let call = Path::parse(alloc, path).map(|path| Call::File(FileCall::Mkdir { path, mode }));
@@ -29,7 +29,7 @@ pub extern "C" fn wt_mkdir(alloc: Global, tree: &mut Tree, path: &[u8], mode: u3
 
 /// As open(2) with `O_CREAT | O_EXCL` and close(2), but it answers the number of the file.
 #[unsafe(no_mangle)]
-pub extern "C" fn wt_create(alloc: Global, tree: &mut Tree, path: &[u8], mode: u32) -> i64
+pub extern "C" fn wt_create(alloc: Global, tree: &mut TreeHandle, path: &[u8], mode: u32) -> i64
     ensures { Answers (IsReply tree.old.held.state (create_call path.now mode) tree.new.held.state) result }
 {
     let call = Path::parse(alloc, path).map(|path| Call::File(FileCall::Create { path, mode }));
@@ -38,7 +38,7 @@ pub extern "C" fn wt_create(alloc: Global, tree: &mut Tree, path: &[u8], mode: u
 
 /// As rename(2).
 #[unsafe(no_mangle)]
-pub extern "C" fn wt_rename(alloc: Global, tree: &mut Tree, old: &[u8], to: &[u8]) -> i64
+pub extern "C" fn wt_rename(alloc: Global, tree: &mut TreeHandle, old: &[u8], to: &[u8]) -> i64
     ensures { Answers (IsReply tree.old.held.state (rename_call old.now to.now) tree.new.held.state) result }
 {
     reply_number(&tree.make(alloc, rename(alloc, old, to)))
@@ -56,7 +56,7 @@ fn rename(alloc: Global, old: &[u8], new: &[u8]) -> Result<Call, Refusal>
 #[unsafe(no_mangle)]
 pub extern "C" fn wt_rename2(
     alloc: Global,
-    tree: &mut Tree,
+    tree: &mut TreeHandle,
     old: &[u8],
     to: &[u8],
     flags: u32,
@@ -76,7 +76,7 @@ fn rename2(alloc: Global, old: &[u8], new: &[u8], flags: u32) -> Result<Call, Re
 
 /// As truncate(2).
 #[unsafe(no_mangle)]
-pub extern "C" fn wt_truncate(alloc: Global, tree: &mut Tree, path: &[u8], len: u64) -> i64
+pub extern "C" fn wt_truncate(alloc: Global, tree: &mut TreeHandle, path: &[u8], len: u64) -> i64
     ensures { Answers (IsReply tree.old.held.state (truncate_call path.now len) tree.new.held.state) result }
 {
     let call = Path::parse(alloc, path).map(|path| Call::File(FileCall::Truncate { path, len }));
@@ -85,7 +85,7 @@ pub extern "C" fn wt_truncate(alloc: Global, tree: &mut Tree, path: &[u8], len: 
 
 /// As chmod(2).
 #[unsafe(no_mangle)]
-pub extern "C" fn wt_chmod(alloc: Global, tree: &mut Tree, path: &[u8], mode: u32) -> i64
+pub extern "C" fn wt_chmod(alloc: Global, tree: &mut TreeHandle, path: &[u8], mode: u32) -> i64
     ensures { Answers (IsReply tree.old.held.state (chmod_call path.now mode) tree.new.held.state) result }
 {
     let call = Path::parse(alloc, path).map(|path| Call::File(FileCall::Chmod { path, mode }));
@@ -94,7 +94,7 @@ pub extern "C" fn wt_chmod(alloc: Global, tree: &mut Tree, path: &[u8], mode: u3
 
 /// As unlink(2).
 #[unsafe(no_mangle)]
-pub extern "C" fn wt_unlink(alloc: Global, tree: &mut Tree, path: &[u8]) -> i64
+pub extern "C" fn wt_unlink(alloc: Global, tree: &mut TreeHandle, path: &[u8]) -> i64
     ensures { Answers (IsReply tree.old.held.state (unlink_call path.now) tree.new.held.state) result }
 {
     let call = Path::parse(alloc, path).map(|path| Call::File(FileCall::Unlink { path }));
@@ -103,7 +103,7 @@ pub extern "C" fn wt_unlink(alloc: Global, tree: &mut Tree, path: &[u8]) -> i64
 
 /// As rmdir(2).
 #[unsafe(no_mangle)]
-pub extern "C" fn wt_rmdir(alloc: Global, tree: &mut Tree, path: &[u8]) -> i64
+pub extern "C" fn wt_rmdir(alloc: Global, tree: &mut TreeHandle, path: &[u8]) -> i64
     ensures { Answers (IsReply tree.old.held.state (rmdir_call path.now) tree.new.held.state) result }
 {
     let call = Path::parse(alloc, path).map(|path| Call::File(FileCall::Rmdir { path }));
@@ -112,7 +112,7 @@ pub extern "C" fn wt_rmdir(alloc: Global, tree: &mut Tree, path: &[u8]) -> i64
 
 /// As link(2).
 #[unsafe(no_mangle)]
-pub extern "C" fn wt_link(alloc: Global, tree: &mut Tree, old: &[u8], to: &[u8]) -> i64
+pub extern "C" fn wt_link(alloc: Global, tree: &mut TreeHandle, old: &[u8], to: &[u8]) -> i64
     ensures { Answers (IsReply tree.old.held.state (link_call old.now to.now) tree.new.held.state) result }
 {
     reply_number(&tree.make(alloc, link(alloc, old, to)))
@@ -130,7 +130,7 @@ fn link(alloc: Global, old: &[u8], new: &[u8]) -> Result<Call, Refusal>
 #[unsafe(no_mangle)]
 pub extern "C" fn wt_write(
     alloc: Global,
-    tree: &mut Tree,
+    tree: &mut TreeHandle,
     path: &[u8],
     offset: u64,
     bytes: &[u8],
@@ -158,7 +158,7 @@ fn write(alloc: Global, path: &[u8], offset: u64, bytes: &[u8]) -> Result<Call, 
 #[unsafe(no_mangle)]
 pub extern "C" fn wt_pread(
     alloc: Global,
-    tree: &mut Tree,
+    tree: &mut TreeHandle,
     path: &[u8],
     offset: u64,
     out: &mut [u8],
@@ -192,7 +192,7 @@ pub struct Stat {
 
 /// As stat(2). What stood in `out` stays there where the call is refused.
 #[unsafe(no_mangle)]
-pub extern "C" fn wt_stat(alloc: Global, tree: &mut Tree, path: &[u8], out: &mut Stat) -> i64
+pub extern "C" fn wt_stat(alloc: Global, tree: &mut TreeHandle, path: &[u8], out: &mut Stat) -> i64
     ensures { Tells (IsReply tree.old.held.state (stat_call path.now) tree.new.held.state) result out.old out.new }
 {
     let call = Path::parse(alloc, path).map(|path| Call::File(FileCall::Stat { path }));
@@ -230,7 +230,7 @@ pub(crate) fn stat_of(reply: &Reply) -> Option<Stat>
 /// The names in a directory in the order of their bytes, each with a zero byte behind it, as many bytes as fit. It
 /// answers how many bytes all of them are.
 #[unsafe(no_mangle)]
-pub extern "C" fn wt_list(alloc: Global, tree: &mut Tree, path: &[u8], out: &mut [u8]) -> i64
+pub extern "C" fn wt_list(alloc: Global, tree: &mut TreeHandle, path: &[u8], out: &mut [u8]) -> i64
     ensures { Lists (IsReply tree.old.held.state (list_call path.now) tree.new.held.state) result out.old out.new }
 {
     let call = Path::parse(alloc, path).map(|path| Call::File(FileCall::List { path }));

@@ -6,14 +6,14 @@ ghost use Rattle.watchtree_c.specs.Answers.{Answers, AnswersBytes, IsMade, IsRep
 ghost use Rattle.watchtree_c.specs.Calls.{add_watch_call, asked_bytes};
 
 use crate::answers::{count_number, fill, refused_number, reply_number};
-use crate::tree::Tree;
+use crate::tree::TreeHandle;
 use std::alloc::Global;
 use tree_core::Call;
 use tree_paths::{Path, Refusal};
 
 /// As inotify_init(2), with the limit of its queue.
 #[unsafe(no_mangle)]
-pub extern "C" fn wt_inotify_init(alloc: Global, tree: &mut Tree, limit: u32) -> i64
+pub extern "C" fn wt_inotify_init(alloc: Global, tree: &mut TreeHandle, limit: u32) -> i64
     ensures { Answers (IsMade tree.old.held.state (Ok (call.Init limit false)) tree.new.held.state) result }
 {
     let call = Call::Init {
@@ -27,7 +27,7 @@ pub extern "C" fn wt_inotify_init(alloc: Global, tree: &mut Tree, limit: u32) ->
 #[unsafe(no_mangle)]
 pub extern "C" fn wt_inotify_add_watch(
     alloc: Global,
-    tree: &mut Tree,
+    tree: &mut TreeHandle,
     instance: u32,
     path: &[u8],
     mask: u32,
@@ -45,7 +45,12 @@ pub extern "C" fn wt_inotify_add_watch(
 /// As read(2) of an inotify file descriptor that does not block: as many records as fit whole, or `EINVAL` where the
 /// first does not, which then still waits.
 #[unsafe(no_mangle)]
-pub extern "C" fn wt_read(alloc: Global, tree: &mut Tree, instance: u32, out: &mut [u8]) -> i64
+pub extern "C" fn wt_read(
+    alloc: Global,
+    tree: &mut TreeHandle,
+    instance: u32,
+    out: &mut [u8],
+) -> i64
     ensures { AnswersBytes (IsMade tree.old.held.state
         (Ok (call.Read instance (asked_bytes out.old))) tree.new.held.state) result out.old out.new }
 {
@@ -57,7 +62,12 @@ pub extern "C" fn wt_read(alloc: Global, tree: &mut Tree, instance: u32, out: &m
 
 /// As inotify_rm_watch(2).
 #[unsafe(no_mangle)]
-pub extern "C" fn wt_inotify_rm_watch(alloc: Global, tree: &mut Tree, instance: u32, wd: i32) -> i64
+pub extern "C" fn wt_inotify_rm_watch(
+    alloc: Global,
+    tree: &mut TreeHandle,
+    instance: u32,
+    wd: i32,
+) -> i64
     ensures { Answers (IsMade tree.old.held.state (Ok (call.RmWatch instance wd)) tree.new.held.state) result }
 {
     reply_number(&tree.make(alloc, Ok(Call::RmWatch { instance, wd })))
@@ -65,7 +75,7 @@ pub extern "C" fn wt_inotify_rm_watch(alloc: Global, tree: &mut Tree, instance: 
 
 /// As close(2) of an inotify file descriptor.
 #[unsafe(no_mangle)]
-pub extern "C" fn wt_inotify_close(alloc: Global, tree: &mut Tree, instance: u32) -> i64
+pub extern "C" fn wt_inotify_close(alloc: Global, tree: &mut TreeHandle, instance: u32) -> i64
     ensures { Answers (IsMade tree.old.held.state (Ok (call.Close instance)) tree.new.held.state) result }
 {
     reply_number(&tree.make(alloc, Ok(Call::Close { instance })))
@@ -76,7 +86,7 @@ pub extern "C" fn wt_inotify_close(alloc: Global, tree: &mut Tree, instance: u32
 /// # Errors
 /// `EBADF`, where there is no such instance.
 #[unsafe(no_mangle)]
-pub extern "C" fn wt_waiting(alloc: Global, tree: &mut Tree, instance: u32) -> i64
+pub extern "C" fn wt_waiting(alloc: Global, tree: &mut TreeHandle, instance: u32) -> i64
     ensures number { result ≡ waiting_number tree.old.held.state instance }
     ensures same { tree.new.held.state ≡ tree.old.held.state }
 {
@@ -84,7 +94,7 @@ pub extern "C" fn wt_waiting(alloc: Global, tree: &mut Tree, instance: u32) -> i
         return refused_number(Refusal::Ebadf);
     };
     let waiting = opened.state.waiting(instance);
-    *tree = Tree::of(opened);
+    *tree = TreeHandle::of(opened);
     match waiting {
         Some(count) => count_number(count as u64),
         None => refused_number(Refusal::Ebadf),

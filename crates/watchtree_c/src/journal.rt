@@ -6,7 +6,7 @@ ghost use Rattle.watchtree_c.specs.Answers.{count_number};
 ghost use Rattle.watchtree_c.specs.Entries.{IsEntryGiven, IsEntryTold, first_place_number, last_place_number};
 
 use crate::answers::{count_number, put, refused_number};
-use crate::tree::Tree;
+use crate::tree::TreeHandle;
 use std::alloc::Global;
 use tree_core::State;
 use tree_paths::Refusal;
@@ -18,7 +18,7 @@ use watchtree_script::append_entry;
 /// # Errors
 /// `EBADF`, where the tree is not open.
 #[unsafe(no_mangle)]
-pub extern "C" fn wt_first_place(alloc: Global, tree: &mut Tree) -> i64
+pub extern "C" fn wt_first_place(alloc: Global, tree: &mut TreeHandle) -> i64
     ensures number { result ≡ first_place_number tree.old.held.state }
     ensures same { tree.new.held.state ≡ tree.old.held.state }
 {
@@ -26,7 +26,7 @@ pub extern "C" fn wt_first_place(alloc: Global, tree: &mut Tree) -> i64
         return refused_number(Refusal::Ebadf);
     };
     let number = first_place(&opened.state);
-    *tree = Tree::of(opened);
+    *tree = TreeHandle::of(opened);
     number
 }
 
@@ -42,7 +42,7 @@ fn first_place(state: &State) -> i64
 /// # Errors
 /// `EBADF`, where the tree is not open.
 #[unsafe(no_mangle)]
-pub extern "C" fn wt_last_place(alloc: Global, tree: &mut Tree) -> i64
+pub extern "C" fn wt_last_place(alloc: Global, tree: &mut TreeHandle) -> i64
     ensures number { result ≡ last_place_number tree.old.held.state }
     ensures same { tree.new.held.state ≡ tree.old.held.state }
 {
@@ -50,7 +50,7 @@ pub extern "C" fn wt_last_place(alloc: Global, tree: &mut Tree) -> i64
         return refused_number(Refusal::Ebadf);
     };
     let place = opened.state.last_place();
-    *tree = Tree::of(opened);
+    *tree = TreeHandle::of(opened);
     count_number(place)
 }
 
@@ -62,7 +62,7 @@ pub extern "C" fn wt_last_place(alloc: Global, tree: &mut Tree) -> i64
 /// - `ENOENT`, where no entry since the last cut has the number.
 /// - `ENOMEM`
 #[unsafe(no_mangle)]
-pub extern "C" fn wt_entry(alloc: Global, tree: &mut Tree, place: u64, out: &mut [u8]) -> i64
+pub extern "C" fn wt_entry(alloc: Global, tree: &mut TreeHandle, place: u64, out: &mut [u8]) -> i64
     ensures given { IsEntryGiven tree.old.held.state place result out.old out.new }
     ensures same { tree.new.held.state ≡ tree.old.held.state }
 {
@@ -70,7 +70,7 @@ pub extern "C" fn wt_entry(alloc: Global, tree: &mut Tree, place: u64, out: &mut
         return refused_number(Refusal::Ebadf);
     };
     let number = put_entry(alloc, &opened.state, place, out);
-    *tree = Tree::of(opened);
+    *tree = TreeHandle::of(opened);
     number
 }
 

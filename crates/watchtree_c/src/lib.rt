@@ -31,4 +31,4 @@ pub use opened::Opened;
 pub use peeking::{
     wt_bytes_waiting, wt_path_of, wt_peek_list, wt_peek_pread, wt_peek_stat, wt_ready,
 };
-pub use tree::{Held, Tree};
+pub use tree::{OpenTree, TreeHandle};

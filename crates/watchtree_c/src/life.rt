@@ -8,7 +8,7 @@ ghost use Rattle.watchtree_c.specs.Answers.{IsOpened, IsCutOff, IsForked, IsOpen
 
 use crate::answers::{count_number, refused_number};
 use crate::opened::Opened;
-use crate::tree::Tree;
+use crate::tree::TreeHandle;
 use std::alloc::Global;
 use tree_core::State;
 use tree_paths::{Limits, Refusal};
@@ -19,7 +19,7 @@ use tree_paths::{Limits, Refusal};
 /// - `EBUSY`, where it is open.
 /// - `ENOMEM`
 #[unsafe(no_mangle)]
-pub extern "C" fn wt_open(alloc: Global, tree: &mut Tree) -> i64
+pub extern "C" fn wt_open(alloc: Global, tree: &mut TreeHandle) -> i64
     ensures { IsOpened tree.old.held.state result tree.new.held.state }
 {
     if tree.ready {
@@ -27,7 +27,7 @@ pub extern "C" fn wt_open(alloc: Global, tree: &mut Tree) -> i64
     }
     match opening(alloc) {
         Ok(opened) => {
-            *tree = Tree::of(opened);
+            *tree = TreeHandle::of(opened);
             0
         }
         Err(refusal) => refused_number(refusal),
@@ -54,7 +54,7 @@ fn boxed(alloc: Global, state: State) -> Result<Box<Opened>, Refusal>
 
 /// Closes a tree, and gives its memory back. A tree that is not open stays so.
 #[unsafe(no_mangle)]
-pub extern "C" fn wt_close(alloc: Global, tree: &mut Tree)
+pub extern "C" fn wt_close(alloc: Global, tree: &mut TreeHandle)
     ensures { tree.new.held.state ≡ None }
 {
     drop(tree.take(alloc));
@@ -67,14 +67,14 @@ pub extern "C" fn wt_close(alloc: Global, tree: &mut Tree)
 /// - `EBADF`, where the tree is not open.
 /// - `ENOMEM`
 #[unsafe(no_mangle)]
-pub extern "C" fn wt_cut(alloc: Global, tree: &mut Tree) -> i64
+pub extern "C" fn wt_cut(alloc: Global, tree: &mut TreeHandle) -> i64
     ensures { IsCutOff tree.old.held.state result tree.new.held.state }
 {
     let Some(mut opened) = tree.take(alloc) else {
         return refused_number(Refusal::Ebadf);
     };
     let place = opened.state.cut();
-    *tree = Tree::of(opened);
+    *tree = TreeHandle::of(opened);
     match place {
         Ok(place) => count_number(place),
         Err(refusal) => refused_number(refusal),
@@ -90,7 +90,7 @@ pub extern "C" fn wt_cut(alloc: Global, tree: &mut Tree) -> i64
 /// - `EBUSY`, where `fork` is open, also where it is the tree itself.
 /// - `ENOMEM`
 #[unsafe(no_mangle)]
-pub extern "C" fn wt_fork(alloc: Global, tree: &mut Tree, fork: &mut Tree) -> i64
+pub extern "C" fn wt_fork(alloc: Global, tree: &mut TreeHandle, fork: &mut TreeHandle) -> i64
     ensures forked { IsForked tree.old.held.state fork.old.held.state result fork.new.held.state }
     ensures same { tree.new.held.state ≡ tree.old.held.state }
 {
@@ -102,11 +102,11 @@ pub extern "C" fn wt_fork(alloc: Global, tree: &mut Tree, fork: &mut Tree) -> i6
         return refused_number(Refusal::Ebadf);
     };
     let number = open_fork(alloc, &opened.state, fork);
-    *tree = Tree::of(opened);
+    *tree = TreeHandle::of(opened);
     number
 }
 
-fn open_fork(alloc: Global, state: &State, fork: &mut Tree) -> i64
+fn open_fork(alloc: Global, state: &State, fork: &mut TreeHandle) -> i64
     ensures { IsOpenedAsFork state.now fork.old.held.state result fork.new.held.state }
 {
     if fork.ready {
@@ -114,7 +114,7 @@ fn open_fork(alloc: Global, state: &State, fork: &mut Tree) -> i64
     }
     match forking(alloc, state) {
         Ok(opened) => {
-            *fork = Tree::of(opened);
+            *fork = TreeHandle::of(opened);
             0
         }
         Err(refusal) => refused_number(refusal),

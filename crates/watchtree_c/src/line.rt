@@ -5,7 +5,7 @@ ghost use Rattle.watchtree_c.specs.Lines.{Runs, RunsOn, IsTextTold, fault_number
 
 use crate::answers::{count_number, put, refused_number};
 use crate::opened::Opened;
-use crate::tree::Tree;
+use crate::tree::TreeHandle;
 use std::alloc::Global;
 use tree_paths::Refusal;
 use watchtree_script::{RunFault, ScriptFault, print_line};
@@ -24,7 +24,7 @@ const LINE: u64 = 1;
 #[unsafe(no_mangle)]
 pub extern "C" fn wt_line(
     alloc: Global,
-    tree: &mut Tree,
+    tree: &mut TreeHandle,
     queue: u32,
     line: &[u8],
     out: &mut [u8],
@@ -35,7 +35,7 @@ pub extern "C" fn wt_line(
         return refused_number(Refusal::Ebadf);
     };
     let number = run(&mut opened, queue, line, out);
-    *tree = Tree::of(opened);
+    *tree = TreeHandle::of(opened);
     number
 }
 
@@ -69,7 +69,7 @@ fn run_number(fault: RunFault) -> i64
 /// # Errors
 /// `EBADF`, where the tree is not open.
 #[unsafe(no_mangle)]
-pub extern "C" fn wt_text(alloc: Global, tree: &mut Tree, out: &mut [u8]) -> i64
+pub extern "C" fn wt_text(alloc: Global, tree: &mut TreeHandle, out: &mut [u8]) -> i64
     ensures told { IsTextTold tree.old.held.state result out.old out.new }
     ensures same { tree.new.held.state ≡ tree.old.held.state }
 {
@@ -78,7 +78,7 @@ pub extern "C" fn wt_text(alloc: Global, tree: &mut Tree, out: &mut [u8]) -> i64
     };
     put(out, opened.text.as_slice());
     let number = count_number(opened.text.len() as u64);
-    *tree = Tree::of(opened);
+    *tree = TreeHandle::of(opened);
     number
 }
 

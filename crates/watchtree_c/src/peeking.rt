@@ -13,7 +13,7 @@ ghost use Rattle.tree_core.specs.Tree.{reply_of};
 
 use crate::answers::{count_number, put, refused_number, reply_number};
 use crate::files::{Stat, put_more, put_names, stat_of};
-use crate::tree::Tree;
+use crate::tree::TreeHandle;
 use std::alloc::Global;
 use tree_core::{Call, Reply, State};
 use tree_ops::FileCall;
@@ -25,7 +25,7 @@ use tree_paths::{Path, PathNames, Refusal};
 /// # Errors
 /// `EBADF`, where there is no such instance.
 #[unsafe(no_mangle)]
-pub extern "C" fn wt_bytes_waiting(alloc: Global, tree: &mut Tree, instance: u32) -> i64
+pub extern "C" fn wt_bytes_waiting(alloc: Global, tree: &mut TreeHandle, instance: u32) -> i64
     ensures number { result ≡ bytes_waiting_number tree.old.held.state instance }
     ensures same { tree.new.held.state ≡ tree.old.held.state }
 {
@@ -33,7 +33,7 @@ pub extern "C" fn wt_bytes_waiting(alloc: Global, tree: &mut Tree, instance: u32
         return refused_number(Refusal::Ebadf);
     };
     let waiting = opened.state.bytes_waiting(instance);
-    *tree = Tree::of(opened);
+    *tree = TreeHandle::of(opened);
     match waiting {
         Some(count) => count_number(count as u64),
         None => refused_number(Refusal::Ebadf),
@@ -46,7 +46,7 @@ pub extern "C" fn wt_bytes_waiting(alloc: Global, tree: &mut Tree, instance: u32
 /// # Errors
 /// `EBADF`, where the tree is not open.
 #[unsafe(no_mangle)]
-pub extern "C" fn wt_ready(alloc: Global, tree: &mut Tree, out: &mut [u32]) -> i64
+pub extern "C" fn wt_ready(alloc: Global, tree: &mut TreeHandle, out: &mut [u32]) -> i64
     ensures told { IsReadyTold tree.old.held.state result out.old out.new }
     ensures same { tree.new.held.state ≡ tree.old.held.state }
 {
@@ -54,13 +54,18 @@ pub extern "C" fn wt_ready(alloc: Global, tree: &mut Tree, out: &mut [u32]) -> i
         return refused_number(Refusal::Ebadf);
     };
     let count = opened.state.ready(out);
-    *tree = Tree::of(opened);
+    *tree = TreeHandle::of(opened);
     count_number(count as u64)
 }
 
 /// As stat(2), where no call is made for it. What stood in `out` stays there where the path is refused.
 #[unsafe(no_mangle)]
-pub extern "C" fn wt_peek_stat(alloc: Global, tree: &mut Tree, path: &[u8], out: &mut Stat) -> i64
+pub extern "C" fn wt_peek_stat(
+    alloc: Global,
+    tree: &mut TreeHandle,
+    path: &[u8],
+    out: &mut Stat,
+) -> i64
     ensures told { Tells (IsPeeked tree.old.held.state (stat_call path.now)) result out.old out.new }
     ensures same { tree.new.held.state ≡ tree.old.held.state }
 {
@@ -68,7 +73,7 @@ pub extern "C" fn wt_peek_stat(alloc: Global, tree: &mut Tree, path: &[u8], out:
         return refused_number(Refusal::Ebadf);
     };
     let reply = stat_reply(alloc, &opened.state, path);
-    *tree = Tree::of(opened);
+    *tree = TreeHandle::of(opened);
     if let Some(stat) = stat_of(&reply) {
         *out = stat;
     }
@@ -95,7 +100,12 @@ fn stat_at(state: &State, path: &Path) -> Reply
 
 /// As `wt_list`, where no call is made for it.
 #[unsafe(no_mangle)]
-pub extern "C" fn wt_peek_list(alloc: Global, tree: &mut Tree, path: &[u8], out: &mut [u8]) -> i64
+pub extern "C" fn wt_peek_list(
+    alloc: Global,
+    tree: &mut TreeHandle,
+    path: &[u8],
+    out: &mut [u8],
+) -> i64
     ensures told { Lists (IsPeeked tree.old.held.state (list_call path.now)) result out.old out.new }
     ensures same { tree.new.held.state ≡ tree.old.held.state }
 {
@@ -103,7 +113,7 @@ pub extern "C" fn wt_peek_list(alloc: Global, tree: &mut Tree, path: &[u8], out:
         return refused_number(Refusal::Ebadf);
     };
     let number = read_names(alloc, &opened.state, path, out);
-    *tree = Tree::of(opened);
+    *tree = TreeHandle::of(opened);
     number
 }
 
@@ -129,7 +139,7 @@ fn names_at(state: &State, path: &Path, out: &mut [u8]) -> i64
 #[unsafe(no_mangle)]
 pub extern "C" fn wt_peek_pread(
     alloc: Global,
-    tree: &mut Tree,
+    tree: &mut TreeHandle,
     path: &[u8],
     offset: u64,
     out: &mut [u8],
@@ -142,7 +152,7 @@ pub extern "C" fn wt_peek_pread(
         return refused_number(Refusal::Ebadf);
     };
     let number = read_bytes(alloc, &opened.state, path, offset, out);
-    *tree = Tree::of(opened);
+    *tree = TreeHandle::of(opened);
     number
 }
 
@@ -177,7 +187,12 @@ fn bytes_at(state: &State, path: &Path, offset: u64, out: &mut [u8]) -> i64
 /// # Errors
 /// `ENOENT`, where no file has this number; `ENOMEM`; `EBADF`, where the tree is not open.
 #[unsafe(no_mangle)]
-pub extern "C" fn wt_path_of(alloc: Global, tree: &mut Tree, number: u64, out: &mut [u8]) -> i64
+pub extern "C" fn wt_path_of(
+    alloc: Global,
+    tree: &mut TreeHandle,
+    number: u64,
+    out: &mut [u8],
+) -> i64
     ensures given { IsPathGiven tree.old.held.state number result out.old out.new }
     ensures same { tree.new.held.state ≡ tree.old.held.state }
 {
@@ -185,7 +200,7 @@ pub extern "C" fn wt_path_of(alloc: Global, tree: &mut Tree, number: u64, out: &
         return refused_number(Refusal::Ebadf);
     };
     let length = put_path_of(&opened.state, number, out);
-    *tree = Tree::of(opened);
+    *tree = TreeHandle::of(opened);
     length
 }
 

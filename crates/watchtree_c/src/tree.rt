@@ -19,34 +19,34 @@ const CALLER: u32 = 1;
 /// The address of what C opened, on the heap, which it owns, or none.
 #[repr(C)]
 #[derive(Drop)]
-pub struct Held {
+pub struct OpenTree {
     at: *mut u8,
     alloc: Global,
     pub ghost state: { Option Content } by { held_code },
 }
 
-impl Model for Held {
+impl Model for OpenTree {
     ghost also_owns = { λ h. held_owns h.alloc h.at h.state };
 }
 
 // C may hand it to another thread, where C orders that: the box that it owns may go there.
-unsafe impl Send for Held {}
+unsafe impl Send for OpenTree {}
 
-impl Held {
-    fn nothing(alloc: Global) -> Held
+impl OpenTree {
+    fn nothing(alloc: Global) -> OpenTree
         ensures { result.state ≡ None }
     {
-        Held {
+        OpenTree {
             at: null_mut(),
             alloc,
         }
     }
 
-    fn of_parts(parts: Parts<Opened, Global>) -> Held
+    fn of_parts(parts: Parts<Opened, Global>) -> OpenTree
         ensures { result.state ≡ Some parts.value }
     {
         let Parts { ptr, alloc } = parts;
-        Held {
+        OpenTree {
             at: ptr as *mut u8,
             alloc,
         }
@@ -56,7 +56,7 @@ impl Held {
         requires { is_some self.state ≡ true }
         ensures { self.state ≡ Some result.value }
     {
-        let Held { at, alloc } = self;
+        let OpenTree { at, alloc } = self;
         Parts {
             ptr: at as *mut Opened,
             alloc,
@@ -67,29 +67,29 @@ impl Held {
 /// A tree, as C holds it: `struct wt_tree { void *at; _Bool ready; }`. Zero bytes are a tree that is not open.
 #[repr(C)]
 #[derive(Drop)]
-pub struct Tree {
-    pub held: Held,
+pub struct TreeHandle {
+    pub held: OpenTree,
     pub ready: bool,
     ghost agrees: { ready ≡ is_some held.state },
 }
 
-impl Tree {
+impl TreeHandle {
     /// A tree that is not open.
-    fn closed(alloc: Global) -> Tree
+    fn closed(alloc: Global) -> TreeHandle
         ensures { result.held.state ≡ None }
     {
-        Tree {
-            held: Held::nothing(alloc),
+        TreeHandle {
+            held: OpenTree::nothing(alloc),
             ready: false,
         }
     }
 
     /// An open tree.
-    pub(crate) fn of(opened: Box<Opened>) -> Tree
+    pub(crate) fn of(opened: Box<Opened>) -> TreeHandle
         ensures { result.held.state ≡ Some opened.value }
     {
-        Tree {
-            held: Held::of_parts(Parts::of(opened)),
+        TreeHandle {
+            held: OpenTree::of_parts(Parts::of(opened)),
             ready: true,
         }
     }
@@ -99,7 +99,7 @@ impl Tree {
         ensures left { self.new.held.state ≡ None }
         ensures taken { self.old.held.state ≡ option_map (λ b. b.value) result }
     {
-        let Tree { held, ready } = mem::replace(self, Tree::closed(alloc));
+        let TreeHandle { held, ready } = mem::replace(self, TreeHandle::closed(alloc));
         if ready {
             Some(held.into_parts().into_box())
         } else {
@@ -115,7 +115,7 @@ impl Tree {
             return Reply::Refused(Refusal::Ebadf);
         };
         let reply = reply_to(&mut opened.state, call);
-        *self = Tree::of(opened);
+        *self = TreeHandle::of(opened);
         reply
     }
 }

@@ -8,7 +8,7 @@ ghost use Rattle.watchtree_script.specs.CallLines.{path_text, mode_digits_of, ma
 ghost use Rattle.watchtree_script.specs.Replies.{hexadecimal};
 
 use crate::line::OutputFormat;
-use crate::pieces::Runs;
+use crate::pieces::Words;
 use crate::print::{push_digits, push_field, push_reply};
 use record_codec::append_name;
 use std::alloc::AllocError;
@@ -78,8 +78,8 @@ fn push_call_line(text: &mut Vec<u8>, call: &Call) -> Result<(), AllocError>
 fn push_comments(text: &mut Vec<u8>, said: &[u8]) -> Result<(), AllocError>
     ensures { OnOk result (text.new.items ≡ text.old.items ++ commented said.now) }
 {
-    let mut lines = Runs::new(b'\n', said);
-    while let Some(line) = lines.next_run() {
+    let mut lines = Words::new(b'\n', said);
+    while let Some(line) = lines.next_word() {
         text.extend_from_slice(b"# ")?;
         text.extend_from_slice(line)?;
         text.extend_from_slice(b"\n")?;

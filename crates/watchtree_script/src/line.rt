@@ -9,7 +9,7 @@ ghost use Rattle.watchtree_script.specs.Reading.{GivesLine};
 
 use crate::fault::ScriptFault;
 use crate::lines::ScriptLine;
-use crate::pieces::Runs;
+use crate::pieces::Words;
 use crate::rows::Parser;
 use std::alloc::Global;
 use tree_core::Call;
@@ -107,7 +107,7 @@ pub(crate) fn read_line(alloc: Global, queue: u32, line: ScriptLine<'_>) -> Resu
     if !line.is_printable {
         return Err(LineError::Fault(ScriptFault::BadByte));
     }
-    read_words(alloc, queue, Runs::new(b' ', line.bytes))
+    read_words(alloc, queue, Words::new(b' ', line.bytes))
 }
 
 /// Whether a line is empty, of spaces alone, or a comment.
@@ -124,10 +124,10 @@ fn is_silent(line: &[u8]) -> bool
 
 /// What a command's word and the words behind it ask for.
 #[tactic(auto, unfolding(crate::specs::Commands::words_line))]
-fn read_words(alloc: Global, queue: u32, mut words: Runs<'_>) -> Result<Line, LineError>
+fn read_words(alloc: Global, queue: u32, mut words: Words<'_>) -> Result<Line, LineError>
     ensures { GivesLine result (words_line queue words.entry) }
 {
-    let Some(command) = words.next_run().and_then(command_named) else {
+    let Some(command) = words.next_word().and_then(command_named) else {
         return Err(LineError::Fault(ScriptFault::UnknownCommand));
     };
     Parser::new(alloc, queue, words).line_asked(command)

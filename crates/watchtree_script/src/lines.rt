@@ -8,7 +8,7 @@ ghost use Rattle.tree_paths.specs.Pieces.{pieces};
 ghost use Rattle.watchtree_script.specs.Lines.{is_line_byte, lines_of};
 ghost use Rattle.watchtree_script.specs.Reading.{pieces_in};
 
-use crate::pieces::cut;
+use crate::pieces::split_first;
 use std::marker::Model;
 
 const LINE_FEED: u8 = b'\n';
@@ -78,7 +78,7 @@ impl<'a> Lines<'a> {
                 is_printable: true,
             });
         }
-        let (line, rest) = cut(LINE_FEED, bytes);
+        let (line, rest) = split_first(LINE_FEED, bytes);
         self.rest = rest;
         Some(ScriptLine::of(line))
     }

@@ -13,12 +13,12 @@ pub(crate) const FEW: usize = 16;
 
 /// The pieces between separators that are left.
 #[derive(Drop)]
-pub(crate) struct Pieces<'a> {
+pub(crate) struct Split<'a> {
     separator: u8,
     rest: Option<&'a [u8]>,
 }
 
-impl<'a> Model for Pieces<'a> {
+impl<'a> Model for Split<'a> {
     ghost use Rattle.std.specs.Prelude.{ℕ, List};
     ghost use Rattle.std.specs.Option.{option_copied};
     ghost use Rattle.watchtree_script.specs.Reading.{pieces_in};
@@ -28,21 +28,21 @@ impl<'a> Model for Pieces<'a> {
     ghost view = { λ p. pieces_in p.separator (option_copied p.rest) };
 }
 
-impl<'a> Pieces<'a> {
-    pub fn new(separator: u8, bytes: &'a [u8]) -> Pieces<'a>
+impl<'a> Split<'a> {
+    pub fn new(separator: u8, bytes: &'a [u8]) -> Split<'a>
         ensures { result ≡ pieces separator bytes.entry.now }
     {
-        Pieces {
+        Split {
             separator,
             rest: Some(bytes),
         }
     }
 
-    pub fn next_piece(&mut self) -> Option<&'a [u8]>
+    pub fn next_part(&mut self) -> Option<&'a [u8]>
         ensures { MatchOption result ((self.old ≡ []) × (self.new ≡ [])) (λ piece. self.old ≡ piece.now ∷ self.new) }
     {
         let bytes = self.rest?;
-        let (piece, rest) = cut(self.separator, bytes);
+        let (piece, rest) = split_first(self.separator, bytes);
         self.rest = rest;
         Some(piece)
     }
@@ -50,11 +50,11 @@ impl<'a> Pieces<'a> {
 
 /// The nonempty pieces between separators that are left.
 #[derive(Drop)]
-pub(crate) struct Runs<'a> {
-    pieces: Pieces<'a>,
+pub(crate) struct Words<'a> {
+    pieces: Split<'a>,
 }
 
-impl<'a> Model for Runs<'a> {
+impl<'a> Model for Words<'a> {
     ghost use Rattle.std.specs.Prelude.{ℕ, List, filter};
     ghost use Rattle.tree_paths.specs.Pieces.{is_nonempty};
 
@@ -63,19 +63,19 @@ impl<'a> Model for Runs<'a> {
     ghost view = { λ r. filter is_nonempty r.pieces };
 }
 
-impl<'a> Runs<'a> {
-    pub fn new(separator: u8, bytes: &'a [u8]) -> Runs<'a>
+impl<'a> Words<'a> {
+    pub fn new(separator: u8, bytes: &'a [u8]) -> Words<'a>
         ensures { result ≡ runs separator bytes.entry.now }
     {
-        Runs {
-            pieces: Pieces::new(separator, bytes),
+        Words {
+            pieces: Split::new(separator, bytes),
         }
     }
 
-    pub fn next_run(&mut self) -> Option<&'a [u8]>
+    pub fn next_word(&mut self) -> Option<&'a [u8]>
         ensures { MatchOption result ((self.old ≡ []) × (self.new ≡ [])) (λ run. self.old ≡ run.now ∷ self.new) }
     {
-        while let Some(piece) = self.pieces.next_piece() {
+        while let Some(piece) = self.pieces.next_part() {
             if !piece.is_empty() {
                 return Some(piece);
             }
@@ -84,11 +84,11 @@ impl<'a> Runs<'a> {
     }
 
     /// The same once more, to be taken from by itself.
-    pub fn copied(&self) -> Runs<'a>
+    pub fn copied(&self) -> Words<'a>
         ensures { result ≡ self.now }
     {
-        Runs {
-            pieces: Pieces {
+        Words {
+            pieces: Split {
                 separator: self.pieces.separator,
                 rest: self.pieces.rest,
             },
@@ -99,14 +99,14 @@ impl<'a> Runs<'a> {
     pub fn is_empty(&self) -> bool
         ensures { result ≡ (length self.now == 0) }
     {
-        self.copied().next_run().is_none()
+        self.copied().next_word().is_none()
     }
 
     /// The only one that is left.
     pub fn one(mut self) -> Option<&'a [u8]>
         ensures { MatchOption result ((length self.entry == 1) ≡ false) (λ run. self.entry ≡ run.now ∷ []) }
     {
-        let run = self.next_run()?;
+        let run = self.next_word()?;
         if self.is_empty() { Some(run) } else { None }
     }
 
@@ -116,7 +116,7 @@ impl<'a> Runs<'a> {
         ensures { MatchOption result ((length self.entry == 2) ≡ false)
             (λ runs. self.entry ≡ runs.0.now ∷ runs.1.now ∷ []) }
     {
-        let first = self.next_run()?;
+        let first = self.next_word()?;
         let second = self.one()?;
         Some((first, second))
     }
@@ -126,14 +126,14 @@ impl<'a> Runs<'a> {
         ensures { MatchOption result ((length self.entry == 3) ≡ false)
             (λ runs. self.entry ≡ runs.0.now ∷ runs.1.now ∷ runs.2.now ∷ []) }
     {
-        let first = self.next_run()?;
+        let first = self.next_word()?;
         let (second, third) = self.two()?;
         Some((first, second, third))
     }
 }
 
 /// The first piece, and what stands behind its separator.
-pub(crate) fn cut<'a>(separator: u8, bytes: &'a [u8]) -> (&'a [u8], Option<&'a [u8]>)
+pub(crate) fn split_first<'a>(separator: u8, bytes: &'a [u8]) -> (&'a [u8], Option<&'a [u8]>)
     ensures { pieces separator bytes.entry.now ≡ result.0.now ∷ pieces_in separator (option_copied result.1) }
 {
     match position_of(separator, bytes) {

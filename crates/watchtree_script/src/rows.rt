@@ -9,7 +9,7 @@ ghost use Rattle.tree_core.specs.declared.call.Call.TheVariants as call;
 
 use crate::fault::ScriptFault;
 use crate::line::{Command, Line, LineError, OutputFormat};
-use crate::pieces::Runs;
+use crate::pieces::Words;
 use crate::words::{hex_word, i32_word, mask_word, mode_word, path_word, u32_word, u64_word};
 use std::alloc::Global;
 use tree_core::Call;
@@ -22,11 +22,11 @@ pub(crate) struct Parser<'a> {
     alloc: Global,
     /// The limit of an instance that names none.
     queue: u32,
-    words: Runs<'a>,
+    words: Words<'a>,
 }
 
 impl<'a> Parser<'a> {
-    pub fn new(alloc: Global, queue: u32, words: Runs<'a>) -> Parser<'a>
+    pub fn new(alloc: Global, queue: u32, words: Words<'a>) -> Parser<'a>
         ensures queue { result.queue ≡ queue }
         ensures words { result.words ≡ words.entry }
     {

@@ -210,8 +210,8 @@ fn gates_hold_turns_back(rt: HostRuntime) -> Result<(), Fail> {
 }
 
 // A sheet of which each write takes all, up to so many bytes, where it fails so many times.
-fn sheet(text: &mut Vec<u8>, room: usize, faults: usize) -> Sheet<'_> {
-    Sheet {
+fn sheet(text: &mut Vec<u8>, room: usize, faults: usize) -> ShortWriter<'_> {
+    ShortWriter {
         text,
         step: usize::MAX,
         room,

@@ -58,17 +58,17 @@ fn are_alike(one: &Instances, other: &Instances) -> bool {
 fn refused_in_turn(
     alloc: Global,
     instances: &mut Instances,
-    twin: &mut Instances,
+    control: &mut Instances,
     step: u32,
 ) -> Result<Option<u32>, Refusal> {
     for k in 1..MOST {
         let _ = refuse(alloc, k);
         let told = does(instances, step);
         match (told, was_refused(alloc)) {
-            (Err(Refusal::Enomem), true) if are_alike(instances, twin) => {}
+            (Err(Refusal::Enomem), true) if are_alike(instances, control) => {}
             (Ok(()), false) => {
-                does(twin, step)?;
-                return Ok(are_alike(instances, twin).then_some(k - 1));
+                does(control, step)?;
+                return Ok(are_alike(instances, control).then_some(k - 1));
             }
             _ => return Ok(None),
         }
@@ -88,9 +88,9 @@ fn each_growth_of_each_step(rt: HostRuntime) -> Result<(), Fail> {
     let alloc = rt.alloc();
     let has_refuser = has_refuser(alloc);
     let mut instances = Instances::new(alloc);
-    let mut twin = Instances::new(alloc);
+    let mut control = Instances::new(alloc);
     for step in 0..STEPS {
-        let count = refused_in_turn(alloc, &mut instances, &mut twin, step)?;
+        let count = refused_in_turn(alloc, &mut instances, &mut control, step)?;
         let is_well = matches!(count, Some(count) if (count > 0) == has_refuser);
         assert!(rt; is_well, "step {step}: {count:?}");
     }
@@ -120,7 +120,7 @@ fn three_notices(alloc: Global) -> Result<Vec<Notice>, Refusal> {
 fn stage_refused(
     alloc: Global,
     instances: &mut Instances,
-    twin: &mut Instances,
+    control: &mut Instances,
 ) -> Result<Option<u32>, Refusal> {
     let notices = three_notices(alloc)?;
     let mut grown = Staging::new(alloc);
@@ -129,14 +129,14 @@ fn stage_refused(
         let _ = refuse(alloc, k);
         let told = instances.stage(&notices, &mut staging);
         match (told, was_refused(alloc)) {
-            (Err(Refusal::Enomem), true) if are_alike(instances, twin) => {}
+            (Err(Refusal::Enomem), true) if are_alike(instances, control) => {}
             (Ok(()), false) => {
                 let _ = refuse_from(alloc, 1);
-                instances.tell(&notices, &mut staging);
+                instances.deliver(&notices, &mut staging);
                 let is_refused = was_refused(alloc);
-                twin.stage(&notices, &mut grown)?;
-                twin.tell(&notices, &mut grown);
-                return Ok((!is_refused && are_alike(instances, twin)).then_some(k - 1));
+                control.stage(&notices, &mut grown)?;
+                control.deliver(&notices, &mut grown);
+                return Ok((!is_refused && are_alike(instances, control)).then_some(k - 1));
             }
             _ => return Ok(None),
         }
@@ -172,7 +172,7 @@ fn tells_in_room(
     let is_refused = was_refused(alloc);
     staged?;
     let _ = refuse_from(alloc, 1);
-    instances.tell(notices, staging);
+    instances.deliver(notices, staging);
     Ok(!is_refused && !was_refused(alloc))
 }
 
@@ -185,7 +185,7 @@ fn what_many_hear_takes_no_memory_again(rt: HostRuntime) -> Result<(), Fail> {
     notices.push(told(IN_CREATE))?;
     notices.push(told(IN_DELETE_SELF))?;
     instances.stage(&notices, &mut staging)?;
-    instances.tell(&notices, &mut staging);
+    instances.deliver(&notices, &mut staging);
     let once = have_heard(&instances, 2);
     let takes_none = tells_in_room(alloc, &mut instances, &notices, &mut staging)?;
     let is_well = once && takes_none && have_heard(&instances, 4);
@@ -212,8 +212,8 @@ fn each_growth_of_stage_and_rows(rt: HostRuntime) -> Result<(), Fail> {
     let alloc = rt.alloc();
     let has_refuser = has_refuser(alloc);
     let mut instances = prepared(alloc)?;
-    let mut twin = prepared(alloc)?;
-    let staged = stage_refused(alloc, &mut instances, &mut twin)?;
+    let mut control = prepared(alloc)?;
+    let staged = stage_refused(alloc, &mut instances, &mut control)?;
     let rows = rows_refused(alloc, &instances);
     let is_well = matches!(staged, Some(count) if (count > 0) == has_refuser)
         && matches!(rows, Some(count) if (count > 0) == has_refuser);
@@ -261,11 +261,11 @@ fn copy_refused(alloc: Global, instances: &Instances) -> Option<u32> {
 fn each_growth_of_a_copy(rt: HostRuntime) -> Result<(), Fail> {
     let alloc = rt.alloc();
     let has_refuser = has_refuser(alloc);
-    let twin = three(alloc)?;
+    let control = three(alloc)?;
     let instances = three(alloc)?;
     let count = copy_refused(alloc, &instances);
     let is_well = matches!(count, Some(count) if (count > 0) == has_refuser);
     assert!(rt; is_well, "{count:?}");
-    holds(&rt, "as they were", are_alike(&instances, &twin));
+    holds(&rt, "as they were", are_alike(&instances, &control));
     Ok(())
 }

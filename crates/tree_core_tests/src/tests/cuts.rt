@@ -1,6 +1,6 @@
 //! Cuts: the tree goes on as if there had been none.
 
-use super::dice::{Dice, guessed};
+use super::dice::{Rng, guessed};
 use super::steps::{Ask, Step, takes};
 use super::*;
 use std::test::Fail;
@@ -193,7 +193,7 @@ fn play(
     one: &mut State,
     other: &mut State,
 ) -> Result<u32, Refusal> {
-    let mut dice = Dice::new(48);
+    let mut dice = Rng::new(48);
     let mut reads = 0u32;
     for turn in 1..3_001u32 {
         let call = guessed(alloc, &mut dice)?;

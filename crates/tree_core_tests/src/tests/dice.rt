@@ -5,14 +5,14 @@ use super::*;
 /// Numbers that look random: each is 1664525 times the one before it and 1013904223, modulo 2^32. And how many
 /// instances were asked for.
 #[derive(Drop)]
-pub(super) struct Dice {
+pub(super) struct Rng {
     at: u32,
     instances: u32,
 }
 
-impl Dice {
-    pub(super) fn new(seed: u32) -> Dice {
-        Dice {
+impl Rng {
+    pub(super) fn new(seed: u32) -> Rng {
+        Rng {
             at: seed,
             instances: 0,
         }
@@ -31,7 +31,7 @@ impl Dice {
 }
 
 // A path with one or two names, or none.
-fn somewhere(dice: &mut Dice) -> &'static str {
+fn somewhere(dice: &mut Rng) -> &'static str {
     match dice.roll(12) {
         0 => "/a",
         1 => "/b",
@@ -49,7 +49,7 @@ fn somewhere(dice: &mut Dice) -> &'static str {
 }
 
 /// The next call.
-pub(super) fn guessed(alloc: Global, dice: &mut Dice) -> Result<Call, Refusal> {
+pub(super) fn guessed(alloc: Global, dice: &mut Rng) -> Result<Call, Refusal> {
     match dice.roll(40) {
         0 => opened_instance(dice),
         1..8 => watched(alloc, dice),
@@ -60,7 +60,7 @@ pub(super) fn guessed(alloc: Global, dice: &mut Dice) -> Result<Call, Refusal> {
 }
 
 // An instance more.
-fn opened_instance(dice: &mut Dice) -> Result<Call, Refusal> {
+fn opened_instance(dice: &mut Rng) -> Result<Call, Refusal> {
     dice.instances = dice.instances.saturating_add(1);
     Ok(Call::Init {
         limit: dice.roll(5).saturating_add(1),
@@ -69,7 +69,7 @@ fn opened_instance(dice: &mut Dice) -> Result<Call, Refusal> {
 }
 
 // A call of an instance that watches.
-fn watched(alloc: Global, dice: &mut Dice) -> Result<Call, Refusal> {
+fn watched(alloc: Global, dice: &mut Rng) -> Result<Call, Refusal> {
     let instance = dice.instance();
     let bits = match dice.roll(4) {
         0 => 0x8000_0fff,
@@ -81,7 +81,7 @@ fn watched(alloc: Global, dice: &mut Dice) -> Result<Call, Refusal> {
 }
 
 // A call of an instance that reads, or ends.
-fn asked(dice: &mut Dice) -> Result<Call, Refusal> {
+fn asked(dice: &mut Rng) -> Result<Call, Refusal> {
     let instance = dice.instance();
     match dice.roll(10) {
         0 => close(instance),
@@ -93,7 +93,7 @@ fn asked(dice: &mut Dice) -> Result<Call, Refusal> {
 }
 
 // A call that gives or takes names.
-fn made_or_moved(alloc: Global, dice: &mut Dice) -> Result<Call, Refusal> {
+fn made_or_moved(alloc: Global, dice: &mut Rng) -> Result<Call, Refusal> {
     match dice.roll(8) {
         0 | 1 => create(alloc, somewhere(dice)),
         2 | 3 => mkdir(alloc, somewhere(dice)),
@@ -105,7 +105,7 @@ fn made_or_moved(alloc: Global, dice: &mut Dice) -> Result<Call, Refusal> {
 }
 
 // A call that uses a file.
-fn used(alloc: Global, dice: &mut Dice) -> Result<Call, Refusal> {
+fn used(alloc: Global, dice: &mut Rng) -> Result<Call, Refusal> {
     match dice.roll(6) {
         0 => write(alloc, somewhere(dice), u64::from(dice.roll(9)), b"abc"),
         1 => truncate(alloc, somewhere(dice), u64::from(dice.roll(9))),

@@ -219,7 +219,7 @@ fn is_carried_out(told: &Result<Receipt, Refusal>) -> bool {
 fn refused_at(
     alloc: Global,
     tree: &mut State,
-    twin: &mut State,
+    control: &mut State,
     call: &Call,
     (way, k): (Way, u32),
 ) -> Result<Came, Refusal> {
@@ -227,13 +227,13 @@ fn refused_at(
     let _ = refuse(alloc, k);
     let (told, was_refused) = made_so(alloc, tree, copy, way);
     if !was_refused {
-        let is_done = is_carried_out(&told) && told == twin.apply(CALLER, call.copy()?);
+        let is_done = is_carried_out(&told) && told == control.apply(CALLER, call.copy()?);
         return Ok(if is_done { Came::Done } else { Came::Wrong });
     }
     let is_as_before = told == Err(Refusal::Enomem)
-        && are_alike(tree, twin, alloc)?
-        && answer_alike(tree, twin, call)?
-        && are_alike(tree, twin, alloc)?;
+        && are_alike(tree, control, alloc)?
+        && answer_alike(tree, control, call)?
+        && are_alike(tree, control, alloc)?;
     Ok(if is_as_before {
         Came::Refused
     } else {
@@ -250,8 +250,8 @@ fn refused_in_turn(
 ) -> Result<Option<u32>, Refusal> {
     for k in 1..MOST {
         let mut tree = after(alloc, steps)?;
-        let mut twin = after(alloc, steps)?;
-        match refused_at(alloc, &mut tree, &mut twin, call, (way, k))? {
+        let mut control = after(alloc, steps)?;
+        match refused_at(alloc, &mut tree, &mut control, call, (way, k))? {
             Came::Refused => {}
             Came::Done => return Ok(Some(k - 1)),
             Came::Wrong => return Ok(None),
@@ -354,21 +354,21 @@ fn after_a_cut(alloc: Global, steps: u32) -> Result<State, Refusal> {
 fn cut_refused_at(
     alloc: Global,
     tree: &mut State,
-    twin: &mut State,
+    control: &mut State,
     k: u32,
 ) -> Result<Came, Refusal> {
     let _ = refuse(alloc, k);
     let told = tree.cut();
     if !was_refused(alloc) {
-        let is_done = told == twin.cut() && kept_alike(tree, twin);
+        let is_done = told == control.cut() && kept_alike(tree, control);
         return Ok(if is_done { Came::Done } else { Came::Wrong });
     }
     let is_as_before = told == Err(Refusal::Enomem)
-        && kept_alike(tree, twin)
-        && are_alike(tree, twin, alloc)?
-        && tree.cut()? == twin.cut()?
-        && kept_alike(tree, twin)
-        && are_alike(tree, twin, alloc)?;
+        && kept_alike(tree, control)
+        && are_alike(tree, control, alloc)?
+        && tree.cut()? == control.cut()?
+        && kept_alike(tree, control)
+        && are_alike(tree, control, alloc)?;
     Ok(if is_as_before {
         Came::Refused
     } else {
@@ -380,8 +380,8 @@ fn cut_refused_at(
 fn cut_refused_in_turn(alloc: Global, steps: u32) -> Result<Option<u32>, Refusal> {
     for k in 1..10 * MOST {
         let mut tree = after_a_cut(alloc, steps)?;
-        let mut twin = after_a_cut(alloc, steps)?;
-        match cut_refused_at(alloc, &mut tree, &mut twin, k)? {
+        let mut control = after_a_cut(alloc, steps)?;
+        match cut_refused_at(alloc, &mut tree, &mut control, k)? {
             Came::Refused => {}
             Came::Done => return Ok(Some(k - 1)),
             Came::Wrong => return Ok(None),
@@ -406,7 +406,7 @@ fn each_growth_of_a_cut(rt: HostRuntime) -> Result<(), Fail> {
 fn fork_refused_at(
     alloc: Global,
     tree: &mut State,
-    twin: &mut State,
+    control: &mut State,
     k: u32,
 ) -> Result<Came, Refusal> {
     let _ = refuse(alloc, k);
@@ -414,12 +414,12 @@ fn fork_refused_at(
     let was_refused = was_refused(alloc);
     match told {
         Ok(mut fork) if !was_refused => {
-            twin.cut()?;
-            let is_done = kept_alike(&fork, twin) && are_alike(&mut fork, twin, alloc)?;
+            control.cut()?;
+            let is_done = kept_alike(&fork, control) && are_alike(&mut fork, control, alloc)?;
             Ok(if is_done { Came::Done } else { Came::Wrong })
         }
         Err(Refusal::Enomem) if was_refused => {
-            let is_as_before = kept_alike(tree, twin) && are_alike(tree, twin, alloc)?;
+            let is_as_before = kept_alike(tree, control) && are_alike(tree, control, alloc)?;
             Ok(if is_as_before {
                 Came::Refused
             } else {
@@ -434,8 +434,8 @@ fn fork_refused_at(
 fn fork_refused_in_turn(alloc: Global, steps: u32) -> Result<Option<u32>, Refusal> {
     for k in 1..10 * MOST {
         let mut tree = after_a_cut(alloc, steps)?;
-        let mut twin = after_a_cut(alloc, steps)?;
-        match fork_refused_at(alloc, &mut tree, &mut twin, k)? {
+        let mut control = after_a_cut(alloc, steps)?;
+        match fork_refused_at(alloc, &mut tree, &mut control, k)? {
             Came::Refused => {}
             Came::Done => return Ok(Some(k - 1)),
             Came::Wrong => return Ok(None),
@@ -459,9 +459,9 @@ fn each_growth_of_a_fork(rt: HostRuntime) -> Result<(), Fail> {
 #[test]
 fn what_a_tree_says_of_itself_takes_no_memory(rt: HostRuntime) -> Result<(), Fail> {
     let alloc = rt.alloc();
-    let (tree, twin) = (after_a_cut(alloc, STEPS)?, after_a_cut(alloc, STEPS)?);
+    let (tree, control) = (after_a_cut(alloc, STEPS)?, after_a_cut(alloc, STEPS)?);
     let _ = refuse_from(alloc, 1);
-    let is_told = look_alike(&tree, &twin) && kept_alike(&tree, &twin);
+    let is_told = look_alike(&tree, &control) && kept_alike(&tree, &control);
     let is_refused = was_refused(alloc);
     holds(&rt, "is_told && !is_refused", is_told && !is_refused);
     Ok(())

@@ -116,16 +116,16 @@ fn are_alike(one: &Table, other: &Table) -> Result<bool, Refusal> {
 
 // How many allocations a call makes. Each was made to fail, with the table as it was. `None` if a result was wrong.
 fn refused_in_turn(alloc: Global, which: u32) -> Result<Option<u32>, Refusal> {
-    let twin = prepared(alloc)?;
+    let control = prepared(alloc)?;
     let mut after = prepared(alloc)?;
-    let call = call_of(&twin, which)?;
+    let call = call_of(&control, which)?;
     let wanted = after.made(&call)?;
     let mut calls = prepared(alloc)?;
     for k in 1..MOST {
         let _ = refuse(alloc, k);
         let told = calls.made(&call);
         match (told, was_refused(alloc)) {
-            (Err(Refusal::Enomem), true) if are_alike(&calls.table, &twin.table)? => {}
+            (Err(Refusal::Enomem), true) if are_alike(&calls.table, &control.table)? => {}
             (Ok(told), false) if told == wanted && are_alike(&calls.table, &after.table)? => {
                 return Ok(Some(k - 1));
             }
@@ -193,18 +193,18 @@ fn each_growth_of_the_rows(rt: HostRuntime) -> Result<(), Fail> {
 // How many allocations a copy of a table takes. Each was made to fail, with the table as it was. `None` if a result was
 // wrong.
 fn copy_refused_in_turn(alloc: Global) -> Result<Option<u32>, Refusal> {
-    let twin = prepared(alloc)?;
+    let control = prepared(alloc)?;
     let calls = prepared(alloc)?;
     for k in 1..MOST {
         let _ = refuse(alloc, k);
         let told = calls.table.copy();
         let is_refused = was_refused(alloc);
-        if !are_alike(&calls.table, &twin.table)? {
+        if !are_alike(&calls.table, &control.table)? {
             return Ok(None);
         }
         match (told, is_refused) {
             (Err(Refusal::Enomem), true) => {}
-            (Ok(copy), false) if are_alike(&copy, &twin.table)? => return Ok(Some(k - 1)),
+            (Ok(copy), false) if are_alike(&copy, &control.table)? => return Ok(Some(k - 1)),
             _ => return Ok(None),
         }
     }

@@ -1,5 +1,5 @@
 use Rattle.std.proofs.Common.{ap}
-use Rattle.inode_table.specs.Tree.{Tree}
+use Rattle.inode_table.specs.Tree.{TableValue}
 use Rattle.inode_table.specs.TableWorld.{world_of}
 use Rattle.inode_table.specs.World.{look}
 use Rattle.event_rules.proofs.Lines.{move_told-lines}
@@ -10,5 +10,5 @@ returns c =
     move_told-lines (look (world_of c.args.old.now.tree)) (look (world_of c.args.new.now.tree)) c.args.old.now.path.names
     c.args.new.now.path.names c.args.cookie c.object-moved.result c.object.result c.kind_seen-kind.result
     c.args.told.now c.tell_dir.new.self c.tell_dir-2.new.self c.tell_path_lost.new.self c.tell_self.new.self
-    (ap (λ (t : Tree). look (world_of t)) c.requires.same) c.object-moved.ensures c.object.ensures c.kind_seen-kind.ensures
+    (ap (λ (t : TableValue). look (world_of t)) c.requires.same) c.object-moved.ensures c.object.ensures c.kind_seen-kind.ensures
     c.requires.empty c.in_ok-tell_dir.ensures c.in_ok-tell_dir-2.ensures c.in_ok-tell_path_lost.ensures c.in_ok-tell_self.ensures

@@ -3,7 +3,7 @@ use Rattle.std.specs.FinMap as finmap
 use Rattle.inode_table.specs.declared.seen.Seen.{Seen}
 use Rattle.inode_table.specs.Resolution.{IsResolved, ResolvedPath}
 use Rattle.inode_table.specs.TableWorld.{world_of}
-use Rattle.inode_table.specs.Tree.{Tree}
+use Rattle.inode_table.specs.Tree.{TableValue}
 use Rattle.inode_table.specs.World.{look, with_move, with_swap, without_lost}
 use Rattle.tree_ops.specs.declared.moves.Moves.{Moves}
 use Rattle.tree_ops.specs.declared.moves.Moves.TheVariants.{Move, Exchange}
@@ -15,24 +15,24 @@ use Rattle.tree_ops.proofs.Moving.{MoveKnown, SwapKnown, moves-known, swaps-know
 use Rattle.tree_ops.proofs.carrying.apply.Goals as goal
 
 -- the paths of the plan are those of its call
-old-name : {t : Tree} {plan view : PlanValue} → IsReady t plan → view ≡ plan → view.path.names ≡ path_of plan.call
+old-name : {t : TableValue} {plan view : PlanValue} → IsReady t plan → view ≡ plan → view.path.names ≡ path_of plan.call
 old-name r view_is = ap (λ (x : PlanValue). x.path.names) view_is ∙ r.names
 
-new-name : {t : Tree} {plan : PlanValue} {path : ResolvedPath} → IsReady t plan → path ≡ plan.other_path → path.names ≡ other_path_of plan.call
+new-name : {t : TableValue} {plan : PlanValue} {path : ResolvedPath} → IsReady t plan → path ≡ plan.other_path → path.names ≡ other_path_of plan.call
 new-name r is = ap (λ (x : ResolvedPath). x.names) is ∙ r.other_names
 
 -- what the plan moves is what its call does
-moves-by : {t : Tree} {plan view : PlanValue} {moves : Moves} (r : IsReady t plan) → view ≡ plan → view.moves ≡ moves → plan.moves ≡ moves
+moves-by : {t : TableValue} {plan view : PlanValue} {moves : Moves} (r : IsReady t plan) → view ≡ plan → view.moves ≡ moves → plan.moves ≡ moves
 moves-by r view_is is = sym (ap (λ (x : PlanValue). x.moves) view_is) ∙ is
 
-move-at : (t : Tree) (plan : PlanValue) (r : IsReady t plan) → plan.moves ≡ Move → (old new : List (List ℕ))
+move-at : (t : TableValue) (plan : PlanValue) (r : IsReady t plan) → plan.moves ≡ Move → (old new : List (List ℕ))
     → old ≡ path_of plan.call → new ≡ other_path_of plan.call → MoveKnown (look (world_of t)) old new
 unfolding refusal_seen
 move-at t plan r is old new o n =
     subst (λ (x : List (List ℕ) × List (List ℕ)). MoveKnown (look (world_of t)) x.0 x.1) (λ i. (sym o i, sym n i))
     (moves-known (look (world_of t)) r.limits plan.counts plan.call r.accepted (sym r.moves ∙ is))
 
-swap-at : (t : Tree) (plan : PlanValue) (r : IsReady t plan) → plan.moves ≡ Exchange → (old new : List (List ℕ))
+swap-at : (t : TableValue) (plan : PlanValue) (r : IsReady t plan) → plan.moves ≡ Exchange → (old new : List (List ℕ))
     → old ≡ path_of plan.call → new ≡ other_path_of plan.call → SwapKnown (look (world_of t)) old new
 unfolding refusal_seen
 swap-at t plan r is old new o n =

@@ -1,7 +1,7 @@
 use Rattle.std.proofs.Common.{[], ap, ◌∙◌}
 use Rattle.std.specs.FinMap as finmap
 use Rattle.std.proofs.lemmas.Result.{err_from_is_err_and}
-use Rattle.inode_table.specs.Tree.{Tree}
+use Rattle.inode_table.specs.Tree.{TableValue}
 use Rattle.inode_table.specs.Refusals.{is_directory_seen, parent_of}
 use Rattle.inode_table.specs.TableWorld.{world_in}
 use Rattle.inode_table.specs.World.{look, with_file}
@@ -29,4 +29,4 @@ returns-clause-world c =
 pub returns-in_err-add_node-clause-err : goal.returns-in_err-add_node-clause-err
 returns-in_err-add_node-clause-err c =
     let failed = err_from_is_err_and c.from_residual-in_err-add_node.result c.from_residual-in_err-add_node.ensures.1 in
-    rw failed.1 (ap (λ (t : Tree). t.rows) c.in_err-add_node.ensures.err ∙ c.reserve_node.ensures.rows)
+    rw failed.1 (ap (λ (t : TableValue). t.rows) c.in_err-add_node.ensures.err ∙ c.reserve_node.ensures.rows)

@@ -9,7 +9,7 @@ use Rattle.tree_paths.specs.Rows.{first_row}
 use Rattle.inode_table.specs.Bytes.{written}
 use Rattle.inode_table.specs.TableWorld.{world_of}
 use Rattle.inode_table.specs.World.{World, IsWorld, changed_at, linked, look}
-use Rattle.inode_table.specs.Tree.{Tree}
+use Rattle.inode_table.specs.Tree.{TableValue}
 use Rattle.inode_table.specs.Resolution.{IsResolved, ResolvedPath}
 use Rattle.tree_ops.proofs.Changed.{empty-seen}
 use Rattle.tree_ops.proofs.Numbers.{next-free}
@@ -32,19 +32,19 @@ use Rattle.tree_ops.proofs.Rows.{unlink-known, rmdir-known, find-known, list-kno
 use Rattle.tree_ops.proofs.carrying.perform.Goals as goal
 
 -- no row of the call's kind holds for what the table shows
-known : (t : Tree) (ready view : PlanValue) (shape : FileCall) (r : IsReady t ready) → view ≡ ready → view.call ≡ shape
+known : (t : TableValue) (ready view : PlanValue) (shape : FileCall) (r : IsReady t ready) → view ≡ ready → view.call ≡ shape
     → first_row (rows_of (look (world_of t)) r.limits ready.counts shape) ≡ None
 unfolding refusal_seen
 known t ready view shape r view_is is =
     ap (λ x. first_row (rows_of (look (world_of t)) r.limits ready.counts x)) (sym is ∙ ap (λ (x : PlanValue). x.call) view_is) ∙ r.accepted
 
 -- the call by the path that was resolved
-one-path : {t : Tree} {ready view : PlanValue} {p : List (List ℕ)} → IsReady t ready → view ≡ ready
+one-path : {t : TableValue} {ready view : PlanValue} {p : List (List ℕ)} → IsReady t ready → view ≡ ready
     → (shape : List (List ℕ) → FileCall) → path_of (shape p) ≡ p → view.call ≡ shape p → view.call ≡ shape view.path.names
 one-path r view_is shape at is = is ∙ ap shape (sym (subst (λ (x : PlanValue). x.path.names ≡ path_of x.call) (sym view_is) r.names ∙ ap path_of is ∙ at))
 
 -- the same of a call with two
-two-paths : {t : Tree} {ready view : PlanValue} {p q : List (List ℕ)} → IsReady t ready → view ≡ ready → (shape : List (List ℕ) → List (List ℕ) → FileCall)
+two-paths : {t : TableValue} {ready view : PlanValue} {p q : List (List ℕ)} → IsReady t ready → view ≡ ready → (shape : List (List ℕ) → List (List ℕ) → FileCall)
     → path_of (shape p q) ≡ p → other_path_of (shape p q) ≡ q → view.call ≡ shape p q → view.call ≡ shape view.path.names view.other_path.names
 two-paths r view_is shape at other_at is =
     let old = sym (subst (λ (x : PlanValue). x.path.names ≡ path_of x.call) (sym view_is) r.names ∙ ap path_of is ∙ at) in
@@ -52,7 +52,7 @@ two-paths r view_is shape at other_at is =
     is ∙ (λ i. shape (old i) (new i))
 
 -- its path is resolved on the table
-resolved : {t : Tree} {ready view : PlanValue} → IsReady t ready → view ≡ ready → IsResolved t view.path
+resolved : {t : TableValue} {ready view : PlanValue} → IsReady t ready → view ≡ ready → IsResolved t view.path
 resolved {t} r view_is = subst (λ (x : PlanValue). IsResolved t x.path) (sym view_is) r.path
 
 small : (o n most : ℕ) → (nat_lt 0 n && nat_lt most (o + n)) ≡ false → 0 < n → most ≤ 16777216 → o + n < 2 ^ 64
@@ -82,7 +82,7 @@ other-name : {plan view : PlanValue} {path : ResolvedPath} → view ≡ plan →
 other-name view_is is = ap (λ (p : ResolvedPath). p.names) (is ∙ sym (ap (λ (x : PlanValue). x.other_path) view_is))
 
 -- what is known of the paths of a link
-link-at : (t : Tree) (plan view : PlanValue) (r : IsReady t plan) → view ≡ plan → (p q : List (List ℕ)) (path : ResolvedPath)
+link-at : (t : TableValue) (plan view : PlanValue) (r : IsReady t plan) → view ≡ plan → (p q : List (List ℕ)) (path : ResolvedPath)
     → view.call ≡ Link p q → path ≡ plan.other_path → LinkKnown (look (world_of t)) r.limits view.path.names path.names
 link-at t plan view r view_is p q path is other =
     subst (λ new. LinkKnown (look (world_of t)) r.limits view.path.names new) (sym (other-name view_is other))
@@ -90,8 +90,8 @@ link-at t plan view r view_is p q path is other =
     (known t plan view _ r view_is (two-paths r view_is (λ a b. Link a b) refl refl is)))
 
 -- what stands at a path stands there where it is looked up
-there-at : {t u : Tree} {p q : ResolvedPath} → u ≡ t → q ≡ p → IsSome (look (world_of t) p.names) → IsSome (look (world_of u) q.names)
-there-at tree path there = subst (λ (x : Tree × ResolvedPath). IsSome (look (world_of x.0) x.1.names)) (λ i. (sym tree i, sym path i)) there
+there-at : {t u : TableValue} {p q : ResolvedPath} → u ≡ t → q ≡ p → IsSome (look (world_of t) p.names) → IsSome (look (world_of u) q.names)
+there-at tree path there = subst (λ (x : TableValue × ResolvedPath). IsSome (look (world_of x.0) x.1.names)) (λ i. (sym tree i, sym path i)) there
 
 pub make-requires-clause-directory : goal.make-requires-clause-directory
 make-requires-clause-directory c =
@@ -295,7 +295,7 @@ returns-in_ok-bytes-in-ReadFile-clause-answer c =
     ∙ (λ i. take c.in-ReadFile.count (drop c.in-ReadFile.offset (bytes_at (world_of (c.new-path.ensures.tree i)) (c.new-path.ensures.path i).names)))))
 
 -- what is known of the path of a list
-list-at : (t : Tree) (plan view : PlanValue) (r : IsReady t plan) → view ≡ plan → (p : List (List ℕ)) → view.call ≡ Listed p
+list-at : (t : TableValue) (plan view : PlanValue) (r : IsReady t plan) → view ≡ plan → (p : List (List ℕ)) → view.call ≡ Listed p
     → ListKnown (look (world_of t)) view.path.names
 list-at t plan view r view_is p is = list-known (look (world_of t)) view.path.names (known t plan view _ r view_is (one-path r view_is (λ q. Listed q) refl is))
 
@@ -326,14 +326,14 @@ make-requires-in-Mkdir-clause-unused c =
 
 -- ---- a rename that moves nothing
 
-rename-at : (t : Tree) (plan view : PlanValue) → IsReady t plan → view ≡ plan → plan.moves ≡ Nothing → IsWorld (world_of t)
+rename-at : (t : TableValue) (plan view : PlanValue) → IsReady t plan → view ≡ plan → plan.moves ≡ Nothing → IsWorld (world_of t)
     → (old new : List (List ℕ)) → view.call ≡ Rename old new → world_of t ≡ after (world_of t) plan.counts plan.call
 rename-at t plan view r view_is still law old new is =
     let call : plan.call ≡ Rename old new = sym (ap (λ (x : PlanValue). x.call) view_is) ∙ is in
     sym (ap (after (world_of t) plan.counts) call
     ∙ rename-stays (world_of t) law plan.counts old new (ap (moves_of (world_of t)) (sym call) ∙ sym r.moves ∙ still))
 
-rename2-at : (t : Tree) (plan view : PlanValue) → IsReady t plan → view ≡ plan → plan.moves ≡ Nothing → IsWorld (world_of t)
+rename2-at : (t : TableValue) (plan view : PlanValue) → IsReady t plan → view ≡ plan → plan.moves ≡ Nothing → IsWorld (world_of t)
     → (old new : List (List ℕ)) (flags : ℕ) → view.call ≡ Rename2 old new flags → world_of t ≡ after (world_of t) plan.counts plan.call
 rename2-at t plan view r view_is still law old new flags is =
     let call : plan.call ≡ Rename2 old new flags = sym (ap (λ (x : PlanValue). x.call) view_is) ∙ is in

@@ -1,6 +1,6 @@
 use Rattle.std.proofs.Common.{◌≡◌, ◌<◌, ◌+◌, true, false, ◌&&◌, leb, Ok, ap, length, refl, sym, ◌∙◌, arith}
 use Rattle.std.specs.List.{list_any, list_all}
-use Rattle.tree_paths.specs.Kept.{is_in_place}
+use Rattle.tree_paths.specs.PathText.{is_in_place}
 use Rattle.tree_paths.specs.Paths.{names_of, is_null, is_dots, is_long, slashed}
 use Rattle.tree_paths.proofs.FrontLemmas.{IsCut, IsWhole, null_step, dots_step, long_step, count_step, len_step}
 use Rattle.tree_paths.proofs.FrontLemmas.{fits_step, one_most, shape_by, null_end, dots_end, long_end, count_end}

@@ -1,6 +1,6 @@
 use Rattle.std.proofs.Common.{◌≡◌, ◌≤◌, ◌+◌, ◌&&◌, ◌||◌, length}
 use Rattle.std.specs.List.{list_any, list_all}
-use Rattle.tree_paths.specs.Kept.{is_in_place}
+use Rattle.tree_paths.specs.PathText.{is_in_place}
 use Rattle.tree_paths.specs.Paths.{names_of, is_null, is_dots, is_long, slashed}
 use Rattle.tree_paths.proofs.parse.shape_between.Given as goal
 

@@ -1,7 +1,7 @@
 use Rattle.std.proofs.Common.{◌≡◌, ◌++◌, ◌∷◌, [], List, Some, IsSome, IfSome, true, false, sym, ap, subst, ◌∙◌}
 use Rattle.inode_table.specs.Changes.{Avoids}
 use Rattle.inode_table.specs.Rows.{Label}
-use Rattle.inode_table.specs.Tree.{Tree, at, what_at}
+use Rattle.inode_table.specs.Tree.{TableValue, at, what_at}
 use Rattle.inode_table.specs.World.{World, with_move}
 use Rattle.inode_table.specs.Refusals.{is_directory_seen}
 use Rattle.inode_table.specs.Stands.{Stands, look_in}
@@ -75,7 +75,7 @@ replace_name_at-requires-clause-empty c =
     c.requires.empty)
 
 -- the move is that of the whole paths
-after-move : (mid : Tree) (w : World) (parent other_parent old new : List Label) (name other_name copy : Label)
+after-move : (mid : TableValue) (w : World) (parent other_parent old new : List Label) (name other_name copy : Label)
     → old ≡ parent ++ name ∷ [] → new ≡ other_parent ++ other_name ∷ [] → copy ≡ other_name
     → Stands mid (with_move w (parent ++ name ∷ []) (other_parent ++ copy ∷ [])) → Stands mid (with_move w old new)
 after-move mid w parent other_parent old new name other_name copy e f g h =

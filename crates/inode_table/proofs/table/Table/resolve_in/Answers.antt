@@ -3,7 +3,7 @@ use Rattle.tree_paths.specs.declared.refusal.Refusal.TheVariants.{Enoent, Enotdi
 use Rattle.inode_table.specs.Rows.{child}
 use Rattle.inode_table.specs.Kept.{is_directory, rows_of}
 use Rattle.inode_table.specs.Resolution.{IsFound}
-use Rattle.inode_table.specs.Tree.{Tree}
+use Rattle.inode_table.specs.Tree.{TableValue}
 use Rattle.inode_table.proofs.ChangeLemmas.{walk_end}
 use Rattle.inode_table.proofs.ResolutionLemmas.{found-at, stops-at}
 use Rattle.inode_table.proofs.table.Table.resolve_in.Goals as goal
@@ -14,7 +14,7 @@ returns-in-Some c p there =
     subst (IsFound t (p ++ c.args.name.now ∷ [])) (sym c.at.ensures)
     (found-at t c.rows_law.ensures.table (p ++ c.args.name.now ∷ []) c.in-Some.key c.of.result
     (walk_end (child t.rows) c.args.directory p c.args.name.now there
-    ∙ ap (λ (s : Tree). child s.rows c.args.directory c.args.name.now) (sym c.self.view_is) ∙ sym c.in-Some.ensures)
+    ∙ ap (λ (s : TableValue). child s.rows c.args.directory c.args.name.now) (sym c.self.view_is) ∙ sym c.in-Some.ensures)
     c.of.ensures)
 
 pub returns-in-None : goal.returns-in-None
@@ -31,6 +31,6 @@ returns-in-None c p there =
       there = there;
       missing =
           walk_end (child t.rows) c.args.directory p c.args.name.now there
-          ∙ ap (λ (s : Tree). child s.rows c.args.directory c.args.name.now) (sym c.self.view_is) ∙ sym c.in-None.ensures;
-      answer = ap (λ (s : Tree). cond (is_directory s.rows c.args.directory) Enoent Enotdir) c.self.view_is;
+          ∙ ap (λ (s : TableValue). child s.rows c.args.directory c.args.name.now) (sym c.self.view_is) ∙ sym c.in-None.ensures;
+      answer = ap (λ (s : TableValue). cond (is_directory s.rows c.args.directory) Enoent Enotdir) c.self.view_is;
     })

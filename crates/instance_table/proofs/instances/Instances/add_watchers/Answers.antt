@@ -38,10 +38,10 @@ told-hears number o (n ∷ ns) told =
     past true false b h = h
     past false a b h = refl
 
-pub returns-then-is_told_of_late : goal.returns-then-is_told_of_late
-returns-then-is_told_of_late c q =
+pub returns-then-is_recent : goal.returns-then-is_recent
+returns-then-is_recent c q =
     let o = instance_of c.args.self.now q in
-    c.requires q ∙ sym (told-hears c.args.number o c.args.told.now (c.is_told_of_late.ensures c.if-is_told_of_late.true))
+    c.requires q ∙ sym (told-hears c.args.number o c.args.told.now (c.is_recent.ensures c.if-is_recent.true))
     ∙ ap (λ b. watches_file c.args.number o || b) (sym (c.requires q))
 
 OnOk-then : {T E : Type 0} {P Q : Type 0} (r : Result T E) → (P → Q) → OnOk r P → OnOk r Q

@@ -24,7 +24,7 @@ pub unreachable-requires : goal.unreachable-requires
 unreachable-requires c =
     let m = c.args.self.now in
     let ns = c.args.notices.now in
-    let ids = c.args.hearers.now in
+    let ids = c.args.recipients.now in
     let id = get_or c.as_slice-id-items.result.now c.loop-id.id-index 0 in
     let there = number-in ids c.as_slice-id-items.result.now c.loop-id.id-index c.as_slice-id-items.ensures c.loop-id-test.true in
     let none : instance_of m id ≡ None = sym c.in_default.ensures in
@@ -54,7 +54,7 @@ loop-id-preserved c =
     let here : Instance = c.in-Some.instance.now in
     let before : ℕ → Bool = λ q. list_any (λ y. eqb q y) (take k items) in
     let sorted : IsStrictlySortedBy nat_cmp items =
-    subst (IsStrictlySortedBy nat_cmp) (sym c.as_slice-id-items.ensures) (rising (entries c.args.hearers.now) (entries_sorted c.args.hearers.now)) in
+    subst (IsStrictlySortedBy nat_cmp) (sym c.as_slice-id-items.ensures) (rising (entries c.args.recipients.now) (entries_sorted c.args.recipients.now)) in
     let new : (q : ℕ) → eqb q id ≡ true → before q ≡ false = λ q t. ap before (is-same q id t) ∙ once items k sorted c.loop-id-test.true in
     let same : (q : ℕ) (i : Instance) → instance_of m q ≡ Some i → eqb q id ≡ true → here ≡ i =
     λ q i e t. same-some here i (c.in-Some.ensures ∙ sym (ap (instance_of m) (is-same q id t)) ∙ e) in
@@ -82,14 +82,14 @@ loop-id-preserved c =
 
 pub returns-clause-events : goal.returns-clause-events
 returns-clause-events c q i e =
-    all-staged c.args.self.now c.args.notices.now c.args.hearers.now c.requires c.as_slice-id-items.result.now c.loop-id.id-index
+    all-staged c.args.self.now c.args.notices.now c.args.recipients.now c.requires c.as_slice-id-items.result.now c.loop-id.id-index
     c.as_slice-id-items.ensures c.loop-id-test.false q i
     (events_to q c.loop-id.staged.events.items) (events_of i.watches c.args.notices.now) e (c.loop-id.invariant.events q i e)
     (c.unwatched_files_raise_nothing.ensures.events i.watches c.args.notices.now)
 
 pub returns-clause-drops : goal.returns-clause-drops
 returns-clause-drops c q i e =
-    all-left c.args.self.now c.args.notices.now c.args.hearers.now c.requires c.as_slice-id-items.result.now c.loop-id.id-index
+    all-left c.args.self.now c.args.notices.now c.args.recipients.now c.requires c.as_slice-id-items.result.now c.loop-id.id-index
     c.as_slice-id-items.ensures c.loop-id-test.false q i
     (wds_to q c.loop-id.staged.drops.items) (wds_ended i.watches c.args.notices.now) e (c.loop-id.invariant.drops q i e) (c.loop-id.invariant.left q i e)
     (c.unwatched_files_raise_nothing.ensures.watches i.watches c.args.notices.now)

@@ -7,7 +7,7 @@ use Rattle.std.specs.Prelude.{IfErr}
 use Rattle.std.proofs.lemmas.Result.{err_from_is_err_and}
 use Rattle.tree_core.specs.declared.reply.Receipt.{Receipt}
 use Rattle.tree_paths.specs.declared.refusal.Refusal.{Refusal}
-use Rattle.shared_tree.specs.Calls.{IsWhyNot}
+use Rattle.shared_tree.specs.Calls.{RefusalOf}
 use Rattle.shared_tree.proofs.Unable.{why-not}
 use Rattle.shared_tree.proofs.Wholes.{close-why, hands-call, held-call}
 use Rattle.shared_tree.proofs.held.Held.call.Goals as goal
@@ -39,9 +39,9 @@ pub returns-in_err-at-clause-errors : goal.returns-in_err-at-clause-errors
 returns-in_err-at-clause-errors g c =
     let a = c.self.inside in
     let p = err_from_is_err_and c.from_residual.result c.from_residual.ensures.1 in
-    subst (λ (h : TreeWithPipes). IfErr c.from_residual.result (λ e. IsWhyNot h.state c.args.call e)) c.self.view_is
-    (subst (λ (x : Result Receipt Refusal). IfErr x (λ e. IsWhyNot a.core c.args.call e)) (sym p.1)
-    (subst (λ (e : Refusal). IsWhyNot a.core c.args.call e) (sym p.2)
+    subst (λ (h : TreeWithPipes). IfErr c.from_residual.result (λ e. RefusalOf h.state c.args.call e)) c.self.view_is
+    (subst (λ (x : Result Receipt Refusal). IfErr x (λ e. RefusalOf a.core c.args.call e)) (sym p.1)
+    (subst (λ (e : Refusal). RefusalOf a.core c.args.call e) (sym p.2)
     (close-why a.core a.pipes.numbers (sents a.pipes.ends) a.book.total c.args.call c.closed_by-closed.result
     c.in_err-at.field-0.0 c.self.invariant c.closed_by-closed.ensures c.in_err-at.ensures.err)))
 
@@ -49,7 +49,7 @@ pub returns-in_err-receipt-clause-errors : goal.returns-in_err-receipt-clause-er
 returns-in_err-receipt-clause-errors g c =
     let a = c.self.inside in
     let p = err_from_is_err_and c.from_residual-in_err-receipt.result c.from_residual-in_err-receipt.ensures.1 in
-    subst (λ (h : TreeWithPipes). IfErr c.from_residual-in_err-receipt.result (λ e. IsWhyNot h.state c.args.call e)) c.self.view_is
-    (subst (λ (x : Result Receipt Refusal). IfErr x (λ e. IsWhyNot a.core c.args.call e)) (sym p.1)
-    (subst (λ (e : Refusal). IsWhyNot a.core c.args.call e) (sym p.2)
+    subst (λ (h : TreeWithPipes). IfErr c.from_residual-in_err-receipt.result (λ e. RefusalOf h.state c.args.call e)) c.self.view_is
+    (subst (λ (x : Result Receipt Refusal). IfErr x (λ e. RefusalOf a.core c.args.call e)) (sym p.1)
+    (subst (λ (e : Refusal). RefusalOf a.core c.args.call e) (sym p.2)
     (why-not a.core c.args.call c.in_err-receipt.field-0.0 c.in_err-receipt.ensures.errors)))

@@ -5,7 +5,7 @@ use Rattle.std.specs.Prelude.{IfErr}
 use Rattle.std.proofs.lemmas.Result.{err_from_is_err_and}
 use Rattle.tree_paths.specs.declared.refusal.Refusal.{Refusal}
 use Rattle.tree_core.specs.declared.reply.Receipt.{Receipt}
-use Rattle.shared_tree.specs.Calls.{HandsOver, TreeWithPipes, IsUnable, tree_with_pipes}
+use Rattle.shared_tree.specs.Calls.{HandsOver, TreeWithPipes, IsOutOfSpace, tree_with_pipes}
 use Rattle.shared_tree.specs.Handed.{piped_by}
 use Rattle.shared_tree.specs.Held.{sents}
 use Rattle.shared_tree.specs.Pipes.{Fed}
@@ -50,16 +50,16 @@ pub returns-in_err-pipe-clause-errors : goal.returns-in_err-pipe-clause-errors
 returns-in_err-pipe-clause-errors g c =
     let a = c.self.inside in
     let p = err_from_is_err_and c.from_residual.result c.from_residual.ensures.1 in
-    subst (λ (h : TreeWithPipes). IfErr c.from_residual.result (λ e. IsUnable h.state e)) c.self.view_is
-    (subst (λ (x : Result (Receipt × Option Fed) Refusal). IfErr x (λ e. IsUnable a.core e)) (sym p.1)
-    (subst (λ (e : Refusal). IsUnable a.core e) (sym p.2)
+    subst (λ (h : TreeWithPipes). IfErr c.from_residual.result (λ e. IsOutOfSpace h.state e)) c.self.view_is
+    (subst (λ (x : Result (Receipt × Option Fed) Refusal). IfErr x (λ e. IsOutOfSpace a.core e)) (sym p.1)
+    (subst (λ (e : Refusal). IsOutOfSpace a.core e) (sym p.2)
     (unable a.core c.in_err-pipe.field-0.0 c.in_err-pipe.ensures.errors)))
 
 pub returns-in_err-receipt-clause-errors : goal.returns-in_err-receipt-clause-errors
 returns-in_err-receipt-clause-errors g c =
     let a = c.self.inside in
     let p = err_from_is_err_and c.from_residual-in_err-receipt.result c.from_residual-in_err-receipt.ensures.1 in
-    subst (λ (h : TreeWithPipes). IfErr c.from_residual-in_err-receipt.result (λ e. IsUnable h.state e)) c.self.view_is
-    (subst (λ (x : Result (Receipt × Option Fed) Refusal). IfErr x (λ e. IsUnable a.core e)) (sym p.1)
-    (subst (λ (e : Refusal). IsUnable a.core e) (sym p.2)
+    subst (λ (h : TreeWithPipes). IfErr c.from_residual-in_err-receipt.result (λ e. IsOutOfSpace h.state e)) c.self.view_is
+    (subst (λ (x : Result (Receipt × Option Fed) Refusal). IfErr x (λ e. IsOutOfSpace a.core e)) (sym p.1)
+    (subst (λ (e : Refusal). IsOutOfSpace a.core e) (sym p.2)
     (unable a.core c.in_err-receipt.field-0.0 c.in_err-receipt.ensures.errors)))

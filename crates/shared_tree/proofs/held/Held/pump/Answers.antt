@@ -8,7 +8,7 @@ use Rattle.std.specs.Prelude.{IfErr}
 use Rattle.std.proofs.lemmas.Result.{err_from_is_err_and}
 use Rattle.tree_core.specs.declared.reply.Receipt.{Receipt}
 use Rattle.tree_paths.specs.declared.refusal.Refusal.{Refusal}
-use Rattle.shared_tree.specs.Calls.{IsWhyNot}
+use Rattle.shared_tree.specs.Calls.{RefusalOf}
 use Rattle.shared_tree.proofs.Unable.{why-not}
 use Rattle.shared_tree.proofs.Wholes.{pump-why, hands-pump, held-pump}
 use Rattle.shared_tree.proofs.held.Held.pump.Goals as goal
@@ -42,9 +42,9 @@ pub returns-in_err-at-clause-errors : goal.returns-in_err-at-clause-errors
 returns-in_err-at-clause-errors g c =
     let a = c.self.inside in
     let p = err_from_is_err_and c.from_residual.result c.from_residual.ensures.1 in
-    subst (λ (h : TreeWithPipes). IfErr c.from_residual.result (λ e. IsWhyNot h.state (call.Pump c.args.instance c.args.bytes) e)) c.self.view_is
-    (subst (λ (x : Result Receipt Refusal). IfErr x (λ e. IsWhyNot a.core (call.Pump c.args.instance c.args.bytes) e)) (sym p.1)
-    (subst (λ (e : Refusal). IsWhyNot a.core (call.Pump c.args.instance c.args.bytes) e) (sym p.2)
+    subst (λ (h : TreeWithPipes). IfErr c.from_residual.result (λ e. RefusalOf h.state (call.Pump c.args.instance c.args.bytes) e)) c.self.view_is
+    (subst (λ (x : Result Receipt Refusal). IfErr x (λ e. RefusalOf a.core (call.Pump c.args.instance c.args.bytes) e)) (sym p.1)
+    (subst (λ (e : Refusal). RefusalOf a.core (call.Pump c.args.instance c.args.bytes) e) (sym p.2)
     (pump-why a.core a.pipes.numbers (sents a.pipes.ends) a.book.total c.args.instance c.args.bytes
     c.in_err-at.field-0.0 c.self.invariant c.in_err-at.ensures.err)))
 
@@ -52,7 +52,7 @@ pub returns-in_err-receipt-clause-errors : goal.returns-in_err-receipt-clause-er
 returns-in_err-receipt-clause-errors g c =
     let a = c.self.inside in
     let p = err_from_is_err_and c.from_residual-in_err-receipt.result c.from_residual-in_err-receipt.ensures.1 in
-    subst (λ (h : TreeWithPipes). IfErr c.from_residual-in_err-receipt.result (λ e. IsWhyNot h.state (call.Pump c.args.instance c.args.bytes) e)) c.self.view_is
-    (subst (λ (x : Result Receipt Refusal). IfErr x (λ e. IsWhyNot a.core (call.Pump c.args.instance c.args.bytes) e)) (sym p.1)
-    (subst (λ (e : Refusal). IsWhyNot a.core (call.Pump c.args.instance c.args.bytes) e) (sym p.2)
+    subst (λ (h : TreeWithPipes). IfErr c.from_residual-in_err-receipt.result (λ e. RefusalOf h.state (call.Pump c.args.instance c.args.bytes) e)) c.self.view_is
+    (subst (λ (x : Result Receipt Refusal). IfErr x (λ e. RefusalOf a.core (call.Pump c.args.instance c.args.bytes) e)) (sym p.1)
+    (subst (λ (e : Refusal). RefusalOf a.core (call.Pump c.args.instance c.args.bytes) e) (sym p.2)
     (why-not a.core (call.Pump c.args.instance c.args.bytes) c.in_err-receipt.field-0.0 c.in_err-receipt.ensures.errors)))

@@ -2,14 +2,14 @@ use Rattle.std.proofs.Common.{ℕ, List, length, not, refl, subst, sym, ap, ◌�
 use Rattle.std.proofs.lemmas.Option.{slice_get_within}
 use Rattle.std.specs.Prelude.{None}
 use Rattle.tree_core.specs.Journal.{now}
-use Rattle.shared_tree.specs.Held.{IsFilled, IsLooked}
+use Rattle.shared_tree.specs.Held.{IsFilled, IsPipeFound}
 use Rattle.shared_tree.specs.PipeEnds.{PipesState}
 use Rattle.shared_tree.proofs.Keeping.{in-at, waiting-none, waiting-some}
 use Rattle.shared_tree.proofs.pipes.Pipes.look.Goals as goal
 
 pub returns-then-is_none-clause-ok : goal.returns-then-is_none-clause-ok
 returns-then-is_none-clause-ok c =
-    subst (λ o. IsLooked c.self.inside.numbers.items c.self.inside.ends.items (now c.args.core.now) o None) (sym c.in-Some.is)
+    subst (λ o. IsPipeFound c.self.inside.numbers.items c.self.inside.ends.items (now c.args.core.now) o None) (sym c.in-Some.is)
     (λ some.
     absurd
     (waiting-none (now c.args.core.now) c.in-Some.instance c.waiting.result c.waiting.ensures

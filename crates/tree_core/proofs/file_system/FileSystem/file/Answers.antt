@@ -1,6 +1,6 @@
 use Rattle.std.proofs.Common.{◌≡◌, ◌+◌, List, Option, None, inl, inr, refl, sym, ap, subst, ◌∙◌, arith}
 use Rattle.inode_table.specs.TableWorld.{world_of, HasNumbersBelow}
-use Rattle.inode_table.specs.Tree.{Tree}
+use Rattle.inode_table.specs.Tree.{TableValue}
 use Rattle.tree_paths.specs.declared.limits.Limits.{Limits}
 use Rattle.tree_paths.specs.declared.refusal.Refusal.{Refusal}
 use Rattle.tree_ops.specs.CallPaths.{PathsValue}
@@ -24,14 +24,14 @@ use Rattle.tree_core.proofs.Counted.{cookies-fit, cookies-there}
 use Rattle.tree_core.proofs.file_system.FileSystem.file.Goals as goal
 
 -- the row that refuses the call, by the paths that were checked
-passed : (t : Tree) (paths : PathsValue) (f : FileCall) (limits : Limits) (counts now : Counts) → counts ≡ now → paths.tree ≡ t → paths.call ≡ f
+passed : (t : TableValue) (paths : PathsValue) (f : FileCall) (limits : Limits) (counts now : Counts) → counts ≡ now → paths.tree ≡ t → paths.call ≡ f
     → (o : Option Refusal) → refused (world_of paths.tree) limits counts paths.call ≡ o → refused (world_of t) limits now f ≡ o
 passed t paths f limits counts now same tree call o e = sym (λ i. refused (world_of (tree i)) limits (same i) (call i)) ∙ e
 
 pub check-requires : goal.check-requires
 check-requires c =
     let w = world_of c.args.self.now.table in
-    subst (λ (t : Tree). HasNumbersBelow (world_of t) c.counts-counts.result.next_number) (sym c.resolve-paths.ensures.tree)
+    subst (λ (t : TableValue). HasNumbersBelow (world_of t) c.counts-counts.result.next_number) (sym c.resolve-paths.ensures.tree)
     (subst (λ (x : Counts). HasNumbersBelow w x.next_number) (sym c.counts-counts.ensures) c.requires.given)
 
 pub returns-in_err-ready : goal.returns-in_err-ready

@@ -1,5 +1,5 @@
 use Rattle.std.proofs.Common.{◌≡◌, subst}
-use Rattle.tree_paths.specs.Kept.{IsLeft, left_names}
+use Rattle.tree_paths.specs.PathText.{IsLeft, left_names}
 use Rattle.tree_paths.specs.declared.left.Left.{Left}
 use Rattle.tree_paths.proofs.SlashedLemmas.{empty-decides}
 use Rattle.tree_paths.proofs.left.PathNames.is_empty.Goals as goal

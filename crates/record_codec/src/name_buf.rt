@@ -1,0 +1,144 @@
+//! Where a name keeps its bytes.
+
+ghost use Rattle.std.specs.Prelude.{◌≡◌, ◌≤◌, ◌<◌, ◌-◌, ◌++◌, IfOk, IfSome, IsOk, OnSome, length, replicate};
+ghost use Rattle.record_codec.specs.declared.name.TheConstants.{NAME_IN_PLACE};
+ghost use Rattle.record_codec.specs.NameBuf.{IsKept, front_of, kept_bytes};
+
+use crate::name::NAME_IN_PLACE;
+use byteorder::{BigEndian, ByteOrder};
+use std::alloc::{AllocError, Global};
+
+/// How many bytes [`NameBuf::front`] looks at.
+pub(crate) const FRONT_LEN: usize = 8;
+
+/// The bytes of a name: in the value itself if they fit there, and else in memory.
+///
+/// The byte that says which variant it is comes before the others, so that with 31 bytes of a name the value takes 32,
+/// and an `Option` of it 40.
+pub(crate) enum NameBuf {
+    /// As many bytes as fit in the value.
+    Full([u8; NAME_IN_PLACE]),
+    /// Fewer: the first `len`.
+    Short {
+        len: u8,
+        bytes: [u8; NAME_IN_PLACE - 1],
+    },
+    /// More.
+    Long(Box<Vec<u8>>),
+}
+
+impl Drop for NameBuf {
+    fn drop(self) {
+        match self {
+            NameBuf::Full(_) => {}
+            NameBuf::Short { len: _, bytes: _ } => {}
+            NameBuf::Long(_) => {}
+        }
+    }
+}
+
+impl NameBuf {
+    /// These bytes, kept. At most [`NAME_IN_PLACE`] take no memory.
+    pub(crate) fn of(alloc: Global, bytes: &[u8]) -> Result<NameBuf, AllocError>
+        ensures short { length bytes.now ≤ NAME_IN_PLACE → IsOk result }
+        ensures kept { IfOk result (λ kept. kept_bytes kept ≡ bytes.now) }
+        ensures sound { IfOk result IsKept }
+    {
+        let len = bytes.len();
+        if NAME_IN_PLACE < len {
+            return in_memory(alloc, bytes);
+        }
+        Ok(NameBuf::in_place(bytes))
+    }
+
+    /// These bytes in the value itself.
+    #[inline(always)]
+    pub(crate) fn in_place(bytes: &[u8]) -> NameBuf
+        requires { length bytes.now ≤ NAME_IN_PLACE }
+        ensures kept { kept_bytes result ≡ bytes.now }
+        ensures sound { IsKept result }
+    {
+        let len = bytes.len();
+        // Cleared up here it takes four stores. Right before the copy LLVM would clear what the copy leaves, by a call.
+        let mut short = [0; NAME_IN_PLACE - 1];
+        if len == NAME_IN_PLACE {
+            let mut full = [0; NAME_IN_PLACE];
+            full.copy_from_slice(bytes);
+            return NameBuf::Full(full);
+        }
+        short[..len].copy_from_slice(bytes);
+        NameBuf::Short {
+            len: len as u8,
+            bytes: short,
+        }
+    }
+
+    /// The bytes.
+    pub(crate) fn bytes(&self) -> &[u8]
+        requires { IsKept self.now }
+        ensures { result.now ≡ kept_bytes self.now }
+    {
+        match self {
+            NameBuf::Full(bytes) => bytes,
+            NameBuf::Short { len, bytes } => &bytes[..*len as usize],
+            NameBuf::Long(bytes) => bytes.as_slice(),
+        }
+    }
+
+    /// The bytes with zero bytes behind them, 16 together, if they are fewer.
+    #[inline(always)]
+    pub(crate) fn padded(&self) -> Option<&[u8; 16]>
+        requires { IsKept self.now }
+        ensures fewer { OnSome result (length (kept_bytes self.now) < 16) }
+        ensures padded { IfSome result (λ bytes.
+            bytes.now ≡ kept_bytes self.now ++ replicate (16 - length (kept_bytes self.now)) 0) }
+    {
+        match self {
+            NameBuf::Short { len, bytes } if *len < 16 => bytes.first_chunk::<16>(),
+            _ => None,
+        }
+    }
+
+    /// The first eight bytes as a number, the first one worth most, as if zero bytes stood behind fewer. Where those of
+    /// two names differ, the names are ordered as they are.
+    pub(crate) fn front(&self) -> u64
+        requires { IsKept self.now }
+        ensures { result ≡ front_of (kept_bytes self.now) }
+    {
+        match self {
+            NameBuf::Full(bytes) => BigEndian::read_u64(bytes),
+            NameBuf::Short { bytes, .. } => BigEndian::read_u64(bytes),
+            NameBuf::Long(bytes) => BigEndian::read_u64(bytes.as_slice()),
+        }
+    }
+
+    /// The same bytes once more. At most [`NAME_IN_PLACE`] take no memory.
+    #[inline(always)]
+    pub(crate) fn copy(&self) -> Result<NameBuf, AllocError>
+        requires { IsKept self.now }
+        ensures short { length (kept_bytes self.now) ≤ NAME_IN_PLACE → IsOk result }
+        ensures kept { IfOk result (λ kept. kept_bytes kept ≡ kept_bytes self.now) }
+        ensures sound { IfOk result IsKept }
+    {
+        match self {
+            NameBuf::Full(bytes) => Ok(NameBuf::Full(*bytes)),
+            NameBuf::Short { len, bytes } => Ok(NameBuf::Short {
+                len: *len,
+                bytes: *bytes,
+            }),
+            NameBuf::Long(bytes) => in_memory(*bytes.allocator(), bytes.as_slice()),
+        }
+    }
+}
+
+/// These bytes in memory.
+#[cold]
+#[inline(never)]
+fn in_memory(alloc: Global, bytes: &[u8]) -> Result<NameBuf, AllocError>
+    requires { NAME_IN_PLACE < length bytes.now }
+    ensures kept { IfOk result (λ kept. kept_bytes kept ≡ bytes.now) }
+    ensures sound { IfOk result IsKept }
+{
+    let bytes = Vec::from_slice(alloc, bytes)?;
+    Ok(NameBuf::Long(Box::new(alloc, bytes)?))
+}

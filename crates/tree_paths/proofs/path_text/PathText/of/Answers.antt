@@ -1,0 +1,17 @@
+use Rattle.std.proofs.Common.{◌∙◌, sym}
+use Rattle.tree_paths.specs.Paths.{names_of}
+use Rattle.tree_paths.proofs.SlashedLemmas.{IsSlashed-names, IsSlashed-plain, shape-fits, shape-len}
+use Rattle.tree_paths.proofs.path_text.PathText.of.Goals as goal
+
+pub of_text-requires : goal.of_text-requires
+of_text-requires c =
+    let names = names_of c.args.text.now in
+    IsSlashed-plain c.args.text.now c.requires.path (sym (shape-fits names c.args.shape c.requires.shape) ∙ c.if-not-shape.false)
+    (sym (shape-len names c.args.shape c.requires.shape) ∙ c.if-shape-text.true)
+
+pub squeezed-requires-clause-slashed : goal.squeezed-requires-clause-slashed
+squeezed-requires-clause-slashed c =
+    IsSlashed-names c.args.text.now c.requires.path (sym (shape-fits (names_of c.args.text.now) c.args.shape c.requires.shape) ∙ c.if-not-shape.false)
+
+pub squeezed-requires-clause-len : goal.squeezed-requires-clause-len
+squeezed-requires-clause-len c = shape-len (names_of c.args.text.now) c.args.shape c.requires.shape

@@ -1,0 +1,83 @@
+-- Where a path keeps its names. No public clause cites this module.
+use Rattle.std.specs.Prelude.{◌≡◌, ℕ, ◌<◌, ◌≤◌, ◌-◌, ◌==◌, Bool, true, not, nat_le, List, ◌∷◌, length, take, drop}
+use Rattle.std.specs.Prelude.{slice_index, IsTrue}
+use Rattle.std.specs.List.{list_all}
+use Rattle.record_codec.specs.declared.name.TheConstants.{NAME_IN_PLACE}
+use Rattle.record_codec.specs.Names.{is_name}
+use Rattle.tree_paths.specs.declared.path_text.PathText.{PathText}
+use Rattle.tree_paths.specs.declared.path_text.PathText.TheVariants.{Short, Text, Names}
+use Rattle.tree_paths.specs.declared.path_text.TheConstants.{SHORT_MAX}
+use Rattle.tree_paths.specs.declared.left.Left.{Left}
+use Rattle.tree_paths.specs.declared.left.Left.TheVariants.{InText, InList}
+use Rattle.tree_paths.specs.declared.parse.Shape.{Shape}
+use Rattle.tree_paths.specs.declared.path_name.Found.{Found}
+use Rattle.tree_paths.specs.declared.path_name.Found.TheVariants.{InPlace, Lent}
+use Rattle.tree_paths.specs.declared.path_name.Place.{Place}
+use Rattle.tree_paths.specs.declared.path_name.Place.TheVariants as place
+use Rattle.tree_paths.specs.Paths.{names_of, slash, slashed}
+
+-- a name that needs no allocation
+abbrev pub is_in_place : List ℕ → Bool
+is_in_place name = nat_le (length name) NAME_IN_PLACE
+
+-- how many names there are, how long their text is, and whether none needs an allocation
+unfoldable pub shape_of : List (List ℕ) → Shape
+shape_of names = record { count = length names; len = length (slashed names); fits = list_all is_in_place names }
+
+-- the text of names of which none needs an allocation
+pub record IsSlashed (text : List ℕ) : Type 0 where
+  pub names : List (List ℕ)
+  pub named : list_all is_name names ≡ true
+  pub in_place : list_all is_in_place names ≡ true
+  pub is : text ≡ slashed names
+
+-- the first name of such a text, and the text behind it
+pub record IsSplit (text name behind : List ℕ) : Type 0 where
+  pub names : names_of text ≡ name ∷ names_of behind
+  pub named : IsTrue (is_name name)
+  pub short : length name ≤ NAME_IN_PLACE
+  pub sound : IsSlashed behind
+
+abbrev pub kept_names : PathText → List (List ℕ)
+kept_names (Short len text) = names_of (take len text)
+kept_names (Text text) = names_of text.items
+kept_names (Names names) = names.items
+
+-- what every Path keeps
+abbrev pub IsKept : PathText → Type 0
+IsKept (Short len text) = (len ≤ SHORT_MAX) × IsSlashed (take len text)
+IsKept (Text text) = IsSlashed text.items
+IsKept (Names names) = Unit {0}
+
+abbrev pub left_names : Left → List (List ℕ)
+left_names (InText text) = names_of text.now
+left_names (InList names) = names.now
+
+-- what every PathNames keeps
+abbrev pub IsLeft : Left → Type 0
+IsLeft (InText text) = IsSlashed text.now
+IsLeft (InList names) = Unit {0}
+
+abbrev pub found_name : Found → List ℕ
+found_name (InPlace name) = name
+found_name (Lent name) = name.now
+
+abbrev pub place_name : Place → List ℕ
+place_name (place.InText name) = name.now
+place_name (place.InList name) = name.now
+
+-- what every NamePlace keeps
+abbrev pub IsPlace : Place → Type 0
+IsPlace (place.InText name) = IsTrue (is_name name.now) × (length name.now ≤ NAME_IN_PLACE)
+IsPlace (place.InList name) = Unit {0}
+
+-- a byte of a name, in a text
+abbrev pub is_other : ℕ → Bool
+is_other b = not (b == slash)
+
+-- the last slash of a text stands before this index
+pub record IsLastStart (text : List ℕ) (start : ℕ) : Type 0 where
+  pub some : 0 < start
+  pub within : start ≤ length text
+  pub at_slash : slice_index text (start - 1) ≡ slash
+  pub none : list_all is_other (drop start text) ≡ true
