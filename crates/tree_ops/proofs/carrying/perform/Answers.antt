@@ -44,7 +44,8 @@ one-path : {t : TableValue} {ready view : PlanValue} {p : List (List ℕ)} → I
 one-path r view_is shape at is = is ∙ ap shape (sym (subst (λ (x : PlanValue). x.path.names ≡ path_of x.call) (sym view_is) r.names ∙ ap path_of is ∙ at))
 
 -- the same of a call with two
-two-paths : {t : TableValue} {ready view : PlanValue} {p q : List (List ℕ)} → IsReady t ready → view ≡ ready → (shape : List (List ℕ) → List (List ℕ) → FileCall)
+two-paths : {t : TableValue} {ready view : PlanValue} {p q : List (List ℕ)} → IsReady t ready → view ≡ ready
+    → (shape : List (List ℕ) → List (List ℕ) → FileCall)
     → path_of (shape p q) ≡ p → other_path_of (shape p q) ≡ q → view.call ≡ shape p q → view.call ≡ shape view.path.names view.other_path.names
 two-paths r view_is shape at other_at is =
     let old = sym (subst (λ (x : PlanValue). x.path.names ≡ path_of x.call) (sym view_is) r.names ∙ ap path_of is ∙ at) in
