@@ -96,7 +96,7 @@ tied-still (Told number bits cookie name ∷ ns) h =
     let rest = tied-still ns (All-tail IsStill (Told number bits cookie name) ns h) in
     record {
       among = subst (λ b. IsSubsequence (if b then (event_bit bits, cookie) ∷ moves_in (marks_told ns) else moves_in (marks_told ns)) [])
-        (sym here.0) rest.among;
+          (sym here.0) rest.among;
       others = All-cons IsTied (bits, cookie) (marks_told ns) (λ _. here.1) rest.others;
     }
 tied-still (Gone number ∷ ns) h = tied-still ns (All-tail IsStill (Gone number) ns h)

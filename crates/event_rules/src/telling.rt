@@ -41,7 +41,7 @@ fn about(kind: Kind, event: u32) -> u32
 impl Notices {
     // Notifies the directory of a path's last name of an object of this kind there.
     #[tactic(auto, unfolding(crate::specs::Table::to_dir))]
-    fn tell_dir(
+    fn notify_directory(
         &mut self,
         at: &Subject,
         kind: Kind,
@@ -66,7 +66,7 @@ impl Notices {
     }
 
     // Notifies an object itself.
-    fn tell_self(&mut self, seen: Option<Seen>, bits: u32) -> Result<(), AllocError>
+    fn notify_file(&mut self, seen: Option<Seen>, bits: u32) -> Result<(), AllocError>
         ensures { OnOk result (self.new ≡ self.old ++ to_self seen bits) }
     {
         match seen {
@@ -82,30 +82,30 @@ impl Notices {
 
     // Notifies both.
     #[tactic(auto, unfolding(crate::specs::Table::to_both))]
-    fn tell_both(&mut self, at: &Subject, event: u32) -> Result<(), AllocError>
+    fn notify_both(&mut self, at: &Subject, event: u32) -> Result<(), AllocError>
         ensures { OnOk result (self.new ≡ self.old ++ to_both (look (world_of at.now.tree)) at.now.path.names event) }
     {
         let seen = at.object();
         let kind = kind_seen(seen);
-        self.tell_dir(at, kind, event, NO_COOKIE)?;
-        self.tell_self(seen, about(kind, event))
+        self.notify_directory(at, kind, event, NO_COOKIE)?;
+        self.notify_file(seen, about(kind, event))
     }
 
     // Notifies an object that it loses a path.
     #[tactic(auto, unfolding(crate::specs::Table::path_lost))]
-    fn tell_path_lost(&mut self, seen: Option<Seen>) -> Result<(), AllocError>
+    fn notify_path_lost(&mut self, seen: Option<Seen>) -> Result<(), AllocError>
         ensures { OnOk result (self.new ≡ self.old ++ path_lost seen) }
     {
         let Some(seen) = seen else {
             return Ok(());
         };
         if matches!(seen.kind, Kind::Regular) {
-            self.tell_self(Some(seen), bits::IN_ATTRIB)?;
+            self.notify_file(Some(seen), bits::IN_ATTRIB)?;
             if seen.links != 1 {
                 return Ok(());
             }
         }
-        self.tell_self(Some(seen), bits::IN_DELETE_SELF)?;
+        self.notify_file(Some(seen), bits::IN_DELETE_SELF)?;
         self.push(Notice::Gone {
             number: seen.number,
         })
@@ -117,9 +117,9 @@ fn create(told: &mut Notices, at: &Subject) -> Result<(), AllocError>
     requires { told.old ≡ [] }
     ensures { OnOk result (told.new ≡ create_told (look (world_of at.now.tree)) at.now.path.names) }
 {
-    told.tell_dir(at, Kind::Regular, bits::IN_CREATE, NO_COOKIE)?;
-    told.tell_dir(at, Kind::Regular, bits::IN_OPEN, NO_COOKIE)?;
-    told.tell_dir(at, Kind::Regular, bits::IN_CLOSE_WRITE, NO_COOKIE)?;
+    told.notify_directory(at, Kind::Regular, bits::IN_CREATE, NO_COOKIE)?;
+    told.notify_directory(at, Kind::Regular, bits::IN_OPEN, NO_COOKIE)?;
+    told.notify_directory(at, Kind::Regular, bits::IN_CLOSE_WRITE, NO_COOKIE)?;
     Ok(())
 }
 
@@ -128,7 +128,7 @@ fn mkdir(told: &mut Notices, at: &Subject) -> Result<(), AllocError>
     requires { told.old ≡ [] }
     ensures { OnOk result (told.new ≡ mkdir_told (look (world_of at.now.tree)) at.now.path.names) }
 {
-    told.tell_dir(at, Kind::Directory, bits::IN_CREATE, NO_COOKIE)?;
+    told.notify_directory(at, Kind::Directory, bits::IN_CREATE, NO_COOKIE)?;
     Ok(())
 }
 
@@ -137,11 +137,11 @@ fn write(told: &mut Notices, at: &Subject, is_given: bool) -> Result<(), AllocEr
     requires { told.old ≡ [] }
     ensures { OnOk result (told.new ≡ write_told (look (world_of at.now.tree)) at.now.path.names is_given) }
 {
-    told.tell_both(at, bits::IN_OPEN)?;
+    told.notify_both(at, bits::IN_OPEN)?;
     if is_given {
-        told.tell_both(at, bits::IN_MODIFY)?;
+        told.notify_both(at, bits::IN_MODIFY)?;
     }
-    told.tell_both(at, bits::IN_CLOSE_WRITE)?;
+    told.notify_both(at, bits::IN_CLOSE_WRITE)?;
     Ok(())
 }
 
@@ -161,11 +161,11 @@ fn read(told: &mut Notices, at: &Subject, is_answered: bool) -> Result<(), Alloc
     requires { told.old ≡ [] }
     ensures { OnOk result (told.new ≡ read_told (look (world_of at.now.tree)) at.now.path.names is_answered) }
 {
-    told.tell_both(at, bits::IN_OPEN)?;
+    told.notify_both(at, bits::IN_OPEN)?;
     if is_answered {
-        told.tell_both(at, bits::IN_ACCESS)?;
+        told.notify_both(at, bits::IN_ACCESS)?;
     }
-    told.tell_both(at, bits::IN_CLOSE_NOWRITE)?;
+    told.notify_both(at, bits::IN_CLOSE_NOWRITE)?;
     Ok(())
 }
 
@@ -174,7 +174,7 @@ fn truncate(told: &mut Notices, at: &Subject) -> Result<(), AllocError>
     requires { told.old ≡ [] }
     ensures { OnOk result (told.new ≡ truncate_told (look (world_of at.now.tree)) at.now.path.names) }
 {
-    told.tell_both(at, bits::IN_MODIFY)?;
+    told.notify_both(at, bits::IN_MODIFY)?;
     Ok(())
 }
 
@@ -183,7 +183,7 @@ fn chmod(told: &mut Notices, at: &Subject) -> Result<(), AllocError>
     requires { told.old ≡ [] }
     ensures { OnOk result (told.new ≡ chmod_told (look (world_of at.now.tree)) at.now.path.names) }
 {
-    told.tell_both(at, bits::IN_ATTRIB)?;
+    told.notify_both(at, bits::IN_ATTRIB)?;
     Ok(())
 }
 
@@ -193,8 +193,8 @@ fn link(told: &mut Notices, old: Option<Seen>, new: &Subject) -> Result<(), Allo
     ensures { OnOk result (told.new ≡ to_self old IN_ATTRIB
         ++ to_dir (look (world_of new.now.tree)) new.now.path.names Kind.Regular IN_CREATE NO_COOKIE) }
 {
-    told.tell_self(old, bits::IN_ATTRIB)?;
-    told.tell_dir(new, Kind::Regular, bits::IN_CREATE, NO_COOKIE)?;
+    told.notify_file(old, bits::IN_ATTRIB)?;
+    told.notify_directory(new, Kind::Regular, bits::IN_CREATE, NO_COOKIE)?;
     Ok(())
 }
 
@@ -203,8 +203,8 @@ fn unlink(told: &mut Notices, at: &Subject) -> Result<(), AllocError>
     requires { told.old ≡ [] }
     ensures { OnOk result (told.new ≡ unlink_told (look (world_of at.now.tree)) at.now.path.names) }
 {
-    told.tell_path_lost(at.object())?;
-    told.tell_dir(at, Kind::Regular, bits::IN_DELETE, NO_COOKIE)?;
+    told.notify_path_lost(at.object())?;
+    told.notify_directory(at, Kind::Regular, bits::IN_DELETE, NO_COOKIE)?;
     Ok(())
 }
 
@@ -213,8 +213,8 @@ fn rmdir(told: &mut Notices, at: &Subject) -> Result<(), AllocError>
     requires { told.old ≡ [] }
     ensures { OnOk result (told.new ≡ rmdir_told (look (world_of at.now.tree)) at.now.path.names) }
 {
-    told.tell_path_lost(at.object())?;
-    told.tell_dir(at, Kind::Directory, bits::IN_DELETE, NO_COOKIE)?;
+    told.notify_path_lost(at.object())?;
+    told.notify_directory(at, Kind::Directory, bits::IN_DELETE, NO_COOKIE)?;
     Ok(())
 }
 
@@ -227,10 +227,10 @@ fn rename(told: &mut Notices, old: &Subject, new: &Subject, cookie: u32) -> Resu
 {
     let moved = old.object();
     let kind = kind_seen(moved);
-    told.tell_dir(old, kind, bits::IN_MOVED_FROM, cookie)?;
-    told.tell_dir(new, kind, bits::IN_MOVED_TO, cookie)?;
-    told.tell_path_lost(new.object())?;
-    told.tell_self(moved, bits::IN_MOVE_SELF)?;
+    told.notify_directory(old, kind, bits::IN_MOVED_FROM, cookie)?;
+    told.notify_directory(new, kind, bits::IN_MOVED_TO, cookie)?;
+    told.notify_path_lost(new.object())?;
+    told.notify_file(moved, bits::IN_MOVE_SELF)?;
     Ok(())
 }
 
@@ -247,17 +247,17 @@ fn exchange(told: &mut Notices, old: &Subject, new: &Subject, cookie: u32) -> Re
     let other = new.object();
     let one_kind = kind_seen(one);
     let other_kind = kind_seen(other);
-    told.tell_dir(old, one_kind, bits::IN_MOVED_FROM, cookie)?;
-    told.tell_dir(new, one_kind, bits::IN_MOVED_TO, cookie)?;
-    told.tell_self(one, bits::IN_MOVE_SELF)?;
-    told.tell_dir(new, other_kind, bits::IN_MOVED_FROM, next)?;
-    told.tell_dir(old, other_kind, bits::IN_MOVED_TO, next)?;
-    told.tell_self(other, bits::IN_MOVE_SELF)?;
+    told.notify_directory(old, one_kind, bits::IN_MOVED_FROM, cookie)?;
+    told.notify_directory(new, one_kind, bits::IN_MOVED_TO, cookie)?;
+    told.notify_file(one, bits::IN_MOVE_SELF)?;
+    told.notify_directory(new, other_kind, bits::IN_MOVED_FROM, next)?;
+    told.notify_directory(old, other_kind, bits::IN_MOVED_TO, next)?;
+    told.notify_file(other, bits::IN_MOVE_SELF)?;
     Ok(())
 }
 
 // The notices of a call that moves nothing.
-fn tell_still(told: &mut Notices, ready: &Ready, cookie: u32) -> Result<(), AllocError>
+fn notify_unmoved(told: &mut Notices, ready: &Ready, cookie: u32) -> Result<(), AllocError>
     requires empty { told.old ≡ [] }
     requires still { moves_of (world_of ready.now.tree) ready.now.plan.call ≡ Moves.Nothing }
     ensures { OnOk result (told.new ≡ notices_of (world_of ready.now.tree) ready.now.plan.call cookie) }
@@ -283,13 +283,13 @@ fn tell_still(told: &mut Notices, ready: &Ready, cookie: u32) -> Result<(), Allo
 }
 
 // The notices of a call.
-fn tell_call(told: &mut Notices, ready: &Ready, cookie: u32) -> Result<(), AllocError>
+fn notify_call(told: &mut Notices, ready: &Ready, cookie: u32) -> Result<(), AllocError>
     requires empty { told.old ≡ [] }
     requires cookies { cookie + cookies_of (world_of ready.now.tree) ready.now.plan.call ≤ 2 ^ 32 }
     ensures { OnOk result (told.new ≡ notices_of (world_of ready.now.tree) ready.now.plan.call cookie) }
 {
     match ready.moves() {
-        Moves::Nothing => tell_still(told, ready, cookie),
+        Moves::Nothing => notify_unmoved(told, ready, cookie),
         Moves::Move => {
             let old = Subject::at_path(ready);
             rename(told, &old, &Subject::at_other_path(ready), cookie)
@@ -312,6 +312,6 @@ pub fn notices(ready: &Ready, cookie: u32, told: &mut Notices) -> Result<(), Ref
     ensures memory { IfErr result (λ refusal. refusal ≡ Refusal.Enomem) }
 {
     told.clear();
-    tell_call(told, ready, cookie)?;
+    notify_call(told, ready, cookie)?;
     Ok(())
 }

@@ -12,7 +12,7 @@ use std::process::ExitCode;
 use std::sync::Wait;
 use std::thread::Threads;
 use std::{env, io};
-use watchtree_command::{Fault, Invocation, invocation_from, tell};
+use watchtree_command::{Fault, Invocation, invocation_from, write_report};
 use watchtree_script::run_script;
 use watchtree_storm::{OpenGate, storm};
 
@@ -32,7 +32,7 @@ fn run_storm<W: Write, R: Threads + Wait + Sync>(
     sinks.push_reserved(Box::new(alloc, CountSink::new(alloc, MOST))?);
     sinks.push_reserved(Box::new(alloc, CountSink::new(alloc, MOST))?);
     let stormed = storm(rt, alloc, calls, &OpenGate, sinks)?;
-    tell(alloc, &stormed, output)
+    write_report(alloc, &stormed, output)
 }
 
 fn main(rt: HostRuntime) -> ExitCode {

@@ -8,4 +8,4 @@ mod lines;
 
 pub use command_line::{Invocation, invocation_from};
 pub use fault::Fault;
-pub use lines::{report, tell};
+pub use lines::{report, write_report};

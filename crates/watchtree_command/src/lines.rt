@@ -22,7 +22,11 @@ use watchtree_storm::Stormed;
 /// The first that holds: [`Fault::Memory`], where there is no memory for the lines, and none is written;
 /// [`RunFault::Write`], where a write failed, and a front of them is written; [`Fault::Settle`] with the fault of the
 /// book, or [`Fault::Memory`], where there was no memory to settle it.
-pub fn tell<W: Write>(alloc: Global, stormed: &Stormed, output: &mut Port<W>) -> Result<(), Fault>
+pub fn write_report<W: Write>(
+    alloc: Global,
+    stormed: &Stormed,
+    output: &mut Port<W>,
+) -> Result<(), Fault>
     ensures settled { OnOk result (IsOk stormed.now.settled) }
     ensures lines { OnOk result
         (Appends (W.contents (inner_of output.old)) (W.contents (inner_of output.new)) (report_of stormed.now)) }

@@ -11,7 +11,7 @@ use std::process::Abort;
 use std::sync::Wait;
 use std::test::Fail;
 use std::thread::Threads;
-use watchtree_command::{Fault, Invocation, invocation_from, tell};
+use watchtree_command::{Fault, Invocation, invocation_from, write_report};
 use watchtree_script::{RunFault, ScriptFault};
 use watchtree_storm::{OpenGate, storm};
 
@@ -170,7 +170,7 @@ fn told<R: Threads + Wait + Sync>(rt: &R, alloc: Global, most: u64) -> Result<(V
     sinks.push_reserved(Box::new(alloc, CountSink::new(alloc, most))?);
     let stormed = storm(rt, alloc, 3, &OpenGate, sinks)?;
     let mut output = Port::new(Vec::new(alloc));
-    let status = match tell(alloc, &stormed, &mut output) {
+    let status = match write_report(alloc, &stormed, &mut output) {
         Ok(()) => 0,
         Err(fault) => fault.status(),
     };

@@ -12,7 +12,7 @@ use Rattle.event_rules.specs.Table.{notices_of, to_dir, to_self}
 use Rattle.event_rules.specs.declared.notice.Notice.{Notice}
 use Rattle.event_rules.specs.declared.notice.TheConstants.{NO_COOKIE}
 use Rattle.event_rules.proofs.Moving.{link-tells, rename-tells-nothing, rename2-tells-nothing}
-use Rattle.event_rules.proofs.telling.tell_still.Goals as goal
+use Rattle.event_rules.proofs.telling.notify_unmoved.Goals as goal
 
 pub returns-in-Link : goal.returns-in-Link
 returns-in-Link c =

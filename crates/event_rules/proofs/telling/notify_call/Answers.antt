@@ -3,7 +3,7 @@ use Rattle.inode_table.specs.TableWorld.{world_of}
 use Rattle.inode_table.specs.World.{look}
 use Rattle.event_rules.specs.Table.{move_told, swap_told}
 use Rattle.event_rules.proofs.Moving.{moves-tell, swaps-tell, next-fits}
-use Rattle.event_rules.proofs.telling.tell_call.Goals as goal
+use Rattle.event_rules.proofs.telling.notify_call.Goals as goal
 
 pub exchange-requires-clause-next : goal.exchange-requires-clause-next
 exchange-requires-clause-next c =

@@ -3,7 +3,7 @@ use Rattle.inode_table.specs.Refusals.{parent_of}
 use Rattle.inode_table.specs.TableWorld.{world_of}
 use Rattle.inode_table.specs.World.{look}
 use Rattle.event_rules.proofs.Lines.{to_dir-there}
-use Rattle.event_rules.proofs.notice.Notices.tell_dir.Goals as goal
+use Rattle.event_rules.proofs.notice.Notices.notify_directory.Goals as goal
 
 pub returns : goal.returns
 returns c =
