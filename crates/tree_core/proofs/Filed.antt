@@ -27,12 +27,12 @@ use Rattle.tree_core.specs.FileSystems.{tree_in, Attempts, IsNumbered}
 use Rattle.tree_core.proofs.Counted.{IsCounted-filed}
 
 -- a table on which a call was carried out, and what that answered
-pub record IsCarriedOut (t : Tree) (f : FileCall) (u : table.Tree) (said : Answer) : Type 0 where
+pub record IsCarriedOut (t : Tree) (f : FileCall) (u : table.TableValue) (said : Answer) : Type 0 where
   pub world : world_of u ≡ ops.after t.world (counts_of t) f
   pub given : HasNumbersBelow (ops.after t.world (counts_of t) f) (t.next_number + ops.numbers_of f)
   pub answer : said ≡ ops.answer_of t.world (counts_of t) f
 
-pub IsCarriedOut-checked : (t : Tree) (f : FileCall) (plan : PlanValue) (u : table.Tree) (said : Answer) → plan.call ≡ f → plan.counts ≡ counts_of t
+pub IsCarriedOut-checked : (t : Tree) (f : FileCall) (plan : PlanValue) (u : table.TableValue) (said : Answer) → plan.call ≡ f → plan.counts ≡ counts_of t
     → world_of u ≡ ops.after t.world plan.counts plan.call → HasNumbersBelow (world_of u) (plan.counts.next_number + ops.numbers_of plan.call)
     → said ≡ ops.answer_of t.world plan.counts plan.call → IsCarriedOut t f u said
 IsCarriedOut-checked t f plan u said call counts world given answer =
@@ -68,10 +68,10 @@ lists-change-nothing w counts (Status p) e = record { world = refl; numbers = re
 lists-change-nothing w counts (Listed p) e = record { world = refl; numbers = refl; cookies = refl }
 
 -- a file system with another table
-pub tree_in-table : (m : FileSystem) (u : table.Tree) → world_of u ≡ world_of m.table → tree_in (record m { table = u }) ≡ tree_in m
+pub tree_in-table : (m : FileSystem) (u : table.TableValue) → world_of u ≡ world_of m.table → tree_in (record m { table = u }) ≡ tree_in m
 tree_in-table m u same = λ i. record (tree_in m) { world = same i }
 
-pub IsNumbered-filed : (t : Tree) (f : FileCall) (u : table.Tree) (said : Answer) → IsNumbered t
+pub IsNumbered-filed : (t : Tree) (f : FileCall) (u : table.TableValue) (said : Answer) → IsNumbered t
     → refused t.world t.limits (counts_of t) f ≡ None → IsCarriedOut t f u said → IsNumbered (after_file t f)
 unfolding after_file
 IsNumbered-filed t f u said is none done = record { counted = IsCounted-filed t f is.counted none; given = done.given }

@@ -1,4 +1,4 @@
-use Rattle.watchtree_script.proofs.Words.{LineTells-write}
+use Rattle.watchtree_script.proofs.Runs.{LineTells-write}
 use Rattle.watchtree_script.proofs.run.run_line.Goals as goal
 
 pub returns-in-Ok-clause-err : goal.returns-in-Ok-clause-err

@@ -2,7 +2,7 @@ use Rattle.std.proofs.Common.{◌≤◌, arith, refl, ap, ◌∙◌}
 use Rattle.std.proofs.lemmas.Result.{err_from_is_err_and}
 use Rattle.record_codec.specs.Ports.{inner_of}
 use Rattle.tree_core.specs.Journal.{opened}
-use Rattle.watchtree_script.proofs.Words.{Progress-start, Progress-next, Progress-count, Progress-fault, Progress-ok, Progress-err}
+use Rattle.watchtree_script.proofs.Runs.{Progress-start, Progress-next, Progress-count, Progress-fault, Progress-ok, Progress-err}
 use Rattle.watchtree_script.proofs.run.run_lines.Goals as goal
 
 pub loop-line-init : goal.loop-line-init
