@@ -7,3 +7,4 @@ mod Waiting
 mod Watchers
 mod Readied
 mod Copied
+mod Cut

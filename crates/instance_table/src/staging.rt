@@ -1,6 +1,6 @@
 //! What notices raise for all instances.
 ghost use Rattle.std.specs.Prelude.{◌≡◌, IsTrue, ℕ, ◌==◌, ◌||◌, ◌≤◌, List, ◌∷◌, ◌++◌, Some, is_some, true, fold, map};
-ghost use Rattle.std.specs.Prelude.{IfErr, OnOk};
+ghost use Rattle.std.specs.Prelude.{IfErr, IfOk, OnOk, false, length};
 ghost use Rattle.std.specs.FinMap as finmap;
 ghost use Rattle.std.specs.VecDeque.{deque_len};
 ghost use Rattle.std.specs.List.{list_any};
@@ -13,7 +13,7 @@ ghost use Rattle.event_rules.specs.Staging.{staged_event};
 ghost use Rattle.record_codec.specs.declared.event.Event.{Event};
 ghost use Rattle.instance_table.specs.declared.instance.Instance.{Instance};
 ghost use Rattle.instance_table.specs.Instances.{all_changed, instance_of, told, watches_file};
-ghost use Rattle.instance_table.specs.Heard.{ended_all, delivered_all};
+ghost use Rattle.instance_table.specs.Heard.{AreUnwatched, ended_all, delivered_all};
 ghost use Rattle.instance_table.specs.Staging.{IsStaged, events_to, wds_to};
 
 use crate::ids::Ids;
@@ -52,8 +52,8 @@ impl Instances {
         ensures staged { OnOk result (IsStaged self.now notices.now staging.new) }
         ensures memory { IfErr result (λ refusal. refusal ≡ Enomem) }
     {
-        self.recipients(notices, &mut staging.recipients)?;
-        self.stage_each(notices, &staging.recipients, &mut staging.staged)
+        let end = self.recipients(notices, &mut staging.recipients)?;
+        self.stage_each(&notices[..end], &staging.recipients, &mut staging.staged)
     }
 
     /// Delivers what was staged: each instance receives its events, and its watches end. It takes no memory.
@@ -65,34 +65,48 @@ impl Instances {
         self.end_each(&staging.staged.drops);
     }
 
-    // The instances that watch a file of which one of the notices is.
-    fn recipients(&self, notices: &[Notice], ids: &mut Ids) -> Result<(), AllocError>
-        ensures { OnOk result ((q : ℕ) → is_some (finmap.get ids.new q)
+    // The instances that watch a file of which one of the notices is. The answer is an index from which on the notices
+    // are of unwatched files.
+    fn recipients(&self, notices: &[Notice], ids: &mut Ids) -> Result<usize, AllocError>
+        ensures ids { OnOk result ((q : ℕ) → is_some (finmap.get ids.new q)
             ≡ list_any (λ n. watches_file (told_number n) (instance_of self.now q)) notices.now) }
+        ensures within { IfOk result (λ end. end ≤ length notices.now) }
+        ensures unwatched { IfOk result (λ end. AreUnwatched self.now notices.now end (length notices.now)) }
     {
         ids.clear();
+        let mut end = 0;
         for (place, notice) in notices.iter().enumerate() {
-            self.add_watchers(&notices[..place], notice.number(), ids)?;
+            if self.add_watchers(&notices[..place], notice.number(), ids)? {
+                end = place + 1;
+            }
         }
-        Ok(())
+        Ok(end)
     }
 
-    // Adds the instances that watch a file to those that watch the file of an earlier notice.
+    // Adds the instances that watch a file to those that watch the file of an earlier notice. The answer is `false`
+    // only if there are none.
     #[inline(always)]
-    fn add_watchers(&self, told: &[Notice], number: u32, ids: &mut Ids) -> Result<(), AllocError>
+    fn add_watchers(&self, told: &[Notice], number: u32, ids: &mut Ids) -> Result<bool, AllocError>
         requires { (q : ℕ) → is_some (finmap.get ids.old q)
             ≡ list_any (λ n. watches_file (told_number n) (instance_of self.now q)) told.now }
-        ensures { OnOk result ((q : ℕ) → is_some (finmap.get ids.new q)
+        ensures added { OnOk result ((q : ℕ) → is_some (finmap.get ids.new q)
             ≡ (watches_file number (instance_of self.now q) || is_some (finmap.get ids.old q))) }
+        ensures unwatched { IfOk result (λ is_watched. is_watched ≡ false
+            → (q : ℕ) → watches_file number (instance_of self.now q) ≡ false) }
     {
         if is_recent(told, number) {
-            return Ok(());
+            return Ok(true);
         }
         let watchers = self.watchers(number);
-        if ids.is_empty() {
-            return ids.put(watchers);
+        if watchers.is_empty() {
+            return Ok(false);
         }
-        add_all(ids, watchers)
+        if ids.is_empty() {
+            ids.put(watchers)?;
+            return Ok(true);
+        }
+        add_all(ids, watchers)?;
+        Ok(true)
     }
 
     // Stages what notices raise for their recipients.

@@ -1,5 +1,5 @@
 -- File systems on whose table a call on files was carried out.
-use Rattle.std.proofs.Common.{◌≡◌, ◌+◌, true, None, Ok, refl, sym, ap, subst, ◌∙◌, add-zero}
+use Rattle.std.proofs.Common.{◌≡◌, ◌+◌, Bool, true, false, None, Ok, refl, sym, ap, subst, ◌∙◌, add-zero}
 use Rattle.std.proofs.lemmas.Bool.{false≢true}
 use Rattle.inode_table.specs.Tree as table
 use Rattle.inode_table.specs.TableWorld.{world_of, HasNumbersBelow}
@@ -16,14 +16,13 @@ use Rattle.tree_ops.specs.Refused.{refused}
 use Rattle.tree_ops.specs.After as ops
 use Rattle.event_rules.specs.Table.{notices_of}
 use Rattle.instance_table.specs.Instances.{Instances, all_changed, told}
-use Rattle.instance_table.specs.Staging.{IsStaged}
 use Rattle.tree_core.specs.declared.call.Call.TheVariants as call
 use Rattle.tree_core.specs.declared.file_system.FileSystem.{FileSystem}
-use Rattle.tree_core.specs.declared.file_system.Rest.TheVariants.{Notify}
+use Rattle.tree_core.specs.declared.file_system.Rest.{Rest}
 use Rattle.tree_core.specs.declared.reply.Reply.TheVariants as reply
 use Rattle.tree_core.specs.Calls.{has_list}
 use Rattle.tree_core.specs.Tree.{Tree, cookie_now, counts_of, after_file}
-use Rattle.tree_core.specs.FileSystems.{tree_in, Attempts, IsNumbered}
+use Rattle.tree_core.specs.FileSystems.{tree_in, Attempts, CanFinish, IsNumbered, LeadsTo, finished, rest_of}
 use Rattle.tree_core.proofs.Counted.{IsCounted-filed}
 
 -- a table on which a call was carried out, and what that answered
@@ -92,29 +91,43 @@ filed-listed m n f said done limits number cookie id instances e =
       instances = instances i;
     }
 
--- a call that was carried out and counted, whose notices are staged
+-- what is left to do can be done, and leads to these instances
+can-finish : (n : FileSystem) (b : Bool) (after : Instances) → LeadsTo b n.instances n.notices n.staging after → CanFinish n (rest_of b)
+can-finish n true after leads = leads.0
+can-finish n false after leads = tt
+
+finished-is : (n : FileSystem) (b : Bool) (after : Instances) → LeadsTo b n.instances n.notices n.staging after
+    → finished n (rest_of b) ≡ record (tree_in n) { instances = after }
+finished-is n true after leads = λ i. record (tree_in n) { instances = leads.1 i }
+finished-is n false after leads = λ i. record (tree_in n) { instances = leads i }
+
+-- a call that was carried out and counted, whose notices are staged if any file is watched
 pub filed-attempts : (m n : FileSystem) (f : FileCall) (said : Answer) → IsCarriedOut (tree_in m) f n.table said
     → refused (world_of m.table) m.limits (counts_of (tree_in m)) f ≡ None → IsNumbered (tree_in m)
     → n.limits ≡ m.limits → n.next_number ≡ m.next_number + ops.numbers_of f
     → n.next_cookie ≡ m.next_cookie + cookies_of (world_of m.table) f → n.next_id ≡ m.next_id → n.instances ≡ m.instances
-    → all_changed m.instances (told n.notices) ≡ all_changed m.instances (told (notices_of (world_of m.table) f (cookie_now m.next_cookie)))
-    → IsStaged n.instances n.notices n.staging
-    → Attempts m (call.File f) (Ok (record { reply = reply.File said; rest = Notify })) n
+    → (b : Bool) (rest : Rest) → rest ≡ rest_of b
+    → LeadsTo b n.instances n.notices n.staging (all_changed m.instances (told (notices_of (world_of m.table) f (cookie_now m.next_cookie))))
+    → Attempts m (call.File f) (Ok (record { reply = reply.File said; rest = rest })) n
 unfolding after_file
-filed-attempts m n f said done passes numbered limits number cookie id instances heard staged = record {
-  passes = passes;
-  reply = ap reply.File done.answer;
-  rest = staged;
-  tree = λ i. record {
-    limits = limits i;
-    world = done.world i;
-    next_number = number i;
-    next_cookie = cookie i;
-    next_id = id i;
-    instances = (ap (λ (x : Instances). all_changed x (told n.notices)) instances ∙ heard) i;
-  };
-  begun = filed-listed m n f said done limits number cookie id instances;
-  numbered = IsNumbered-filed (tree_in m) f n.table said numbered passes done;
-  refused = tt;
-  err = tt;
-}
+filed-attempts m n f said done passes numbered limits number cookie id instances b rest is leads =
+    let heard : Instances = all_changed m.instances (told (notices_of (world_of m.table) f (cookie_now m.next_cookie))) in
+    record {
+      passes = passes;
+      reply = ap reply.File done.answer;
+      rest = subst (CanFinish n) (sym is) (can-finish n b heard leads);
+      tree =
+          ap (finished n) is ∙ finished-is n b heard leads
+          ∙ (λ i. record {
+            limits = limits i;
+            world = done.world i;
+            next_number = number i;
+            next_cookie = cookie i;
+            next_id = id i;
+            instances = heard;
+          });
+      begun = filed-listed m n f said done limits number cookie id instances;
+      numbered = IsNumbered-filed (tree_in m) f n.table said numbered passes done;
+      refused = tt;
+      err = tt;
+    }

@@ -5,7 +5,9 @@ use Rattle.record_codec.specs.declared.event.Event.{Event}
 use Rattle.tree_paths.specs.declared.refusal.Refusal.{Refusal}
 use Rattle.tree_paths.specs.declared.refusal.Refusal.TheVariants.{Enomem}
 use Rattle.inode_table.specs.TableWorld.{world_of, HasNumbersBelow}
-use Rattle.instance_table.specs.Instances.{after_read, all_changed, changed, instance_of, told, waiting_of}
+use Rattle.event_rules.specs.declared.notice.Notice.{Notice}
+use Rattle.instance_table.specs.declared.staging.Staging.{Staging}
+use Rattle.instance_table.specs.Instances.{Instances, after_read, all_changed, changed, instance_of, told, waiting_of}
 use Rattle.instance_table.specs.Staging.{IsStaged}
 use Rattle.tree_core.specs.declared.call.Call.{Call}
 use Rattle.tree_core.specs.declared.call.Call.TheVariants as call
@@ -13,7 +15,6 @@ use Rattle.tree_core.specs.declared.file_system.Begun.{Begun}
 use Rattle.tree_core.specs.declared.file_system.FileSystem.{FileSystem}
 use Rattle.tree_core.specs.declared.file_system.Rest.{Rest}
 use Rattle.tree_core.specs.declared.file_system.Rest.TheVariants.{Nothing, Notify, Take}
-use Rattle.tree_core.specs.declared.reply.Reply.{Reply}
 use Rattle.tree_core.specs.Calls.{takes_memory}
 use Rattle.tree_core.specs.Sound.{IsCounted}
 use Rattle.tree_core.specs.Tree.{Tree, refusal_of, accepted_reply, accepted, reply_of, after}
@@ -53,6 +54,16 @@ abbrev pub taken : FileSystem → Rest → Option (List Event)
 taken m Nothing = None
 taken m Notify = None
 taken m (Take id place count) = Some (take count (waiting_of (instance_of m.instances id)))
+
+-- what is left to do of a call on files, by whether events are staged
+abbrev pub rest_of : Bool → Rest
+rest_of true = Notify
+rest_of false = Nothing
+
+-- the instances are these once the staged events are delivered, or already where nothing is staged
+abbrev pub LeadsTo : Bool → Instances → List Notice → Staging → Instances → Type 0
+LeadsTo true m ns s after = IsStaged m ns s × (all_changed m (told ns) ≡ after)
+LeadsTo false m ns s after = m ≡ after
 
 -- ---- calls
 

@@ -12,7 +12,7 @@ ghost use Rattle.event_rules.specs.Table.{notices_of};
 ghost use Rattle.instance_table.specs.Instances.{all_changed, instance_of, told};
 ghost use Rattle.tree_core.specs.Histories.{oldest, pumped};
 ghost use Rattle.tree_core.specs.FileSystems.{tree_in, Attempts, Begins, CanFinish, IsNumbered, finished, reading};
-ghost use Rattle.tree_core.specs.FileSystems.{taken};
+ghost use Rattle.tree_core.specs.FileSystems.{LeadsTo, rest_of, taken};
 ghost use Rattle.tree_core.specs.Tree.{opening, counts_of, init_rows, rm_watch_rows, read_rows, close_rows};
 
 use crate::call::Call;
@@ -248,14 +248,13 @@ impl FileSystem {
         let counts = self.counts();
         let paths = Paths::resolve(&self.table, call);
         let ready = check(&paths, &counts, &self.limits)?;
-        note(
+        let is_staged = stage_notices(
             &self.instances,
             &ready,
             counts.next_cookie,
             &mut self.notices,
+            &mut self.staging,
         )?;
-        self.instances
-            .stage(self.notices.as_slice(), &mut self.staging)?;
         let numbers = ready.numbers();
         let cookies = ready.cookies();
         let plan = ready.into_plan();
@@ -264,7 +263,7 @@ impl FileSystem {
         self.next_cookie += u64::from(cookies);
         Ok(Begun {
             reply: Reply::File(answer),
-            rest: Rest::Notify,
+            rest: rest_of(is_staged),
         })
     }
 
@@ -379,24 +378,39 @@ fn answered(begun: Result<Begun, Refusal>) -> Result<Begun, Refusal>
     }
 }
 
-// Notes the notices of an accepted call, if any file is watched. Otherwise they have no recipients, and none is noted.
-fn note(
+// What is left to do of a call on files.
+#[inline(always)]
+fn rest_of(is_staged: bool) -> Rest
+    ensures { result ≡ rest_of is_staged }
+{
+    if is_staged {
+        Rest::Notify
+    } else {
+        Rest::Nothing
+    }
+}
+
+// Stages what an accepted call raises, if any file is watched. Otherwise it has no recipients, and nothing is staged.
+// The answer says which.
+fn stage_notices(
     instances: &Instances,
     ready: &Ready,
     cookie: u32,
     noted: &mut Notices,
-) -> Result<(), Refusal>
+    staging: &mut Staging,
+) -> Result<bool, Refusal>
     requires { cookie + cookies_of (world_of ready.now.tree) ready.now.plan.call ≤ 2 ^ 32 }
-    ensures told { OnOk result (all_changed instances.now (told noted.new)
-        ≡ all_changed instances.now (told (notices_of (world_of ready.now.tree) ready.now.plan.call cookie))) }
+    ensures staged { IfOk result (λ is_staged. LeadsTo is_staged instances.now noted.new staging.new
+        (all_changed instances.now (told (notices_of (world_of ready.now.tree) ready.now.plan.call cookie)))) }
     ensures memory { IfErr result (λ refusal. refusal ≡ Enomem) }
 {
     unwatched_instances_stay();
     if !instances.is_watching() {
-        noted.clear();
-        return Ok(());
+        return Ok(false);
     }
-    notices(ready, cookie, noted)
+    notices(ready, cookie, noted)?;
+    instances.stage(noted.as_slice(), staging)?;
+    Ok(true)
 }
 
 // Why no watch is ended.

@@ -1,4 +1,4 @@
-use Rattle.std.proofs.Common.{◌≡◌, ◌+◌, List, Option, None, inl, inr, refl, sym, ap, subst, ◌∙◌, arith}
+use Rattle.std.proofs.Common.{◌≡◌, ◌+◌, Option, None, inl, inr, refl, sym, ap, subst, ◌∙◌, arith}
 use Rattle.inode_table.specs.TableWorld.{world_of, HasNumbersBelow}
 use Rattle.inode_table.specs.Tree.{TableValue}
 use Rattle.tree_paths.specs.declared.limits.Limits.{Limits}
@@ -11,13 +11,11 @@ use Rattle.tree_ops.specs.Moves.{cookies_of}
 use Rattle.tree_ops.specs.Refused.{refused}
 use Rattle.tree_ops.specs.After.{numbers_of}
 use Rattle.event_rules.specs.Table.{notices_of}
-use Rattle.event_rules.specs.declared.notice.Notice.{Notice}
 use Rattle.instance_table.specs.Instances.{all_changed, told}
-use Rattle.instance_table.specs.Staging.{IsStaged}
 use Rattle.tree_core.specs.declared.call.Call.TheVariants as call
 use Rattle.tree_core.specs.declared.file_system.FileSystem.{FileSystem}
 use Rattle.tree_core.specs.Tree.{counts_of, cookie_now}
-use Rattle.tree_core.specs.FileSystems.{tree_in}
+use Rattle.tree_core.specs.FileSystems.{tree_in, LeadsTo}
 use Rattle.tree_core.proofs.Serving.{failed-attempts}
 use Rattle.tree_core.proofs.Filed.{IsCarriedOut, IsCarriedOut-checked, filed-attempts, tree_in-table}
 use Rattle.tree_core.proofs.Counted.{cookies-fit, cookies-there}
@@ -46,7 +44,7 @@ returns-in_err-ready c =
 pub returns-in_err-answer : goal.returns-in_err-answer
 returns-in_err-answer c =
     let m = c.args.self.now in
-    let s : FileSystem = record m { notices = c.note.new.noted; staging = c.stage.new.staging } in
+    let s : FileSystem = record m { notices = c.stage_notices.new.noted; staging = c.stage_notices.new.staging } in
     let u = c.carry_out.new.table in
     failed-attempts m (record s { table = u }) (call.File c.args.call.now) c.from_residual-in_err-answer.result
     c.in_err-answer.field-0.0 c.from_residual-in_err-answer.ensures.1 (inr c.in_err-answer.ensures.memory)
@@ -68,8 +66,8 @@ returns c =
       next_cookie = m.next_cookie + c.from.result;
       next_id = m.next_id;
       instances = m.instances;
-      notices = c.note.new.noted;
-      staging = c.stage.new.staging;
+      notices = c.stage_notices.new.noted;
+      staging = c.stage_notices.new.staging;
     } in
     let call : ready.plan.call ≡ f = c.in_ok-ready.ensures.call ∙ c.resolve-paths.ensures.call in
     let tree : ready.tree ≡ m.table = c.in_ok-ready.ensures.tree ∙ c.resolve-paths.ensures.tree in
@@ -84,12 +82,13 @@ returns c =
     (ap (λ x. m.next_number + x) (c.numbers-numbers.ensures ∙ ap numbers_of call))
     (ap (λ x. m.next_cookie + x) (c.from.ensures ∙ c.cookies-cookies.ensures ∙ (λ i. cookies_of (world_of (tree i)) (call i))))
     refl refl
-    (c.in_ok-note.ensures.told
-    ∙ (λ i. all_changed m.instances (told (notices_of (world_of (tree i)) (call i) (c.counts-counts.ensures i).next_cookie))))
-    (subst (λ (ns : List Notice). IsStaged m.instances ns c.stage.new.staging) c.as_slice.ensures c.in_ok-stage.ensures.staged)
+    c.in_ok-is_staged.is_staged c.rest_of.result c.rest_of.ensures
+    (subst (LeadsTo c.in_ok-is_staged.is_staged m.instances c.stage_notices.new.noted c.stage_notices.new.staging)
+    (λ i. all_changed m.instances (told (notices_of (world_of (tree i)) (call i) (c.counts-counts.ensures i).next_cookie)))
+    c.in_ok-is_staged.ensures.staged)
 
-pub note-requires : goal.note-requires
-note-requires c =
+pub stage_notices-requires : goal.stage_notices-requires
+stage_notices-requires c =
     let m = c.args.self.now in
     let w = world_of m.table in
     let now : c.counts-counts.result.next_cookie ≡ cookie_now m.next_cookie = ap (λ (x : Counts). x.next_cookie) c.counts-counts.ensures in
