@@ -13,6 +13,7 @@ use crate::content::Content;
 use record_codec::Name;
 use slab::Slab;
 use std::alloc::AllocError;
+use tree_paths::NamePlace;
 
 /// A file or a directory: its number, its mode bits, how many paths lead to it, and what it holds.
 pub struct Node {
@@ -187,14 +188,14 @@ pub(crate) fn remove_node(nodes: &mut Slab<Node>, key: usize)
 }
 
 /// The key under the name in the directory, if there is one.
-pub(crate) fn child(nodes: &Slab<Node>, directory: usize, name: &Name) -> Option<usize>
+pub(crate) fn child(nodes: &Slab<Node>, directory: usize, name: &NamePlace) -> Option<usize>
     ensures { result ≡ child (rows_of nodes.now) directory name.now }
 {
     match nodes.get(directory)? {
         Node {
             content: Content::Directory(names),
             ..
-        } => names.get(name).copied(),
+        } => name.value_in(names),
         _ => None,
     }
 }

@@ -107,6 +107,9 @@ pub(crate) fn front_len(text: &[u8]) -> usize
 fn has_dots(name: &[u8]) -> bool
     ensures { result ≡ is_dots name.now }
 {
+    if 2 < name.len() {
+        return false;
+    }
     name == b".".as_slice() || name == b"..".as_slice()
 }
 

@@ -3,9 +3,13 @@
 ghost use Rattle.std.specs.Prelude.{◌≡◌, ◌≤◌, IfOk, IsOk, IsTrue, length};
 ghost use Rattle.record_codec.specs.declared.name.TheConstants.{NAME_IN_PLACE};
 ghost use Rattle.record_codec.specs.Names.{is_name};
+ghost use Rattle.std.specs.BTreeMap.{get};
+ghost use Rattle.std.specs.Cmp.Lexicographic.{slice_cmp};
+ghost use Rattle.std.specs.Ordering.{nat_cmp};
 
 use record_codec::{NAME_IN_PLACE, Name};
 use std::alloc::AllocError;
+use std::collections::BTreeMap;
 use std::marker::Model;
 
 /// Where a name of a path stands.
@@ -107,6 +111,20 @@ impl<'a> NamePlace<'a> {
     {
         NamePlace {
             place: Place::InList(name),
+        }
+    }
+
+    /// The value under the name in a map. It takes no memory.
+    #[inline(always)]
+    pub fn value_in<V: Copy>(&self, map: &BTreeMap<Name, V>) -> Option<V>
+        ensures { result ≡ get (slice_cmp nat_cmp) map.now self.now }
+    {
+        match self.place {
+            Place::InText(bytes) => {
+                let name = Name::in_place(bytes);
+                map.get(&name).copied()
+            }
+            Place::InList(name) => map.get(name).copied(),
         }
     }
 

@@ -12,8 +12,7 @@ use crate::key::Key;
 use crate::node::child;
 use crate::resolved::Resolved;
 use crate::seen::Seen;
-use record_codec::Name;
-use tree_paths::{Path, PathName, PathNames, Refusal};
+use tree_paths::{NamePlace, Path, PathNames, Refusal};
 
 impl Table {
     ghost use Rattle.inode_table.specs.World.{look};
@@ -30,7 +29,7 @@ impl Table {
     {
         self.rows_law();
         let mut names = path.names();
-        let Some(first) = names.next() else {
+        let Some(first) = names.next_place() else {
             return Resolved {
                 path,
                 directory: Found::at(Key::of(ROOT)),
@@ -47,7 +46,7 @@ impl Table {
 
     // The keys of the directory of the last name and of what stands under that, or why there are none.
     #[inline(always)]
-    fn walk<'a>(&self, first: PathName<'a>, behind: PathNames<'a>) -> (Found, Found)
+    fn walk<'a>(&self, first: NamePlace<'a>, behind: PathNames<'a>) -> (Found, Found)
         ensures directory { IsFound self.now (parent_of (first.entry ∷ behind.entry)) (found_of result.0) }
         ensures here { IsFound self.now (first.entry ∷ behind.entry) (found_of result.1) }
     {
@@ -55,8 +54,8 @@ impl Table {
         let mut name = first;
         let mut names = behind;
         let mut directory = ROOT;
-        while let Some(next) = names.next() {
-            match child(&self.nodes, directory, name.as_name()) {
+        while let Some(next) = names.next_place() {
+            match child(&self.nodes, directory, &name) {
                 Some(key) => directory = key,
                 None => {
                     let missing = missing_at(&self.nodes, directory);
@@ -67,7 +66,7 @@ impl Table {
         }
         (
             Found::at(Key::of(directory)),
-            self.resolve_in(directory, name.as_name()),
+            self.resolve_in(directory, &name),
         )
     }
 
@@ -126,7 +125,7 @@ impl Table {
     }
 
     // What stands under a name at a key.
-    fn resolve_in(&self, directory: usize, name: &Name) -> Found
+    fn resolve_in(&self, directory: usize, name: &NamePlace) -> Found
         requires there { IsSome (what_at self.now directory) }
         ensures { (p : List Label) → at self.now p ≡ Some directory
             → IsFound self.now (p ++ name.now ∷ []) (found_of result) }
