@@ -4,11 +4,10 @@ use record_codec::Name;
 use std::alloc::{AllocError, Global};
 use std::fmt::Debug;
 use std::process::Abort;
-use std::test::Fail;
 use tree_paths::*;
 
-/// What was got is what is wanted. Tests assert in these two functions: the macros in a long body take minutes to
-/// prove.
+/// What was got is what is wanted. Tests assert in these functions, and the helpers end the test where a call fails: a
+/// macro or a `?` in a long body costs seconds to prove.
 fn equal<T: PartialEq + Debug + Drop>(rt: &impl Abort, got: T, wanted: T) {
     assert_eq!(rt; got, wanted);
 }
@@ -16,13 +15,6 @@ fn equal<T: PartialEq + Debug + Drop>(rt: &impl Abort, got: T, wanted: T) {
 /// It is so.
 fn holds(rt: &impl Abort, what: &str, is_so: bool) {
     assert!(rt; is_so, "{what}");
-}
-
-fn name(alloc: Global, bytes: &[u8]) -> Result<Name, Fail> {
-    match Name::new(alloc, bytes)? {
-        Some(name) => Ok(name),
-        None => Err(Fail::new("no name")),
-    }
 }
 
 /// Whether these are the bytes of the names of a path, in order.
@@ -57,8 +49,16 @@ fn are(names: &[Name], bytes: &[&[u8]]) -> bool {
             .all(|(name, bytes)| name.bytes() == *bytes)
 }
 
+/// The refusal is printed so, and has this number.
+fn is_printed(rt: &impl Abort, alloc: Global, refusal: Refusal, name: &str, number: u32) {
+    equal(rt, refusal.name(), name);
+    equal(rt, refusal.number(), number);
+    let printed = format!(in alloc; "{refusal}").expect(rt, "memory");
+    equal(rt, printed.as_str(), name);
+}
+
 #[test]
-fn refusals(rt: HostRuntime) -> Result<(), Fail> {
+fn refusals(rt: HostRuntime) {
     for (refusal, name, number) in [
         (Refusal::Eperm, "EPERM", 1),
         (Refusal::Enoent, "ENOENT", 2),
@@ -84,49 +84,36 @@ fn refusals(rt: HostRuntime) -> Result<(), Fail> {
         (Refusal::SeatsSpent, "SeatsSpent", 1006),
         (Refusal::NumbersSpent, "NumbersSpent", 1007),
     ] {
-        equal(&rt, refusal.name(), name);
-        equal(&rt, refusal.number(), number);
-        let printed = format!(in rt.alloc(); "{refusal}")?;
-        equal(&rt, printed.as_str(), name);
+        is_printed(&rt, rt.alloc(), refusal, name, number);
     }
     equal(&rt, Refusal::from(AllocError), Refusal::Enomem);
-    Ok(())
+}
+
+/// The path of a text.
+fn path(rt: &impl Abort, alloc: Global, text: &[u8]) -> Path {
+    Path::parse(alloc, text).expect(rt, "a path")
+}
+
+/// The text is a path of these names.
+fn parses(rt: &impl Abort, alloc: Global, text: &[u8], names: &[&[u8]]) {
+    let path = path(rt, alloc, text);
+    assert!(rt; has_names(&path, names), "{text:?}");
+}
+
+/// The text is refused so.
+fn refuses(rt: &impl Abort, alloc: Global, text: &[u8], refusal: Refusal) {
+    equal(rt, Path::parse(alloc, text).err(), Some(refusal));
 }
 
 #[test]
-fn paths_of_texts(rt: HostRuntime) -> Result<(), Fail> {
+fn paths_of_texts(rt: HostRuntime) {
     let alloc = rt.alloc();
-    holds(
-        &rt,
-        "has_names(&Path::parse(alloc, b'/')?, &[])",
-        has_names(&Path::parse(alloc, b"/")?, &[]),
-    );
-    holds(
-        &rt,
-        "has_names(&Path::parse(alloc, b'/a/b')?, &[b'a', b'b'])",
-        has_names(&Path::parse(alloc, b"/a/b")?, &[b"a", b"b"]),
-    );
-    holds(
-        &rt,
-        "has_names(&Path::parse(alloc, b'/a//b')?, &[b'a', b'b'])",
-        has_names(&Path::parse(alloc, b"/a//b")?, &[b"a", b"b"]),
-    );
-    holds(
-        &rt,
-        "has_names(&Path::parse(alloc, b'///a')?, &[b'a'])",
-        has_names(&Path::parse(alloc, b"///a")?, &[b"a"]),
-    );
-    holds(
-        &rt,
-        "has_names(&Path::parse(alloc, b'/..x/...')?, &[b'..x', b'...'])",
-        has_names(&Path::parse(alloc, b"/..x/...")?, &[b"..x", b"..."]),
-    );
-    holds(
-        &rt,
-        "has_names(&Path::parse(alloc, b'/ \\xff')?, &[b' \\xff'])",
-        has_names(&Path::parse(alloc, b"/ \xff")?, &[b" \xff"]),
-    );
-    Ok(())
+    parses(&rt, alloc, b"/", &[]);
+    parses(&rt, alloc, b"/a/b", &[b"a", b"b"]);
+    parses(&rt, alloc, b"/a//b", &[b"a", b"b"]);
+    parses(&rt, alloc, b"///a", &[b"a"]);
+    parses(&rt, alloc, b"/..x/...", &[b"..x", b"..."]);
+    parses(&rt, alloc, b"/ \xff", &[b" \xff"]);
 }
 
 #[test]
@@ -142,97 +129,75 @@ fn refused_texts(rt: HostRuntime) {
         (b"/a/..", Refusal::Einval),
         (b"/./a", Refusal::Einval),
     ] {
-        assert_eq!(rt; Path::parse(rt.alloc(), text).err(), Some(refusal));
+        refuses(&rt, rt.alloc(), text, refusal);
     }
 }
 
 #[test]
-fn longest_texts(rt: HostRuntime) -> Result<(), Fail> {
+fn longest_texts(rt: HostRuntime) {
     let alloc = rt.alloc();
-    let mut text = vec![in alloc; b'a'; 4096]?;
-    equal(
-        &rt,
-        Path::parse(alloc, &text).err(),
-        Some(Refusal::Enametoolong),
-    );
+    let mut text = vec![in alloc; b'a'; 4096].expect(&rt, "memory");
+    refuses(&rt, alloc, &text, Refusal::Enametoolong);
     for (i, byte) in text.iter_mut().enumerate() {
         if i % 2 == 0 {
             *byte = b'/';
         }
     }
-    equal(
-        &rt,
-        Path::parse(alloc, &text).err(),
-        Some(Refusal::Enametoolong),
-    );
+    refuses(&rt, alloc, &text, Refusal::Enametoolong);
     text[4094] = b'b';
     text.truncate(4095);
-    equal(&rt, count_of_names(&Path::parse(alloc, &text)?), 2047);
-    Ok(())
+    equal(&rt, count_of_names(&path(&rt, alloc, &text)), 2047);
 }
 
 #[test]
-fn longest_names(rt: HostRuntime) -> Result<(), Fail> {
+fn longest_names(rt: HostRuntime) {
     let alloc = rt.alloc();
-    let mut text = vec![in alloc; b'n'; 257]?;
+    let mut text = [b'n'; 260];
     text[0] = b'/';
-    holds(
-        &rt,
-        "has_names(&Path::parse(alloc, &text[..256])?, &[&text[1..256]])",
-        has_names(&Path::parse(alloc, &text[..256])?, &[&text[1..256]]),
-    );
-    equal(
-        &rt,
-        Path::parse(alloc, &text).err(),
-        Some(Refusal::Enametoolong),
-    );
-    text.extend_from_slice(b"/..")?;
-    equal(&rt, Path::parse(alloc, &text).err(), Some(Refusal::Einval));
-    Ok(())
+    text[257] = b'/';
+    text[258] = b'.';
+    text[259] = b'.';
+    parses(&rt, alloc, &text[..256], &[&text[1..256]]);
+    refuses(&rt, alloc, &text[..257], Refusal::Enametoolong);
+    refuses(&rt, alloc, &text, Refusal::Einval);
+}
+
+/// A path is equal to its copy.
+fn is_copied(rt: &impl Abort, path: &Path) {
+    let copied = path.copy().expect(rt, "memory");
+    equal(rt, copied == *path, true);
 }
 
 #[test]
-fn parts_of_paths(rt: HostRuntime) -> Result<(), Fail> {
+fn parts_of_paths(rt: HostRuntime) {
     let alloc = rt.alloc();
     let root = Path::root();
-    let above = Path::parse(alloc, b"/a/b")?;
-    let below = Path::parse(alloc, b"/a/b/c")?;
+    let above = path(&rt, alloc, b"/a/b");
+    let below = path(&rt, alloc, b"/a/b/c");
     holds(
         &rt,
-        "root.last_name().is_none() && root.is_root()",
+        "the root",
         root.last_name().is_none() && root.is_root(),
     );
     match below.last_name() {
         Some(name) => equal(&rt, name.as_name().bytes(), b"c".as_slice()),
-        None => return Err(Fail::new("no name")),
+        None => holds(&rt, "a last name", false),
     }
     holds(
         &rt,
-        "below.is_below(&above) && above.is_below(&root)",
+        "below",
         below.is_below(&above) && above.is_below(&root),
     );
     holds(
         &rt,
-        "!above.is_below(&below) && !above.is_below(&above)",
+        "not below",
         !above.is_below(&below) && !above.is_below(&above),
     );
-    holds(
-        &rt,
-        "!below.is_below(&Path::parse(alloc, b'/a/c')?)",
-        !below.is_below(&Path::parse(alloc, b"/a/c")?),
-    );
-    holds(
-        &rt,
-        "!Path::parse(alloc, b'/a/bc')?.is_below(&above)",
-        !Path::parse(alloc, b"/a/bc")?.is_below(&above),
-    );
-
-    holds(
-        &rt,
-        "below.copy()? == below && root.copy()? == root && below != above",
-        below.copy()? == below && root.copy()? == root && below != above,
-    );
-    Ok(())
+    holds(&rt, "/a/c", !below.is_below(&path(&rt, alloc, b"/a/c")));
+    holds(&rt, "/a/bc", !path(&rt, alloc, b"/a/bc").is_below(&above));
+    is_copied(&rt, &below);
+    is_copied(&rt, &root);
+    holds(&rt, "below != above", below != above);
 }
 
 /// A path's text of names of these lengths.
@@ -247,24 +212,28 @@ fn text_of(alloc: Global, lens: &[usize]) -> Result<Vec<u8>, AllocError> {
     Ok(text)
 }
 
-/// Whether the path of a text has names of these lengths, and is what comes of one name after another from the root on.
-fn is_path_of(alloc: Global, text: &[u8], lens: &[usize]) -> Result<bool, Fail> {
-    let path = Path::parse(alloc, text)?;
+/// The path with one more name.
+fn child(rt: &impl Abort, alloc: Global, path: &Path, name: &Name) -> Path {
+    path.child(alloc, name).expect(rt, "a path")
+}
+
+/// The path has names of these lengths, and is what comes of one name after another from the root on.
+fn is_built(rt: &impl Abort, alloc: Global, path: &Path, lens: &[usize]) {
     let mut names = path.names();
     let mut built = Path::root();
     for len in lens {
         match names.next() {
             Some(name) if name.as_name().bytes().len() == *len => {
-                built = built.child(alloc, name.as_name())?;
+                built = child(rt, alloc, &built, name.as_name());
             }
-            _ => return Ok(false),
+            _ => assert!(rt; false, "a name of {len} bytes"),
         }
     }
-    Ok(names.is_empty() && built == path && path.copy()? == path)
+    assert!(rt; names.is_empty() && built == *path, "{lens:?}");
 }
 
 #[test]
-fn paths_of_every_shape(rt: HostRuntime) -> Result<(), Fail> {
+fn paths_of_every_shape(rt: HostRuntime) {
     let alloc = rt.alloc();
     let shapes: [&[usize]; 9] = [
         &[29],
@@ -278,37 +247,37 @@ fn paths_of_every_shape(rt: HostRuntime) -> Result<(), Fail> {
         &[3, 32, 2, 1, 8, 5],
     ];
     for lens in shapes {
-        let text = text_of(alloc, lens)?;
-        assert!(rt; is_path_of(alloc, &text, lens)?, "{lens:?}");
-        let mut doubled = vec![in alloc; b'/']?;
-        doubled.extend_from_slice(&text)?;
-        assert!(rt; is_path_of(alloc, &doubled, lens)?, "doubled {lens:?}");
+        let mut text = text_of(alloc, lens).expect(&rt, "memory");
+        for _ in 0..2 {
+            let path = path(&rt, alloc, &text);
+            is_built(&rt, alloc, &path, lens);
+            is_copied(&rt, &path);
+            text.insert(0, b'/').expect(&rt, "memory");
+        }
     }
-    Ok(())
+}
+
+/// A name of these bytes.
+fn name(rt: &impl Abort, alloc: Global, bytes: &[u8]) -> Name {
+    let name = Name::new(alloc, bytes).expect(rt, "memory");
+    name.expect(rt, "a name")
+}
+
+/// The names `a` and `b`.
+fn two_names(rt: &impl Abort, alloc: Global) -> Names {
+    let names = vec![in alloc; name(rt, alloc, b"a"), name(rt, alloc, b"b")];
+    Names::from_vec(names.expect(rt, "memory"))
 }
 
 #[test]
-fn lists_of_names(rt: HostRuntime) -> Result<(), Fail> {
+fn lists_of_names(rt: HostRuntime) {
     let alloc = rt.alloc();
-    let names = Names::from_vec(vec![in alloc; name(alloc, b"a")?, name(alloc, b"b")?]?);
-    holds(
-        &rt,
-        "are(names.as_slice(), &[b'a', b'b'])",
-        are(names.as_slice(), &[b"a", b"b"]),
-    );
-    let copied = names.copy()?;
-    holds(&rt, "copied == names", copied == names);
-    holds(
-        &rt,
-        "are(&copied.into_vec(), &[b'a', b'b'])",
-        are(&copied.into_vec(), &[b"a", b"b"]),
-    );
-    holds(
-        &rt,
-        "names != Names::from_vec(Vec::new(alloc))",
-        names != Names::from_vec(Vec::new(alloc)),
-    );
-    Ok(())
+    let names = two_names(&rt, alloc);
+    holds(&rt, "names", are(names.as_slice(), &[b"a", b"b"]));
+    let copied = names.copy().expect(&rt, "memory");
+    holds(&rt, "copied", copied == names);
+    holds(&rt, "into_vec", are(&copied.into_vec(), &[b"a", b"b"]));
+    holds(&rt, "no names", names != Names::from_vec(Vec::new(alloc)));
 }
 
 #[test]

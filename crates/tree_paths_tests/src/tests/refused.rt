@@ -60,18 +60,17 @@ fn refused_in_turn(alloc: Global, which: u32, path: &Path) -> Option<u32> {
 }
 
 #[test]
-fn each_growth_of_each_call(rt: HostRuntime) -> Result<(), Fail> {
+fn each_growth_of_each_call(rt: HostRuntime) {
     let alloc = rt.alloc();
     let has_refuser = refuse(alloc, MOST);
     let _ = was_refused(alloc);
-    let path = Path::parse(alloc, SQUEEZED)?;
+    let path = path(&rt, alloc, SQUEEZED);
     // A path of short names takes one allocation, however many they are.
     for (which, growths) in [(0, 1), (1, 2), (2, 1), (3, 1), (4, 2)] {
         let wanted = if has_refuser { growths } else { 0 };
         let count = refused_in_turn(alloc, which, &path);
         assert!(rt; count == Some(wanted), "call {which}: {count:?}");
     }
-    Ok(())
 }
 
 // Whether texts that are no paths are refused with the right error.
@@ -92,16 +91,15 @@ fn are_told(above: &Path, below: &Path) -> bool {
 }
 
 #[test]
-fn some_calls_take_no_memory(rt: HostRuntime) -> Result<(), Fail> {
+fn some_calls_take_no_memory(rt: HostRuntime) {
     let alloc = rt.alloc();
-    let long = vec![in alloc; b'/'; 4096]?;
-    let above = Path::parse(alloc, b"/a/b")?;
-    let below = Path::parse(alloc, b"/a/b/c")?;
+    let long = vec![in alloc; b'/'; 4096].expect(&rt, "memory");
+    let above = path(&rt, alloc, b"/a/b");
+    let below = path(&rt, alloc, b"/a/b/c");
     let _ = refuse_from(alloc, 1);
     let is_told = are_refused(alloc, &long) && are_told(&above, &below);
     let is_refused = was_refused(alloc);
     holds(&rt, "is_told && !is_refused", is_told && !is_refused);
-    Ok(())
 }
 
 // Whether a path of these names is made and copied. `Err` means out of memory.
@@ -110,36 +108,34 @@ fn is_made_and_copied(alloc: Global, text: &[u8], names: &[&[u8]]) -> Result<boo
     Ok(has_names(&path, names) && path.copy()? == path)
 }
 
+// Whether paths of short texts are made and copied.
+fn short_ones_are_made(alloc: Global) -> bool {
+    let texts: [(&[u8], &[&[u8]]); 4] = [
+        (b"/", &[]),
+        (b"/a_name_of_just_23_bytes", &[b"a_name_of_just_23_bytes"]),
+        (b"/a/b", &[b"a", b"b"]),
+        (b"///a", &[b"a"]),
+    ];
+    for (text, names) in texts {
+        if !matches!(is_made_and_copied(alloc, text, names), Ok(true)) {
+            return false;
+        }
+    }
+    true
+}
+
 #[test]
-fn a_path_of_a_short_text_takes_no_memory(rt: HostRuntime) -> Result<(), Fail> {
+fn a_path_of_a_short_text_takes_no_memory(rt: HostRuntime) {
     let alloc = rt.alloc();
     let has_refuser = refuse_from(alloc, 1);
-    let root = is_made_and_copied(alloc, b"/", &[]);
-    let one = is_made_and_copied(
-        alloc,
-        b"/a_name_of_just_23_bytes",
-        &[b"a_name_of_just_23_bytes"],
-    );
-    let two = is_made_and_copied(alloc, b"/a/b", &[b"a", b"b"]);
-    let with_slashes = is_made_and_copied(alloc, b"///a", &[b"a"]);
+    let are_made = short_ones_are_made(alloc);
     let is_refused = was_refused(alloc);
-    let are_made = matches!(root, Ok(true))
-        && matches!(one, Ok(true))
-        && matches!(two, Ok(true))
-        && matches!(with_slashes, Ok(true));
-    holds(&rt, "are_made && !is_refused", are_made && !is_refused);
+    holds(&rt, "short ones", are_made && !is_refused);
     let _ = refuse_from(alloc, 1);
     let three = is_made_and_copied(alloc, THREE, &[THREE_FIRST, b"b", b"c"]);
     let is_refused = was_refused(alloc);
-    holds(
-        &rt,
-        "three.is_err() == has_refuser && is_refused == has_refuser",
-        three.is_err() == has_refuser && is_refused == has_refuser,
-    );
-    holds(
-        &rt,
-        "three",
-        is_made_and_copied(alloc, THREE, &[THREE_FIRST, b"b", b"c"])?,
-    );
-    Ok(())
+    equal(&rt, three.is_err(), has_refuser);
+    equal(&rt, is_refused, has_refuser);
+    let three = is_made_and_copied(alloc, THREE, &[THREE_FIRST, b"b", b"c"]);
+    equal(&rt, three, Ok(true));
 }
