@@ -10,7 +10,9 @@ ghost use Rattle.tree_core.specs.declared.call.Call.TheVariants as call;
 use crate::fault::ScriptFault;
 use crate::line::{Command, Line, LineError, OutputFormat};
 use crate::pieces::Words;
-use crate::words::{hex_word, i32_word, mask_word, mode_word, path_word, u32_word, u64_word};
+use crate::words::{
+    has_escape, hex_word, i32_word, mask_word, mode_word, path_word, u32_word, u64_word,
+};
 use std::alloc::Global;
 use tree_core::Call;
 use tree_ops::FileCall;
@@ -80,8 +82,29 @@ impl<'a> Parser<'a> {
         Ok(plain(Call::File(FileCall::Create { path, mode })))
     }
 
-    #[tactic(auto, unfolding(crate::specs::Commands::write_call))]
+    #[tactic(auto, using(crate::proofs::WordLemmas::plain_word), unfolding(crate::specs::Commands::write_call))]
     fn write(&self) -> Result<Line, LineError>
+        ensures { GivesLine result (line_asked self.now.queue Command.Write self.now.words) }
+    {
+        let (path, offset, bytes) = self.three()?;
+        if has_escape(path) {
+            return self.escaped_write();
+        }
+        let offset = u64_word(offset)?;
+        let bytes = hex_word(self.alloc, bytes)?;
+        let path = path_of(self.alloc, path)?;
+        Ok(plain(Call::File(FileCall::Write {
+            path,
+            offset,
+            bytes,
+        })))
+    }
+
+    /// `write` where a byte of the path is escaped.
+    #[tactic(auto, unfolding(crate::specs::Commands::write_call))]
+    #[cold]
+    #[inline(never)]
+    fn escaped_write(&self) -> Result<Line, LineError>
         ensures { GivesLine result (line_asked self.now.queue Command.Write self.now.words) }
     {
         let (path, offset, bytes) = self.three()?;
@@ -96,8 +119,29 @@ impl<'a> Parser<'a> {
         })))
     }
 
-    #[tactic(auto, unfolding(crate::specs::Commands::cat_call))]
+    #[tactic(auto, using(crate::proofs::WordLemmas::plain_word), unfolding(crate::specs::Commands::cat_call))]
     fn cat(&self) -> Result<Line, LineError>
+        ensures { GivesLine result (line_asked self.now.queue Command.Cat self.now.words) }
+    {
+        let (path, offset, count) = self.three()?;
+        if has_escape(path) {
+            return self.escaped_cat();
+        }
+        let offset = u64_word(offset)?;
+        let count = u32_word(count)?;
+        let path = path_of(self.alloc, path)?;
+        Ok(plain(Call::File(FileCall::ReadFile {
+            path,
+            offset,
+            count,
+        })))
+    }
+
+    /// `cat` where a byte of the path is escaped.
+    #[tactic(auto, unfolding(crate::specs::Commands::cat_call))]
+    #[cold]
+    #[inline(never)]
+    fn escaped_cat(&self) -> Result<Line, LineError>
         ensures { GivesLine result (line_asked self.now.queue Command.Cat self.now.words) }
     {
         let (path, offset, count) = self.three()?;
@@ -112,8 +156,24 @@ impl<'a> Parser<'a> {
         })))
     }
 
-    #[tactic(auto, unfolding(crate::specs::Commands::truncate_call))]
+    #[tactic(auto, using(crate::proofs::WordLemmas::plain_word), unfolding(crate::specs::Commands::truncate_call))]
     fn truncate(&self) -> Result<Line, LineError>
+        ensures { GivesLine result (line_asked self.now.queue Command.Truncate self.now.words) }
+    {
+        let (path, len) = self.two()?;
+        if has_escape(path) {
+            return self.escaped_truncate();
+        }
+        let len = u64_word(len)?;
+        let path = path_of(self.alloc, path)?;
+        Ok(plain(Call::File(FileCall::Truncate { path, len })))
+    }
+
+    /// `truncate` where a byte of the path is escaped.
+    #[tactic(auto, unfolding(crate::specs::Commands::truncate_call))]
+    #[cold]
+    #[inline(never)]
+    fn escaped_truncate(&self) -> Result<Line, LineError>
         ensures { GivesLine result (line_asked self.now.queue Command.Truncate self.now.words) }
     {
         let (path, len) = self.two()?;
@@ -158,8 +218,24 @@ impl<'a> Parser<'a> {
         Ok(plain(Call::File(FileCall::Rename { old, new })))
     }
 
-    #[tactic(auto, unfolding(crate::specs::Commands::rename2_call))]
+    #[tactic(auto, using(crate::proofs::WordLemmas::plain_word), unfolding(crate::specs::Commands::rename2_call))]
     fn rename2(&self) -> Result<Line, LineError>
+        ensures { GivesLine result (line_asked self.now.queue Command.Rename2 self.now.words) }
+    {
+        let (old, new, flags) = self.three()?;
+        if has_escape(old) || has_escape(new) {
+            return self.escaped_rename2();
+        }
+        let flags = u32_word(flags)?;
+        let (old, new) = paths_of(self.alloc, old, new)?;
+        Ok(plain(Call::File(FileCall::Rename2 { old, new, flags })))
+    }
+
+    /// `rename2` where a byte of a path is escaped.
+    #[tactic(auto, unfolding(crate::specs::Commands::rename2_call))]
+    #[cold]
+    #[inline(never)]
+    fn escaped_rename2(&self) -> Result<Line, LineError>
         ensures { GivesLine result (line_asked self.now.queue Command.Rename2 self.now.words) }
     {
         let (old, new, flags) = self.three()?;
@@ -256,38 +332,44 @@ impl<'a> Parser<'a> {
     }
 
     /// PATH
-    #[tactic(auto, unfolding(crate::specs::Commands::a_path))]
+    #[tactic(auto, using(crate::proofs::WordLemmas::plain_word), unfolding(crate::specs::Commands::a_path))]
     #[inline(always)]
     fn a_path(&self) -> Result<Path, LineError>
         ensures { GivesPath result (one self.now.words a_path) }
     {
-        let text = path_word(self.alloc, self.one()?)?;
-        path_of(self.alloc, text.as_slice())
+        let word = self.one()?;
+        if has_escape(word) {
+            return escaped_path(self.alloc, word);
+        }
+        path_of(self.alloc, word)
     }
 
     /// PATH MODE
-    #[tactic(auto, unfolding(crate::specs::Commands::path_and_mode))]
+    #[tactic(auto, using(crate::proofs::WordLemmas::plain_word), unfolding(crate::specs::Commands::path_and_mode))]
     #[inline(always)]
     fn path_and_mode(&self) -> Result<(Path, u32), LineError>
         ensures { GivesPath result (two self.now.words path_and_mode) }
     {
         let (path, mode) = self.two()?;
-        let text = path_word(self.alloc, path)?;
+        if has_escape(path) {
+            return escaped_and_mode(self.alloc, path, mode);
+        }
         let mode = mode_word(mode)?;
-        let path = path_of(self.alloc, text.as_slice())?;
+        let path = path_of(self.alloc, path)?;
         Ok((path, mode))
     }
 
     /// OLD NEW
-    #[tactic(auto, unfolding(crate::specs::Commands::old_and_new))]
+    #[tactic(auto, using(crate::proofs::WordLemmas::plain_word), unfolding(crate::specs::Commands::old_and_new))]
     #[inline(always)]
     fn old_and_new(&self) -> Result<(Path, Path), LineError>
         ensures { GivesPath result (two self.now.words old_and_new) }
     {
         let (old, new) = self.two()?;
-        let old = path_word(self.alloc, old)?;
-        let new = path_word(self.alloc, new)?;
-        paths_of(self.alloc, old.as_slice(), new.as_slice())
+        if has_escape(old) || has_escape(new) {
+            return escaped_paths(self.alloc, old, new);
+        }
+        paths_of(self.alloc, old, new)
     }
 
     /// The only word.
@@ -322,6 +404,42 @@ impl<'a> Parser<'a> {
             None => Err(LineError::Fault(ScriptFault::WrongNumber)),
         }
     }
+}
+
+/// PATH, where a byte of it is escaped.
+#[tactic(auto, unfolding(crate::specs::Commands::a_path))]
+#[cold]
+#[inline(never)]
+fn escaped_path(alloc: Global, word: &[u8]) -> Result<Path, LineError>
+    ensures { GivesPath result (a_path word.now) }
+{
+    let text = path_word(alloc, word)?;
+    path_of(alloc, text.as_slice())
+}
+
+/// PATH MODE, where a byte of the path is escaped.
+#[tactic(auto, unfolding(crate::specs::Commands::path_and_mode))]
+#[cold]
+#[inline(never)]
+fn escaped_and_mode(alloc: Global, path: &[u8], mode: &[u8]) -> Result<(Path, u32), LineError>
+    ensures { GivesPath result (path_and_mode path.now mode.now) }
+{
+    let text = path_word(alloc, path)?;
+    let mode = mode_word(mode)?;
+    let path = path_of(alloc, text.as_slice())?;
+    Ok((path, mode))
+}
+
+/// OLD NEW, where a byte of either is escaped.
+#[tactic(auto, unfolding(crate::specs::Commands::old_and_new))]
+#[cold]
+#[inline(never)]
+fn escaped_paths(alloc: Global, old: &[u8], new: &[u8]) -> Result<(Path, Path), LineError>
+    ensures { GivesPath result (old_and_new old.now new.now) }
+{
+    let old = path_word(alloc, old)?;
+    let new = path_word(alloc, new)?;
+    paths_of(alloc, old.as_slice(), new.as_slice())
 }
 
 /// The path of a text.

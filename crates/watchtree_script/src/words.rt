@@ -84,7 +84,7 @@ fn unescape(alloc: Global, word: &[u8]) -> Result<Option<Vec<u8>>, AllocError>
 }
 
 /// Whether a byte of a word is escaped.
-fn has_escape(word: &[u8]) -> bool
+pub(crate) fn has_escape(word: &[u8]) -> bool
     ensures { result ≡ list_any (λ b. b == byte "%") word.now }
 {
     if word.len() <= FEW {
