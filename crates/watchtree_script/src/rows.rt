@@ -82,32 +82,11 @@ impl<'a> Parser<'a> {
         Ok(plain(Call::File(FileCall::Create { path, mode })))
     }
 
-    #[tactic(auto, using(crate::proofs::WordLemmas::plain_word), unfolding(crate::specs::Commands::write_call))]
+    #[tactic(auto, unfolding(crate::specs::Commands::write_call))]
     fn write(&self) -> Result<Line, LineError>
         ensures { GivesLine result (line_asked self.now.queue Command.Write self.now.words) }
     {
         let (path, offset, bytes) = self.three()?;
-        if has_escape(path) {
-            return self.escaped_write();
-        }
-        let offset = u64_word(offset)?;
-        let bytes = hex_word(self.alloc, bytes)?;
-        let path = path_of(self.alloc, path)?;
-        Ok(plain(Call::File(FileCall::Write {
-            path,
-            offset,
-            bytes,
-        })))
-    }
-
-    /// `write` where a byte of the path is escaped.
-    #[tactic(auto, unfolding(crate::specs::Commands::write_call))]
-    #[cold]
-    #[inline(never)]
-    fn escaped_write(&self) -> Result<Line, LineError>
-        ensures { GivesLine result (line_asked self.now.queue Command.Write self.now.words) }
-    {
-        let (path, offset, bytes) = self.three()?;
         let text = path_word(self.alloc, path)?;
         let offset = u64_word(offset)?;
         let bytes = hex_word(self.alloc, bytes)?;
@@ -119,32 +98,11 @@ impl<'a> Parser<'a> {
         })))
     }
 
-    #[tactic(auto, using(crate::proofs::WordLemmas::plain_word), unfolding(crate::specs::Commands::cat_call))]
+    #[tactic(auto, unfolding(crate::specs::Commands::cat_call))]
     fn cat(&self) -> Result<Line, LineError>
         ensures { GivesLine result (line_asked self.now.queue Command.Cat self.now.words) }
     {
         let (path, offset, count) = self.three()?;
-        if has_escape(path) {
-            return self.escaped_cat();
-        }
-        let offset = u64_word(offset)?;
-        let count = u32_word(count)?;
-        let path = path_of(self.alloc, path)?;
-        Ok(plain(Call::File(FileCall::ReadFile {
-            path,
-            offset,
-            count,
-        })))
-    }
-
-    /// `cat` where a byte of the path is escaped.
-    #[tactic(auto, unfolding(crate::specs::Commands::cat_call))]
-    #[cold]
-    #[inline(never)]
-    fn escaped_cat(&self) -> Result<Line, LineError>
-        ensures { GivesLine result (line_asked self.now.queue Command.Cat self.now.words) }
-    {
-        let (path, offset, count) = self.three()?;
         let text = path_word(self.alloc, path)?;
         let offset = u64_word(offset)?;
         let count = u32_word(count)?;
@@ -156,24 +114,8 @@ impl<'a> Parser<'a> {
         })))
     }
 
-    #[tactic(auto, using(crate::proofs::WordLemmas::plain_word), unfolding(crate::specs::Commands::truncate_call))]
-    fn truncate(&self) -> Result<Line, LineError>
-        ensures { GivesLine result (line_asked self.now.queue Command.Truncate self.now.words) }
-    {
-        let (path, len) = self.two()?;
-        if has_escape(path) {
-            return self.escaped_truncate();
-        }
-        let len = u64_word(len)?;
-        let path = path_of(self.alloc, path)?;
-        Ok(plain(Call::File(FileCall::Truncate { path, len })))
-    }
-
-    /// `truncate` where a byte of the path is escaped.
     #[tactic(auto, unfolding(crate::specs::Commands::truncate_call))]
-    #[cold]
-    #[inline(never)]
-    fn escaped_truncate(&self) -> Result<Line, LineError>
+    fn truncate(&self) -> Result<Line, LineError>
         ensures { GivesLine result (line_asked self.now.queue Command.Truncate self.now.words) }
     {
         let (path, len) = self.two()?;
@@ -218,24 +160,8 @@ impl<'a> Parser<'a> {
         Ok(plain(Call::File(FileCall::Rename { old, new })))
     }
 
-    #[tactic(auto, using(crate::proofs::WordLemmas::plain_word), unfolding(crate::specs::Commands::rename2_call))]
-    fn rename2(&self) -> Result<Line, LineError>
-        ensures { GivesLine result (line_asked self.now.queue Command.Rename2 self.now.words) }
-    {
-        let (old, new, flags) = self.three()?;
-        if has_escape(old) || has_escape(new) {
-            return self.escaped_rename2();
-        }
-        let flags = u32_word(flags)?;
-        let (old, new) = paths_of(self.alloc, old, new)?;
-        Ok(plain(Call::File(FileCall::Rename2 { old, new, flags })))
-    }
-
-    /// `rename2` where a byte of a path is escaped.
     #[tactic(auto, unfolding(crate::specs::Commands::rename2_call))]
-    #[cold]
-    #[inline(never)]
-    fn escaped_rename2(&self) -> Result<Line, LineError>
+    fn rename2(&self) -> Result<Line, LineError>
         ensures { GivesLine result (line_asked self.now.queue Command.Rename2 self.now.words) }
     {
         let (old, new, flags) = self.three()?;
