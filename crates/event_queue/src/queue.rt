@@ -198,7 +198,7 @@ impl Queue {
         self.limit
     }
 
-    // Whether the last record that waits is identical to the event.
+    /// Whether the last record that waits is identical to the event.
     #[tactic(auto, unfolding(crate::specs::Backlogs::is_repeated))]
     fn ends_with(&self, event: &Event) -> bool
         ensures { result ≡ is_repeated self.now.waiting event.now }
@@ -209,7 +209,7 @@ impl Queue {
         }
     }
 
-    // Whether an overflow mark waits. If none does, the slot beyond the limit is free.
+    /// Whether an overflow mark waits. If none does, the slot beyond the limit is free.
     fn has_mark(&self) -> bool
         ensures value { result ≡ has_mark self.now.waiting }
         ensures room { result ≡ false → length self.now.waiting ≤ self.now.limit }
@@ -217,7 +217,7 @@ impl Queue {
         0 < self.marks
     }
 
-    // Appends a record. The slot beyond the limit is for a mark.
+    /// Appends a record. The slot beyond the limit is for a mark.
     #[tactic(auto, using(crate::proofs::OfferLemmas::joins))]
     #[inline(always)]
     fn join(&mut self, event: Event)
@@ -232,7 +232,7 @@ impl Queue {
     }
 }
 
-// The record that says that events were lost.
+/// The record that says that events were lost.
 #[tactic(auto, unfolding(crate::specs::Backlogs::overflow_mark))]
 fn overflow_mark() -> Event
     ensures { result ≡ overflow_mark }
@@ -245,7 +245,7 @@ fn overflow_mark() -> Event
     }
 }
 
-// Whether an event is an overflow mark. The descriptor mostly says that it is not.
+/// Whether an event is an overflow mark. The descriptor mostly says that it is not.
 #[tactic(auto, using(crate::proofs::EventLemmas::is_mark_other), unfolding(crate::specs::Backlogs::is_mark))]
 #[inline(always)]
 fn is_mark(event: &Event) -> bool
@@ -257,7 +257,7 @@ fn is_mark(event: &Event) -> bool
     is_identical(event, &overflow_mark())
 }
 
-// Whether two events have the same descriptor, mask, cookie and name.
+/// Whether two events have the same descriptor, mask, cookie and name.
 #[tactic(auto, using(crate::proofs::EventLemmas::event_eq_regrouped))]
 fn is_identical(left: &Event, right: &Event) -> bool
     ensures { result ≡ event_eq left.now right.now }

@@ -11,8 +11,8 @@ use tree_paths::Refusal;
 /// More allocations than a queue makes.
 const MOST: u32 = 9;
 
-// How many allocations a new queue makes, where each of them fails in turn and the answer is ENOMEM. None if an answer
-// is another.
+/// How many allocations a new queue makes, where each of them fails in turn and the answer is ENOMEM. None if an answer
+/// is another.
 fn refused_in_turn(alloc: Global, limit: u32) -> Option<u32> {
     for k in 1..MOST {
         let _ = refuse(alloc, k);
@@ -38,7 +38,7 @@ fn each_growth_of_a_new_queue(rt: HostRuntime) {
     }
 }
 
-// What becomes of each event, in a queue from which one is taken before the fifth and before the sixth.
+/// What becomes of each event, in a queue from which one is taken before the fifth and before the sixth.
 fn fates(queue: &mut Queue, events: [Event; 7]) -> [Offered; 7] {
     let [a, b, c, d, e, g, again] = events;
     let first = [
@@ -54,7 +54,7 @@ fn fates(queue: &mut Queue, events: [Event; 7]) -> [Offered; 7] {
     [a, b, c, d, fifth, queue.offer(g), queue.offer(again)]
 }
 
-// The descriptors of what waits, and how many records fit into 48 bytes.
+/// The descriptors of what waits, and how many records fit into 48 bytes.
 fn waiting(queue: &mut Queue) -> (usize, usize, i32, i32, bool) {
     let fits = queue.fit(48);
     let peeked = match queue.peek(0) {
@@ -104,7 +104,7 @@ fn no_call_takes_memory(rt: HostRuntime) -> Result<(), Fail> {
     Ok(())
 }
 
-// A full queue: a record whose name takes memory, and the overflow mark.
+/// A full queue: a record whose name takes memory, and the overflow mark.
 fn full(alloc: Global) -> Result<Queue, Refusal> {
     let mut queue = Queue::with_limit(alloc, 1)?;
     queue.offer(made(alloc, b"a name that takes more bytes than its record has")?);
@@ -112,7 +112,7 @@ fn full(alloc: Global) -> Result<Queue, Refusal> {
     Ok(queue)
 }
 
-// How many allocations a copy makes, if each fails in turn and the answer is ENOMEM. None if an answer is another.
+/// How many allocations a copy makes, if each fails in turn and the answer is ENOMEM. None if an answer is another.
 fn copy_refused(alloc: Global, queue: &Queue) -> Option<u32> {
     for k in 1..MOST {
         let _ = refuse(alloc, k);

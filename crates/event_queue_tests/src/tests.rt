@@ -5,18 +5,18 @@ use std::fmt::Debug;
 use std::process::Abort;
 use tree_paths::{Limits, Refusal};
 
-// Asserts that two values are equal. Tests assert in these two functions, because the macros in a long body take
-// minutes to prove.
+/// Asserts that two values are equal. Tests assert in these two functions, because the macros in a long body take
+/// minutes to prove.
 pub(crate) fn equal<T: PartialEq + Debug + Drop>(rt: &impl Abort, got: T, wanted: T) {
     assert_eq!(rt; got, wanted);
 }
 
-// Asserts a condition.
+/// Asserts a condition.
 pub(crate) fn holds(rt: &impl Abort, what: &str, is_so: bool) {
     assert!(rt; is_so, "{what}");
 }
 
-// The event of a new file of this name in the directory of watch 1.
+/// The event of a new file of this name in the directory of watch 1.
 pub(crate) fn made(alloc: Global, name: &[u8]) -> Result<Event, AllocError> {
     Ok(Event {
         wd: 1,
@@ -72,7 +72,7 @@ fn limit_two(rt: HostRuntime) -> Result<(), Refusal> {
     Ok(())
 }
 
-// The record that says that events were lost.
+/// The record that says that events were lost.
 fn overflow_mark() -> Event {
     Event {
         wd: -1,
@@ -82,7 +82,7 @@ fn overflow_mark() -> Event {
     }
 }
 
-// An event of watch 1 that has no name, and so does not allocate.
+/// An event of watch 1 that has no name, and so does not allocate.
 fn touched(cookie: u32) -> Event {
     Event {
         wd: 1,

@@ -107,8 +107,8 @@ pub fn stage(
     Ok(())
 }
 
-// Adds the events that notices raise for an instance, and the descriptors of the watches that they end, where none is
-// there.
+/// Adds the events that notices raise for an instance, and the descriptors of the watches that they end, where none is
+/// there.
 fn raise(
     id: u32,
     watches: &Watches,
@@ -134,7 +134,7 @@ fn raise(
     Ok(())
 }
 
-// Adds the watches of an instance that end.
+/// Adds the watches of an instance that end.
 fn end(id: u32, wds: &[i32], drops: &mut Vec<StagedEnd>) -> Result<(), AllocError>
     ensures { OnOk result (drops.new.items ≡ drops.old.items ++ map (staged_end id) wds.now) }
 {
@@ -144,7 +144,7 @@ fn end(id: u32, wds: &[i32], drops: &mut Vec<StagedEnd>) -> Result<(), AllocErro
     Ok(())
 }
 
-// Adds what a notice raises for the watch of its file, and the descriptor of the watch where it ends that.
+/// Adds what a notice raises for the watch of its file, and the descriptor of the watch where it ends that.
 #[inline(always)]
 fn raise_one(
     id: u32,
@@ -169,7 +169,7 @@ fn raise_one(
     Ok(())
 }
 
-// Adds the event of a notice, where the watch asks for it. It is made in the slot that it is kept in.
+/// Adds the event of a notice, where the watch asks for it. It is made in the slot that it is kept in.
 #[inline(always)]
 fn raise_told(
     id: u32,
@@ -208,7 +208,7 @@ fn raise_told(
     Ok(())
 }
 
-// The watch of a file, where it is left without the descriptors.
+/// The watch of a file, where it is left without the descriptors.
 #[inline(always)]
 fn watch_left(
     watches: &Watches,
@@ -229,21 +229,21 @@ fn watch_left(
     Some(watch)
 }
 
-// Whether a mask has one of these bits.
+/// Whether a mask has one of these bits.
 fn has_any(mask: u32, bits: u32) -> bool
     ensures { result ≡ has_any mask bits }
 {
     mask & bits != 0
 }
 
-// Whether a watch asks for the event of these bits.
+/// Whether a watch asks for the event of these bits.
 fn asks_for(watch: (i32, u32), bits: u32) -> bool
     ensures { result ≡ asks_for watch bits }
 {
     has_any(watch.1, bits & bits::IN_ALL_EVENTS)
 }
 
-// Whether a notice ends the watch of its file.
+/// Whether a notice ends the watch of its file.
 fn ends_watch(notice: &Notice, watch: (i32, u32)) -> bool
     ensures { result ≡ ends_watch notice.now watch }
 {

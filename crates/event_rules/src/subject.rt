@@ -45,7 +45,7 @@ impl<'a> Subject<'a> {
         }
     }
 
-    // That of the path of the call, or of the old one.
+    /// That of the path of the call, or of the old one.
     #[inline(always)]
     pub(crate) fn at_path(ready: &'a Ready) -> Subject<'a>
         ensures tree { result.tree ≡ ready.now.tree }
@@ -54,7 +54,7 @@ impl<'a> Subject<'a> {
         Subject::new(ready.path())
     }
 
-    // That of the new path.
+    /// That of the new path.
     #[inline(always)]
     pub(crate) fn at_other_path(ready: &'a Ready) -> Subject<'a>
         ensures tree { result.tree ≡ ready.now.tree }
@@ -81,7 +81,7 @@ impl<'a> Subject<'a> {
         self.directory
     }
 
-    // The bytes of a file that is there.
+    /// The bytes of a file that is there.
     pub(crate) fn content(&self) -> &'a [u8]
         requires { IsSome (look (world_of self.now.tree) self.now.path.names) }
         ensures { result.now ≡ bytes_at (world_of self.now.tree) self.now.path.names }

@@ -28,7 +28,7 @@ fn kind_seen(seen: Option<Seen>) -> Kind
     }
 }
 
-// The bits of an event that is about an object of this kind.
+/// The bits of an event that is about an object of this kind.
 fn about(kind: Kind, event: u32) -> u32
     ensures { result ≡ about kind event }
 {
@@ -39,7 +39,7 @@ fn about(kind: Kind, event: u32) -> u32
 }
 
 impl Notices {
-    // Notifies the directory of a path's last name of an object of this kind there.
+    /// Notifies the directory of a path's last name of an object of this kind there.
     #[tactic(auto, unfolding(crate::specs::Table::to_dir))]
     fn notify_directory(
         &mut self,
@@ -65,7 +65,7 @@ impl Notices {
         })
     }
 
-    // Notifies an object itself.
+    /// Notifies an object itself.
     fn notify_file(&mut self, seen: Option<Seen>, bits: u32) -> Result<(), AllocError>
         ensures { OnOk result (self.new ≡ self.old ++ to_self seen bits) }
     {
@@ -80,7 +80,7 @@ impl Notices {
         }
     }
 
-    // Notifies both.
+    /// Notifies both.
     #[tactic(auto, unfolding(crate::specs::Table::to_both))]
     fn notify_both(&mut self, at: &Subject, event: u32) -> Result<(), AllocError>
         ensures { OnOk result (self.new ≡ self.old ++ to_both (look (world_of at.now.tree)) at.now.path.names event) }
@@ -91,7 +91,7 @@ impl Notices {
         self.notify_file(seen, about(kind, event))
     }
 
-    // Notifies an object that it loses a path.
+    /// Notifies an object that it loses a path.
     #[tactic(auto, unfolding(crate::specs::Table::path_lost))]
     fn notify_path_lost(&mut self, seen: Option<Seen>) -> Result<(), AllocError>
         ensures { OnOk result (self.new ≡ self.old ++ path_lost seen) }
@@ -145,7 +145,7 @@ fn write(told: &mut Notices, at: &Subject, is_given: bool) -> Result<(), AllocEr
     Ok(())
 }
 
-// Whether a read answers a byte.
+/// Whether a read answers a byte.
 fn is_answered(at: &Subject, offset: u64, count: u32) -> bool
     ensures { result ≡ answers_byte
         (answer_of (world_of at.now.tree) no_counts (ReadFile at.now.path.names offset count)) }
@@ -256,7 +256,7 @@ fn exchange(told: &mut Notices, old: &Subject, new: &Subject, cookie: u32) -> Re
     Ok(())
 }
 
-// The notices of a call that moves nothing.
+/// The notices of a call that moves nothing.
 fn notify_unmoved(told: &mut Notices, ready: &Ready, cookie: u32) -> Result<(), AllocError>
     requires empty { told.old ≡ [] }
     requires still { moves_of (world_of ready.now.tree) ready.now.plan.call ≡ Moves.Nothing }
@@ -282,7 +282,7 @@ fn notify_unmoved(told: &mut Notices, ready: &Ready, cookie: u32) -> Result<(), 
     }
 }
 
-// The notices of a call.
+/// The notices of a call.
 fn notify_call(told: &mut Notices, ready: &Ready, cookie: u32) -> Result<(), AllocError>
     requires empty { told.old ≡ [] }
     requires cookies { cookie + cookies_of (world_of ready.now.tree) ready.now.plan.call ≤ 2 ^ 32 }

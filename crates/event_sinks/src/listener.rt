@@ -72,7 +72,7 @@ pub struct Ended<S> {
     cause: Cause,
 }
 
-// Puts the records of a batch one by one, until one is refused. Why the listener ends with this batch, if it does.
+/// Puts the records of a batch one by one, until one is refused. Why the listener ends with this batch, if it does.
 fn put_batch<S: Sink>(sink: &mut S, batch: &Batch) -> Option<Cause>
     requires { S.is_open sink.old ≡ true }
     ensures is_open { S.is_open sink.new ≡ true }
@@ -142,7 +142,7 @@ impl<S: Sink> Listening<S> {
         Step::Took
     }
 
-    // Steps where the gate lets this turn through. Whether nothing more can come.
+    /// Steps where the gate lets this turn through. Whether nothing more can come.
     fn is_over_at<G: Gate>(&mut self, gate: &G, turn: u64) -> bool
         requires { IsSoundListener (state_of_listener S.record_list S.is_open self.old) }
         ensures sound { IsSoundListener (state_of_listener S.record_list S.is_open self.new) }
@@ -158,7 +158,7 @@ impl<S: Sink> Listening<S> {
         gate.pass(self.intake.number, turn) && self.step() == Step::Over
     }
 
-    // Ends it for this cause, where none came before.
+    /// Ends it for this cause, where none came before.
     fn end(self, given: Cause) -> Ended<S>
         requires sound { IsSoundListener (state_of_listener S.record_list S.is_open self) }
         requires given { IsFromOutside given }

@@ -41,7 +41,7 @@ struct Track {
     progress: Progress,
 }
 
-// The first fault, by instance number.
+/// The first fault, by instance number.
 pub(crate) fn first_unserved<S>(
     alloc: Global,
     book: &Book,
@@ -55,7 +55,7 @@ pub(crate) fn first_unserved<S>(
     Ok(first_fault(&tracks, ended, book.snapshot().place))
 }
 
-// What is known of each pipe of a book, and of each instance for which a listener ended. Nothing is compared yet.
+/// What is known of each pipe of a book, and of each instance for which a listener ended. Nothing is compared yet.
 fn tracks_of<S>(
     alloc: Global,
     book: &Book,
@@ -71,7 +71,7 @@ fn tracks_of<S>(
     Ok(tracks)
 }
 
-// A blank track of each of these numbers.
+/// A blank track of each of these numbers.
 fn piped_tracks(alloc: Global, pipes: &[u32]) -> Result<BTreeMap<u32, Track>, AllocError>
     ensures { IfOk result (λ m.
         (n : ℕ) → MatchOption (track_at m n) (Lacks pipes.now n) (λ t. IsIn pipes.now n × (t ≡ blank true))) }
@@ -83,7 +83,7 @@ fn piped_tracks(alloc: Global, pipes: &[u32]) -> Result<BTreeMap<u32, Track>, Al
     Ok(tracks)
 }
 
-// Puts the track of a number.
+/// Puts the track of a number.
 fn put(tracks: &mut BTreeMap<u32, Track>, number: u32, track: Track) -> Result<(), AllocError>
     ensures { OnOk result ((n : ℕ)
         → track_at tracks.new n ≡ if n == number then Some track else track_at tracks.old n) }
@@ -92,7 +92,7 @@ fn put(tracks: &mut BTreeMap<u32, Track>, number: u32, track: Track) -> Result<(
     Ok(())
 }
 
-// Notes that the listener at this index ended for an instance.
+/// Notes that the listener at this index ended for an instance.
 fn note(tracks: &mut BTreeMap<u32, Track>, number: u32, at: usize) -> Result<(), AllocError>
     ensures { OnOk result ((n : ℕ)
         → track_at tracks.new n
@@ -105,7 +105,7 @@ fn note(tracks: &mut BTreeMap<u32, Track>, number: u32, at: usize) -> Result<(),
     put(tracks, number, track.noting(at))
 }
 
-// Compares what each entry hands over with the next batch of the listener of its instance.
+/// Compares what each entry hands over with the next batch of the listener of its instance.
 fn hand_all<S>(tracks: &mut BTreeMap<u32, Track>, book: &Book, ended: &[Ended<S>])
     requires { (n : ℕ) → IsTracked book.now (outcomes ended.now) (batches_of book.now n) n (track_at tracks.old n) }
     ensures { (n : ℕ) → IsTracked book.now (outcomes ended.now) [] n (track_at tracks.new n) }
@@ -120,7 +120,7 @@ fn hand_all<S>(tracks: &mut BTreeMap<u32, Track>, book: &Book, ended: &[Ended<S>
     }
 }
 
-// Compares what an entry hands over with the next batch of the listener of its instance.
+/// Compares what an entry hands over with the next batch of the listener of its instance.
 fn hand_entry<S>(
     tracks: &mut BTreeMap<u32, Track>,
     ended: &[Ended<S>],
@@ -137,7 +137,7 @@ fn hand_entry<S>(
     }
 }
 
-// Compares a batch with the next one of the listener of its instance.
+/// Compares a batch with the next one of the listener of its instance.
 fn hand<S>(
     tracks: &mut BTreeMap<u32, Track>,
     ended: &[Ended<S>],
@@ -156,7 +156,7 @@ fn hand<S>(
     }
 }
 
-// The number of the instance to which an entry hands a batch, and the bytes of its records.
+/// The number of the instance to which an entry hands a batch, and the bytes of its records.
 fn given(entry: &Entry) -> Option<(u32, &[u8])>
     ensures { option_map (λ g. (g.0, g.1.now)) result ≡ given_by entry.now.call entry.now.reply }
 {
@@ -173,7 +173,7 @@ fn given(entry: &Entry) -> Option<(u32, &[u8])>
     }
 }
 
-// Where the next batch since the cut stands, from here on.
+/// Where the next batch since the cut stands, from here on.
 fn next_since(handed: &[Batch], cut: u64, from: usize) -> usize
     ensures same { since cut (drop result handed.now) ≡ since cut (drop from handed.now) }
     ensures later { result < length handed.now → cut < (get_or handed.now result (batch 0 0 [])).place }
@@ -186,7 +186,7 @@ fn next_since(handed: &[Batch], cut: u64, from: usize) -> usize
     handed.len()
 }
 
-// Whether it is the batch of this instance and sequence number whose records these bytes spell.
+/// Whether it is the batch of this instance and sequence number whose records these bytes spell.
 fn is_batch(one: &Batch, instance: u32, place: u64, bytes: &[u8]) -> bool
     ensures { (b : Batch) → IsSpelled b instance place bytes.now → IsTrue result ↔ (b ≡ one.now) }
 {
@@ -194,14 +194,14 @@ fn is_batch(one: &Batch, instance: u32, place: u64, bytes: &[u8]) -> bool
     is_at(one, instance, place) && spells(one.records.as_slice(), bytes)
 }
 
-// Whether it is a batch of this instance and sequence number.
+/// Whether it is a batch of this instance and sequence number.
 fn is_at(one: &Batch, instance: u32, place: u64) -> bool
     ensures { IsTrue result ↔ ((one.now.instance ≡ instance) × (one.now.place ≡ place)) }
 {
     one.instance == instance && one.place == place
 }
 
-// The batches that the listener at an index was handed.
+/// The batches that the listener at an index was handed.
 fn handed_at<S>(ended: &[Ended<S>], at: Option<usize>) -> &[Batch]
     ensures { result.now ≡ handed_at (outcomes ended.now) at }
 {
@@ -211,7 +211,7 @@ fn handed_at<S>(ended: &[Ended<S>], at: Option<usize>) -> &[Batch]
     }
 }
 
-// Whether the listener at an index ended by the end batch.
+/// Whether the listener at an index ended by the end batch.
 fn is_ended_at<S>(ended: &[Ended<S>], at: Option<usize>) -> bool
     ensures { IsTrue result ↔ EndsLastAt (outcomes ended.now) at }
 {
@@ -221,7 +221,7 @@ fn is_ended_at<S>(ended: &[Ended<S>], at: Option<usize>) -> bool
     }
 }
 
-// What is wrong with the least number with which anything is.
+/// What is wrong with the least number with which anything is.
 fn first_fault<S>(
     tracks: &BTreeMap<u32, Track>,
     ended: &[Ended<S>],
@@ -240,7 +240,7 @@ fn first_fault<S>(
     None
 }
 
-// What is wrong with an instance, once all batches were compared.
+/// What is wrong with an instance, once all batches were compared.
 fn fault_of<S>(number: u32, track: &Track, ended: &[Ended<S>], cut: u64) -> Option<SettleFault>
     ensures { (b : BookContents) → b.state.place ≡ cut → IsTracked b (outcomes ended.now) [] number (Some track.now)
         → MatchOption result (IsServedAt b (outcomes ended.now) number)
@@ -267,7 +267,7 @@ fn fault_of<S>(number: u32, track: &Track, ended: &[Ended<S>], cut: u64) -> Opti
 }
 
 impl Track {
-    // Of an instance for which no listener is known yet.
+    /// Of an instance for which no listener is known yet.
     fn blank(is_piped: bool) -> Track
         ensures { result ≡ blank is_piped }
     {
@@ -282,7 +282,7 @@ impl Track {
         }
     }
 
-    // The same once one more listener ended, the one at this index.
+    /// The same once one more listener ended, the one at this index.
     fn noting(self, at: usize) -> Track
         ensures { result ≡ noted at (Some self) }
     {
@@ -301,7 +301,7 @@ impl Track {
 }
 
 impl Progress {
-    // What it becomes by a batch that the journal hands over, where these were handed to the listener.
+    /// What it becomes by a batch that the journal hands over, where these were handed to the listener.
     fn after(self, handed: &[Batch], cut: u64, instance: u32, place: u64, bytes: &[u8]) -> Progress
         requires { cut < place }
         ensures { (b : Batch) → IsSpelled b instance place bytes.now → Follows cut handed.now (b ∷ []) self result }
@@ -323,7 +323,7 @@ impl Progress {
         }
     }
 
-    // The sequence number of the first batch that is not the journal's, if no more is handed over.
+    /// The sequence number of the first batch that is not the journal's, if no more is handed over.
     fn difference(self, handed: &[Batch], cut: u64) -> Option<u64>
         ensures { Comes cut [] handed.now self result }
     {

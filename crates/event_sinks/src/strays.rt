@@ -9,7 +9,7 @@ use shared_tree::{Book, SeatLog};
 use std::alloc::{AllocError, Global};
 use tree_core::{Entry, Kept};
 
-// How many calls the seats kept, as far as a `u64` can say.
+/// How many calls the seats kept, as far as a `u64` can say.
 pub(crate) fn count_calls(logs: &[SeatLog]) -> u64
     ensures { result ≡ min (calls_of logs.now) 18446744073709551615 }
 {
@@ -20,7 +20,7 @@ pub(crate) fn count_calls(logs: &[SeatLog]) -> u64
     calls
 }
 
-// Whether the seats kept this number of calls.
+/// Whether the seats kept this number of calls.
 pub(crate) fn are_as_many(entries: u64, logs: &[SeatLog]) -> bool
     ensures { IsTrue result ↔ (entries ≡ calls_of logs.now) }
 {
@@ -35,7 +35,7 @@ pub(crate) fn are_as_many(entries: u64, logs: &[SeatLog]) -> bool
     left == 0
 }
 
-// Whether the call can be the next one of the seat of this number. There is a mark for each sequence number.
+/// Whether the call can be the next one of the seat of this number. There is a mark for each sequence number.
 fn is_next(cut: u64, journal: &[Entry], seen: &[bool], number: u32, last: u64, kept: &Kept) -> bool
     requires { length seen.now ≡ cut + length journal.now }
     ensures { IsTrue result ↔ IsNext cut journal.now seen.now number last kept.now }
@@ -52,8 +52,8 @@ fn is_next(cut: u64, journal: &[Entry], seen: &[bool], number: u32, last: u64, k
     stands(cut, journal, number, kept)
 }
 
-// Whether a call whose sequence number is one of the whole journal is the journal's entry of that number, if it is
-// above the cut's.
+/// Whether a call whose sequence number is one of the whole journal is the journal's entry of that number, if it is
+/// above the cut's.
 fn stands(cut: u64, journal: &[Entry], number: u32, kept: &Kept) -> bool
     requires low { 0 < kept.now.place }
     requires high { kept.now.place ≤ cut + length journal.now }
@@ -71,7 +71,7 @@ fn stands(cut: u64, journal: &[Entry], number: u32, kept: &Kept) -> bool
     entry.call.is_same(&kept.call) && entry.reply.is_same(&kept.reply)
 }
 
-// Marks the sequence numbers of a seat's calls, if each call can be the next one.
+/// Marks the sequence numbers of a seat's calls, if each call can be the next one.
 fn is_clean(cut: u64, journal: &[Entry], seen: &mut [bool], log: &SeatLog) -> bool
     requires { length seen.old ≡ cut + length journal.now }
     ensures clean { OnTrue result (AreNext cut journal.now seen.old log.now.number 0 log.now.kept) }
@@ -89,8 +89,8 @@ fn is_clean(cut: u64, journal: &[Entry], seen: &mut [bool], log: &SeatLog) -> bo
     true
 }
 
-// The first seat whose kept calls are not the book's. It takes time in proportion to the sequence numbers and the kept
-// calls. It fails if it is out of memory for the marks, one for each sequence number.
+/// The first seat whose kept calls are not the book's. It takes time in proportion to the sequence numbers and the kept
+/// calls. It fails if it is out of memory for the marks, one for each sequence number.
 pub(crate) fn first_stray(
     alloc: Global,
     book: &Book,
@@ -104,7 +104,7 @@ pub(crate) fn first_stray(
     stray_of(alloc, book.snapshot().place, book.journal(), logs)
 }
 
-// The same of a cut and the entries since it.
+/// The same of a cut and the entries since it.
 fn stray_of(
     alloc: Global,
     cut: u64,

@@ -19,18 +19,18 @@ use std::sync::Arc;
 use std::sync::atomic::{AtomicU64, Ordering};
 use std::test::Fail;
 
-// Asserts that two values are equal. Tests assert in these two functions, because the macros in a long body take
-// minutes to prove.
+/// Asserts that two values are equal. Tests assert in these two functions, because the macros in a long body take
+/// minutes to prove.
 fn equal<T: PartialEq + Debug + Drop>(rt: &impl Abort, got: T, wanted: T) {
     assert_eq!(rt; got, wanted);
 }
 
-// Asserts a condition.
+/// Asserts a condition.
 fn holds(rt: &impl Abort, what: &str, is_so: bool) {
     assert!(rt; is_so, "{what}");
 }
 
-// The event of a new file `f` in the directory of watch 1.
+/// The event of a new file `f` in the directory of watch 1.
 fn created(alloc: Global) -> Result<Event, Fail> {
     let name = Name::new(alloc, b"f")?;
     Ok(Event {
@@ -41,7 +41,7 @@ fn created(alloc: Global) -> Result<Event, Fail> {
     })
 }
 
-// The overflow mark.
+/// The overflow mark.
 fn overflow() -> Event {
     Event {
         wd: -1,
@@ -99,7 +99,7 @@ impl Write for CountingWriter {
     }
 }
 
-// Puts the record so many times, or until it is refused. Out of memory ends the test.
+/// Puts the record so many times, or until it is refused. Out of memory ends the test.
 fn put_all<S: Sink>(sink: &mut S, event: &Event, times: u64) -> Result<Option<SinkFault>, Fail>
     requires { S.is_open sink.old ≡ true }
     ensures { S.is_open sink.new ≡ true }
@@ -114,7 +114,7 @@ fn put_all<S: Sink>(sink: &mut S, event: &Event, times: u64) -> Result<Option<Si
     Ok(None)
 }
 
-// Puts three records and closes. Returns the fault, how many it took, and whether it was open before and after.
+/// Puts three records and closes. Returns the fault, how many it took, and whether it was open before and after.
 fn three<S: Sink>(mut sink: S, event: &Event) -> Result<(Option<SinkFault>, u64, bool, bool), Fail>
     requires { S.is_open sink ≡ true }
 {
@@ -124,7 +124,7 @@ fn three<S: Sink>(mut sink: S, event: &Event) -> Result<(Option<SinkFault>, u64,
     Ok((fault, sink.taken(), before, sink.is_open()))
 }
 
-// Puts three records into the sink and closes it, which is open until then. Asserts the fault and how many it took.
+/// Puts three records into the sink and closes it, which is open until then. Asserts the fault and how many it took.
 fn takes_three<S: Sink>(
     rt: &impl Abort,
     sink: S,
@@ -186,7 +186,7 @@ fn stops(rt: HostRuntime) -> Result<(), Fail> {
     Ok(())
 }
 
-// The text that a sink writes on such a sheet. It is put the record once, and once more if that was taken.
+/// The text that a sink writes on such a sheet. It is put the record once, and once more if that was taken.
 fn written(
     alloc: Global,
     step: usize,

@@ -178,7 +178,7 @@ impl Content {
     }
 }
 
-// Writes over the bytes from `offset` on, and fills a gap with zero bytes. The capacity is already reserved.
+/// Writes over the bytes from `offset` on, and fills a gap with zero bytes. The capacity is already reserved.
 fn write_at(bytes: &mut Vec<u8>, offset: usize, new: &[u8])
     requires { 0 < length new.now → offset + length new.now ≤ vec_capacity bytes.old }
     ensures { bytes.new.items ≡ written offset new.now bytes.old.items }
@@ -190,7 +190,7 @@ fn write_at(bytes: &mut Vec<u8>, offset: usize, new: &[u8])
     overwrite(bytes.as_mut_slice(), offset, new);
 }
 
-// Fills up with zero bytes to `end` bytes, for which capacity is already reserved. A longer file stays as it is.
+/// Fills up with zero bytes to `end` bytes, for which capacity is already reserved. A longer file stays as it is.
 fn fill_up(bytes: &mut Vec<u8>, end: usize)
     requires { end ≤ vec_capacity bytes.old }
     ensures { bytes.new.items ≡ bytes.old.items ++ replicate (end - length bytes.old.items) 0 }
@@ -203,7 +203,7 @@ fn fill_up(bytes: &mut Vec<u8>, end: usize)
     };
 }
 
-// Writes over the bytes from `offset` on.
+/// Writes over the bytes from `offset` on.
 fn overwrite(bytes: &mut [u8], offset: usize, new: &[u8])
     requires { offset + length new.now ≤ length bytes.old }
     ensures { bytes.new ≡ take offset bytes.old ++ (new.now ++ drop (offset + length new.now) bytes.old) }

@@ -110,7 +110,7 @@ impl Table {
         let _ = &self.nodes;
     }
 
-    // What is true of the rows, and what they have to do with the world.
+    /// What is true of the rows, and what they have to do with the world.
     fn rows_law(&self)
         ensures table { IsTable self.now.rows }
         ensures stands { Stands self.now (world_of self.now) }
@@ -119,7 +119,7 @@ impl Table {
         let _ = &self.nodes;
     }
 
-    // The node under a key.
+    /// The node under a key.
     fn node(&self, key: Key) -> &Node
         requires { IsSome (number_of self.now (Some key)) }
         ensures { row_under self.now.rows key ≡ Some (row_of result.now) }
@@ -131,7 +131,7 @@ impl Table {
     }
 }
 
-// Nothing, as the walk ends at this node.
+/// Nothing, as the walk ends at this node.
 fn missing_at(nodes: &Slab<Node>, key: usize) -> Found
     ensures { found_of result
         ≡ Err (if is_directory (rows_of nodes.now) key then Refusal.Enoent else Refusal.Enotdir) }

@@ -107,8 +107,8 @@ impl Ids {
     }
 }
 
-// Where a number is among rising ones, or else where it is put in. The last one is looked at first, as numbers mostly
-// come rising.
+/// Where a number is among rising ones, or else where it is put in. The last one is looked at first, as numbers mostly
+/// come rising.
 fn place_of(ids: &[u32], id: u32) -> Result<usize, usize>
     requires { IsStrictlySortedBy nat_cmp ids.now }
     ensures { IsPlace ids.now id result }

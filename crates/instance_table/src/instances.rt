@@ -243,7 +243,7 @@ impl Instances {
         move_oldest(&mut self.opened[found].instance.queue, count, records);
     }
 
-    // The open instance of a number. The index `next` is tried first, and is then the one behind the instance.
+    /// The open instance of a number. The index `next` is tried first, and is then the one behind the instance.
     pub(crate) fn get_next(&self, id: u32, next: &mut usize) -> Option<&Instance>
         ensures { option_copied result ≡ instance_of self.now id }
     {
@@ -254,8 +254,8 @@ impl Instances {
         Some(&self.opened[place].instance)
     }
 
-    // Raises an event, and the events for the same instance that directly follow it. The index `next` is tried first,
-    // and is then the one behind the instance.
+    /// Raises an event, and the events for the same instance that directly follow it. The index `next` is tried first,
+    /// and is then the one behind the instance.
     pub(crate) fn deliver_to(
         &mut self,
         first: StagedEvent,
@@ -272,7 +272,7 @@ impl Instances {
         offer_run(&mut self.opened[place].instance.queue, first, events);
     }
 
-    // Raises an event. The index `place` is tried first.
+    /// Raises an event. The index `place` is tried first.
     pub(crate) fn offer(&mut self, id: u32, place: usize, event: Event)
         ensures { self.new ≡ changed self.old id (λ i. record i { queue = after_offer i.queue event }) }
     {
@@ -282,8 +282,8 @@ impl Instances {
         offer_one(&mut self.opened[found].instance.queue, event);
     }
 
-    // Ends the watch of a descriptor, if there is one. The index `next` is tried first, and is then the one behind the
-    // instance.
+    /// Ends the watch of a descriptor, if there is one. The index `next` is tried first, and is then the one behind the
+    /// instance.
     pub(crate) fn end_watch(&mut self, id: u32, wd: i32, next: &mut usize)
         ensures { self.new ≡ changed self.old id (λ i. record i { watches = removed i.watches wd }) }
     {
@@ -300,7 +300,7 @@ impl Instances {
     }
 }
 
-// Watches a file for an instance, and notes it in the index. What fails leaves both as they were.
+/// Watches a file for an instance, and notes it in the index. What fails leaves both as they were.
 fn add_noted(
     index: &mut Index,
     watches: &mut Watches,
@@ -335,7 +335,7 @@ fn add_noted(
     }
 }
 
-// Takes the watches of an instance out of the index.
+/// Takes the watches of an instance out of the index.
 fn forget(index: &mut Index, watches: &Watches, id: u32)
     ensures rows { HasNoEmptyRow index.old → HasNoEmptyRow index.new }
     ensures noted { (n q : ℕ)
@@ -346,7 +346,7 @@ fn forget(index: &mut Index, watches: &Watches, id: u32)
     }
 }
 
-// Takes the oldest records out of a queue.
+/// Takes the oldest records out of a queue.
 fn drop_oldest(queue: &mut Queue, count: usize)
     ensures { queue.new ≡ record queue.old { waiting = drop count queue.old.waiting } }
 {
@@ -355,7 +355,7 @@ fn drop_oldest(queue: &mut Queue, count: usize)
     }
 }
 
-// Moves the oldest records out of a queue, behind those of a vector.
+/// Moves the oldest records out of a queue, behind those of a vector.
 fn move_oldest(queue: &mut Queue, count: usize, records: &mut Vec<Event>)
     requires room { vec_len records.old + count ≤ vec_capacity records.old }
     ensures queue { queue.new ≡ record queue.old { waiting = drop count queue.old.waiting } }

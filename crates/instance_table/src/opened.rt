@@ -13,8 +13,8 @@ pub(crate) struct Opened {
     pub(crate) instance: Instance,
 }
 
-// The index of the instance of a number among open ones, or else the index at which to insert it. The index `first` is
-// tried before any other.
+/// The index of the instance of a number among open ones, or else the index at which to insert it. The index `first` is
+/// tried before any other.
 #[inline(always)]
 pub(crate) fn place_of(rows: &[Opened], id: u32, first: usize) -> Result<usize, usize>
     requires { IsStrictlySortedBy nat_cmp (ids_of rows.now) }
@@ -28,8 +28,8 @@ pub(crate) fn place_of(rows: &[Opened], id: u32, first: usize) -> Result<usize, 
     find_row(rows, id)
 }
 
-// Where the instance of a number is, or else where it is put in. The last one is looked at first, as numbers mostly
-// come rising.
+/// Where the instance of a number is, or else where it is put in. The last one is looked at first, as numbers mostly
+/// come rising.
 fn find_row(rows: &[Opened], id: u32) -> Result<usize, usize>
     requires { IsStrictlySortedBy nat_cmp (ids_of rows.now) }
     ensures { IsPlace (ids_of rows.now) id result }

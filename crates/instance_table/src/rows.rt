@@ -22,7 +22,7 @@ pub struct InstanceRow {
     pub waiting: Events,
 }
 
-// The row of an instance.
+/// The row of an instance.
 pub(crate) fn instance_row(
     alloc: Global,
     id: u32,
@@ -41,7 +41,7 @@ pub(crate) fn instance_row(
     })
 }
 
-// The records that wait, once more.
+/// The records that wait, once more.
 fn waiting(alloc: Global, queue: &Queue) -> Result<Events, AllocError>
     ensures { IfOk result (λ events. events ≡ queue.now.waiting) }
 {

@@ -65,8 +65,8 @@ impl Instances {
         self.end_each(&staging.staged.drops);
     }
 
-    // The instances that watch a file of which one of the notices is. The answer is an index from which on the notices
-    // are of unwatched files.
+    /// The instances that watch a file of which one of the notices is. The answer is an index from which on the notices
+    /// are of unwatched files.
     fn recipients(&self, notices: &[Notice], ids: &mut Ids) -> Result<usize, AllocError>
         ensures ids { OnOk result ((q : ℕ) → is_some (finmap.get ids.new q)
             ≡ list_any (λ n. watches_file (told_number n) (instance_of self.now q)) notices.now) }
@@ -83,8 +83,8 @@ impl Instances {
         Ok(end)
     }
 
-    // Adds the instances that watch a file to those that watch the file of an earlier notice. The answer is `false`
-    // only if there are none.
+    /// Adds the instances that watch a file to those that watch the file of an earlier notice. The answer is `false`
+    /// only if there are none.
     #[inline(always)]
     fn add_watchers(&self, told: &[Notice], number: u32, ids: &mut Ids) -> Result<bool, AllocError>
         requires { (q : ℕ) → is_some (finmap.get ids.old q)
@@ -109,7 +109,7 @@ impl Instances {
         Ok(true)
     }
 
-    // Stages what notices raise for their recipients.
+    /// Stages what notices raise for their recipients.
     fn stage_each(
         &self,
         notices: &[Notice],
@@ -136,7 +136,7 @@ impl Instances {
         Ok(())
     }
 
-    // Raises events, one after the other.
+    /// Raises events, one after the other.
     fn deliver_each(&mut self, events: &mut VecDeque<StagedEvent>)
         ensures { self.new ≡ delivered_all self.old events.old.items }
     {
@@ -146,7 +146,7 @@ impl Instances {
         }
     }
 
-    // Ends watches, one after the other.
+    /// Ends watches, one after the other.
     fn end_each(&mut self, drops: &[StagedEnd])
         ensures { self.new ≡ ended_all self.old drops.now }
     {
@@ -157,7 +157,8 @@ impl Instances {
     }
 }
 
-// Whether one of the last two notices is for this file: a call mostly notifies an object and its directory alternately.
+/// Whether one of the last two notices is for this file: a call mostly notifies an object and its directory
+/// alternately.
 fn is_recent(notices: &[Notice], number: u32) -> bool
     ensures { IsTrue result → list_any (λ n. told_number n == number) notices.now ≡ true }
 {
@@ -167,7 +168,7 @@ fn is_recent(notices: &[Notice], number: u32) -> bool
         .any(|notice| notice.number() == number)
 }
 
-// Puts numbers in.
+/// Puts numbers in.
 fn add_all(ids: &mut Ids, more: &[u32]) -> Result<(), AllocError>
     ensures { OnOk result ((q : ℕ)
         → is_some (finmap.get ids.new q) ≡ (list_any (λ id. q == id) more.now || is_some (finmap.get ids.old q))) }
@@ -178,7 +179,7 @@ fn add_all(ids: &mut Ids, more: &[u32]) -> Result<(), AllocError>
     Ok(())
 }
 
-// An event's values fit their types, and its name is a name.
+/// An event's values fit their types, and its name is a name.
 fn fits(event: &Event)
     ensures { IsEvent event.now }
 {
@@ -188,7 +189,7 @@ fn fits(event: &Event)
     }
 }
 
-// Raises an event. What waits stays events.
+/// Raises an event. What waits stays events.
 #[inline(always)]
 pub(crate) fn offer_one(queue: &mut Queue, event: Event)
     ensures queue { queue.new ≡ after_offer queue.old event }
@@ -198,7 +199,7 @@ pub(crate) fn offer_one(queue: &mut Queue, event: Event)
     queue.offer(event);
 }
 
-// Raises an event, and those behind it of the same number.
+/// Raises an event, and those behind it of the same number.
 pub(crate) fn offer_run(queue: &mut Queue, first: StagedEvent, events: &mut VecDeque<StagedEvent>)
     ensures queue { (es : List Event) × (first ∷ events.old.items ≡ map (staged_event first.id) es ++ events.new.items)
         × (queue.new ≡ fold after_offer queue.old es) }

@@ -27,7 +27,7 @@ fn holds(rt: &impl Abort, what: &str, is_so: bool) {
 
 const FILE: u32 = 5;
 
-// Opens an instance whose queue takes ten records, unless the number is taken.
+/// Opens an instance whose queue takes ten records, unless the number is taken.
 fn open(instances: &mut Instances, id: u32) -> Result<bool, Refusal> {
     if instances.get(id).is_some() {
         return Ok(false);
@@ -36,7 +36,7 @@ fn open(instances: &mut Instances, id: u32) -> Result<bool, Refusal> {
     Ok(true)
 }
 
-// Watches a regular file for an open instance, for bits that are no fault.
+/// Watches a regular file for an open instance, for bits that are no fault.
 fn watch(instances: &mut Instances, id: u32, number: u32, bits: u32) -> Result<i32, Refusal> {
     let mask = Mask::of(bits);
     if instances.get(id).is_none() || mask.fault().is_some() {
@@ -45,7 +45,7 @@ fn watch(instances: &mut Instances, id: u32, number: u32, bits: u32) -> Result<i
     instances.watch(id, 0, number, mask, false)
 }
 
-// A notice of an event of the file.
+/// A notice of an event of the file.
 fn told(bits: u32) -> Notice {
     Notice::Told {
         number: FILE,
@@ -55,7 +55,7 @@ fn told(bits: u32) -> Notice {
     }
 }
 
-// Stages one notice for the instances, and delivers what it raises.
+/// Stages one notice for the instances, and delivers what it raises.
 fn tell(alloc: Global, instances: &mut Instances, notice: Notice) -> Result<(), Refusal> {
     let mut notices = Vec::new(alloc);
     notices.push(notice)?;
@@ -65,7 +65,7 @@ fn tell(alloc: Global, instances: &mut Instances, notice: Notice) -> Result<(), 
     Ok(())
 }
 
-// How many records wait, 99 where there is no such instance.
+/// How many records wait, 99 where there is no such instance.
 fn waiting(instances: &Instances, id: u32) -> usize {
     match instances.get(id) {
         Some(instance) => instance.queue.len(),
@@ -73,7 +73,7 @@ fn waiting(instances: &Instances, id: u32) -> usize {
     }
 }
 
-// Whether the record that waits at an index has this descriptor and this mask.
+/// Whether the record that waits at an index has this descriptor and this mask.
 fn waits(instances: &Instances, id: u32, index: usize, wd: i32, mask: u32) -> bool {
     let Some(instance) = instances.get(id) else {
         return false;
@@ -84,7 +84,7 @@ fn waits(instances: &Instances, id: u32, index: usize, wd: i32, mask: u32) -> bo
     }
 }
 
-// Instances 1 and 2, which watch the file for all events, and 3, which watches nothing.
+/// Instances 1 and 2, which watch the file for all events, and 3, which watches nothing.
 fn three(alloc: Global) -> Result<Instances, Refusal> {
     let mut instances = Instances::new(alloc);
     for id in 1..4 {
@@ -203,7 +203,7 @@ fn a_refused_watch_leaves_no_trace(rt: HostRuntime) -> Result<(), Fail> {
 // How many instances there may be at a time.
 const MOST: u32 = 128;
 
-// As many instances as there may be, of which the first and the last watch the file.
+/// As many instances as there may be, of which the first and the last watch the file.
 fn many(alloc: Global) -> Result<Instances, Refusal> {
     let mut instances = Instances::new(alloc);
     for id in 1..MOST + 1 {
@@ -214,7 +214,7 @@ fn many(alloc: Global) -> Result<Instances, Refusal> {
     Ok(instances)
 }
 
-// Whether nothing waits in any but the first and the last instance.
+/// Whether nothing waits in any but the first and the last instance.
 fn all_others_are_silent(instances: &Instances) -> bool {
     for id in 2..MOST {
         if waiting(instances, id) != 0 {
@@ -240,7 +240,7 @@ fn two_of_many_hear(rt: HostRuntime) -> Result<(), Fail> {
     Ok(())
 }
 
-// As many instances as there may be, all of which watch the file.
+/// As many instances as there may be, all of which watch the file.
 fn all_watch(alloc: Global) -> Result<Instances, Refusal> {
     let mut instances = Instances::new(alloc);
     for id in 1..MOST + 1 {
@@ -250,7 +250,7 @@ fn all_watch(alloc: Global) -> Result<Instances, Refusal> {
     Ok(instances)
 }
 
-// Whether one such record waits in each instance, and no other.
+/// Whether one such record waits in each instance, and no other.
 fn each_heard(instances: &Instances) -> bool {
     for id in 1..MOST + 1 {
         if waiting(instances, id) != 1 || !waits(instances, id, 0, 1, IN_CREATE) {

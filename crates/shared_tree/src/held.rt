@@ -73,7 +73,7 @@ impl<L: Ledger> Model for Held<L> {
     ghost invariant = { λ h. IsHeld h.core h.pipes.numbers (sents h.pipes.ends) h.book.total };
 }
 
-// Whether the journal takes one more entry.
+/// Whether the journal takes one more entry.
 fn check_room(core: &State) -> Result<(), Refusal>
     ensures free { OnOk result (¬ IsSpent core.now) }
     ensures errors { IfErr result (λ e. (e ≡ JournalFull) × IsSpent core.now) }
@@ -84,7 +84,7 @@ fn check_room(core: &State) -> Result<(), Refusal>
     Ok(())
 }
 
-// Reserves memory to keep one more call, if the journal takes one more.
+/// Reserves memory to keep one more call, if the journal takes one more.
 fn make_room(core: &State, kept: &mut Vec<Kept>) -> Result<(), Refusal>
     ensures items { kept.new.items ≡ kept.old.items }
     ensures room { OnOk result (vec_len kept.new < vec_capacity kept.new) }
@@ -96,7 +96,7 @@ fn make_room(core: &State, kept: &mut Vec<Kept>) -> Result<(), Refusal>
     Ok(())
 }
 
-// Carries a call out, and keeps it in the seat and the ledger.
+/// Carries a call out, and keeps it in the seat and the ledger.
 fn enter<L: Ledger>(
     core: &mut State,
     book: &mut ledger::Book<L>,
@@ -121,7 +121,7 @@ fn enter<L: Ledger>(
     Ok(receipt)
 }
 
-// Carries a pump out, keeps it in the seat and the ledger, and gives the records.
+/// Carries a pump out, keeps it in the seat and the ledger, and gives the records.
 fn enter_pump<L: Ledger>(
     core: &mut State,
     book: &mut ledger::Book<L>,
@@ -149,7 +149,7 @@ fn enter_pump<L: Ledger>(
     Ok((receipt, records))
 }
 
-// The instance that a call closes.
+/// The instance that a call closes.
 fn closed_by(call: &Call) -> Option<u32>
     ensures { result ≡ closed_of call.now }
 {
@@ -159,7 +159,7 @@ fn closed_by(call: &Call) -> Option<u32>
     }
 }
 
-// The end batch of an instance that was closed.
+/// The end batch of an instance that was closed.
 fn end_batch(alloc: Global, closed: Option<u32>, receipt: &Receipt) -> Option<Batch>
     ensures { result ≡ end_of closed receipt.now.place receipt.now.reply }
 {
@@ -174,7 +174,7 @@ fn end_batch(alloc: Global, closed: Option<u32>, receipt: &Receipt) -> Option<Ba
     }
 }
 
-// The batch of the records that were pumped.
+/// The batch of the records that were pumped.
 fn pumped_batch(instance: u32, place: u64, records: Option<Events>) -> Option<Batch>
     ensures { result ≡ option_map (batch instance place) records }
 {
@@ -188,7 +188,7 @@ fn pumped_batch(instance: u32, place: u64, records: Option<Events>) -> Option<Ba
     }
 }
 
-// Makes a pipe, and reserves memory for it beside the others, if the journal takes one more entry.
+/// Makes a pipe, and reserves memory for it beside the others, if the journal takes one more entry.
 fn make_pipe(
     alloc: Global,
     core: &State,

@@ -50,7 +50,7 @@ impl Model for Pipe {
 }
 
 impl Pipe {
-    // Whether no slot is free. The listener may free one at any time.
+    /// Whether no slot is free. The listener may free one at any time.
     pub(crate) fn is_full(&mut self) -> bool
         ensures sent { self.new.sent ≡ self.old.sent }
         ensures free { result ≡ false → 0 < self.new.free }
@@ -58,7 +58,7 @@ impl Pipe {
         self.producer.is_full()
     }
 
-    // Hands a batch over.
+    /// Hands a batch over.
     pub(crate) fn push(&mut self, batch: Batch)
         requires { 0 < self.old.free }
         ensures { self.new.sent ≡ self.old.sent ++ batch ∷ [] }
@@ -111,7 +111,7 @@ impl Feed {
         self.instance
     }
 
-    // The same end, for the instance of a number.
+    /// The same end, for the instance of a number.
     pub(crate) fn numbered(self, instance: u32) -> Feed
         ensures { result ≡ fed instance self.received self.slots }
     {
@@ -123,7 +123,7 @@ impl Feed {
     }
 }
 
-// Makes a pipe with this number of slots. Its feed has no number yet.
+/// Makes a pipe with this number of slots. Its feed has no number yet.
 pub(crate) fn open_pipe(alloc: Global, slots: usize) -> Result<(Pipe, Feed), AllocError>
     ensures { IfOk result (λ r. (r.0.sent ≡ []) × (r.1 ≡ fed 0 [] slots)) }
 {

@@ -37,7 +37,7 @@ impl Model for Pipes {
     ghost invariant = { λ p. IsRising p.numbers.items × (length p.numbers.items ≡ length p.ends.items) };
 }
 
-// Where the pipe of an instance is, by its number.
+/// Where the pipe of an instance is, by its number.
 fn find(numbers: &[u32], instance: u32) -> Option<usize>
     requires { IsRising numbers.now }
     ensures { IsPlaceOf numbers.now instance result }
@@ -45,7 +45,7 @@ fn find(numbers: &[u32], instance: u32) -> Option<usize>
     numbers.binary_search(&instance).ok()
 }
 
-// Whether the pipe at an index has no free slot.
+/// Whether the pipe at an index has no free slot.
 fn is_full_at(pipes: &mut Vec<Pipe>, at: usize) -> bool
     requires { at < length pipes.old.items }
     ensures sent { sents pipes.new.items ≡ sents pipes.old.items }
@@ -55,7 +55,7 @@ fn is_full_at(pipes: &mut Vec<Pipe>, at: usize) -> bool
     pipe.is_full()
 }
 
-// Hands a batch to the pipe at an index.
+/// Hands a batch to the pipe at an index.
 fn push_at(pipes: &mut Vec<Pipe>, at: usize, batch: Batch)
     requires { FreeAt pipes.old.items at }
     ensures { sents pipes.new.items ≡ pushed_at (sents pipes.old.items) at batch }
@@ -65,7 +65,7 @@ fn push_at(pipes: &mut Vec<Pipe>, at: usize, batch: Batch)
 }
 
 impl Pipes {
-    // No pipes.
+    /// No pipes.
     pub(crate) fn new(alloc: Global) -> Pipes
         ensures { (result.numbers ≡ []) × (result.ends ≡ []) }
     {
@@ -75,14 +75,14 @@ impl Pipes {
         }
     }
 
-    // The numbers of their instances, rising.
+    /// The numbers of their instances, rising.
     pub(crate) fn numbers(&self) -> &[u32]
         ensures { result.now ≡ self.now.numbers }
     {
         self.numbers.as_slice()
     }
 
-    // Finds the pipe of an open instance, and checks that it has a free slot.
+    /// Finds the pipe of an open instance, and checks that it has a free slot.
     pub(crate) fn look(
         &mut self,
         core: &State,
@@ -109,7 +109,7 @@ impl Pipes {
         Ok(Some(at))
     }
 
-    // Hands a batch over, where there is one and its instance has a pipe.
+    /// Hands a batch over, where there is one and its instance has a pipe.
     pub(crate) fn hand_over(&mut self, at: Option<usize>, batch: Option<Batch>)
         requires { IsReady self.old.numbers self.old.ends at batch }
         ensures numbers { self.new.numbers ≡ self.old.numbers }
@@ -125,7 +125,7 @@ impl Pipes {
         push_at(ends, at, batch);
     }
 
-    // Reserves memory for one more pipe.
+    /// Reserves memory for one more pipe.
     pub(crate) fn reserve(&mut self) -> Result<(), AllocError>
         ensures numbers { self.new.numbers ≡ self.old.numbers }
         ensures ends { self.new.ends ≡ self.old.ends }
@@ -135,7 +135,7 @@ impl Pipes {
         self.ends.reserve(1)
     }
 
-    // Puts a new pipe behind the others, where the reply is an instance, whose number is above theirs.
+    /// Puts a new pipe behind the others, where the reply is an instance, whose number is above theirs.
     pub(crate) fn add(&mut self, reply: &Reply, pipe: Pipe, feed: Feed) -> Option<Feed>
         requires empty { (pipe.sent ≡ []) × (feed.received ≡ []) }
         requires room { IsTrue self.old.has_room }

@@ -41,7 +41,7 @@ impl<L: Ledger> Model for Seat<L> {
 }
 
 impl<L: Ledger> Seat<L> {
-    // What it kept, and its share of the ledger.
+    /// What it kept, and its share of the ledger.
     fn into_log(self) -> (SeatLog, Share<L>)
         ensures log { (result.0.number ≡ self.number) × (result.0.kept ≡ self.kept) }
         ensures share { (result.1.parts ≡ 1) × (result.1.amount ≡ length self.kept) }

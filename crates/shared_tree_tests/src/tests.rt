@@ -90,7 +90,7 @@ enum Says {
     Fails(Refusal),
 }
 
-// The outcome that a reply stands for.
+/// The outcome that a reply stands for.
 fn answered(reply: &Reply) -> Says {
     match reply {
         Reply::File(_) => Says::File,
@@ -116,7 +116,7 @@ struct Stage<L: Ledger> {
 }
 
 impl<L: Ledger> Stage<L> {
-    // Makes a tree with no seat taken and no feed.
+    /// Makes a tree with no seat taken and no feed.
     fn new(alloc: Global, blank: Blank, limits: Limits) -> Result<Stage<L>, Refusal>
         requires name { blank.name ≡ L.name }
         requires parts { (blank.parts ≡ L.parts) × (blank.parts ≡ 65537) }
@@ -133,20 +133,20 @@ impl<L: Ledger> Stage<L> {
         })
     }
 
-    // Takes a seat.
+    /// Takes a seat.
     fn sits(&mut self) -> Result<(), Refusal> {
         self.seat = Some(self.pass.seat()?);
         Ok(())
     }
 
-    // Gives the seat back. Returns its number and how many calls it kept.
+    /// Gives the seat back. Returns its number and how many calls it kept.
     fn stands(&mut self) -> Option<(u32, usize)> {
         let seat = self.seat.take()?;
         let log = self.pass.join(seat);
         Some((log.number, log.kept.as_slice().len()))
     }
 
-    // The outcome of a call. The sequence number of its entry is kept.
+    /// The outcome of a call. The sequence number of its entry is kept.
     fn said(&mut self, receipt: Result<Receipt, Refusal>) -> Says {
         match receipt {
             Ok(receipt) => {
@@ -157,7 +157,7 @@ impl<L: Ledger> Stage<L> {
         }
     }
 
-    // Makes a call under the seat, if there is one.
+    /// Makes a call under the seat, if there is one.
     fn calls(&mut self, call: Result<Call, Refusal>) -> Says
         requires { ForOk call (λ c. IsTrue (is_plain c)) }
     {
@@ -172,7 +172,7 @@ impl<L: Ledger> Stage<L> {
         self.said(told)
     }
 
-    // Makes a directory. Returns the sequence number of the call and the number of the directory.
+    /// Makes a directory. Returns the sequence number of the call and the number of the directory.
     fn makes(&mut self, text: &str) -> Option<(u64, u32)> {
         let Stage { held, seat, .. } = self;
         let seat = seat.as_mut()?;
@@ -184,7 +184,7 @@ impl<L: Ledger> Stage<L> {
         }
     }
 
-    // Pumps an instance under the seat, if there is one.
+    /// Pumps an instance under the seat, if there is one.
     fn pumps(&mut self, instance: u32, bytes: u32) -> Says {
         let Stage { held, seat, .. } = self;
         let told = match seat {
@@ -194,7 +194,7 @@ impl<L: Ledger> Stage<L> {
         self.said(told)
     }
 
-    // Keeps the feed, under the number that it has.
+    /// Keeps the feed, under the number that it has.
     fn opens(&mut self, limit: u32, slots: usize) -> Says {
         let Stage { held, seat, .. } = self;
         let Some(seat) = seat else {
@@ -209,7 +209,7 @@ impl<L: Ledger> Stage<L> {
         }
     }
 
-    // Keeps a feed, if it is that of instance 1 or 2.
+    /// Keeps a feed, if it is that of instance 1 or 2.
     fn keeps(&mut self, feed: Option<Feed>) {
         let Some(feed) = feed else {
             return;
@@ -221,7 +221,7 @@ impl<L: Ledger> Stage<L> {
         }
     }
 
-    // Takes a batch from the feed of an instance.
+    /// Takes a batch from the feed of an instance.
     fn takes(&mut self, instance: u32) -> Option<Batch> {
         match instance {
             1 => self.first.as_mut()?.take(),
@@ -229,7 +229,7 @@ impl<L: Ledger> Stage<L> {
         }
     }
 
-    // Whether the feed of an instance is kept.
+    /// Whether the feed of an instance is kept.
     fn has_feed(&self, instance: u32) -> bool {
         match instance {
             1 => self.first.is_some(),
@@ -237,7 +237,7 @@ impl<L: Ledger> Stage<L> {
         }
     }
 
-    // Drops the feed of an instance. Whether there was one.
+    /// Drops the feed of an instance. Whether there was one.
     fn goes(&mut self, instance: u32) -> bool {
         match instance {
             1 => self.first.take().is_some(),
@@ -245,7 +245,7 @@ impl<L: Ledger> Stage<L> {
         }
     }
 
-    // What the call of a step comes to, if it is one.
+    /// What the call of a step comes to, if it is one.
     fn says(&mut self, step: Step) -> Option<(Says, Says)> {
         let alloc = self.alloc;
         Some(match step {
@@ -269,7 +269,7 @@ impl<L: Ledger> Stage<L> {
         })
     }
 
-    // Whether a step that is no call comes to what is wanted.
+    /// Whether a step that is no call comes to what is wanted.
     fn shows(&mut self, step: Step) -> bool {
         match step {
             Step::Sits(wanted) => self.sits() == wanted,
@@ -293,7 +293,7 @@ impl<L: Ledger> Stage<L> {
         }
     }
 
-    // Whether a step comes to what is wanted.
+    /// Whether a step comes to what is wanted.
     fn goes_well(&mut self, step: Step) -> bool {
         match self.says(step) {
             Some((said, wanted)) => said == wanted,
@@ -301,7 +301,7 @@ impl<L: Ledger> Stage<L> {
         }
     }
 
-    // How many steps go well, before one that does not.
+    /// How many steps go well, before one that does not.
     fn plays(&mut self, steps: &[Step]) -> usize {
         for (place, step) in steps.iter().enumerate() {
             if !self.goes_well(*step) {
@@ -312,7 +312,7 @@ impl<L: Ledger> Stage<L> {
     }
 }
 
-// The call that makes an instance without a pipe.
+/// The call that makes an instance without a pipe.
 fn init() -> Call
     ensures { IsTrue (is_plain result) }
 {
@@ -322,7 +322,7 @@ fn init() -> Call
     }
 }
 
-// The call that reads all that waits in an instance.
+/// The call that reads all that waits in an instance.
 fn read(instance: u32) -> Call
     ensures { IsTrue (is_plain result) }
 {
@@ -332,14 +332,14 @@ fn read(instance: u32) -> Call
     }
 }
 
-// The call that closes an instance.
+/// The call that closes an instance.
 fn close(instance: u32) -> Call
     ensures { IsTrue (is_plain result) }
 {
     Call::Close { instance }
 }
 
-// The call that watches a path for new files.
+/// The call that watches a path for new files.
 fn watch(alloc: Global, instance: u32, text: &str) -> Result<Call, Refusal>
     ensures { IfOk result (λ c. IsTrue (is_plain c)) }
 {
@@ -351,7 +351,7 @@ fn watch(alloc: Global, instance: u32, text: &str) -> Result<Call, Refusal>
     })
 }
 
-// The call that makes a file.
+/// The call that makes a file.
 fn create(alloc: Global, text: &str) -> Result<Call, Refusal>
     ensures { IfOk result (λ c. IsTrue (is_plain c)) }
 {
@@ -359,7 +359,7 @@ fn create(alloc: Global, text: &str) -> Result<Call, Refusal>
     Ok(Call::File(FileCall::Create { path, mode: 0o644 }))
 }
 
-// The call that makes a directory.
+/// The call that makes a directory.
 fn mkdir(alloc: Global, text: &str) -> Result<Call, Refusal>
     ensures { IfOk result (λ c. IsTrue (is_plain c)) }
 {
@@ -367,7 +367,7 @@ fn mkdir(alloc: Global, text: &str) -> Result<Call, Refusal>
     Ok(Call::File(FileCall::Mkdir { path, mode: 0o755 }))
 }
 
-// The call that sets the length of a file.
+/// The call that sets the length of a file.
 fn truncate(alloc: Global, text: &str, len: u64) -> Result<Call, Refusal>
     ensures { IfOk result (λ c. IsTrue (is_plain c)) }
 {
@@ -375,7 +375,7 @@ fn truncate(alloc: Global, text: &str, len: u64) -> Result<Call, Refusal>
     Ok(Call::File(FileCall::Truncate { path, len }))
 }
 
-// The call that adds a path to a file.
+/// The call that adds a path to a file.
 fn link(alloc: Global, old: &str, new: &str) -> Result<Call, Refusal>
     ensures { IfOk result (λ c. IsTrue (is_plain c)) }
 {
@@ -384,7 +384,7 @@ fn link(alloc: Global, old: &str, new: &str) -> Result<Call, Refusal>
     Ok(Call::File(FileCall::Link { old, new }))
 }
 
-// The call that renames a path.
+/// The call that renames a path.
 fn rename(alloc: Global, old: &str, new: &str) -> Result<Call, Refusal>
     ensures { IfOk result (λ c. IsTrue (is_plain c)) }
 {
@@ -393,7 +393,7 @@ fn rename(alloc: Global, old: &str, new: &str) -> Result<Call, Refusal>
     Ok(Call::File(FileCall::Rename { old, new }))
 }
 
-// The call that removes a path.
+/// The call that removes a path.
 fn unlink(alloc: Global, text: &str) -> Result<Call, Refusal>
     ensures { IfOk result (λ c. IsTrue (is_plain c)) }
 {
@@ -401,7 +401,7 @@ fn unlink(alloc: Global, text: &str) -> Result<Call, Refusal>
     Ok(Call::File(FileCall::Unlink { path }))
 }
 
-// Whether it is a batch of this instance, with this sequence number and so many records.
+/// Whether it is a batch of this instance, with this sequence number and so many records.
 fn is_batch(batch: &Option<Batch>, instance: u32, place: u64, records: usize) -> bool {
     match batch {
         Some(batch) => {
@@ -414,7 +414,7 @@ fn is_batch(batch: &Option<Batch>, instance: u32, place: u64, records: usize) ->
     }
 }
 
-// How many steps go well with a new tree, before one that does not.
+/// How many steps go well with a new tree, before one that does not.
 fn start<L: Ledger>(
     alloc: Global,
     blank: Blank,
@@ -428,12 +428,12 @@ fn start<L: Ledger>(
     Ok(stage.plays(steps))
 }
 
-// How many steps go well with a new tree.
+/// How many steps go well with a new tree.
 fn plays(alloc: Global, limits: Limits, steps: &[Step]) -> Option<usize> {
     start::<Brand>(alloc, Blank::new(65537), limits, steps).ok()
 }
 
-// Each step goes well with a new tree.
+/// Each step goes well with a new tree.
 fn goes_well(rt: &impl Abort, alloc: Global, limits: Limits, steps: &[Step]) {
     assert_eq!(rt; plays(alloc, limits, steps), Some(steps.len()));
 }

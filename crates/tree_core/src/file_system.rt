@@ -84,7 +84,7 @@ pub enum Rest {
 }
 
 impl Begun {
-    // A reply of which nothing is left to do.
+    /// A reply of which nothing is left to do.
     fn complete(reply: Reply) -> Begun
         ensures { result ≡ record { reply = reply; rest = Rest.Nothing } }
     {
@@ -209,7 +209,7 @@ impl FileSystem {
         Ok(Some(Events::from_vec(records)))
     }
 
-    // Begins a call, or answers why it is refused.
+    /// Begins a call, or answers why it is refused.
     #[inline(always)]
     fn attempt(&mut self, call: &Call) -> Result<Begun, Refusal>
         requires { IsNumbered (tree_in self.old) }
@@ -230,7 +230,7 @@ impl FileSystem {
         }
     }
 
-    // What the next call on files gets.
+    /// What the next call on files gets.
     fn counts(&self) -> Counts
         ensures { result ≡ counts_of (tree_in self.now) }
     {
@@ -240,7 +240,7 @@ impl FileSystem {
         }
     }
 
-    // Begins a call on files.
+    /// Begins a call on files.
     fn file(&mut self, call: &FileCall) -> Result<Begun, Refusal>
         requires { IsNumbered (tree_in self.old) }
         ensures { Attempts self.old (Call.File call.now) result self.new }
@@ -267,7 +267,7 @@ impl FileSystem {
         })
     }
 
-    // Why no instance is made.
+    /// Why no instance is made.
     #[tactic(auto, unfolding(crate::specs::Tree::init_rows))]
     fn check_init(&self, limit: u32) -> Result<(), Refusal>
         ensures passes { OnOk result (first_row (init_rows self.now.limits self.now.instances self.now.next_id limit)
@@ -287,7 +287,7 @@ impl FileSystem {
         Ok(())
     }
 
-    // Makes an instance.
+    /// Makes an instance.
     fn init(&mut self, limit: u32, piped: bool) -> Result<Begun, Refusal>
         requires { IsNumbered (tree_in self.old) }
         ensures { Attempts self.old (Call.Init limit piped) result self.new }
@@ -299,7 +299,7 @@ impl FileSystem {
         Ok(Begun::complete(Reply::Instance(id)))
     }
 
-    // Watches a file.
+    /// Watches a file.
     fn add_watch(&mut self, id: u32, path: &Path, mask: u32) -> Result<Begun, Refusal>
         requires { IsNumbered (tree_in self.old) }
         ensures { Attempts self.old (Call.AddWatch id path.now mask) result self.new }
@@ -320,7 +320,7 @@ impl FileSystem {
         Ok(Begun::complete(Reply::Wd(wd)))
     }
 
-    // Ends a watch.
+    /// Ends a watch.
     fn rm_watch(&mut self, id: u32, wd: i32) -> Result<Begun, Refusal>
         requires { IsNumbered (tree_in self.old) }
         ensures { Attempts self.old (Call.RmWatch id wd) result self.new }
@@ -331,7 +331,7 @@ impl FileSystem {
         Ok(Begun::complete(Reply::Done))
     }
 
-    // Begins a read, or a pump.
+    /// Begins a read, or a pump.
     fn read(&self, id: u32, bytes: u32, pumps: bool) -> Result<Begun, Refusal>
         requires { IsNumbered (tree_in self.now) }
         ensures begun { Attempts self.now (reading pumps id bytes) result self.now }
@@ -352,7 +352,7 @@ impl FileSystem {
         })
     }
 
-    // Closes an instance.
+    /// Closes an instance.
     fn close(&mut self, id: u32) -> Result<Begun, Refusal>
         requires { IsNumbered (tree_in self.old) }
         ensures { Attempts self.old (Call.Close id) result self.new }
@@ -364,7 +364,7 @@ impl FileSystem {
     }
 }
 
-// What a call answers that was begun or refused. A refusal is a reply, and out of memory is an error.
+/// What a call answers that was begun or refused. A refusal is a reply, and out of memory is an error.
 #[inline(always)]
 fn answered(begun: Result<Begun, Refusal>) -> Result<Begun, Refusal>
     ensures begun { IfOk begun (λ b. result ≡ Ok b) }
@@ -378,7 +378,7 @@ fn answered(begun: Result<Begun, Refusal>) -> Result<Begun, Refusal>
     }
 }
 
-// What is left to do of a call on files.
+/// What is left to do of a call on files.
 #[inline(always)]
 fn rest_of(is_staged: bool) -> Rest
     ensures { result ≡ rest_of is_staged }
@@ -390,8 +390,8 @@ fn rest_of(is_staged: bool) -> Rest
     }
 }
 
-// Stages what an accepted call raises, if any file is watched. Otherwise it has no recipients, and nothing is staged.
-// The answer says which.
+/// Stages what an accepted call raises, if any file is watched. Otherwise it has no recipients, and nothing is staged.
+/// The answer says which.
 fn stage_notices(
     instances: &Instances,
     ready: &Ready,
@@ -413,7 +413,7 @@ fn stage_notices(
     Ok(true)
 }
 
-// Why no watch is ended.
+/// Why no watch is ended.
 #[tactic(auto, unfolding(crate::specs::Tree::rm_watch_rows))]
 fn check_rm_watch(instance: Option<&Instance>, wd: i32) -> Result<(), Refusal>
     ensures passes { OnOk result (first_row (rm_watch_rows wd (option_copied instance.entry)) ≡ None) }
@@ -428,7 +428,7 @@ fn check_rm_watch(instance: Option<&Instance>, wd: i32) -> Result<(), Refusal>
     Ok(())
 }
 
-// The instance that is read, or pumped, or why nothing is.
+/// The instance that is read, or pumped, or why nothing is.
 #[tactic(auto, unfolding(crate::specs::Tree::read_rows))]
 fn check_read(instance: Option<&Instance>, bytes: u32, pumps: bool) -> Result<&Instance, Refusal>
     ensures passes { OnOk result (first_row (read_rows pumps bytes (option_copied instance.entry)) ≡ None) }
@@ -453,7 +453,7 @@ fn check_read(instance: Option<&Instance>, bytes: u32, pumps: bool) -> Result<&I
     Ok(instance)
 }
 
-// Why no instance is closed.
+/// Why no instance is closed.
 #[tactic(auto, unfolding(crate::specs::Tree::close_rows))]
 fn check_close(instance: Option<&Instance>) -> Result<(), Refusal>
     ensures passes { OnOk result (first_row (close_rows (option_copied instance.entry)) ≡ None) }
@@ -465,7 +465,7 @@ fn check_close(instance: Option<&Instance>) -> Result<(), Refusal>
     }
 }
 
-// The bytes of the oldest records, in a buffer that is allocated once.
+/// The bytes of the oldest records, in a buffer that is allocated once.
 fn spelled(alloc: Global, queue: &Queue, fit: Fit) -> Result<Bytes, AllocError>
     requires { fit.count ≤ length queue.now.waiting }
     ensures bytes { IfOk result (λ bytes. bytes ≡ spelling (take fit.count queue.now.waiting)) }

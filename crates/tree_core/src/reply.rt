@@ -88,7 +88,7 @@ impl Reply {
     }
 }
 
-// The same answer once more.
+/// The same answer once more.
 #[inline(always)]
 fn copy_answer(answer: &Answer) -> Result<Answer, Refusal>
     ensures ok { IfOk result (λ copy. copy ≡ answer.now) }

@@ -309,7 +309,7 @@ impl State {
     }
 }
 
-// Reserves capacity for one more entry of a journal that begins after this sequence number.
+/// Reserves capacity for one more entry of a journal that begins after this sequence number.
 fn make_room(journal: &mut Vec<Entry>, limits: &Limits, place: u64) -> Result<(), Refusal>
     requires { place + length journal.old.items < 2 ^ 64 }
     ensures items { journal.new.items ≡ journal.old.items }
@@ -330,7 +330,7 @@ fn make_room(journal: &mut Vec<Entry>, limits: &Limits, place: u64) -> Result<()
     Ok(())
 }
 
-// Drops a call that was not answered, away from what calls mostly do.
+/// Drops a call that was not answered, away from what calls mostly do.
 #[cold]
 #[inline(never)]
 fn drop_cold(_call: Call, refusal: Refusal) -> Refusal
@@ -339,7 +339,7 @@ fn drop_cold(_call: Call, refusal: Refusal) -> Refusal
     refusal
 }
 
-// The receipt of a call and what is kept of it, with copies of the reply.
+/// The receipt of a call and what is kept of it, with copies of the reply.
 fn copies(reply: &Reply, place: u64, call: Call) -> Result<(Receipt, Kept), Refusal>
     ensures receipt { IfOk result (λ r. r.0 ≡ record { place = place; reply = reply.now }) }
     ensures kept { IfOk result (λ r. IsKeptAs r.0 r.1 call) }

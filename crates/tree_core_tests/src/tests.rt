@@ -45,17 +45,17 @@ const PATH_NAMES: u32 = 16;
 /// A record: the descriptor, the mask, the cookie, and the name, which is empty where it has none.
 type Record<'a> = (i32, u32, u32, &'a str);
 
-// The root alone.
+/// The root alone.
 fn opened(alloc: Global, limits: Limits) -> Result<State, Refusal> {
     State::new(alloc, limits)
 }
 
-// Makes a call.
+/// Makes a call.
 fn made(state: &mut State, call: &Call) -> Result<Receipt, Refusal> {
     state.apply(CALLER, call.copy()?)
 }
 
-// Whether the last entry of the journal is this call with this reply.
+/// Whether the last entry of the journal is this call with this reply.
 fn is_last(state: &State, call: &Call, reply: &Reply) -> bool {
     match state.journal().last() {
         Some(entry) => entry.caller == CALLER && entry.call == *call && entry.reply == *reply,
@@ -63,7 +63,7 @@ fn is_last(state: &State, call: &Call, reply: &Reply) -> bool {
     }
 }
 
-// What a call answers, and whether the journal's last entry says so and has the receipt's sequence number.
+/// What a call answers, and whether the journal's last entry says so and has the receipt's sequence number.
 fn answered(state: &mut State, call: Result<Call, Refusal>) -> Result<(Reply, bool), Refusal> {
     let call = call?;
     let receipt = made(state, &call)?;
@@ -72,13 +72,13 @@ fn answered(state: &mut State, call: Result<Call, Refusal>) -> Result<(Reply, bo
     Ok((receipt.reply, is_journaled))
 }
 
-// The reply is the one that is wanted.
+/// The reply is the one that is wanted.
 fn is_wanted(rt: &impl Abort, reply: Reply, wanted: Result<Reply, Refusal>) {
     let wanted = wanted.expect(rt, "a reply");
     equal(rt, reply, wanted);
 }
 
-// The call answers what is wanted, and so the journal has it.
+/// The call answers what is wanted, and so the journal has it.
 fn tells(
     rt: &impl Abort,
     state: &mut State,
@@ -90,53 +90,53 @@ fn tells(
     holds(rt, "the journal has it", is_journaled);
 }
 
-// The call is not refused.
+/// The call is not refused.
 fn does(rt: &impl Abort, state: &mut State, call: Result<Call, Refusal>) {
     let told = answered(state, call);
     let is_done = !matches!(told, Ok((Reply::Refused(_), _)) | Err(_));
     holds(rt, "the call is not refused", is_done);
 }
 
-// The call is refused so, and what waits for the first two instances is as before.
+/// The call is refused so, and what waits for the first two instances is as before.
 fn refuses(rt: &impl Abort, state: &mut State, call: Result<Call, Refusal>, refusal: Refusal) {
     let before = (state.waiting(1), state.waiting(2));
     tells(rt, state, call, Ok(Reply::Refused(refusal)));
     equal(rt, (state.waiting(1), state.waiting(2)), before);
 }
 
-// So many records wait for the instance.
+/// So many records wait for the instance.
 fn waits(rt: &impl Abort, state: &State, instance: u32, count: usize) {
     equal(rt, state.waiting(instance), Some(count));
 }
 
-// There is no such instance.
+/// There is no such instance.
 fn is_not_open(rt: &impl Abort, state: &State, instance: u32) {
     equal(rt, state.waiting(instance), None);
 }
 
-// The journal has so many entries.
+/// The journal has so many entries.
 fn journals(rt: &impl Abort, state: &State, count: usize) {
     equal(rt, state.journal().len(), count);
 }
 
-// The journal takes so many more entries.
+/// The journal takes so many more entries.
 fn has_room_for(rt: &impl Abort, state: &State, count: u64) {
     equal(rt, state.free_entries(), count);
 }
 
-// The instance has just these records to read.
+/// The instance has just these records to read.
 fn hears(rt: &impl Abort, state: &mut State, alloc: Global, instance: u32, lines: &[Record]) {
     waits(rt, state, instance, lines.len());
     tells(rt, state, read(instance, ALL), records(alloc, lines));
 }
 
-// The instance has nothing to read.
+/// The instance has nothing to read.
 fn hears_nothing(rt: &impl Abort, state: &mut State, instance: u32) {
     waits(rt, state, instance, 0);
     refuses(rt, state, read(instance, ALL), Refusal::Eagain);
 }
 
-// These instances watch the file of this number, and no others.
+/// These instances watch the file of this number, and no others.
 fn watch_it(rt: &impl Abort, state: &State, number: u32, ids: &[u32]) {
     assert_eq!(rt; state.watchers(number), ids);
 }
@@ -267,17 +267,17 @@ fn count(count: u64) -> Result<Reply, Refusal> {
     Ok(Reply::File(Answer::Count(count)))
 }
 
-// The answer of a call on files that has no other one.
+/// The answer of a call on files that has no other one.
 fn filed() -> Result<Reply, Refusal> {
     Ok(Reply::File(Answer::Done))
 }
 
-// The answer with these bytes of a file.
+/// The answer with these bytes of a file.
 fn contents(alloc: Global, slice: &[u8]) -> Result<Reply, Refusal> {
     Ok(Reply::File(Answer::Bytes(bytes(alloc, slice)?)))
 }
 
-// The answer with the names of this path.
+/// The answer with the names of this path.
 fn names(alloc: Global, text: &str) -> Result<Reply, Refusal> {
     let path = path(alloc, text)?;
     let mut names = Vec::new(alloc);
@@ -321,7 +321,7 @@ fn done() -> Result<Reply, Refusal> {
     Ok(Reply::Done)
 }
 
-// The answer with the bytes of these records.
+/// The answer with the bytes of these records.
 fn records(alloc: Global, lines: &[Record]) -> Result<Reply, Refusal> {
     let mut events = Vec::new(alloc);
     for line in lines {

@@ -22,7 +22,7 @@ use record_codec::Bytes;
 use std::alloc::{AllocError, Global};
 use tree_paths::{Names, Refusal};
 
-// Makes a file or a directory.
+/// Makes a file or a directory.
 fn make(
     table: &mut Table,
     path: &Resolved,
@@ -46,7 +46,7 @@ fn make(
     Ok(Answer::Number(number))
 }
 
-// Reserves capacity for bytes in a file, from an offset on. No bytes need none.
+/// Reserves capacity for bytes in a file, from an offset on. No bytes need none.
 fn reserve(table: &mut Table, path: &Resolved, offset: usize, bytes: &[u8]) -> Result<(), Refusal>
     requires resolved { IsResolved table.old path.now }
     requires there { IsSome (look (world_of table.old) path.now.names) }
@@ -65,7 +65,7 @@ fn reserve(table: &mut Table, path: &Resolved, offset: usize, bytes: &[u8]) -> R
     table.reserve_content(path, offset + bytes.len())
 }
 
-// Writes over the bytes of a file from an offset on.
+/// Writes over the bytes of a file from an offset on.
 fn write(table: &mut Table, path: &Resolved, offset: usize, bytes: &[u8]) -> Result<Answer, Refusal>
     requires resolved { IsResolved table.old path.now }
     requires there { IsSome (look (world_of table.old) path.now.names) }
@@ -82,7 +82,7 @@ fn write(table: &mut Table, path: &Resolved, offset: usize, bytes: &[u8]) -> Res
     Ok(Answer::Count(bytes.len() as u64))
 }
 
-// Cuts a file, or fills it up with zero bytes.
+/// Cuts a file, or fills it up with zero bytes.
 fn truncate(table: &mut Table, path: &Resolved, len: usize) -> Result<Answer, Refusal>
     requires resolved { IsResolved table.old path.now }
     requires there { IsSome (look (world_of table.old) path.now.names) }
@@ -98,7 +98,7 @@ fn truncate(table: &mut Table, path: &Resolved, len: usize) -> Result<Answer, Re
     Ok(Answer::Done)
 }
 
-// Takes out a path of a regular file.
+/// Takes out a path of a regular file.
 fn unlink(table: &mut Table, path: &Resolved) -> Answer
     requires resolved { IsResolved table.old path.now }
     requires there { IsSome (look (world_of table.old) path.now.names) }
@@ -111,7 +111,7 @@ fn unlink(table: &mut Table, path: &Resolved) -> Answer
     Answer::Done
 }
 
-// What `stat` answers for a file.
+/// What `stat` answers for a file.
 pub(crate) fn stat(path: &Lookup) -> Answer
     requires { IsSome (look (world_of path.now.tree) path.now.path.names) }
     ensures { result ≡ stat_of (world_of path.now.tree) path.now.path.names }
@@ -127,7 +127,7 @@ pub(crate) fn stat(path: &Lookup) -> Answer
     }
 }
 
-// The bytes from an index on.
+/// The bytes from an index on.
 pub(crate) fn rest(bytes: &[u8], from: usize) -> &[u8]
     ensures { result.now ≡ drop from bytes.now }
 {
@@ -138,7 +138,7 @@ pub(crate) fn rest(bytes: &[u8], from: usize) -> &[u8]
     }
 }
 
-// The first bytes, up to a count.
+/// The first bytes, up to a count.
 pub(crate) fn front(bytes: &[u8], count: usize) -> &[u8]
     ensures { result.now ≡ take count bytes.now }
 {
@@ -149,7 +149,7 @@ pub(crate) fn front(bytes: &[u8], count: usize) -> &[u8]
     }
 }
 
-// The bytes of a file from an offset on, up to a count.
+/// The bytes of a file from an offset on, up to a count.
 fn read(alloc: Global, path: &Lookup, offset: usize, count: usize) -> Result<Bytes, AllocError>
     requires { IsSome (look (world_of path.now.tree) path.now.path.names) }
     ensures { IfOk result (λ bytes. bytes ≡ take count
@@ -159,7 +159,7 @@ fn read(alloc: Global, path: &Lookup, offset: usize, count: usize) -> Result<Byt
     Ok(Bytes::from_vec(bytes))
 }
 
-// The names in a directory, in the order of their bytes.
+/// The names in a directory, in the order of their bytes.
 pub(crate) fn list(alloc: Global, path: &Lookup) -> Result<Names, AllocError>
     requires there { IsSome (look (world_of path.now.tree) path.now.path.names) }
     requires directory { is_directory_seen (look (world_of path.now.tree) path.now.path.names) ≡ true }
@@ -173,7 +173,7 @@ pub(crate) fn list(alloc: Global, path: &Lookup) -> Result<Names, AllocError>
     Ok(Names::from_vec(names))
 }
 
-// Does what a call that moves nothing says.
+/// Does what a call that moves nothing says.
 fn perform(alloc: Global, table: &mut Table, plan: &Plan) -> Result<Answer, Refusal>
     requires ready { IsReady table.old plan.now }
     requires moves { plan.now.moves ≡ Moves.Nothing }
@@ -216,7 +216,7 @@ fn perform(alloc: Global, table: &mut Table, plan: &Plan) -> Result<Answer, Refu
     }
 }
 
-// Does what the call says.
+/// Does what the call says.
 fn apply(alloc: Global, table: &mut Table, plan: &Plan) -> Result<Answer, Refusal>
     requires ready { IsReady table.old plan.now }
     ensures world { OnOk result (world_of table.new ≡ after (world_of table.old) plan.now.counts plan.now.call) }

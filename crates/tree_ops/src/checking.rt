@@ -39,7 +39,7 @@ fn has_names(seen: Option<Seen>) -> bool
     }
 }
 
-// Whether the same file stands at both paths.
+/// Whether the same file stands at both paths.
 fn are_same(old: Option<Seen>, new: Option<Seen>) -> bool
     ensures { result ≡ are_same_seen old new }
 {
@@ -49,7 +49,7 @@ fn are_same(old: Option<Seen>, new: Option<Seen>) -> bool
     }
 }
 
-// Whether something stands at the path.
+/// Whether something stands at the path.
 pub(crate) fn check_found(path: &Lookup) -> Result<(), Refusal>
     ensures { result_err result ≡ find (look (world_of path.now.tree)) path.now.path.names }
 {
@@ -59,7 +59,7 @@ pub(crate) fn check_found(path: &Lookup) -> Result<(), Refusal>
     }
 }
 
-// Whether a name can stand in the directory of its path.
+/// Whether a name can stand in the directory of its path.
 #[tactic(auto, unfolding(inode_table::specs::Refusals::parent))]
 fn check_parent(path: &Lookup) -> Result<(), Refusal>
     ensures { result_err result ≡ parent (look (world_of path.now.tree)) path.now.path.names }
@@ -71,7 +71,7 @@ fn check_parent(path: &Lookup) -> Result<(), Refusal>
     }
 }
 
-// Whether a new name can stand at the path.
+/// Whether a new name can stand at the path.
 fn check_name(path: &Lookup) -> Result<(), Refusal>
     ensures { result_err result ≡ first_row (name_rows (look (world_of path.now.tree)) path.now.path.names) }
 {
@@ -85,7 +85,7 @@ fn check_name(path: &Lookup) -> Result<(), Refusal>
     Ok(())
 }
 
-// Whether a regular file stands at the path; `refusal` says that a directory does.
+/// Whether a regular file stands at the path; `refusal` says that a directory does.
 fn check_file(path: &Lookup, refusal: Refusal) -> Result<Seen, Refusal>
     ensures err { result_err result ≡ first_row (file_rows (look
         (world_of path.now.tree)) path.now.path.names refusal) }
@@ -203,7 +203,7 @@ pub(crate) fn check_list(path: &Lookup) -> Result<(), Refusal>
     }
 }
 
-// Whether a cookie is left.
+/// Whether a cookie is left.
 fn check_cookie(counts: &Counts, limits: &Limits) -> Result<(), Refusal>
     ensures { result_err result ≡ cookies_row limits.now counts.now }
 {
@@ -213,7 +213,7 @@ fn check_cookie(counts: &Counts, limits: &Limits) -> Result<(), Refusal>
     Ok(())
 }
 
-// Whether what stands at the old path can get the new one, and what that is.
+/// Whether what stands at the old path can get the new one, and what that is.
 fn check_source(paths: &Paths) -> Result<Seen, Refusal>
     ensures err { result_err result ≡ first_row (source_rows (look (world_of paths.now.tree)) (path_of paths.now.call)
         (other_path_of paths.now.call)) }
@@ -232,7 +232,7 @@ fn check_source(paths: &Paths) -> Result<Seen, Refusal>
     Ok(source)
 }
 
-// Whether one thing may replace the other.
+/// Whether one thing may replace the other.
 #[tactic(auto, unfolding(crate::specs::Refused::move_rows))]
 fn check_replaced(
     old: Option<Seen>,
@@ -285,7 +285,7 @@ fn check_noreplace(paths: &Paths, counts: &Counts, limits: &Limits) -> Result<Mo
     Ok(Moves::Move)
 }
 
-// Whether what stands at two paths may be exchanged.
+/// Whether what stands at two paths may be exchanged.
 #[tactic(auto, unfolding(crate::specs::Refused::swap_rows))]
 fn check_swap(
     paths: &Paths,
@@ -353,7 +353,7 @@ fn check_rename2(
     }
 }
 
-// Why a call is refused, or what it moves.
+/// Why a call is refused, or what it moves.
 #[tactic(auto, unfolding(crate::specs::Refused::refusal_seen, crate::specs::Refused::find_rows))]
 fn check_call(paths: &Paths, counts: &Counts, limits: &Limits) -> Result<Moves, Refusal>
     ensures err { result_err result ≡ refusal_seen (look

@@ -101,7 +101,7 @@ impl<'a> Lookup<'a> {
         self.table.content(self.table.key(self.path))
     }
 
-    // Whether the path is the root's.
+    /// Whether the path is the root's.
     #[inline(always)]
     pub(crate) fn is_root(&self) -> bool
         ensures { result ≡ is_root self.now.path.names }

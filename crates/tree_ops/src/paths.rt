@@ -55,7 +55,7 @@ impl<'t, 'a> Paths<'t, 'a> {
         }
     }
 
-    // What is true of the paths of every call, for a caller's proof.
+    /// What is true of the paths of every call, for a caller's proof.
     #[inline(always)]
     pub(crate) fn law(&self)
         ensures { ArePathsOf self.now.tree self.now.call self.now.paths }
@@ -91,7 +91,7 @@ impl<'t, 'a> Paths<'t, 'a> {
         Lookup::new(self.table, &self.other_path)
     }
 
-    // The plan of the call, which borrows no table.
+    /// The plan of the call, which borrows no table.
     #[inline(always)]
     pub(crate) fn plan(&self, counts: Counts, moves: Moves) -> Plan<'a>
         ensures plan { result ≡ plan_with self.now counts moves }

@@ -123,7 +123,7 @@ impl<'p, 't, 'a> Ready<'p, 't, 'a> {
 }
 
 impl<'a> Plan<'a> {
-    // The new path of the call, and its path where it has but one.
+    /// The new path of the call, and its path where it has but one.
     #[inline(always)]
     pub(crate) fn other_path(&self) -> &Resolved<'a>
         ensures { result.now ≡ self.now.other_path }

@@ -55,7 +55,7 @@ impl Calls {
         })
     }
 
-    // The same calls, to be made on a copy of the table.
+    /// The same calls, to be made on a copy of the table.
     fn fork(&self) -> Result<Calls, Refusal> {
         Ok(Calls {
             alloc: self.alloc,

@@ -82,7 +82,7 @@ impl<'a> PathNames<'a> {
     }
 }
 
-// The first name of a text, and what stands behind it.
+/// The first name of a text, and what stands behind it.
 #[inline(always)]
 fn split_first(text: &[u8]) -> (&[u8], &[u8])
     requires slashed { IsSlashed text.now }

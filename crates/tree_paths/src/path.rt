@@ -156,7 +156,7 @@ impl Path {
     }
 }
 
-// Whether the names are the same.
+/// Whether the names are the same.
 fn are_same(names: PathNames, other: PathNames) -> bool
     ensures { result ≡ pointwise (pointwise nat_eq) names.entry other.entry }
 {
@@ -173,7 +173,7 @@ fn are_same(names: PathNames, other: PathNames) -> bool
     }
 }
 
-// Whether the other names are a proper front of these.
+/// Whether the other names are a proper front of these.
 fn are_below(names: PathNames, above: PathNames) -> bool
     ensures { result ≡ is_below names.entry above.entry }
 {
@@ -192,7 +192,7 @@ fn are_below(names: PathNames, above: PathNames) -> bool
     }
 }
 
-// Whether the other text is a proper front of this one, up to a slash.
+/// Whether the other text is a proper front of this one, up to a slash.
 fn is_text_below(text: &[u8], above: &[u8]) -> bool
     requires slashed { IsSlashed text.now }
     requires above { IsSlashed above.now }

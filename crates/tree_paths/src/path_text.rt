@@ -66,7 +66,7 @@ impl PathText {
         PathText::squeezed(alloc, text, shape.len)
     }
 
-    // The names of a text that has a slash before each.
+    /// The names of a text that has a slash before each.
     fn of_text(alloc: Global, text: &[u8]) -> Result<PathText, AllocError>
         requires { IsSlashed text.now }
         ensures kept { IfOk result (λ kept. kept_names kept ≡ names_of text.now) }
@@ -84,8 +84,8 @@ impl PathText {
         })
     }
 
-    // The names of a path's text in which slashes stand together, or of the root's. With one slash before each name
-    // they have `len` bytes.
+    /// The names of a path's text in which slashes stand together, or of the root's. With one slash before each name
+    /// they have `len` bytes.
     #[cold]
     fn squeezed(alloc: Global, text: &[u8], len: usize) -> Result<PathText, AllocError>
         requires path { parsed text.now ≡ Ok (names_of text.now) }
@@ -165,7 +165,7 @@ impl PathText {
         Ok(PathText::Names(with_name(alloc, PathNames::of(self.left()), name)?))
     }
 
-    // The names of a text, and one more.
+    /// The names of a text, and one more.
     fn joined(alloc: Global, text: &[u8], name: &[u8]) -> Result<PathText, AllocError>
         requires slashed { IsSlashed text.now }
         requires name { IsTrue (is_name name.now) }

@@ -148,7 +148,7 @@ impl Watches {
         Ok(WatchRows::from_vec(rows))
     }
 
-    // The bits of a file's watch. No bits where it has none.
+    /// The bits of a file's watch. No bits where it has none.
     fn bits(&self, number: u32) -> u32
         ensures { result ≡ bits_in (watch_of self.now number) }
     {
@@ -188,14 +188,14 @@ impl Watches {
         Ok(self.insert(number, mask.stored())?)
     }
 
-    // Whether the mask asks for a new watch, and the file has one.
+    /// Whether the mask asks for a new watch, and the file has one.
     fn is_taken(&self, number: u32, mask: Mask) -> bool
         ensures { result ≡ is_taken mask.0 (watch_of self.now number) }
     {
         mask.intersects(Mask::MASK_CREATE) && self.of(number).is_some()
     }
 
-    // Gives the watch of a file, if it has one, the bits of another call, and answers its descriptor.
+    /// Gives the watch of a file, if it has one, the bits of another call, and answers its descriptor.
     fn watch_again(&mut self, number: u32, mask: Mask) -> Option<i32>
         ensures wd { result ≡ wd_of self.old number }
         ensures watches { OnSome result (self.new ≡ added self.old number mask.0) }
@@ -206,14 +206,14 @@ impl Watches {
         Some(watch.0)
     }
 
-    // Whether no file more can be watched, or no descriptor is left.
+    /// Whether no file more can be watched, or no descriptor is left.
     fn is_full(&self) -> bool
         ensures { result ≡ is_full self.now }
     {
         self.len() >= self.most_watches as usize || self.next_wd > self.last_wd
     }
 
-    // Makes a watch of a file that has none.
+    /// Makes a watch of a file that has none.
     fn insert(&mut self, number: u32, bits: u32) -> Result<i32, AllocError>
         requires absent { watch_of self.old number ≡ None }
         requires room { is_full self.old ≡ false }
@@ -257,14 +257,14 @@ impl Watches {
     }
 }
 
-// Whether the mask asks for a directory, and it is none.
+/// Whether the mask asks for a directory, and it is none.
 fn is_barred(mask: Mask, is_directory: bool) -> bool
     ensures { result ≡ is_barred mask.0 is_directory }
 {
     mask.intersects(Mask::ONLYDIR) && !is_directory
 }
 
-// The bits that a watch keeps after another call for its file.
+/// The bits that a watch keeps after another call for its file.
 fn next_bits(mask: Mask, bits: u32) -> u32
     ensures { result ≡ next_bits mask.0 bits }
 {

@@ -14,7 +14,7 @@ const MOST: u32 = 200;
 /// Watches enough for two nodes of an ordered map.
 const FILES: u32 = 40;
 
-// Watches a file.
+/// Watches a file.
 fn watch(watches: &mut Watches, number: u32, bits: u32) -> Result<i32, Refusal> {
     let mask = Mask::of(bits);
     match mask.fault() {
@@ -23,12 +23,12 @@ fn watch(watches: &mut Watches, number: u32, bits: u32) -> Result<i32, Refusal> 
     }
 }
 
-// The numbers of the files, which do not rise.
+/// The numbers of the files, which do not rise.
 fn number_of(file: u32) -> u32 {
     file.wrapping_mul(7) % 41
 }
 
-// So many watches, of files whose numbers do not rise.
+/// So many watches, of files whose numbers do not rise.
 fn watching(alloc: Global, count: u32, limits: &Limits) -> Result<Watches, Refusal> {
     let mut watches = Watches::new(alloc, limits);
     for file in 0..count {
@@ -37,7 +37,7 @@ fn watching(alloc: Global, count: u32, limits: &Limits) -> Result<Watches, Refus
     Ok(watches)
 }
 
-// Whether both have the same watch for each file and each descriptor.
+/// Whether both have the same watch for each file and each descriptor.
 fn are_alike(one: &Watches, other: &Watches) -> bool {
     for number in 0..50 {
         let wd = number as i32;
@@ -48,7 +48,7 @@ fn are_alike(one: &Watches, other: &Watches) -> bool {
     one.len() == other.len() && one.next_wd() == other.next_wd()
 }
 
-// How many allocations the next watch makes, if all stays as it was when each fails in turn. None if not.
+/// How many allocations the next watch makes, if all stays as it was when each fails in turn. None if not.
 fn refused_in_turn(alloc: Global, count: u32) -> Result<Option<u32>, Refusal> {
     let control = watching(alloc, count, &Limits::full())?;
     let next = watching(alloc, count.saturating_add(1), &Limits::full())?;
@@ -80,7 +80,7 @@ fn each_growth_of_each_watch(rt: HostRuntime) -> Result<(), Fail> {
     Ok(())
 }
 
-// How many allocations the rows make, if the answer is right when each fails in turn. None if not.
+/// How many allocations the rows make, if the answer is right when each fails in turn. None if not.
 fn rows_refused_in_turn(alloc: Global, watches: &Watches) -> Option<u32> {
     for k in 1..MOST {
         let _ = refuse(alloc, k);
@@ -106,7 +106,7 @@ fn each_growth_of_the_rows(rt: HostRuntime) -> Result<(), Fail> {
     Ok(())
 }
 
-// Whether the calls that take no memory answer as they should, of the files 0, 7 and 14.
+/// Whether the calls that take no memory answer as they should, of the files 0, 7 and 14.
 fn are_told(watches: &mut Watches) -> bool {
     watches.of(7) == Some((2, bits::IN_CREATE))
         && watches.watched_by(3) == Some(14)
@@ -133,7 +133,7 @@ fn some_calls_take_no_memory(rt: HostRuntime) -> Result<(), Fail> {
     Ok(())
 }
 
-// How many allocations a copy makes, if each fails in turn and the copy is alike. None if not.
+/// How many allocations a copy makes, if each fails in turn and the copy is alike. None if not.
 fn copy_refused(alloc: Global, watches: &Watches) -> Option<u32> {
     for k in 1..MOST {
         let _ = refuse(alloc, k);

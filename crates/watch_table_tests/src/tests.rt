@@ -5,18 +5,18 @@ use std::process::Abort;
 use tree_paths::{Limits, Refusal};
 use watch_table::{Mask, Watches};
 
-// Asserts that two values are equal. Tests assert in these two functions, because the macros in a long body take
-// minutes to prove.
+/// Asserts that two values are equal. Tests assert in these two functions, because the macros in a long body take
+/// minutes to prove.
 fn equal<T: PartialEq + Debug + Drop>(rt: &impl Abort, got: T, wanted: T) {
     assert_eq!(rt; got, wanted);
 }
 
-// Asserts a condition.
+/// Asserts a condition.
 pub(crate) fn holds(rt: &impl Abort, what: &str, is_so: bool) {
     assert!(rt; is_so, "{what}");
 }
 
-// Watches a file.
+/// Watches a file.
 fn watch(
     watches: &mut Watches,
     number: u32,

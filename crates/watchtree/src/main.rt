@@ -19,7 +19,7 @@ use watchtree_storm::{OpenGate, storm};
 /// How many records each sink of a storm takes at most.
 const MOST: u64 = 1_000_000;
 
-// A storm, and what is printed of it.
+/// A storm, and what is printed of it.
 fn run_storm<W: Write, R: Threads + Wait + Sync>(
     rt: &R,
     alloc: Global,

@@ -42,7 +42,7 @@ fn opening(alloc: Global) -> Result<Box<Opened>, Refusal>
     boxed(alloc, State::new(alloc, Limits::full())?)
 }
 
-// What is open, with no text yet.
+/// What is open, with no text yet.
 fn boxed(alloc: Global, state: State) -> Result<Box<Opened>, Refusal>
     ensures state { IfOk result (λ b. b.value.state ≡ state) }
     ensures text { IfOk result (λ b. b.value.text.items ≡ []) }

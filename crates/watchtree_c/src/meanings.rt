@@ -43,7 +43,7 @@ pub extern "C" fn wt_error_text(number: i64, out: &mut [u8]) -> i64
     }
 }
 
-// The text of a number below zero, if it has one.
+/// The text of a number below zero, if it has one.
 fn text_of(number: i64) -> Option<&'static [u8]>
     ensures { IsTextOf number (option_copied result) }
 {
@@ -60,7 +60,7 @@ fn text_of(number: i64) -> Option<&'static [u8]>
     }
 }
 
-// The refusal of a number.
+/// The refusal of a number.
 fn refusal_of(number: u32) -> Option<Refusal>
     ensures some { IfSome result (λ r. number ≡ refusal_number r) }
     ensures none { result ≡ None → (r : AnyRefusal) → number ≢ refusal_number r }
@@ -93,7 +93,7 @@ fn refusal_of(number: u32) -> Option<Refusal>
     })
 }
 
-// The fault of a number.
+/// The fault of a number.
 fn fault_of(number: u32) -> Option<ScriptFault>
     ensures some { IfSome result (λ f. number ≡ fault_number f) }
     ensures none { result ≡ None → (f : AnyFault) → number ≢ fault_number f }

@@ -214,8 +214,8 @@ fn put_path_of(state: &State, number: u64, out: &mut [u8]) -> i64
     }
 }
 
-// Puts the pathname of names at the front of `out`, as many of its bytes as fit. It answers how many bytes the pathname
-// has.
+/// Puts the pathname of names at the front of `out`, as many of its bytes as fit. It answers how many bytes the
+/// pathname has.
 fn put_pathname(out: &mut [u8], names: PathNames) -> i64
     ensures number { result ≡ count_number (length (pathname_of names.entry)) }
     ensures bytes { out.new ≡ overlaid (pathname_of names.entry) out.old }

@@ -73,14 +73,14 @@ pub fn invocation_from(alloc: Global, words: &[String]) -> Result<Invocation, Fa
     }
 }
 
-// Whether a word behind the first is `--`.
+/// Whether a word behind the first is `--`.
 fn ends_options(words: &[String]) -> bool
     ensures { result ≡ list_any is_dashes (drop 1 (map string_bytes words.now)) }
 {
     !words.is_empty() && has_dashes(&words[1..])
 }
 
-// Whether a word is `--`.
+/// Whether a word is `--`.
 fn has_dashes(words: &[String]) -> bool
     ensures { result ≡ list_any is_dashes (map string_bytes words.now) }
 {
@@ -91,7 +91,7 @@ fn has_dashes(words: &[String]) -> bool
     found
 }
 
-// The fault of words that clap does not take.
+/// The fault of words that clap does not take.
 fn fault_by(kind: ErrorKind) -> Fault
     ensures memory { kind ≡ ErrorKind.OutOfMemory → result ≡ Fault.Memory }
     ensures words { kind ≢ ErrorKind.OutOfMemory → result ≡ Fault.CommandLine }
@@ -102,7 +102,7 @@ fn fault_by(kind: ErrorKind) -> Fault
     }
 }
 
-// What the subcommand that clap found asks for.
+/// What the subcommand that clap found asks for.
 fn invocation_in(matches: &ArgMatches<'_>) -> Result<Invocation, Fault>
     ensures asks { Invokes (option_and_then invocation_in (subcommand_rows_of matches.now)) result }
     ensures range { IfOk result IsInvocation }
@@ -113,7 +113,7 @@ fn invocation_in(matches: &ArgMatches<'_>) -> Result<Invocation, Fault>
     }
 }
 
-// What a subcommand asks for, with what clap found behind it.
+/// What a subcommand asks for, with what clap found behind it.
 fn invocation_at(name: &str, found: &ArgMatches<'_>) -> Result<Invocation, Fault>
     ensures asks { Invokes (invocation_in (name.now, rows_of (found_of found.now))) result }
     ensures range { IfOk result IsInvocation }
@@ -129,7 +129,7 @@ fn invocation_at(name: &str, found: &ArgMatches<'_>) -> Result<Invocation, Fault
     Err(Fault::CommandLine)
 }
 
-// The number that an option has, or the usual one.
+/// The number that an option has, or the usual one.
 fn number_in(
     found: &ArgMatches<'_>,
     option: &str,
@@ -148,7 +148,7 @@ fn number_in(
     number_or(found.get_str(option), usual, least, most)
 }
 
-// The definition of the program's command line, for clap.
+/// The definition of the program's command line, for clap.
 fn command<'a>(alloc: Global) -> Result<Command<'a>, AllocError>
     ensures { IfOk result (λ c. app_of c ≡ program) }
 {
@@ -163,7 +163,7 @@ fn command<'a>(alloc: Global) -> Result<Command<'a>, AllocError>
         .subcommand(storm)
 }
 
-// A subcommand with an option that has a value.
+/// A subcommand with an option that has a value.
 fn subcommand<'a>(alloc: Global, name: &'a str, option: &'a str) -> Result<Command<'a>, AllocError>
     ensures { IfOk result (λ c. shape_of c ≡ with_option name.entry.now option.entry.now) }
 {
@@ -174,7 +174,7 @@ fn subcommand<'a>(alloc: Global, name: &'a str, option: &'a str) -> Result<Comma
         .arg(option)
 }
 
-// The number that was given, or the usual one.
+/// The number that was given, or the usual one.
 fn number_or(given: Option<&str>, usual: u32, least: u32, most: u32) -> Result<u32, Fault>
     requires { (least ≤ usual) × (usual ≤ most) }
     ensures ok { IfOk result (λ n. number_or usual least most (option_map (λ s. s.now) given.entry) ≡ Some n) }
@@ -191,7 +191,7 @@ fn number_or(given: Option<&str>, usual: u32, least: u32, most: u32) -> Result<u
     }
 }
 
-// A number in a range, of 1 to 5 decimal digits.
+/// A number in a range, of 1 to 5 decimal digits.
 #[tactic(auto, unfolding(crate::specs::CommandLine::number_within))]
 fn number_within(number: &str, least: u32, most: u32) -> Option<u32>
     ensures value { result ≡ number_within least most number.now }
@@ -206,14 +206,14 @@ fn number_within(number: &str, least: u32, most: u32) -> Option<u32>
     }
 }
 
-// Whether all characters are decimal digits.
+/// Whether all characters are decimal digits.
 fn are_digits(number: &str) -> bool
     ensures { result ≡ list_all is_ascii_digit number.now }
 {
     number.bytes().all(|b| b.is_ascii_digit())
 }
 
-// The number that digits spell, if there are any and it fits.
+/// The number that digits spell, if there are any and it fits.
 fn value_of(digits: &str) -> Option<u32>
     requires { list_all is_ascii_digit digits.now ≡ true }
     ensures { SomeIff result ((0 < length digits.now) × (digits_value 10 digits.now < 2 ^ 32))

@@ -64,7 +64,7 @@ pub fn report(alloc: Global, stormed: &Stormed) -> Result<Vec<u8>, AllocError>
     Ok(text)
 }
 
-// Adds the lines of listeners.
+/// Adds the lines of listeners.
 fn add_listeners(text: &mut Vec<u8>, listeners: &[(u32, Cause, u64)]) -> Result<(), AllocError>
     ensures { OnOk result (text.new.items ≡ text.old.items ++ flat_map listener_line listeners.now) }
 {
@@ -74,7 +74,7 @@ fn add_listeners(text: &mut Vec<u8>, listeners: &[(u32, Cause, u64)]) -> Result<
     Ok(())
 }
 
-// Adds the line of a listener.
+/// Adds the line of a listener.
 fn add_listener(text: &mut Vec<u8>, listener: &(u32, Cause, u64)) -> Result<(), AllocError>
     ensures { OnOk result (text.new.items ≡ text.old.items ++ listener_line listener.now) }
 {
@@ -89,7 +89,7 @@ fn add_listener(text: &mut Vec<u8>, listener: &(u32, Cause, u64)) -> Result<(), 
     text.extend_from_slice(b"\n")
 }
 
-// Why a listener ended, in a word.
+/// Why a listener ended, in a word.
 fn word_of(cause: Cause) -> &'static [u8]
     ensures { result.now ≡ cause_word cause }
 {

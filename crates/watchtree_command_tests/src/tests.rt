@@ -15,13 +15,13 @@ use watchtree_command::{Fault, Invocation, invocation_from, write_report};
 use watchtree_script::{RunFault, ScriptFault};
 use watchtree_storm::{OpenGate, storm};
 
-// Asserts that two values are equal. Tests assert in this function, because the macros in a long body take minutes to
-// prove.
+/// Asserts that two values are equal. Tests assert in this function, because the macros in a long body take minutes to
+/// prove.
 fn equal<T: PartialEq + Debug + Drop>(rt: &impl Abort, got: T, wanted: T) {
     assert_eq!(rt; got, wanted);
 }
 
-// What words ask for, behind the program's name. They are parted by single spaces.
+/// What words ask for, behind the program's name. They are parted by single spaces.
 fn asked(alloc: Global, line: &str) -> Result<Result<Invocation, Fault>, Fail> {
     let mut words = Vec::new(alloc);
     words.push(format!(in alloc; "watchtree")?)?;
@@ -163,7 +163,7 @@ fn script_faults_have_lines(rt: HostRuntime) -> Result<(), Fail> {
     Ok(())
 }
 
-// What the program writes of a storm of three calls whose sinks take so many records, and its exit status.
+/// What the program writes of a storm of three calls whose sinks take so many records, and its exit status.
 fn told<R: Threads + Wait + Sync>(rt: &R, alloc: Global, most: u64) -> Result<(Vec<u8>, u8), Fail> {
     let mut sinks: Vec<Box<dyn Sink>> = Vec::with_capacity(alloc, 2)?;
     sinks.push_reserved(Box::new(alloc, CountSink::new(alloc, most))?);

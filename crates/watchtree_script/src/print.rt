@@ -76,7 +76,7 @@ fn push_done(text: &mut Vec<u8>) -> Result<(), AllocError>
     text.extend_from_slice(b"ok\n")
 }
 
-// The bytes of a file, as hexadecimal digits.
+/// The bytes of a file, as hexadecimal digits.
 fn push_bytes(text: &mut Vec<u8>, bytes: &[u8]) -> Result<(), AllocError>
     ensures { OnOk result (text.new.items ≡ text.old.items ++ ok_line (hexadecimal bytes.now)) }
 {
@@ -88,7 +88,7 @@ fn push_bytes(text: &mut Vec<u8>, bytes: &[u8]) -> Result<(), AllocError>
     text.extend_from_slice(b"\n")
 }
 
-// The names in a directory, in a line each.
+/// The names in a directory, in a line each.
 fn push_names(text: &mut Vec<u8>, names: &[Name]) -> Result<(), AllocError>
     ensures { OnOk result (text.new.items
         ≡ text.old.items ++ ok_line (decimal (length names.now)) ++ flat_map name_line names.now) }
@@ -108,7 +108,7 @@ fn push_name(text: &mut Vec<u8>, name: &Name) -> Result<(), AllocError>
     text.extend_from_slice(b"\n")
 }
 
-// What stands at a path.
+/// What stands at a path.
 fn push_stat(
     text: &mut Vec<u8>,
     number: u32,
@@ -126,7 +126,7 @@ fn push_stat(
     text.extend_from_slice(b"\n")
 }
 
-// The number and the kind of a file, before its mode.
+/// The number and the kind of a file, before its mode.
 fn push_kind(text: &mut Vec<u8>, number: u32, kind: Kind) -> Result<(), AllocError>
     ensures { OnOk result (text.new.items
         ≡ text.old.items ++ codes "ok " ++ decimal number ++ codes " " ++ kind_letter kind ++ codes " ") }
@@ -150,7 +150,7 @@ pub(crate) fn push_field<I: Integer>(text: &mut Vec<u8>, number: I) -> Result<()
     text.extend_from_slice(buffer.format(number).as_bytes())
 }
 
-// A mode as four octal digits.
+/// A mode as four octal digits.
 fn mode_digits(mode: u32) -> [u8; 4]
     ensures { result ≡ mode_text mode }
 {
@@ -178,7 +178,7 @@ pub(crate) fn push_ok<I: Integer>(text: &mut Vec<u8>, value: I) -> Result<(), Al
     text.extend_from_slice(b"\n")
 }
 
-// The reply of a read, in an empty text: the number of bytes that were read, and their records as they are shown.
+/// The reply of a read, in an empty text: the number of bytes that were read, and their records as they are shown.
 fn push_read(text: &mut Vec<u8>, format: OutputFormat, bytes: &[u8]) -> Result<(), AllocError>
     requires empty { text.old.items ≡ [] }
     requires spelled { AreRecords bytes.now }
@@ -214,7 +214,7 @@ fn push_byte(text: &mut Vec<u8>, byte: u8) -> Result<(), AllocError>
     text.extend_from_slice(&digits)
 }
 
-// A line for each record.
+/// A line for each record.
 fn push_records(text: &mut Vec<u8>, bytes: &[u8]) -> Result<(), AllocError>
     requires { AreRecords bytes.now }
     ensures { OnOk result ((events : List Event) × AreEventsIn bytes.now events

@@ -12,8 +12,8 @@ use watchtree_script::{
     RunFault, SCRIPT_MAX, ScriptFault, journals_are_lawful, run_script, texts_are_one,
 };
 
-// Asserts that two values are equal. Tests assert in these two functions, because the macros in a long body take
-// minutes to prove.
+/// Asserts that two values are equal. Tests assert in these two functions, because the macros in a long body take
+/// minutes to prove.
 fn equal<T: PartialEq + Debug + Drop>(rt: &impl Abort, got: T, wanted: T) {
     assert_eq!(rt; got, wanted);
 }
@@ -75,8 +75,8 @@ impl Write for Narrow {
     }
 }
 
-// Runs a script that is read in steps, so often at most, to a writer that takes it in steps, so often at most.
-// Compares how the run ends, what it printed, and the ports' counts of faults.
+/// Runs a script that is read in steps, so often at most, to a writer that takes it in steps, so often at most.
+/// Compares how the run ends, what it printed, and the ports' counts of faults.
 fn compare(
     rt: &impl Abort,
     alloc: Global,
@@ -101,7 +101,7 @@ fn compare(
     equal(rt, output.faults(), u64::from(ends == Err(RunFault::Write)));
 }
 
-// Runs a script with a reader and a writer that never fail.
+/// Runs a script with a reader and a writer that never fail.
 fn compare_text(
     rt: &impl Abort,
     alloc: Global,

@@ -41,7 +41,7 @@ pub struct ReadyStorm<L: Ledger, S> {
     pub other: Listening<S>,
 }
 
-// Makes the next instance, with a pipe and a watch of all events of the directory, and a listener at its other end.
+/// Makes the next instance, with a pipe and a watch of all events of the directory, and a listener at its other end.
 fn listen<L: Ledger, S: Sink>(
     alloc: Global,
     held: &mut Held<L>,

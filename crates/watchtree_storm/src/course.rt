@@ -75,7 +75,7 @@ impl<S: Sink> FinishedStorm<S> {
     }
 }
 
-// What is reported of a listener: its number, why it ended, and how many records its sink took.
+/// What is reported of a listener: its number, why it ended, and how many records its sink took.
 fn told_of<S: Sink>(ended: &Ended<S>) -> (u32, Cause, u64)
     ensures { result ≡ told_of S.record_list ended.now }
 {

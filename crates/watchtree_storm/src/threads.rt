@@ -44,7 +44,7 @@ impl<L: Ledger, G: Gate> Promise<Option<Seat<L>>> for Writes<L, G> {
         (part_of p.writer) p.calls p.seat.value) };
 }
 
-// The thread of a listener. Where the four do not begin, the listener is dropped, which closes its sink.
+/// The thread of a listener. Where the four do not begin, the listener is dropped, which closes its sink.
 fn listen<S: Sink, G: Gate>(
     rt: &impl Wait,
     start: &Start,
@@ -62,7 +62,7 @@ fn listen<S: Sink, G: Gate>(
     }
 }
 
-// The thread of a writer.
+/// The thread of a writer.
 fn write<L: Ledger, G: Gate>(
     rt: &impl Wait,
     alloc: Global,
@@ -85,9 +85,9 @@ fn write<L: Ledger, G: Gate>(
 /// The listeners that ended, and the seats: the main one, and those of the writers.
 pub(crate) type Left<L, S> = ((Ended<S>, Ended<S>), (Seat<L>, Seat<L>, Seat<L>));
 
-// Runs both listeners and both writers, each in a thread of its own. Once the writers have ended, both instances are
-// pumped once more and closed. None begins before all four threads have started; if one cannot be started, none begins,
-// and both sinks are closed.
+/// Runs both listeners and both writers, each in a thread of its own. Once the writers have ended, both instances are
+/// pumped once more and closed. None begins before all four threads have started; if one cannot be started, none
+/// begins, and both sinks are closed.
 pub(crate) fn run_four<L: Ledger + Send + Sync, S: Sink, G: Gate, R: Threads + Wait + Sync>(
     rt: &R,
     alloc: Global,

@@ -90,7 +90,7 @@ impl Writer {
         }))
     }
 
-    // A turn: the call of this number, and a pump of the writer's instance. What wants memory is passed over.
+    /// A turn: the call of this number, and a pump of the writer's instance. What wants memory is passed over.
     fn turn<L: Ledger>(
         &self,
         rt: &impl Wait,
@@ -105,7 +105,7 @@ impl Writer {
         pump(rt, tree, seat, self.instance);
     }
 
-    // The call of this number. What wants memory is passed over.
+    /// The call of this number. What wants memory is passed over.
     fn make_call<L: Ledger>(
         &self,
         rt: &impl Wait,
@@ -147,7 +147,7 @@ impl Writer {
     }
 }
 
-// Asks the gate at each turn until it lets the worker through. Whether it did.
+/// Asks the gate at each turn until it lets the worker through. Whether it did.
 fn is_let_through<G: Gate>(gate: &G, who: u32) -> bool
     ensures yes { OnTrue result ((turn : ℕ) × IsLetThrough (G.may_pass gate.now who) (G.most_turns gate.now) turn) }
     ensures no { OnFalse result (IsHeldBack (G.may_pass gate.now who) (G.most_turns gate.now)) }
@@ -173,7 +173,7 @@ pub fn close_both<L: Ledger>(rt: &impl Wait, tree: &Tree<L>, seat: Seat<L>) -> S
     seat
 }
 
-// Makes a call of a seat, and answers why it was not carried out.
+/// Makes a call of a seat, and answers why it was not carried out.
 fn make<L: Ledger>(
     rt: &impl Wait,
     tree: &Tree<L>,
@@ -190,7 +190,7 @@ fn make<L: Ledger>(
     }
 }
 
-// Pumps an instance, if it can be.
+/// Pumps an instance, if it can be.
 fn pump<L: Ledger>(rt: &impl Wait, tree: &Tree<L>, seat: &mut Seat<L>, instance: u32)
     ensures { KeepsOrNot (pump_all instance) seat.old seat.new }
 {
@@ -200,7 +200,7 @@ fn pump<L: Ledger>(rt: &impl Wait, tree: &Tree<L>, seat: &mut Seat<L>, instance:
     }
 }
 
-// Closes an instance. A close that wants memory is tried again.
+/// Closes an instance. A close that wants memory is tried again.
 fn close<L: Ledger>(rt: &impl Wait, tree: &Tree<L>, seat: &mut Seat<L>, instance: u32)
     ensures { KeepsOrNot (Close instance) seat.old seat.new }
 {

@@ -26,13 +26,13 @@ use tree_ops::FileCall;
 use tree_paths::{Path, Refusal};
 use watchtree_storm::*;
 
-// Asserts that two values are equal. Tests assert in these two functions, because the macros in a long body take
-// minutes to prove.
+/// Asserts that two values are equal. Tests assert in these two functions, because the macros in a long body take
+/// minutes to prove.
 fn equal<T: PartialEq + Debug + Drop>(rt: &impl Abort, got: T, wanted: T) {
     assert_eq!(rt; got, wanted);
 }
 
-// Asserts a condition.
+/// Asserts a condition.
 fn holds(rt: &impl Abort, what: &str, is_so: bool) {
     assert!(rt; is_so, "{what}");
 }
@@ -45,7 +45,7 @@ struct Four {
 }
 
 impl Four {
-    // A gate that nobody has asked yet, of so many turns.
+    /// A gate that nobody has asked yet, of so many turns.
     fn closed(turns: u64) -> Four {
         Four {
             turns,
@@ -81,7 +81,7 @@ impl Gate for Four {
     }
 }
 
-// A storm whose sinks take so many records at most.
+/// A storm whose sinks take so many records at most.
 fn stormed<G: Gate, R: Threads + Wait + Sync>(
     rt: &R,
     alloc: Global,
@@ -100,14 +100,14 @@ fn stormed<G: Gate, R: Threads + Wait + Sync>(
 /// Sinks that are never full.
 const LARGE: (u64, u64) = (1_000_000, 1_000_000);
 
-// Whether both listeners ended by the end batch, with so many records each.
+/// Whether both listeners ended by the end batch, with so many records each.
 fn are_last(listeners: &[(u32, Cause, u64)], taken: u64) -> bool {
     listeners.len() == 2
         && listeners[0] == (1, Cause::Last, taken)
         && listeners[1] == (2, Cause::Last, taken)
 }
 
-// Whether the book was settled with so many entries, and each listener took so many records.
+/// Whether the book was settled with so many entries, and each listener took so many records.
 fn is_settled(stormed: &Stormed, entries: u64, taken: u64) -> bool {
     stormed.entries == entries
         && stormed.settled
@@ -181,7 +181,7 @@ impl Write for Closings {
     }
 }
 
-// A sink that counts its closing.
+/// A sink that counts its closing.
 fn counted(alloc: Global, count: &Arc<AtomicU64, Global>) -> Result<LineSink<Closings>, Fail>
     ensures { IfOk result (λ sink. is_open_of sink ≡ true) }
 {
@@ -214,7 +214,7 @@ const ANOTHER: Writer = Writer {
     moved: "/s/b2",
 };
 
-// A storm of so many calls each, one after the other.
+/// A storm of so many calls each, one after the other.
 fn quiet<L: Ledger>(
     rt: &impl Wait,
     alloc: Global,
@@ -250,7 +250,7 @@ fn quiet<L: Ledger>(
     Ok(FinishedStorm { book, logs, ended })
 }
 
-// The same with the ledger of a brand.
+/// The same with the ledger of a brand.
 fn quiet_storm(
     rt: &impl Wait,
     alloc: Global,
@@ -265,13 +265,13 @@ fn quiet_storm(
 /// Who makes a call, and the call.
 type Made = (u32, Call);
 
-// A pump of an instance, made by a seat.
+/// A pump of an instance, made by a seat.
 fn pump(seat: u32, instance: u32) -> Made {
     let bytes = 1_048_576;
     (seat, Call::Pump { instance, bytes })
 }
 
-// What the first seat does before the writers begin: a directory, and two instances that are notified of all in it.
+/// What the first seat does before the writers begin: a directory, and two instances that are notified of all in it.
 fn beginning(alloc: Global, made: &mut Vec<Made>) -> Result<(), Refusal> {
     let path = Path::parse(alloc, b"/s")?;
     made.push((1, Call::File(FileCall::Mkdir { path, mode: 0o755 })))?;
@@ -292,7 +292,7 @@ fn beginning(alloc: Global, made: &mut Vec<Made>) -> Result<(), Refusal> {
     Ok(())
 }
 
-// What a writer does in four turns.
+/// What a writer does in four turns.
 fn four_turns(
     alloc: Global,
     made: &mut Vec<Made>,
@@ -326,7 +326,7 @@ fn four_turns(
     Ok(())
 }
 
-// All that is done in a storm of four calls each whose second writer comes after the first.
+/// All that is done in a storm of four calls each whose second writer comes after the first.
 fn four_each(alloc: Global) -> Result<Vec<Made>, Refusal> {
     let mut made = Vec::new(alloc);
     beginning(alloc, &mut made)?;
@@ -339,7 +339,7 @@ fn four_each(alloc: Global) -> Result<Vec<Made>, Refusal> {
     Ok(made)
 }
 
-// How many entries of a book are these calls of these seats, before the first that is not.
+/// How many entries of a book are these calls of these seats, before the first that is not.
 fn same_entries(book: &Book, made: &[Made]) -> usize {
     for (at, (caller, call)) in made.iter().enumerate() {
         match book.journal().get(at) {
@@ -391,7 +391,7 @@ fn writers_ask_under_their_numbers(rt: HostRuntime) -> Result<(), Fail> {
     Ok(())
 }
 
-// A storm of four calls each.
+/// A storm of four calls each.
 fn four_at<G: Gate, R: Threads + Wait + Sync>(
     rt: &R,
     alloc: Global,
@@ -402,7 +402,7 @@ fn four_at<G: Gate, R: Threads + Wait + Sync>(
     run::<Brand, CountSink, G, R>(rt, alloc, Blank::new(65537), 4, gate, one, other)
 }
 
-// How many calls a log has.
+/// How many calls a log has.
 fn kept(logs: &[SeatLog], at: usize) -> usize {
     match logs.get(at) {
         Some(log) => log.kept.as_slice().len(),
@@ -432,7 +432,7 @@ fn another_trees_seat_is_stray(rt: HostRuntime) -> Result<(), Fail> {
     Ok(())
 }
 
-// A storm whose journal is cut before its four threads begin.
+/// A storm whose journal is cut before its four threads begin.
 fn cut_before_it<L: Ledger + Send + Sync, R: Threads + Wait + Sync>(
     rt: &R,
     alloc: Global,
@@ -451,7 +451,7 @@ fn cut_before_it<L: Ledger + Send + Sync, R: Threads + Wait + Sync>(
     Ok(ready.run(rt, alloc, calls, &OpenGate)?.settle(alloc)?)
 }
 
-// The same with the ledger of a brand.
+/// The same with the ledger of a brand.
 fn cut_storm<R: Threads + Wait + Sync>(rt: &R, alloc: Global, calls: u32) -> Result<Stormed, Fail>
     requires { calls ≤ 1000 }
 {
@@ -475,8 +475,8 @@ enum Order {
     Writers,
 }
 
-// A double that runs the four one after the other, at a gate that waits for all of them. Whether it would pass for a
-// storm of four calls each: both listeners ended by the end batch, and each writer kept its calls.
+/// A double that runs the four one after the other, at a gate that waits for all of them. Whether it would pass for a
+/// storm of four calls each: both listeners ended by the end batch, and each writer kept its calls.
 fn one_after_the_other<L: Ledger>(
     rt: &impl Wait,
     alloc: Global,
@@ -519,7 +519,7 @@ fn one_after_the_other<L: Ledger>(
     Ok(is_whole(&one, &other, &pass.join(first), &pass.join(second)))
 }
 
-// Whether both listeners ended by the end batch, and both seats kept eight calls.
+/// Whether both listeners ended by the end batch, and both seats kept eight calls.
 fn is_whole(
     one: &Ended<CountSink>,
     other: &Ended<CountSink>,
@@ -532,7 +532,7 @@ fn is_whole(
         && second.kept.as_slice().len() == 8
 }
 
-// The same with the ledger of a brand.
+/// The same with the ledger of a brand.
 fn passes_for_a_storm(rt: &impl Wait, alloc: Global, order: Order) -> Result<bool, Fail> {
     one_after_the_other::<Brand>(rt, alloc, Blank::new(65537), order)
 }

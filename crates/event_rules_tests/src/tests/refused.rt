@@ -10,7 +10,7 @@ const MOST: u32 = 60;
 /// How many calls there are.
 const CALLS: u32 = 13;
 
-// A directory, files with one and two paths, and an empty directory.
+/// A directory, files with one and two paths, and an empty directory.
 fn prepared(alloc: Global) -> Result<Calls, Refusal> {
     let mut calls = Calls::new(alloc)?;
     calls.mkdir("/d")?;
@@ -22,7 +22,7 @@ fn prepared(alloc: Global) -> Result<Calls, Refusal> {
     Ok(calls)
 }
 
-// A call of each kind, none of which is refused there.
+/// A call of each kind, none of which is refused there.
 fn call_of(calls: &Calls, which: u32) -> Result<FileCall, Refusal> {
     let path = calls.path("/g")?;
     let other = calls.path("/h")?;
@@ -71,7 +71,7 @@ fn call_of(calls: &Calls, which: u32) -> Result<FileCall, Refusal> {
     })
 }
 
-// The notices that a call would have.
+/// The notices that a call would have.
 fn noticed(calls: &Calls, call: &FileCall) -> Result<Notices, Refusal> {
     let paths = Paths::resolve(&calls.table, call);
     let ready = check(&paths, &calls.counts, &Limits::full())?;
@@ -84,7 +84,7 @@ fn noticed(calls: &Calls, call: &FileCall) -> Result<Notices, Refusal> {
     Ok(told)
 }
 
-// How many allocations the notices of a call take. Each was made to fail. `None` if a result was wrong.
+/// How many allocations the notices of a call take. Each was made to fail. `None` if a result was wrong.
 fn notices_refused(calls: &Calls, call: &FileCall) -> Result<Option<u32>, Refusal> {
     let wanted = noticed(calls, call)?;
     for k in 1..MOST {
@@ -99,13 +99,13 @@ fn notices_refused(calls: &Calls, call: &FileCall) -> Result<Option<u32>, Refusa
     Ok(None)
 }
 
-// Whether the same events are raised, and the same watches end.
+/// Whether the same events are raised, and the same watches end.
 fn are_same(one: &Staged, other: &Staged) -> bool {
     one.events.iter().eq(other.events.iter()) && one.drops.as_slice() == other.drops.as_slice()
 }
 
-// How many allocations the events of a call take. Each was made to fail. `None` if a result was wrong, or if staging
-// them again in the capacity that was allocated takes another one.
+/// How many allocations the events of a call take. Each was made to fail. `None` if a result was wrong, or if staging
+/// them again in the capacity that was allocated takes another one.
 fn stage_refused(
     alloc: Global,
     watches: &Watches,
@@ -133,7 +133,7 @@ fn stage_refused(
     Ok(None)
 }
 
-// Watches of all files: each for all events, the even ones for one event.
+/// Watches of all files: each for all events, the even ones for one event.
 fn watching(alloc: Global) -> Result<Watches, Refusal> {
     let mut watches = Watches::new(alloc, &Limits::full());
     for number in 1..7 {

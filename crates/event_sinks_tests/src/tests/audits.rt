@@ -37,7 +37,7 @@ impl Gate for Open {
 /// What `settle` answers.
 pub(super) type Answer = Result<Settled, SettleFault>;
 
-// A book with these logs and listeners, settled.
+/// A book with these logs and listeners, settled.
 fn settles(
     alloc: Global,
     book: Book,
@@ -55,7 +55,7 @@ fn settles(
     answered(settle(alloc, book, given, ended))
 }
 
-// An answer, unless it is out of memory, which ends a test.
+/// An answer, unless it is out of memory, which ends a test.
 pub(super) fn answered(answer: Answer) -> Result<Answer, Fail> {
     match answer {
         Err(SettleFault::Memory) => Err(Fail::from(SettleFault::Memory)),
@@ -63,7 +63,7 @@ pub(super) fn answered(answer: Answer) -> Result<Answer, Fail> {
     }
 }
 
-// A listener that has ended, unless it ran out of memory, which ends a test.
+/// A listener that has ended, unless it ran out of memory, which ends a test.
 pub(super) fn ended(end: End) -> Result<End, Refusal> {
     match end.cause() {
         Cause::Memory | Cause::Sink(SinkFault::Memory) => Err(Refusal::Enomem),
@@ -71,7 +71,7 @@ pub(super) fn ended(end: End) -> Result<End, Refusal> {
     }
 }
 
-// The call that makes a directory.
+/// The call that makes a directory.
 pub(super) fn mkdir(alloc: Global, path: &[u8]) -> Result<Call, Refusal>
     ensures { IfOk result (λ call. IsTrue (is_plain call)) }
 {
@@ -79,7 +79,7 @@ pub(super) fn mkdir(alloc: Global, path: &[u8]) -> Result<Call, Refusal>
     Ok(Call::File(FileCall::Mkdir { path, mode: 0o755 }))
 }
 
-// The book of a tree in which two seats made a directory each, and their logs.
+/// The book of a tree in which two seats made a directory each, and their logs.
 fn two_seats<L: Ledger>(
     alloc: Global,
     blank: Blank,
@@ -99,7 +99,7 @@ fn two_seats<L: Ledger>(
     Ok((held.dissolve(pass), first, second))
 }
 
-// The same with the ledger of a brand.
+/// The same with the ledger of a brand.
 fn two(alloc: Global, one: &str, other: &str) -> Result<(Book, SeatLog, SeatLog), Refusal> {
     two_seats::<Brand>(alloc, Blank::new(65537), one.as_bytes(), other.as_bytes())
 }
@@ -134,7 +134,7 @@ fn books_of_two_seats(rt: HostRuntime) -> Result<(), Fail> {
     Ok(())
 }
 
-// The book of a tree after the calls of a story, the log of its seat, and the feed of its instance.
+/// The book of a tree after the calls of a story, the log of its seat, and the feed of its instance.
 fn story_told<L: Ledger>(
     alloc: Global,
     blank: Blank,
@@ -151,7 +151,7 @@ fn story_told<L: Ledger>(
     Ok((held.dissolve(pass), log, feed))
 }
 
-// The same, with a listener that had so many turns.
+/// The same, with a listener that had so many turns.
 pub(super) fn heard_out(
     alloc: Global,
     story: &str,
@@ -162,7 +162,7 @@ pub(super) fn heard_out(
     Ok((book, log, ended(listener.run(&Open, steps))?))
 }
 
-// The book of a tree in which one seat made two directories, and its log.
+/// The book of a tree in which one seat made two directories, and its log.
 fn one_seat<L: Ledger>(alloc: Global, blank: Blank) -> Result<(Book, SeatLog), Refusal>
     requires name { blank.name ≡ L.name }
     requires parts { (blank.parts ≡ L.parts) × (blank.parts ≡ 65537) }
@@ -175,7 +175,7 @@ fn one_seat<L: Ledger>(alloc: Global, blank: Blank) -> Result<(Book, SeatLog), R
     Ok((held.dissolve(pass), log))
 }
 
-// The same, where the two kept calls are exchanged or not.
+/// The same, where the two kept calls are exchanged or not.
 fn exchanged(alloc: Global, is_exchanged: bool) -> Result<Answer, Fail> {
     let (book, log) = one_seat::<Brand>(alloc, Blank::new(65537))?;
     let SeatLog { number, kept } = log;
@@ -258,7 +258,7 @@ fn books_of_other_listeners(rt: HostRuntime) -> Result<(), Fail> {
     Ok(())
 }
 
-// The book of a tree with one instance, which has a pipe and was never closed, and the log.
+/// The book of a tree with one instance, which has a pipe and was never closed, and the log.
 fn opened_alone<L: Ledger>(alloc: Global, blank: Blank) -> Result<(Book, SeatLog), Refusal>
     requires name { blank.name ≡ L.name }
     requires parts { (blank.parts ≡ L.parts) × (blank.parts ≡ 65537) }
@@ -311,8 +311,8 @@ fn books_that_were_cut(rt: HostRuntime) -> Result<(), Fail> {
     Ok(())
 }
 
-// The answer for a book of four calls that was cut after the second, if a seat's call at this index is given this
-// sequence number.
+/// The answer for a book of four calls that was cut after the second, if a seat's call at this index is given this
+/// sequence number.
 fn misplaced(alloc: Global, index: usize, place: u64) -> Result<Answer, Fail> {
     let (book, log, end) = heard_out(alloc, "|!.", 2)?;
     let SeatLog { number, kept } = log;
@@ -343,7 +343,7 @@ fn a_wrong_place_is_stray(rt: HostRuntime) -> Result<(), Fail> {
     Ok(())
 }
 
-// Makes a hundred files with a pump after each. How many pumps found the pipe full.
+/// Makes a hundred files with a pump after each. How many pumps found the pipe full.
 fn crowds<L: Ledger>(
     alloc: Global,
     held: &mut Held<L>,
@@ -362,7 +362,7 @@ fn crowds<L: Ledger>(
     Ok(full)
 }
 
-// The book of a tree whose pipe has one slot, the log, the listener, and how many pumps found the pipe full.
+/// The book of a tree whose pipe has one slot, the log, the listener, and how many pumps found the pipe full.
 fn crowded<L: Ledger>(alloc: Global, blank: Blank) -> Result<(Book, SeatLog, End, u32), Refusal>
     requires name { blank.name ≡ L.name }
     requires parts { (blank.parts ≡ L.parts) × (blank.parts ≡ 65537) }
@@ -401,7 +401,7 @@ fn a_full_pipe_loses_nothing(rt: HostRuntime) -> Result<(), Fail> {
     Ok(())
 }
 
-// How many records each of three batches has.
+/// How many records each of three batches has.
 fn sizes(end: &End) -> Option<(usize, usize, usize)> {
     match end.handed() {
         [one, two, last] => Some((
@@ -413,8 +413,8 @@ fn sizes(end: &End) -> Option<(usize, usize, usize)> {
     }
 }
 
-// Steps of a listener whose sink takes one record of three, at a pipe of two slots. Whether it takes no batch then, so
-// that one slot is free, and no second one.
+/// Steps of a listener whose sink takes one record of three, at a pipe of two slots. Whether it takes no batch then, so
+/// that one slot is free, and no second one.
 fn keeps_the_next<L: Ledger>(
     alloc: Global,
     held: &mut Held<L>,
@@ -433,7 +433,7 @@ fn keeps_the_next<L: Ledger>(
     Ok(as_wanted && more == Err(Refusal::PipeFull))
 }
 
-// The book of that tree, the log, and the listener; and whether it was so.
+/// The book of that tree, the log, and the listener; and whether it was so.
 fn filled<L: Ledger>(
     alloc: Global,
     blank: Blank,
@@ -466,7 +466,7 @@ fn a_full_sink_is_not_ended(rt: HostRuntime) -> Result<(), Fail> {
     Ok(())
 }
 
-// How many records the first batch has.
+/// How many records the first batch has.
 fn size_of_first(end: &Ended<CountSink>) -> Option<usize> {
     let first = end.handed().first()?;
     Some(first.records.as_slice().len())
@@ -475,7 +475,7 @@ fn size_of_first(end: &Ended<CountSink>) -> Option<usize> {
 /// How many batches a large book hands over before the end batch.
 const BATCHES: u64 = 5_000;
 
-// A file is made, looked at and removed, and the events that this raised are pumped.
+/// A file is made, looked at and removed, and the events that this raised are pumped.
 fn turns<L: Ledger>(alloc: Global, held: &mut Held<L>, seat: &mut Seat<L>) -> Result<(), Refusal> {
     held.call(seat, create(alloc)?)?;
     let path = Path::parse(alloc, b"/f")?;
@@ -486,7 +486,7 @@ fn turns<L: Ledger>(alloc: Global, held: &mut Held<L>, seat: &mut Seat<L>) -> Re
     Ok(())
 }
 
-// The call that makes a file.
+/// The call that makes a file.
 pub(super) fn create(alloc: Global) -> Result<Call, Refusal>
     ensures { IfOk result (λ call. IsTrue (is_plain call)) }
 {
@@ -494,7 +494,7 @@ pub(super) fn create(alloc: Global) -> Result<Call, Refusal>
     Ok(Call::File(FileCall::Create { path, mode: 0o644 }))
 }
 
-// The book of a tree with so many batches, the log, and the feed.
+/// The book of a tree with so many batches, the log, and the feed.
 fn large<L: Ledger>(alloc: Global, blank: Blank) -> Result<(Book, SeatLog, Feed), Refusal>
     requires name { blank.name ≡ L.name }
     requires parts { (blank.parts ≡ L.parts) × (blank.parts ≡ 65537) }

@@ -16,7 +16,7 @@ use tree_core::{Call, Reply};
 use tree_ops::FileCall;
 use tree_paths::{Limits, Path, Refusal};
 
-// Makes an instance with a pipe, which watches the root.
+/// Makes an instance with a pipe, which watches the root.
 fn watched<L: Ledger>(
     alloc: Global,
     held: &mut Held<L>,
@@ -33,8 +33,8 @@ fn watched<L: Ledger>(
     feed.ok_or(Refusal::Ebadf)
 }
 
-// The book of a tree with three pipes, each of which was handed a record and then the end batch; the log, and the
-// feeds.
+/// The book of a tree with three pipes, each of which was handed a record and then the end batch; the log, and the
+/// feeds.
 fn three_pipes<L: Ledger>(
     alloc: Global,
     blank: Blank,
@@ -56,12 +56,12 @@ fn three_pipes<L: Ledger>(
     Ok((held.dissolve(pass), log, [first, second, third]))
 }
 
-// What a listener at a feed comes to.
+/// What a listener at a feed comes to.
 fn heard(alloc: Global, feed: Feed) -> Result<End, Refusal> {
     ended(Listening::new(alloc, 7, feed, MemorySink::new(alloc)).run(&Open, 9))
 }
 
-// The answer for that book, where the listeners of these pipes are handed in, in this order.
+/// The answer for that book, where the listeners of these pipes are handed in, in this order.
 fn settled_three(alloc: Global, order: &[usize]) -> Result<Answer, Fail> {
     let (book, log, [first, second, third]) = three_pipes::<Brand>(alloc, Blank::new(65537))?;
     let mut ends = [
@@ -97,8 +97,8 @@ fn a_book_of_three_pipes(rt: HostRuntime) -> Result<(), Fail> {
 /// How many calls each of two writers makes.
 const CALLS: u32 = 100;
 
-// A call of the writer of this name, by its number: it makes its file, writes a byte, moves the file, and takes it
-// away, in turn.
+/// A call of the writer of this name, by its number: it makes its file, writes a byte, moves the file, and takes it
+/// away, in turn.
 fn call_of(alloc: Global, name: u8, number: u32) -> Result<Call, Refusal>
     ensures { IfOk result (λ call. IsTrue (is_plain call)) }
 {
@@ -122,7 +122,7 @@ fn call_of(alloc: Global, name: u8, number: u32) -> Result<Call, Refusal>
     }))
 }
 
-// Makes the calls of a writer.
+/// Makes the calls of a writer.
 fn writes_all<L: Ledger>(
     rt: &impl Wait,
     alloc: Global,
@@ -139,8 +139,8 @@ fn writes_all<L: Ledger>(
     seat
 }
 
-// The book of a tree on which two threads made calls, with no pump and no gate, and the logs. Its law is called through
-// a guard.
+/// The book of a tree on which two threads made calls, with no pump and no gate, and the logs. Its law is called
+/// through a guard.
 fn written<L: Ledger + Send + Sync, R: Threads + Wait + Sync>(
     rt: &R,
     alloc: Global,
@@ -169,7 +169,7 @@ fn written<L: Ledger + Send + Sync, R: Threads + Wait + Sync>(
     Ok((tree.into_inner().dissolve(pass), logs))
 }
 
-// The same with the ledger of a brand.
+/// The same with the ledger of a brand.
 fn both_written<R: Threads + Wait + Sync>(
     rt: &R,
     alloc: Global,
@@ -177,7 +177,7 @@ fn both_written<R: Threads + Wait + Sync>(
     written::<Brand, R>(rt, alloc, Blank::new(65537))
 }
 
-// How many entries have a refusal as their reply.
+/// How many entries have a refusal as their reply.
 fn refusals_of(book: &Book) -> usize {
     let mut count = 0usize;
     for entry in book.journal() {

@@ -12,7 +12,7 @@ use tree_core::Call;
 use tree_ops::FileCall;
 use tree_paths::{Limits, Path, Refusal};
 
-// A tree with its instance, which has a pipe of so many slots.
+/// A tree with its instance, which has a pipe of so many slots.
 pub(super) fn opens<L: Ledger>(
     alloc: Global,
     blank: Blank,
@@ -28,7 +28,7 @@ pub(super) fn opens<L: Ledger>(
     Ok((held, seat, feed))
 }
 
-// Makes the instance of a tree, with such a queue and a pipe of so many slots.
+/// Makes the instance of a tree, with such a queue and a pipe of so many slots.
 pub(super) fn watches<L: Ledger>(
     alloc: Global,
     held: &mut Held<L>,
@@ -49,7 +49,7 @@ pub(super) fn watches<L: Ledger>(
     Ok(feed)
 }
 
-// What a letter of a story calls for.
+/// What a letter of a story calls for.
 fn call_of(alloc: Global, letter: u8) -> Result<Call, Refusal>
     ensures { IfOk result (λ call. IsTrue (is_plain call)) }
 {
@@ -60,8 +60,8 @@ fn call_of(alloc: Global, letter: u8) -> Result<Call, Refusal>
     Ok(Call::File(FileCall::Create { path, mode: 0o644 }))
 }
 
-// Makes the calls of a story: a full stop closes the instance, an exclamation mark pumps all that waits, a stroke cuts
-// the journal, and a letter makes the file of that name.
+/// Makes the calls of a story: a full stop closes the instance, an exclamation mark pumps all that waits, a stroke cuts
+/// the journal, and a letter makes the file of that name.
 pub(super) fn tells<L: Ledger>(
     alloc: Global,
     held: &mut Held<L>,
@@ -80,7 +80,7 @@ pub(super) fn tells<L: Ledger>(
     Ok(())
 }
 
-// The feed of a tree, after the calls of a story.
+/// The feed of a tree, after the calls of a story.
 fn fills<L: Ledger>(alloc: Global, blank: Blank, story: &[u8]) -> Result<Feed, Refusal>
     requires name { blank.name ≡ L.name }
     requires parts { (blank.parts ≡ L.parts) × (blank.parts ≡ 65537) }
@@ -90,7 +90,7 @@ fn fills<L: Ledger>(alloc: Global, blank: Blank, story: &[u8]) -> Result<Feed, R
     Ok(feed)
 }
 
-// A feed with the batches of a story.
+/// A feed with the batches of a story.
 pub(super) fn feed_of(alloc: Global, story: &str) -> Result<Feed, Refusal> {
     fills::<Brand>(alloc, Blank::new(65537), story.as_bytes())
 }

@@ -44,7 +44,7 @@ pub(super) const EACH: Lets = Lets { who: 7, from: 0 };
 /// took, and whether the sink is open.
 pub(super) type Told = (Cause, usize, u64, bool);
 
-// What is known of a listener that has ended.
+/// What is known of a listener that has ended.
 pub(super) fn told<S: Sink>(ended: &Ended<S>) -> Told {
     let sink = ended.sink();
     (
@@ -55,7 +55,7 @@ pub(super) fn told<S: Sink>(ended: &Ended<S>) -> Told {
     )
 }
 
-// Runs a listener through so many turns.
+/// Runs a listener through so many turns.
 fn ran<S: Sink>(
     alloc: Global,
     story: &str,
@@ -70,7 +70,7 @@ fn ran<S: Sink>(
     Ok(told(&ended))
 }
 
-// Whether the next steps of a listener are these.
+/// Whether the next steps of a listener are these.
 pub(super) fn steps<S: Sink>(listener: &mut Listening<S>, wanted: &[Step]) -> bool
     requires { IsSoundListener (state_of_listener S.record_list S.is_open listener.old) }
     ensures { IsSoundListener (state_of_listener S.record_list S.is_open listener.new) }
@@ -83,7 +83,7 @@ pub(super) fn steps<S: Sink>(listener: &mut Listening<S>, wanted: &[Step]) -> bo
     true
 }
 
-// Whether the steps of a listener are these, and what is known of it when it is finished then.
+/// Whether the steps of a listener are these, and what is known of it when it is finished then.
 fn stepped<S: Sink>(
     alloc: Global,
     story: &str,
@@ -209,7 +209,7 @@ fn gates_hold_turns_back(rt: HostRuntime) -> Result<(), Fail> {
     Ok(())
 }
 
-// A sheet of which each write takes all, up to so many bytes, where it fails so many times.
+/// A sheet of which each write takes all, up to so many bytes, where it fails so many times.
 fn sheet(text: &mut Vec<u8>, room: usize, faults: usize) -> ShortWriter<'_> {
     ShortWriter {
         text,
@@ -235,8 +235,8 @@ fn a_failed_write_ends_a_listener(rt: HostRuntime) -> Result<(), Fail> {
     Ok(())
 }
 
-// Runs a listener whose sink writes lines. Where it ended by the end batch, and no write failed, the writer got the
-// line of each record that was handed, and then the closing line of so many.
+/// Runs a listener whose sink writes lines. Where it ended by the end batch, and no write failed, the writer got the
+/// line of each record that was handed, and then the closing line of so many.
 fn writes_lines<W: Write + Send + Drop>(
     alloc: Global,
     feed: Feed,
@@ -271,7 +271,7 @@ fn a_listener_writes_its_records(rt: HostRuntime) -> Result<(), Fail> {
     Ok(())
 }
 
-// Drops a listener after so many steps.
+/// Drops a listener after so many steps.
 fn drops<S: Sink>(mut listener: Listening<S>, count: u32)
     requires { IsSoundListener (state_of_listener S.record_list S.is_open listener) }
 {
@@ -280,7 +280,7 @@ fn drops<S: Sink>(mut listener: Listening<S>, count: u32)
     }
 }
 
-// Drops a listener after so many steps, in another thread.
+/// Drops a listener after so many steps, in another thread.
 fn drops_elsewhere<S: Sink, R: Threads>(rt: &R, listener: Listening<S>, count: u32)
     requires { IsSoundListener (state_of_listener S.record_list S.is_open listener) }
 {
@@ -328,7 +328,7 @@ fn a_dropped_listener_closes_once(rt: HostRuntime) -> Result<(), Fail> {
     Ok(())
 }
 
-// A listener with a sink in a box.
+/// A listener with a sink in a box.
 fn boxed(alloc: Global, feed: Feed, sink: Box<dyn Sink>) -> Listener
     requires { ⟦<Box<dyn Sink> as Sink>⟧.is_open sink ≡ true }
     ensures { IsSoundListener

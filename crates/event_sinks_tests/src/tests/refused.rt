@@ -13,7 +13,7 @@ use shared_tree::Feed;
 /// More allocations than a listener here makes.
 const MOST: u32 = 100;
 
-// What is known of a listener whose allocation `k` fails, and whether one failed.
+/// What is known of a listener whose allocation `k` fails, and whether one failed.
 fn refused_at<S: Sink>(alloc: Global, feed: Feed, sink: S, k: u32) -> (Told, bool)
     requires { S.is_open sink ≡ true }
 {
@@ -24,7 +24,7 @@ fn refused_at<S: Sink>(alloc: Global, feed: Feed, sink: S, k: u32) -> (Told, boo
     (told(&ended), is_refused)
 }
 
-// The same, of five batches of a record each and the end batch, and of one of three sinks.
+/// The same, of five batches of a record each and the end batch, and of one of three sinks.
 fn listens(alloc: Global, which: u32, k: u32) -> Result<(Told, bool), Fail> {
     let feed = feed_of(alloc, "f!g!h!i!j!.")?;
     let mut text = Vec::with_capacity(alloc, 999)?;
@@ -35,7 +35,7 @@ fn listens(alloc: Global, which: u32, k: u32) -> Result<(Told, bool), Fail> {
     })
 }
 
-// Whether a listener may end so after five batches of a record each and the end batch, out of memory or not.
+/// Whether a listener may end so after five batches of a record each and the end batch, out of memory or not.
 fn may_be_told(told: Told) -> bool {
     let (cause, handed, taken, is_open) = told;
     let as_caused = match cause {
@@ -47,8 +47,8 @@ fn may_be_told(told: Told) -> bool {
     as_caused && !is_open
 }
 
-// How many allocations a listener makes, if all is well when each fails in turn: it ends out of memory, its sink
-// closed. None if one was not well.
+/// How many allocations a listener makes, if all is well when each fails in turn: it ends out of memory, its sink
+/// closed. None if one was not well.
 fn refused_in_turn(alloc: Global, which: u32) -> Result<Option<u32>, Fail> {
     for k in 1..MOST {
         let (told, is_refused) = listens(alloc, which, k)?;
@@ -62,7 +62,7 @@ fn refused_in_turn(alloc: Global, which: u32) -> Result<Option<u32>, Fail> {
     Ok(None)
 }
 
-// Whether allocations can be made to fail.
+/// Whether allocations can be made to fail.
 fn has_refuser(alloc: Global) -> bool {
     let has = refuse(alloc, MOST);
     let _ = was_refused(alloc);
@@ -81,7 +81,7 @@ fn each_growth_of_a_listener(rt: HostRuntime) -> Result<(), Fail> {
     Ok(())
 }
 
-// Settles a book while allocation `k` fails. Whether all is well, and whether one failed.
+/// Settles a book while allocation `k` fails. Whether all is well, and whether one failed.
 fn settled_at(alloc: Global, k: u32) -> Result<(bool, bool), Fail> {
     let (book, log, end) = heard_out(alloc, "f!.", 2)?;
     let mut logs = Vec::with_capacity(alloc, 1)?;

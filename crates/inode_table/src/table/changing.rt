@@ -165,7 +165,7 @@ impl Table {
     ghost use Rattle.inode_table.specs.TableWorld.{number_of};
     ghost use Rattle.inode_table.specs.Resolution.{IsResolved};
 
-    // Moves a path to another one, which may be taken. Returns the key of what was there, which has one path less.
+    /// Moves a path to another one, which may be taken. Returns the key of what was there, which has one path less.
     fn put_name(&mut self, old: &Resolved, new: &Resolved) -> Result<Option<usize>, Refusal>
         requires resolved { IsResolved self.old old.now }
         requires other_resolved { IsResolved self.old new.now }
@@ -200,7 +200,7 @@ impl Table {
         Ok(replaced)
     }
 
-    // Takes out a path, and returns its key.
+    /// Takes out a path, and returns its key.
     fn take_name(&mut self, path: &Resolved) -> usize
         requires resolved { IsResolved self.old path.now }
         requires named { path.now.names ≢ [] }
@@ -221,7 +221,7 @@ impl Table {
         key
     }
 
-    // Takes a node away if it has lost its last name.
+    /// Takes a node away if it has lost its last name.
     fn drop_if_lost(&mut self, key: usize)
         requires there { IsSome (what_at self.old key) }
         ensures world { (w : World) → Stands self.old w

@@ -31,7 +31,7 @@ impl Table {
     }
 }
 
-// The file of each node, in the order of the keys. A new node mostly has the greatest number and the greatest key.
+/// The file of each node, in the order of the keys. A new node mostly has the greatest number and the greatest key.
 fn all_files(alloc: Global, nodes: &Slab<Node>) -> Result<Vec<FileRow>, AllocError>
     ensures { IfOk result (λ files. files.items ≡ map (λ e. row_shown (shown (row_of e.1))) (entries nodes.now)) }
 {
@@ -42,7 +42,7 @@ fn all_files(alloc: Global, nodes: &Slab<Node>) -> Result<Vec<FileRow>, AllocErr
     Ok(files)
 }
 
-// The row of a node.
+/// The row of a node.
 fn file(alloc: Global, node: &Node) -> Result<FileRow, AllocError>
     ensures { IfOk result (λ row. row ≡ row_shown (shown (row_of node.now))) }
 {

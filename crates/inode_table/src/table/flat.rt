@@ -31,8 +31,8 @@ impl Table {
     }
 }
 
-// The number under each path, in the order of the paths. The stack has the paths that are still to be visited, the next
-// one at the end.
+/// The number under each path, in the order of the paths. The stack has the paths that are still to be visited, the
+/// next one at the end.
 fn all_paths(alloc: Global, nodes: &Slab<Node>) -> Result<Vec<(Path, u32)>, AllocError>
     requires { IsTable (rows_of nodes.now) }
     ensures { IfOk result (λ found. ArePaths (rows_of nodes.now) found.items) }
@@ -47,7 +47,7 @@ fn all_paths(alloc: Global, nodes: &Slab<Node>) -> Result<Vec<(Path, u32)>, Allo
     Ok(found)
 }
 
-// The number of a node. The paths one name longer go onto the stack, the first one at the end.
+/// The number of a node. The paths one name longer go onto the stack, the first one at the end.
 fn visit(
     alloc: Global,
     nodes: &Slab<Node>,
@@ -67,7 +67,7 @@ fn visit(
     Ok(node.number)
 }
 
-// Puts the paths of the names in a directory onto the stack, the first one at the end.
+/// Puts the paths of the names in a directory onto the stack, the first one at the end.
 fn put_off(
     alloc: Global,
     path: &Path,

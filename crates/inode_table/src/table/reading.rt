@@ -77,7 +77,7 @@ impl Table {
         self.node(key).content.names()
     }
 
-    // What decides whether a call on a node is refused.
+    /// What decides whether a call on a node is refused.
     pub(super) fn seen_under(&self, key: Key) -> Seen
         requires there { IsSome (number_of self.now (Some key)) }
         ensures { seen_at self.now key ≡ Some result }

@@ -44,7 +44,7 @@ impl Table {
         }
     }
 
-    // The keys of the directory of the last name and of what stands under that, or why there are none.
+    /// The keys of the directory of the last name and of what stands under that, or why there are none.
     #[inline(always)]
     fn walk<'a>(&self, first: NamePlace<'a>, behind: PathNames<'a>) -> (Found, Found)
         ensures directory { IsFound self.now (parent_of (first.entry ∷ behind.entry)) (found_of result.0) }
@@ -124,7 +124,7 @@ impl Table {
         }
     }
 
-    // What stands under a name at a key.
+    /// What stands under a name at a key.
     fn resolve_in(&self, directory: usize, name: &NamePlace) -> Found
         requires there { IsSome (what_at self.now directory) }
         ensures { (p : List Label) → at self.now p ≡ Some directory
@@ -137,7 +137,7 @@ impl Table {
         }
     }
 
-    // The key of what stands at a resolved path.
+    /// The key of what stands at a resolved path.
     pub(super) fn key_at(&self, path: &Resolved) -> usize
         requires resolved { IsResolved self.now path.now }
         requires there { IsSome (look_in self.now path.now.names) }
@@ -150,7 +150,7 @@ impl Table {
         }
     }
 
-    // The key of the directory of a resolved path's last name.
+    /// The key of the directory of a resolved path's last name.
     pub(super) fn directory_at(&self, path: &Resolved) -> usize
         requires resolved { IsResolved self.now path.now }
         requires there { IsSome (look_in self.now (parent_of path.now.names)) }
@@ -163,7 +163,7 @@ impl Table {
         }
     }
 
-    // The key of what stands at a resolved path, if anything does.
+    /// The key of what stands at a resolved path, if anything does.
     pub(super) fn key_if(&self, path: &Resolved) -> Option<usize>
         requires resolved { IsResolved self.now path.now }
         ensures { result ≡ at self.now path.now.names }

@@ -25,7 +25,7 @@ impl Instances {
     }
 }
 
-// The same open instances once more, with their numbers.
+/// The same open instances once more, with their numbers.
 fn copy_rows(alloc: Global, rows: &[Opened]) -> Result<Vec<Opened>, Refusal>
     ensures rows { IfOk result (λ copies. copies.items ≡ rows.now) }
     ensures err { IfErr result (λ refusal. refusal ≡ Enomem) }

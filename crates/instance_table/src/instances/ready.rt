@@ -17,8 +17,8 @@ impl Instances {
     }
 }
 
-// Writes the numbers of those that have a record waiting over the front of `out`, as many as it holds, and answers how
-// many there are.
+/// Writes the numbers of those that have a record waiting over the front of `out`, as many as it holds, and answers how
+/// many there are.
 fn ready_rows(rows: &[Opened], out: &mut [u32]) -> usize
     ensures count { result ≡ length (ready_rows rows.now) }
     ensures ids { out.new ≡ written_over (ready_rows rows.now) out.old }
@@ -30,7 +30,8 @@ fn ready_rows(rows: &[Opened], out: &mut [u32]) -> usize
     count
 }
 
-// Writes the number of an instance that has a record waiting behind `count` others, and answers how many they are then.
+/// Writes the number of an instance that has a record waiting behind `count` others, and answers how many they are
+/// then.
 fn put_row(row: &Opened, out: &mut [u32], count: usize) -> usize
     requires { count + 1 < 2 ^ 64 }
     ensures count { result ≡ count + length (ready_rows (row.now ∷ [])) }
@@ -45,7 +46,7 @@ fn put_row(row: &Opened, out: &mut [u32], count: usize) -> usize
     count + 1
 }
 
-// Writes a number behind `count` others, where `out` holds one more.
+/// Writes a number behind `count` others, where `out` holds one more.
 fn put_id(out: &mut [u32], count: usize, id: u32)
     ensures { (front old : List ℕ) → count ≡ length front → out.old ≡ written_over front old
         → out.new ≡ written_over (front ++ id ∷ []) old }

@@ -13,7 +13,7 @@ const CROWD: u32 = 128;
 /// Steps enough for two nodes of each ordered map.
 const STEPS: u32 = 60;
 
-// The instance, and the file, of a step.
+/// The instance, and the file, of a step.
 fn id_of(step: u32) -> u32 {
     step / 2 % 30
 }
@@ -22,7 +22,7 @@ fn file_of(step: u32) -> u32 {
     step.wrapping_mul(7) % 23
 }
 
-// Opens an instance, or watches a file for it.
+/// Opens an instance, or watches a file for it.
 fn does(instances: &mut Instances, step: u32) -> Result<(), Refusal> {
     if step % 2 == 0 {
         open(instances, id_of(step))?;
@@ -32,7 +32,7 @@ fn does(instances: &mut Instances, step: u32) -> Result<(), Refusal> {
     Ok(())
 }
 
-// Whether an instance has the same watches and as many records waiting in both.
+/// Whether an instance has the same watches and as many records waiting in both.
 fn is_alike(one: &Instances, other: &Instances, id: u32) -> bool {
     match (one.get(id), other.get(id)) {
         (Some(one), Some(other)) => {
@@ -44,7 +44,7 @@ fn is_alike(one: &Instances, other: &Instances, id: u32) -> bool {
     }
 }
 
-// Whether both agree on each instance and each file.
+/// Whether both agree on each instance and each file.
 fn are_alike(one: &Instances, other: &Instances) -> bool {
     for id in 0..30 {
         if !is_alike(one, other, id) || one.watchers(id) != other.watchers(id) {
@@ -54,7 +54,7 @@ fn are_alike(one: &Instances, other: &Instances) -> bool {
     one.len() == other.len()
 }
 
-// Makes a step on both: on the first each allocation fails in turn. How many there were; none if one did not go well.
+/// Makes a step on both: on the first each allocation fails in turn. How many there were; none if one did not go well.
 fn refused_in_turn(
     alloc: Global,
     instances: &mut Instances,
@@ -76,7 +76,7 @@ fn refused_in_turn(
     Ok(None)
 }
 
-// Whether allocations can be made to fail.
+/// Whether allocations can be made to fail.
 fn has_refuser(alloc: Global) -> bool {
     let has = refuse(alloc, MOST);
     let _ = was_refused(alloc);
@@ -97,7 +97,7 @@ fn each_growth_of_each_step(rt: HostRuntime) -> Result<(), Fail> {
     Ok(())
 }
 
-// Many instances, each with a file that it watches.
+/// Many instances, each with a file that it watches.
 fn prepared(alloc: Global) -> Result<Instances, Refusal> {
     let mut instances = Instances::new(alloc);
     for step in 0..STEPS {
@@ -106,7 +106,7 @@ fn prepared(alloc: Global) -> Result<Instances, Refusal> {
     Ok(instances)
 }
 
-// Three notices: of an event of a file, of a file that is gone, and of an unwatched file.
+/// Three notices: of an event of a file, of a file that is gone, and of an unwatched file.
 fn three_notices(alloc: Global) -> Result<Vec<Notice>, Refusal> {
     let mut notices = Vec::new(alloc);
     notices.push(told(IN_CREATE))?;
@@ -115,8 +115,8 @@ fn three_notices(alloc: Global) -> Result<Vec<Notice>, Refusal> {
     Ok(notices)
 }
 
-// How many allocations staging makes, if all stays as it was when each fails in turn. The instances and the twin are
-// then notified, and are alike. None if not.
+/// How many allocations staging makes, if all stays as it was when each fails in turn. The instances and the twin are
+/// then notified, and are alike. None if not.
 fn stage_refused(
     alloc: Global,
     instances: &mut Instances,
@@ -144,7 +144,7 @@ fn stage_refused(
     Ok(None)
 }
 
-// Many instances that watch a file, and one that watches nothing.
+/// Many instances that watch a file, and one that watches nothing.
 fn crowd(alloc: Global) -> Result<Instances, Refusal> {
     let mut instances = Instances::new(alloc);
     for id in 1..=CROWD {
@@ -155,12 +155,12 @@ fn crowd(alloc: Global) -> Result<Instances, Refusal> {
     Ok(instances)
 }
 
-// Whether so many records wait in each that watches, and none in the one that does not.
+/// Whether so many records wait in each that watches, and none in the one that does not.
 fn have_heard(instances: &Instances, count: usize) -> bool {
     (1..=CROWD).all(|id| waiting(instances, id) == count) && waiting(instances, CROWD + 1) == 0
 }
 
-// Notifies the instances while allocations are made to fail. Whether none did.
+/// Notifies the instances while allocations are made to fail. Whether none did.
 fn tells_in_room(
     alloc: Global,
     instances: &mut Instances,
@@ -193,7 +193,7 @@ fn what_many_hear_takes_no_memory_again(rt: HostRuntime) -> Result<(), Fail> {
     Ok(())
 }
 
-// How many allocations the rows make, if each fails in turn. None if one does not.
+/// How many allocations the rows make, if each fails in turn. None if one does not.
 fn rows_refused(alloc: Global, instances: &Instances) -> Option<u32> {
     for k in 1..MOST {
         let _ = refuse(alloc, k);
@@ -221,7 +221,7 @@ fn each_growth_of_stage_and_rows(rt: HostRuntime) -> Result<(), Fail> {
     Ok(())
 }
 
-// Whether the calls that take no memory do what they should, on instances of which two watch the file.
+/// Whether the calls that take no memory do what they should, on instances of which two watch the file.
 fn are_done(instances: &mut Instances) -> bool {
     let were = instances.watchers(FILE) == [1, 2].as_slice();
     instances.unwatch(2, 0, 1);
@@ -243,7 +243,7 @@ fn some_calls_take_no_memory(rt: HostRuntime) -> Result<(), Fail> {
     Ok(())
 }
 
-// How many allocations a copy makes, if each fails in turn and the copy is alike. None if not.
+/// How many allocations a copy makes, if each fails in turn and the copy is alike. None if not.
 fn copy_refused(alloc: Global, instances: &Instances) -> Option<u32> {
     for k in 1..MOST {
         let _ = refuse(alloc, k);

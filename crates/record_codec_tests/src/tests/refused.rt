@@ -14,7 +14,7 @@ const LONG: [u8; NAME_IN_PLACE + 1] = [b'n'; NAME_IN_PLACE + 1];
 /// How many calls there are.
 const CALLS: u32 = 9;
 
-// Makes a call on the first event of `SPELLED`. Whether what it gives, or appends behind the word `before`, is right.
+/// Makes a call on the first event of `SPELLED`. Whether what it gives, or appends behind the word `before`, is right.
 fn is_right(
     alloc: Global,
     which: u32,
@@ -45,7 +45,7 @@ fn is_right(
     Ok(text.get(6..) == Some(wanted))
 }
 
-// Whether an event is copied, the name of which takes memory.
+/// Whether an event is copied, the name of which takes memory.
 fn is_copied(alloc: Global) -> Result<bool, AllocError> {
     let event = Event {
         wd: 1,
@@ -56,7 +56,7 @@ fn is_copied(alloc: Global) -> Result<bool, AllocError> {
     Ok(event.copy()? == event)
 }
 
-// The events of `SPELLED`.
+/// The events of `SPELLED`.
 fn decoded(alloc: Global) -> Result<Vec<Event>, AllocError> {
     match decode(alloc, &SPELLED) {
         Ok(events) => Ok(events),
@@ -64,7 +64,7 @@ fn decoded(alloc: Global) -> Result<Vec<Event>, AllocError> {
     }
 }
 
-// Whether those are spelled so.
+/// Whether those are spelled so.
 fn is_decoded(alloc: Global) -> Result<bool, AllocError> {
     match decode(alloc, &SPELLED) {
         Ok(events) => Ok(spells(&events, &SPELLED)),
@@ -73,7 +73,7 @@ fn is_decoded(alloc: Global) -> Result<bool, AllocError> {
     }
 }
 
-// How many allocations of a call were made to fail, each with the right result. `None` if a result was wrong.
+/// How many allocations of a call were made to fail, each with the right result. `None` if a result was wrong.
 fn refused_in_turn(alloc: Global, which: u32, event: &Event) -> Result<Option<u32>, AllocError> {
     for k in 1..MOST {
         let mut text = Vec::from_slice(alloc, b"before")?;
@@ -102,7 +102,7 @@ fn each_growth_of_each_call(rt: HostRuntime) -> Result<(), Fail> {
     Ok(())
 }
 
-// Whether calls that take no memory answer as they should.
+/// Whether calls that take no memory answer as they should.
 fn is_told(events: &[Event], name: &Name) -> bool {
     let mut len: usize = 0;
     for event in events {
@@ -126,7 +126,7 @@ fn some_calls_take_no_memory(rt: HostRuntime) -> Result<(), Fail> {
     Ok(())
 }
 
-// Whether a name of these bytes is made and copied. `Err` means out of memory.
+/// Whether a name of these bytes is made and copied. `Err` means out of memory.
 fn is_made_and_copied(alloc: Global, bytes: &[u8]) -> Result<bool, AllocError> {
     Ok(match Name::new(alloc, bytes)? {
         Some(name) => name.copy()?.bytes() == bytes,

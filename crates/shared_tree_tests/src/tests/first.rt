@@ -4,7 +4,7 @@ ghost use Rattle.std.specs.Prelude.{◌≡◌};
 
 use super::*;
 
-// Makes a file in a watched root, and returns the batch that the feed of its instance gives.
+/// Makes a file in a watched root, and returns the batch that the feed of its instance gives.
 fn first_tree<L: Ledger>(alloc: Global, blank: Blank) -> Result<Option<Batch>, Refusal>
     requires name { blank.name ≡ L.name }
     requires parts { (blank.parts ≡ L.parts) × (blank.parts ≡ 65537) }
@@ -21,7 +21,7 @@ fn first_tree<L: Ledger>(alloc: Global, blank: Blank) -> Result<Option<Batch>, R
     Ok(feed.take())
 }
 
-// The same with the ledger of a brand.
+/// The same with the ledger of a brand.
 fn first_branded(alloc: Global) -> Result<Option<Batch>, Refusal> {
     first_tree::<Brand>(alloc, Blank::new(65537))
 }

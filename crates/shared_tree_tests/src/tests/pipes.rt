@@ -46,7 +46,7 @@ fn a_full_pipe_is_not_pumped(rt: HostRuntime) {
     goes_well(&rt, rt.alloc(), Limits::full(), &steps);
 }
 
-// The pump is not carried out: there is no entry of it, and so it is not EAGAIN.
+/// The pump is not carried out: there is no entry of it, and so it is not EAGAIN.
 #[test]
 fn a_full_pipe_is_found_where_nothing_waits(rt: HostRuntime) {
     let steps = [
@@ -67,7 +67,7 @@ fn a_full_pipe_is_found_where_nothing_waits(rt: HostRuntime) {
     goes_well(&rt, rt.alloc(), Limits::full(), &steps);
 }
 
-// The record that waits takes 32 bytes. If the pipe has a free slot, a pump of fewer is an entry, and reads nothing.
+/// The record that waits takes 32 bytes. If the pipe has a free slot, a pump of fewer is an entry, and reads nothing.
 #[test]
 fn a_full_pipe_is_found_where_no_record_fits(rt: HostRuntime) {
     let steps = [

@@ -65,7 +65,7 @@ struct Seen {
 }
 
 impl<L: Ledger> Stage<L> {
-    // All that the feed of an instance gives.
+    /// All that the feed of an instance gives.
     fn given(&mut self, instance: u32) -> Result<Vec<Batch>, Refusal> {
         let mut batches = Vec::new(self.alloc);
         for _ in 0..MOST {
@@ -76,7 +76,7 @@ impl<L: Ledger> Stage<L> {
         Ok(batches)
     }
 
-    // What is seen of it at its end.
+    /// What is seen of it at its end.
     fn seen(&mut self) -> Result<Seen, Refusal> {
         let first = self.given(1)?;
         let second = self.given(2)?;
@@ -94,7 +94,7 @@ impl<L: Ledger> Stage<L> {
         })
     }
 
-    // Makes a step. Whether it lacked memory, and whether it came to what is wanted.
+    /// Makes a step. Whether it lacked memory, and whether it came to what is wanted.
     fn tries(&mut self, step: Step) -> (bool, bool) {
         match self.says(step) {
             Some((said, wanted)) => (said == Says::Fails(Refusal::Enomem), said == wanted),
@@ -102,7 +102,7 @@ impl<L: Ledger> Stage<L> {
         }
     }
 
-    // The outcome of a step whose allocation `k` fails.
+    /// The outcome of a step whose allocation `k` fails.
     fn refused_at(&mut self, does: Does, k: u32) -> Came {
         let _ = refuse(self.alloc, k);
         let tried = match does {
@@ -113,7 +113,7 @@ impl<L: Ledger> Stage<L> {
     }
 }
 
-// Whether a cut lacked memory, and whether it was made.
+/// Whether a cut lacked memory, and whether it was made.
 fn cut_short(told: &Result<u64, Refusal>) -> (bool, bool) {
     match told {
         Ok(_) => (false, true),
@@ -121,7 +121,7 @@ fn cut_short(told: &Result<u64, Refusal>) -> (bool, bool) {
     }
 }
 
-// The outcome, whether or not an allocation failed.
+/// The outcome, whether or not an allocation failed.
 fn came_of(is_refused: bool, (lacked, is_done): (bool, bool)) -> Came {
     match is_refused {
         true if lacked => Came::Refused,
@@ -130,7 +130,7 @@ fn came_of(is_refused: bool, (lacked, is_done): (bool, bool)) -> Came {
     }
 }
 
-// What is seen of a tree after the first steps, the step in which an allocation fails, if any, and the rest.
+/// What is seen of a tree after the first steps, the step in which an allocation fails, if any, and the rest.
 fn seen_after<L: Ledger>(
     alloc: Global,
     blank: Blank,
@@ -157,7 +157,7 @@ fn seen_after<L: Ledger>(
     Ok((came, stage.seen()?))
 }
 
-// What is seen of a tree after these steps, with the ledger of a brand.
+/// What is seen of a tree after these steps, with the ledger of a brand.
 fn told(
     alloc: Global,
     first: &[Step],
@@ -167,7 +167,7 @@ fn told(
     seen_after::<Brand>(alloc, Blank::new(65537), first, refused, rest)
 }
 
-// How many allocations a step after the first ones makes, if all is well when each fails in turn. None if not.
+/// How many allocations a step after the first ones makes, if all is well when each fails in turn. None if not.
 fn refused_in_turn(alloc: Global, at: usize, does: Does) -> Result<Option<u32>, Refusal> {
     let (first, rest) = STORY.split_at(at.min(STORY.len()));
     let (_, before) = told(alloc, first, None, &[])?;
@@ -185,7 +185,7 @@ fn refused_in_turn(alloc: Global, at: usize, does: Does) -> Result<Option<u32>, 
     Ok(None)
 }
 
-// Whether allocations can be made to fail.
+/// Whether allocations can be made to fail.
 fn has_refuser(alloc: Global) -> bool {
     let has = refuse(alloc, MOST);
     let _ = was_refused(alloc);
@@ -214,7 +214,7 @@ fn each_growth_of_a_cut(rt: HostRuntime) -> Result<(), Fail> {
     Ok(())
 }
 
-// Whether seats, feeds and the end of a tree take no memory.
+/// Whether seats, feeds and the end of a tree take no memory.
 fn takes_none<L: Ledger>(alloc: Global, blank: Blank) -> Result<bool, Refusal>
     requires name { blank.name ≡ L.name }
     requires parts { (blank.parts ≡ L.parts) × (blank.parts ≡ 65537) }

@@ -95,7 +95,7 @@ fn pipes_go_on_over_a_cut(rt: HostRuntime) {
     goes_well(&rt, rt.alloc(), Limits::full(), &steps);
 }
 
-// A watch is refused where an instance has as many as it may have. What a new watch comes to once that one has ended.
+/// A watch is refused where an instance has as many as it may have. What a new watch comes to once that one has ended.
 fn last_watch(alloc: Global, limits: Limits, after: Says) -> bool {
     let steps = [
         Step::Sits(Ok(())),

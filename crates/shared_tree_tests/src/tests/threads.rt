@@ -14,7 +14,7 @@ use tree_core::Kept;
 /// How often a thread looks for what another one does.
 const TURNS: u64 = 1_000_000_000;
 
-// Waits until the number is there. False once the turns are over.
+/// Waits until the number is there. False once the turns are over.
 fn sees(number: &AtomicU64, wanted: u64) -> bool {
     for _ in 0..TURNS {
         if number.load(Ordering::SeqCst) == wanted {
@@ -24,7 +24,7 @@ fn sees(number: &AtomicU64, wanted: u64) -> bool {
     false
 }
 
-// Takes the lock, and holds it until a batch was taken.
+/// Takes the lock, and holds it until a batch was taken.
 fn holds<L: Ledger>(rt: &impl Wait, tree: &Tree<L>, step: &AtomicU64) -> bool {
     let guard = tree.lock(rt);
     step.store(1, Ordering::SeqCst);
@@ -33,7 +33,7 @@ fn holds<L: Ledger>(rt: &impl Wait, tree: &Tree<L>, step: &AtomicU64) -> bool {
     taken
 }
 
-// Takes a batch once the lock is held.
+/// Takes a batch once the lock is held.
 fn takes(feed: Feed, step: &AtomicU64) -> bool {
     let mut feed = feed;
     if !sees(step, 1) {
@@ -44,7 +44,7 @@ fn takes(feed: Feed, step: &AtomicU64) -> bool {
     is_batch(&batch, 1, 4, 1)
 }
 
-// One thread holds the lock while another takes a batch. Whether both did.
+/// One thread holds the lock while another takes a batch. Whether both did.
 fn holds_and_takes<L: Ledger + Send + Sync, R: Threads + Wait + Sync>(
     rt: &R,
     tree: &Tree<L>,
@@ -55,7 +55,7 @@ fn holds_and_takes<L: Ledger + Send + Sync, R: Threads + Wait + Sync>(
     held && taken
 }
 
-// Whether a batch is taken while the tree is locked.
+/// Whether a batch is taken while the tree is locked.
 fn takes_beside<L: Ledger + Send + Sync, R: Threads + Wait + Sync>(
     rt: &R,
     alloc: Global,
@@ -84,7 +84,7 @@ fn takes_beside<L: Ledger + Send + Sync, R: Threads + Wait + Sync>(
     Ok(holds_and_takes(rt, &tree, feed, &step))
 }
 
-// The same with the ledger of a brand.
+/// The same with the ledger of a brand.
 fn takes_branded<R: Threads + Wait + Sync>(rt: &R, alloc: Global) -> Result<bool, Refusal> {
     takes_beside::<Brand, R>(rt, alloc, Blank::new(65537))
 }
@@ -95,7 +95,7 @@ fn a_feed_is_taken_while_the_tree_is_locked(rt: HostRuntime) {
     assert!(rt; taken == Ok(true));
 }
 
-// Changes the mode of the root.
+/// Changes the mode of the root.
 fn chmod(alloc: Global, mode: u32) -> Result<Call, Refusal>
     ensures { IfOk result (λ c. IsTrue (is_plain c)) }
 {
@@ -103,7 +103,7 @@ fn chmod(alloc: Global, mode: u32) -> Result<Call, Refusal>
     Ok(Call::File(FileCall::Chmod { path, mode }))
 }
 
-// Makes one call: a change of mode.
+/// Makes one call: a change of mode.
 fn writes_once<L: Ledger>(
     held: &mut Held<L>,
     seat: &mut Seat<L>,
@@ -113,7 +113,7 @@ fn writes_once<L: Ledger>(
     held.call(seat, chmod(alloc, mode)?)
 }
 
-// Makes so many calls.
+/// Makes so many calls.
 fn writes<L: Ledger>(
     rt: &impl Wait,
     tree: &Tree<L>,
@@ -130,7 +130,7 @@ fn writes<L: Ledger>(
     seat
 }
 
-// Two threads make calls, each under a seat of its own.
+/// Two threads make calls, each under a seat of its own.
 fn both_write<L: Ledger + Send + Sync, R: Threads + Wait + Sync>(
     rt: &R,
     tree: &Tree<L>,
@@ -145,7 +145,7 @@ fn both_write<L: Ledger + Send + Sync, R: Threads + Wait + Sync>(
     )
 }
 
-// Whether what was kept of a call is the entry of its sequence number, under the seat's number.
+/// Whether what was kept of a call is the entry of its sequence number, under the seat's number.
 fn is_entry(book: &Book, caller: u32, kept: &Kept) -> bool {
     if kept.place == 0 {
         return false;
@@ -158,7 +158,7 @@ fn is_entry(book: &Book, caller: u32, kept: &Kept) -> bool {
     }
 }
 
-// Whether a seat of this number kept so many calls, and each is an entry.
+/// Whether a seat of this number kept so many calls, and each is an entry.
 fn is_log(book: &Book, log: SeatLog, number: u32, count: usize) -> bool {
     let kept = log.kept.into_vec();
     for call in kept.iter() {
@@ -169,7 +169,7 @@ fn is_log(book: &Book, log: SeatLog, number: u32, count: usize) -> bool {
     log.number == number && kept.len() == count
 }
 
-// Whether the calls of two threads are the entries, and the pipes are listed.
+/// Whether the calls of two threads are the entries, and the pipes are listed.
 fn writes_beside<L: Ledger + Send + Sync, R: Threads + Wait + Sync>(
     rt: &R,
     alloc: Global,
@@ -206,12 +206,12 @@ fn writes_beside<L: Ledger + Send + Sync, R: Threads + Wait + Sync>(
     Ok(is_book(&book) && is_log(&book, first, 1, 103) && is_log(&book, second, 2, 50))
 }
 
-// Whether the book has the entries and the pipes of this test.
+/// Whether the book has the entries and the pipes of this test.
 fn is_book(book: &Book) -> bool {
     book.entries() == 153 && book.journal().len() == 153 && book.pipes() == [1, 3].as_slice()
 }
 
-// The same with the ledger of a brand.
+/// The same with the ledger of a brand.
 fn writes_branded<R: Threads + Wait + Sync>(rt: &R, alloc: Global) -> Result<bool, Refusal> {
     writes_beside::<Brand, R>(rt, alloc, Blank::new(65537))
 }

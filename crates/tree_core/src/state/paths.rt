@@ -23,7 +23,7 @@ impl State {
     }
 }
 
-// A copy of the path of the first row with this number.
+/// A copy of the path of the first row with this number.
 fn first_of(rows: &[(Path, u32)], number: u64) -> Result<Option<Path>, Refusal>
     ensures ok { IfOk result (λ path. path ≡ option_map (λ e. e.0) (find (λ e. e.1 == number) rows.now)) }
     ensures err { IfErr result (λ refusal. refusal ≡ Refusal.Enomem) }

@@ -79,7 +79,7 @@ fn instances_are_made_and_closed(rt: HostRuntime) -> Result<(), Fail> {
     Ok(())
 }
 
-// The bytes of the record of the new file f in the directory of watch descriptor 1.
+/// The bytes of the record of the new file f in the directory of watch descriptor 1.
 fn first_record(alloc: Global) -> Result<Reply, Refusal> {
     let record = bytes(
         alloc,
@@ -138,7 +138,7 @@ fn what_a_tree_says_of_itself(rt: HostRuntime) -> Result<(), Fail> {
     Ok(())
 }
 
-// The call is plain, or one that pipes are for, as wanted.
+/// The call is plain, or one that pipes are for, as wanted.
 fn is_plain(rt: &impl Abort, call: Result<Call, Refusal>, wanted: bool) {
     let call = call.expect(rt, "a call");
     equal(rt, call.is_plain(), wanted);
@@ -162,7 +162,7 @@ fn plain_calls(rt: HostRuntime) -> Result<(), Fail> {
     Ok(())
 }
 
-// A receipt of a close, with this sequence number.
+/// A receipt of a close, with this sequence number.
 fn done_at(place: u64) -> Receipt {
     Receipt {
         place,

@@ -5,13 +5,13 @@ use super::steps::{Ask, Step, takes};
 use super::*;
 use std::test::Fail;
 
-// The cut answers this sequence number, and the journal is empty.
+/// The cut answers this sequence number, and the journal is empty.
 fn cuts(rt: &impl Abort, state: &mut State, place: u64) {
     equal(rt, state.cut(), Ok(place));
     equal(rt, state.journal().len(), 0);
 }
 
-// The call answers what is wanted, and its entry has this sequence number.
+/// The call answers what is wanted, and its entry has this sequence number.
 fn tells_at(
     rt: &impl Abort,
     state: &mut State,
@@ -23,13 +23,13 @@ fn tells_at(
     equal(rt, state.last_place(), place);
 }
 
-// The sequence number, the next file number, the next cookie and the next instance of the snapshot.
+/// The sequence number, the next file number, the next cookie and the next instance of the snapshot.
 fn counts(state: &State) -> (u64, u32, u32, u32) {
     let kept = state.snapshot();
     (kept.place, kept.next_number, kept.next_cookie, kept.next_id)
 }
 
-// The limit, the next descriptor and how much waits of the only instance of the snapshot, which is of this number.
+/// The limit, the next descriptor and how much waits of the only instance of the snapshot, which is of this number.
 fn only(state: &State, id: u32) -> Option<(u32, u32, usize)> {
     match state.snapshot().instances.as_slice() {
         [row] if row.id == id => Some((row.limit, row.next_wd, row.waiting.as_slice().len())),
@@ -37,7 +37,7 @@ fn only(state: &State, id: u32) -> Option<(u32, u32, usize)> {
     }
 }
 
-// The watches of the first instance of the snapshot.
+/// The watches of the first instance of the snapshot.
 fn watches_kept(state: &State) -> &[(u32, i32, u32)] {
     match state.snapshot().instances.first() {
         Some(row) => row.watches.as_slice(),
@@ -45,7 +45,7 @@ fn watches_kept(state: &State) -> &[(u32, i32, u32)] {
     }
 }
 
-// Whether a record that waits in the first instance of the snapshot is this one.
+/// Whether a record that waits in the first instance of the snapshot is this one.
 fn keeps(state: &State, at: usize, record: Record) -> bool {
     let Some(row) = state.snapshot().instances.first() else {
         return false;
@@ -61,7 +61,7 @@ fn keeps(state: &State, at: usize, record: Record) -> bool {
         && name == record.3.as_bytes()
 }
 
-// A queue of two records was offered four: the last two are lost.
+/// A queue of two records was offered four: the last two are lost.
 pub(super) fn overfull(rt: &impl Abort, alloc: Global) -> Result<State, Refusal> {
     let mut tree = opened(alloc, Limits::full())?;
     takes(
@@ -131,7 +131,7 @@ fn events_merge_over_a_cut(rt: HostRuntime) -> Result<(), Fail> {
     Ok(())
 }
 
-// Whether the entry with this sequence number has this reply.
+/// Whether the entry with this sequence number has this reply.
 fn has_entry(state: &State, place: u64, reply: &Reply) -> bool {
     match state.entry(place) {
         Some(entry) => entry.reply == *reply,
@@ -172,7 +172,7 @@ fn a_cut_makes_room(rt: HostRuntime) -> Result<(), Fail> {
     Ok(())
 }
 
-// The call answers the same on both trees, with the same sequence number. Whether it gave records.
+/// The call answers the same on both trees, with the same sequence number. Whether it gave records.
 pub(super) fn both_tell(rt: &impl Abort, one: &mut State, other: &mut State, call: &Call) -> bool {
     let told = made(one, call);
     let other = made(other, call);
@@ -186,7 +186,7 @@ pub(super) fn both_tell(rt: &impl Abort, one: &mut State, other: &mut State, cal
     )
 }
 
-// Makes 3,000 calls on both trees, and cuts the one after every seventh. How many gave records.
+/// Makes 3,000 calls on both trees, and cuts the one after every seventh. How many gave records.
 fn play(
     rt: &impl Abort,
     alloc: Global,
@@ -207,7 +207,7 @@ fn play(
     Ok(reads)
 }
 
-// Reads all that waits in both trees. How many instances gave records.
+/// Reads all that waits in both trees. How many instances gave records.
 fn drain(rt: &impl Abort, one: &mut State, other: &mut State) -> Result<u32, Refusal> {
     let mut reads = 0u32;
     for id in 1..one.snapshot().next_id {

@@ -18,19 +18,19 @@ impl Rng {
         }
     }
 
-    // A number below `sides`, which is not 0.
+    /// A number below `sides`, which is not 0.
     fn roll(&mut self, sides: u32) -> u32 {
         self.at = self.at.wrapping_mul(1_664_525).wrapping_add(1_013_904_223);
         (self.at >> 8).checked_rem(sides).unwrap_or(0)
     }
 
-    // One of the last instances.
+    /// One of the last instances.
     fn instance(&mut self) -> u32 {
         self.instances.saturating_sub(self.roll(5))
     }
 }
 
-// A path with one or two names, or none.
+/// A path with one or two names, or none.
 fn somewhere(dice: &mut Rng) -> &'static str {
     match dice.roll(12) {
         0 => "/a",
@@ -59,7 +59,7 @@ pub(super) fn guessed(alloc: Global, dice: &mut Rng) -> Result<Call, Refusal> {
     }
 }
 
-// An instance more.
+/// An instance more.
 fn opened_instance(dice: &mut Rng) -> Result<Call, Refusal> {
     dice.instances = dice.instances.saturating_add(1);
     Ok(Call::Init {
@@ -68,7 +68,7 @@ fn opened_instance(dice: &mut Rng) -> Result<Call, Refusal> {
     })
 }
 
-// A call of an instance that watches.
+/// A call of an instance that watches.
 fn watched(alloc: Global, dice: &mut Rng) -> Result<Call, Refusal> {
     let instance = dice.instance();
     let bits = match dice.roll(4) {
@@ -80,7 +80,7 @@ fn watched(alloc: Global, dice: &mut Rng) -> Result<Call, Refusal> {
     watch(alloc, instance, somewhere(dice), bits)
 }
 
-// A call of an instance that reads, or ends.
+/// A call of an instance that reads, or ends.
 fn asked(dice: &mut Rng) -> Result<Call, Refusal> {
     let instance = dice.instance();
     match dice.roll(10) {
@@ -92,7 +92,7 @@ fn asked(dice: &mut Rng) -> Result<Call, Refusal> {
     }
 }
 
-// A call that gives or takes names.
+/// A call that gives or takes names.
 fn made_or_moved(alloc: Global, dice: &mut Rng) -> Result<Call, Refusal> {
     match dice.roll(8) {
         0 | 1 => create(alloc, somewhere(dice)),
@@ -104,7 +104,7 @@ fn made_or_moved(alloc: Global, dice: &mut Rng) -> Result<Call, Refusal> {
     }
 }
 
-// A call that uses a file.
+/// A call that uses a file.
 fn used(alloc: Global, dice: &mut Rng) -> Result<Call, Refusal> {
     match dice.roll(6) {
         0 => write(alloc, somewhere(dice), u64::from(dice.roll(9)), b"abc"),

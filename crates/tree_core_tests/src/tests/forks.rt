@@ -7,8 +7,8 @@ use std::test::Fail;
 /// How many calls are made on both trees.
 const CALLS: u32 = 20;
 
-// A directory, a file with two paths, an instance with an overflow mark, and one with a pipe. Nine of the twelve calls
-// were cut off.
+/// A directory, a file with two paths, an instance with an overflow mark, and one with a pipe. Nine of the twelve calls
+/// were cut off.
 fn grown(rt: &impl Abort, alloc: Global) -> Result<State, Refusal> {
     let mut tree = overfull(rt, alloc)?;
     does(rt, &mut tree, link(alloc, "/d/a", "/b"));
@@ -20,7 +20,7 @@ fn grown(rt: &impl Abort, alloc: Global) -> Result<State, Refusal> {
     Ok(tree)
 }
 
-// Calls whose replies show the files, what waits, and each number that comes next.
+/// Calls whose replies show the files, what waits, and each number that comes next.
 fn call_of(alloc: Global, which: u32) -> Result<Call, Refusal> {
     match which {
         0 => stat(alloc, "/b"),
@@ -52,7 +52,7 @@ fn later_call_of(alloc: Global, which: u32) -> Result<Call, Refusal> {
     }
 }
 
-// Makes the calls on both trees. How many gave records.
+/// Makes the calls on both trees. How many gave records.
 fn play(
     rt: &impl Abort,
     alloc: Global,

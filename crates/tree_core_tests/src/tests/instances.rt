@@ -7,7 +7,7 @@ use std::test::Fail;
 /// How many instances may be open at a time.
 const MOST: u32 = 128;
 
-// As many instances as there may be, with the file /f, which the first and the last of them watch.
+/// As many instances as there may be, with the file /f, which the first and the last of them watch.
 fn many(rt: &impl Abort, alloc: Global) -> Result<State, Refusal> {
     let mut tree = opened(alloc, Limits::full())?;
     does(rt, &mut tree, create(alloc, "/f"));
@@ -19,7 +19,7 @@ fn many(rt: &impl Abort, alloc: Global) -> Result<State, Refusal> {
     Ok(tree)
 }
 
-// All instances but the first and the last have nothing to read.
+/// All instances but the first and the last have nothing to read.
 fn all_others_are_silent(rt: &impl Abort, tree: &mut State) {
     for id in 2..MOST {
         hears_nothing(rt, tree, id);

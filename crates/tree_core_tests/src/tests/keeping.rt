@@ -6,29 +6,29 @@ use record_codec::Events;
 use std::test::Fail;
 use tree_core::Kept;
 
-// Makes a call whose copy is kept.
+/// Makes a call whose copy is kept.
 fn kept(state: &mut State, call: &Call) -> Result<(Receipt, Kept), Refusal> {
     state.keep(CALLER, call.copy()?)
 }
 
-// Whether the receipt and what is kept have the sequence number of the journal's last entry.
+/// Whether the receipt and what is kept have the sequence number of the journal's last entry.
 fn is_at_the_end(state: &State, receipt: &Receipt, kept: &Kept) -> bool {
     receipt.place == state.journal().len() as u64 && kept.place == receipt.place
 }
 
-// Whether what is kept of the call is the last entry of the journal, with the receipt's sequence number.
+/// Whether what is kept of the call is the last entry of the journal, with the receipt's sequence number.
 fn is_as_journaled(state: &State, receipt: &Receipt, kept: &Kept) -> bool {
     is_at_the_end(state, receipt, kept)
         && kept.reply == receipt.reply
         && is_last(state, &kept.call, &kept.reply)
 }
 
-// Whether what is kept is of this call, and is its entry.
+/// Whether what is kept is of this call, and is its entry.
 fn is_of(state: &State, call: &Call, receipt: &Receipt, kept: &Kept) -> bool {
     kept.call == *call && is_as_journaled(state, receipt, kept)
 }
 
-// Whether the call, whose copy is kept, gives this receipt, and what is kept of it is its entry.
+/// Whether the call, whose copy is kept, gives this receipt, and what is kept of it is its entry.
 fn gives(state: &mut State, call: &Call, wanted: &Receipt) -> bool {
     match kept(state, call) {
         Ok((receipt, kept)) => receipt == *wanted && is_of(state, call, wanted, &kept),
@@ -36,7 +36,7 @@ fn gives(state: &mut State, call: &Call, wanted: &Receipt) -> bool {
     }
 }
 
-// Whether the call gives the same in both trees, and what is kept of it is its entry.
+/// Whether the call gives the same in both trees, and what is kept of it is its entry.
 fn is_kept(trees: &mut (State, State), call: &Call) -> bool {
     match made(&mut trees.0, call) {
         Ok(receipt) => gives(&mut trees.1, call, &receipt),
@@ -44,14 +44,14 @@ fn is_kept(trees: &mut (State, State), call: &Call) -> bool {
     }
 }
 
-// The call gives the same in both trees, what is kept of it is its entry, and as many records wait.
+/// The call gives the same in both trees, what is kept of it is its entry, and as many records wait.
 fn keeps(rt: &impl Abort, trees: &mut (State, State), call: Result<Call, Refusal>) {
     let call = call.expect(rt, "a call");
     holds(rt, "is_kept(trees, &call)", is_kept(trees, &call));
     equal(rt, trees.0.waiting(1), trees.1.waiting(1));
 }
 
-// Two trees of the root alone.
+/// Two trees of the root alone.
 fn pair(alloc: Global) -> Result<(State, State), Refusal> {
     let first = opened(alloc, Limits::full())?;
     let second = opened(alloc, Limits::full())?;
@@ -80,7 +80,7 @@ fn calls_are_kept(rt: HostRuntime) -> Result<(), Fail> {
     Ok(())
 }
 
-// Whether the journal's last entry has this reply and this sequence number.
+/// Whether the journal's last entry has this reply and this sequence number.
 fn is_entry(state: &State, wanted: &Receipt) -> bool {
     match state.last_entry() {
         Some(entry) => entry.reply == wanted.reply && wanted.place == state.last_place(),
@@ -88,19 +88,19 @@ fn is_entry(state: &State, wanted: &Receipt) -> bool {
     }
 }
 
-// Whether the call, which is recorded, gives this receipt, and is the last entry.
+/// Whether the call, which is recorded, gives this receipt, and is the last entry.
 fn records_it(state: &mut State, call: &Call, wanted: &Receipt) -> Result<bool, Refusal> {
     let place = state.record(CALLER, call.copy()?)?;
     Ok(place == wanted.place && is_entry(state, wanted) && is_last(state, call, &wanted.reply))
 }
 
-// Whether the call gives the same in both trees, and is recorded so.
+/// Whether the call gives the same in both trees, and is recorded so.
 fn is_recorded(trees: &mut (State, State), call: &Call) -> Result<bool, Refusal> {
     let receipt = made(&mut trees.0, call)?;
     records_it(&mut trees.1, call, &receipt)
 }
 
-// The call gives the same in both trees, is recorded so, and as many records wait.
+/// The call gives the same in both trees, is recorded so, and as many records wait.
 fn records_alike(rt: &impl Abort, trees: &mut (State, State), call: Result<Call, Refusal>) {
     let call = call.expect(rt, "a call");
     equal(rt, is_recorded(trees, &call), Ok(true));
@@ -131,13 +131,13 @@ fn calls_are_recorded(rt: HostRuntime) -> Result<(), Fail> {
     Ok(())
 }
 
-// The reply that spells these events.
+/// The reply that spells these events.
 fn spelled_by(alloc: Global, events: &Events) -> Result<Reply, Refusal> {
     let bytes = encode(alloc, events.as_slice())?;
     Ok(Reply::Records(Bytes::from_vec(bytes)))
 }
 
-// The reply that spells these events, or none where there are none.
+/// The reply that spells these events, or none where there are none.
 fn spelled_reply(alloc: Global, events: &Option<Events>) -> Result<Reply, Refusal> {
     let Some(events) = events else {
         return Err(Refusal::Eagain);
@@ -145,7 +145,7 @@ fn spelled_reply(alloc: Global, events: &Option<Events>) -> Result<Reply, Refusa
     spelled_by(alloc, events)
 }
 
-// The pump answers what is wanted, and so the journal and what is kept of it have it. Gives its records.
+/// The pump answers what is wanted, and so the journal and what is kept of it have it. Gives its records.
 fn pumping(
     rt: &impl Abort,
     state: &mut State,
@@ -162,14 +162,14 @@ fn pumping(
     events
 }
 
-// The pump answers what is wanted, with the records that the answer spells.
+/// The pump answers what is wanted, with the records that the answer spells.
 fn pumps(rt: &impl Abort, state: &mut State, alloc: Global, room: (u32, u32), lines: &[Record]) {
     let events = pumping(rt, state, room, records(alloc, lines));
     let spelled = spelled_reply(alloc, &events).expect(rt, "records");
     is_wanted(rt, spelled, records(alloc, lines));
 }
 
-// The pump is refused so, and gives no records.
+/// The pump is refused so, and gives no records.
 fn refuses_to_pump(rt: &impl Abort, state: &mut State, room: (u32, u32), refusal: Refusal) {
     let events = pumping(rt, state, room, Ok(Reply::Refused(refusal)));
     holds(rt, "no records", events.is_none());
@@ -224,7 +224,7 @@ fn refused_pumps_move_nothing(rt: HostRuntime) -> Result<(), Fail> {
     Ok(())
 }
 
-// Whether the call is equal to its copy.
+/// Whether the call is equal to its copy.
 fn is_copied(call: &Call) -> bool {
     match call.copy() {
         Ok(copy) => copy == *call,
@@ -232,7 +232,7 @@ fn is_copied(call: &Call) -> bool {
     }
 }
 
-// The call and its copy are equal.
+/// The call and its copy are equal.
 fn copies(rt: &impl Abort, call: Result<Call, Refusal>) {
     let call = call.expect(rt, "a call");
     holds(rt, "the copy is equal", is_copied(&call));
@@ -256,7 +256,7 @@ fn copies_of_calls(rt: HostRuntime) -> Result<(), Fail> {
     Ok(())
 }
 
-// The reply and its copy are equal.
+/// The reply and its copy are equal.
 fn copies_reply(rt: &impl Abort, reply: Result<Reply, Refusal>) {
     let reply = reply.expect(rt, "a reply");
     let copy = reply.copy();

@@ -4,7 +4,7 @@ use super::steps::{Ask, Gives, Step, takes};
 use super::*;
 use std::test::Fail;
 
-// The files /a and /b, and instance 1, which watches the root for moved names.
+/// The files /a and /b, and instance 1, which watches the root for moved names.
 fn moving(rt: &impl Abort, alloc: Global) -> Result<State, Refusal> {
     let mut limits = Limits::full();
     limits.cookies = 2;
@@ -168,7 +168,7 @@ fn the_last_instance_number(rt: HostRuntime) -> Result<(), Fail> {
     Ok(())
 }
 
-// The files /a, /b and /c, numbers 2 to 4, and instance 1.
+/// The files /a, /b and /c, numbers 2 to 4, and instance 1.
 fn three_files(rt: &impl Abort, alloc: Global, limits: Limits) -> Result<State, Refusal> {
     let mut tree = opened(alloc, limits)?;
     takes(
@@ -281,31 +281,31 @@ fn the_queue_of_full_limits(rt: HostRuntime) -> Result<(), Fail> {
     Ok(())
 }
 
-// Whether there is no entry left for the call.
+/// Whether there is no entry left for the call.
 fn has_no_entry_for(tree: &mut State, call: Call) -> bool {
     let made = tree.apply(CALLER, call);
     matches!(made, Err(Refusal::JournalFull))
 }
 
-// Whether there is no entry left for the call, whose copy would be kept.
+/// Whether there is no entry left for the call, whose copy would be kept.
 fn has_no_entry_to_keep(tree: &mut State, call: Call) -> bool {
     let kept = tree.keep(CALLER, call);
     matches!(kept, Err(Refusal::JournalFull))
 }
 
-// Whether there is no entry left for the call, whose reply the journal would have alone.
+/// Whether there is no entry left for the call, whose reply the journal would have alone.
 fn has_no_entry_to_record(tree: &mut State, call: Call) -> bool {
     let recorded = tree.record(CALLER, call);
     matches!(recorded, Err(Refusal::JournalFull))
 }
 
-// Whether there is no entry left for a pump of the instance.
+/// Whether there is no entry left for a pump of the instance.
 fn has_no_entry_to_pump(tree: &mut State, instance: u32) -> bool {
     let pumped = tree.pump(CALLER, instance, ALL);
     matches!(pumped, Err(Refusal::JournalFull))
 }
 
-// No entry is left, by whichever way a call is made.
+/// No entry is left, by whichever way a call is made.
 fn has_no_entry(rt: &impl Abort, tree: &mut State, alloc: Global) {
     let create = create(alloc, "/f").expect(rt, "a call");
     holds(

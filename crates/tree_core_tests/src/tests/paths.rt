@@ -4,7 +4,7 @@ use super::steps::{Ask, Step, takes};
 use super::*;
 use std::test::Fail;
 
-// The first path of a file.
+/// The first path of a file.
 fn leads(rt: &impl Abort, state: &State, alloc: Global, number: u64, wanted: &str) {
     let wanted = path(alloc, wanted).expect(rt, "a path");
     equal(rt, state.path_of(number), Ok(Some(wanted)));

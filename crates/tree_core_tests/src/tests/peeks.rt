@@ -4,7 +4,7 @@ use super::steps::{Ask, Step, takes};
 use super::*;
 use std::test::Fail;
 
-// What a peek returns for a path, as the reply of the call.
+/// What a peek returns for a path, as the reply of the call.
 fn seen(alloc: Global, state: &State, text: &str) -> Result<Reply, Refusal> {
     let path = path(alloc, text)?;
     Ok(match state.peek_stat(&path) {
@@ -13,7 +13,7 @@ fn seen(alloc: Global, state: &State, text: &str) -> Result<Reply, Refusal> {
     })
 }
 
-// A peek lists these names.
+/// A peek lists these names.
 fn lists(rt: &impl Abort, state: &State, alloc: Global, text: &str, wanted: &str) {
     let path = path(alloc, text).expect(rt, "a path");
     let listed = state
@@ -22,12 +22,12 @@ fn lists(rt: &impl Abort, state: &State, alloc: Global, text: &str, wanted: &str
     is_wanted(rt, listed.expect(rt, "names"), names(alloc, wanted));
 }
 
-// A peek reads these bytes.
+/// A peek reads these bytes.
 fn reads(rt: &impl Abort, state: &State, path: &Path, offset: u64, wanted: &[u8]) {
     assert_eq!(rt; state.peek_bytes(path, offset, ALL), Ok(wanted));
 }
 
-// So many instances have a record waiting, and a buffer for three numbers then has these.
+/// So many instances have a record waiting, and a buffer for three numbers then has these.
 fn ready(rt: &impl Abort, state: &State, count: usize, ids: [u32; 3]) {
     let mut out = [9; 3];
     equal(rt, state.ready(&mut out), count);

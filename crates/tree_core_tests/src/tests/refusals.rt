@@ -4,7 +4,7 @@ use super::steps::{Ask, Step, takes};
 use super::*;
 use std::test::Fail;
 
-// Instance 1, and instance 2 with a pipe, each with an event of the new file f waiting.
+/// Instance 1, and instance 2 with a pipe, each with an event of the new file f waiting.
 fn two_that_hear(rt: &impl Abort, alloc: Global) -> Result<State, Refusal> {
     let mut tree = opened(alloc, Limits::full())?;
     takes(

@@ -15,7 +15,7 @@ const CALLS: u32 = 19;
 
 const PROBES: u32 = 16;
 
-// A call of each kind, none of which is refused in a prepared tree.
+/// A call of each kind, none of which is refused in a prepared tree.
 fn call_of(alloc: Global, which: u32) -> Result<Call, Refusal> {
     match which {
         0 => create(alloc, "/d/a-name-that-is-not-stored-in-place"),
@@ -40,7 +40,7 @@ fn call_of(alloc: Global, which: u32) -> Result<Call, Refusal> {
     }
 }
 
-// Calls whose replies together show the whole of a tree.
+/// Calls whose replies together show the whole of a tree.
 fn probe_of(alloc: Global, which: u32) -> Result<Call, Refusal> {
     match which {
         0 => list(alloc, "/"),
@@ -71,7 +71,7 @@ const FILES: [&str; 24] = [
     "/d/n", "/d/o", "/d/p", "/d/q", "/d/r", "/d/s", "/d/t", "/d/u", "/d/v", "/d/w", "/d/x", "/d/y",
 ];
 
-// The steps of a story. The sixteenth fills the journal's capacity.
+/// The steps of a story. The sixteenth fills the journal's capacity.
 fn step_of(alloc: Global, which: u32) -> Result<Call, Refusal> {
     match which {
         0 => mkdir(alloc, "/d"),
@@ -94,7 +94,7 @@ fn step_of(alloc: Global, which: u32) -> Result<Call, Refusal> {
     }
 }
 
-// Files, a watch on each, and moves between directories.
+/// Files, a watch on each, and moves between directories.
 fn later_step_of(alloc: Global, which: u32) -> Result<Call, Refusal> {
     let file = FILES[(which / 2) as usize % 24];
     match which {
@@ -107,7 +107,7 @@ fn later_step_of(alloc: Global, which: u32) -> Result<Call, Refusal> {
     }
 }
 
-// A tree after so many steps.
+/// A tree after so many steps.
 fn after(alloc: Global, steps: u32) -> Result<State, Refusal> {
     let mut tree = State::new(alloc, Limits::full())?;
     for which in 0..steps {
@@ -116,7 +116,7 @@ fn after(alloc: Global, steps: u32) -> Result<State, Refusal> {
     Ok(tree)
 }
 
-// Whether what is seen of both trees without a call is the same.
+/// Whether what is seen of both trees without a call is the same.
 fn look_alike(one: &State, other: &State) -> bool {
     for number in 0..9 {
         if one.watchers(number) != other.watchers(number)
@@ -128,14 +128,14 @@ fn look_alike(one: &State, other: &State) -> bool {
     one.journal() == other.journal() && one.free_entries() == other.free_entries()
 }
 
-// Whether a call is answered alike in both trees.
+/// Whether a call is answered alike in both trees.
 fn answer_alike(one: &mut State, other: &mut State, call: &Call) -> Result<bool, Refusal> {
     let first = one.apply(CALLER, call.copy()?)?;
     let second = other.apply(CALLER, call.copy()?)?;
     Ok(first == second && !matches!(first.reply, Reply::Refused(Refusal::Enomem)))
 }
 
-// Whether the trees look and answer alike.
+/// Whether the trees look and answer alike.
 fn are_alike(one: &mut State, other: &mut State, alloc: Global) -> Result<bool, Refusal> {
     if !look_alike(one, other) {
         return Ok(false);
@@ -169,7 +169,8 @@ enum Way {
 /// All ways.
 const WAYS: [Way; 3] = [Way::Apply, Way::Record, Way::Keep];
 
-// Makes a call in this way, and then lets each allocation succeed. Gives the receipt, and whether an allocation failed.
+/// Makes a call in this way, and then lets each allocation succeed. Gives the receipt, and whether an allocation
+/// failed.
 fn made_so(
     alloc: Global,
     tree: &mut State,
@@ -184,7 +185,7 @@ fn made_so(
     (made, was_refused(alloc))
 }
 
-// Makes a call of which a copy is kept.
+/// Makes a call of which a copy is kept.
 fn kept_so(tree: &mut State, call: Call) -> Result<Receipt, Refusal> {
     match call {
         Call::Pump { instance, bytes } => Ok(tree.pump(CALLER, instance, bytes)?.0),
@@ -192,14 +193,14 @@ fn kept_so(tree: &mut State, call: Call) -> Result<Receipt, Refusal> {
     }
 }
 
-// Records a call. The receipt is made of its entry, once each allocation succeeds.
+/// Records a call. The receipt is made of its entry, once each allocation succeeds.
 fn recorded(alloc: Global, tree: &mut State, call: Call) -> (Result<Receipt, Refusal>, bool) {
     let place = tree.record(CALLER, call);
     let was_refused = was_refused(alloc);
     (receipt_at(tree, place), was_refused)
 }
 
-// The receipt of the last entry.
+/// The receipt of the last entry.
 fn receipt_at(tree: &State, place: Result<u64, Refusal>) -> Result<Receipt, Refusal> {
     let place = place?;
     let entry = tree.last_entry().ok_or(Refusal::Einval)?;
@@ -207,7 +208,7 @@ fn receipt_at(tree: &State, place: Result<u64, Refusal>) -> Result<Receipt, Refu
     Ok(Receipt { place, reply })
 }
 
-// Whether a call was carried out.
+/// Whether a call was carried out.
 fn is_carried_out(told: &Result<Receipt, Refusal>) -> bool {
     match told {
         Ok(receipt) => !matches!(receipt.reply, Reply::Refused(_)),
@@ -215,7 +216,7 @@ fn is_carried_out(told: &Result<Receipt, Refusal>) -> bool {
     }
 }
 
-// The outcome of a call, made in this way, whose allocation `k` fails. The twin is the same tree before the call.
+/// The outcome of a call, made in this way, whose allocation `k` fails. The twin is the same tree before the call.
 fn refused_at(
     alloc: Global,
     tree: &mut State,
@@ -241,7 +242,7 @@ fn refused_at(
     })
 }
 
-// How many allocations a call makes after so many steps, if all is well when each fails in turn. None if not.
+/// How many allocations a call makes after so many steps, if all is well when each fails in turn. None if not.
 fn refused_in_turn(
     alloc: Global,
     steps: u32,
@@ -260,15 +261,15 @@ fn refused_in_turn(
     Ok(None)
 }
 
-// Whether allocations can be made to fail.
+/// Whether allocations can be made to fail.
 fn has_refuser(alloc: Global) -> bool {
     let has = refuse(alloc, MOST);
     let _ = was_refused(alloc);
     has
 }
 
-// The fewest allocations that any kind of call makes, where the journal has no capacity left, so that each makes at
-// least one.
+/// The fewest allocations that any kind of call makes, where the journal has no capacity left, so that each makes at
+/// least one.
 fn counts_of_calls(alloc: Global, way: Way) -> Result<Option<u32>, Refusal> {
     let mut least = MOST;
     for which in 0..CALLS {
@@ -292,7 +293,7 @@ fn each_growth_of_each_call(rt: HostRuntime) -> Result<(), Fail> {
     Ok(())
 }
 
-// Each step of a story, so that each container outgrows its first capacity.
+/// Each step of a story, so that each container outgrows its first capacity.
 #[test]
 fn each_growth_of_each_step(rt: HostRuntime) -> Result<(), Fail> {
     let alloc = rt.alloc();
@@ -304,7 +305,7 @@ fn each_growth_of_each_step(rt: HostRuntime) -> Result<(), Fail> {
     Ok(())
 }
 
-// Whether two lists of files are the same.
+/// Whether two lists of files are the same.
 fn files_alike(some: &[FileRow], others: &[FileRow]) -> bool {
     let are_same = some.iter().zip(others).all(|(one, other)| {
         one.number == other.number
@@ -315,7 +316,7 @@ fn files_alike(some: &[FileRow], others: &[FileRow]) -> bool {
     some.len() == others.len() && are_same
 }
 
-// Whether two lists of instances are the same, with their watches and what waits.
+/// Whether two lists of instances are the same, with their watches and what waits.
 fn instances_alike(some: &[InstanceRow], others: &[InstanceRow]) -> bool {
     let are_same = some.iter().zip(others).all(|(one, other)| {
         one.id == other.id
@@ -328,7 +329,7 @@ fn instances_alike(some: &[InstanceRow], others: &[InstanceRow]) -> bool {
     some.len() == others.len() && are_same
 }
 
-// Whether both trees kept the same at their last cuts.
+/// Whether both trees kept the same at their last cuts.
 fn kept_alike(one: &State, other: &State) -> bool {
     let (one, other) = (one.snapshot(), other.snapshot());
     one.place == other.place
@@ -340,7 +341,7 @@ fn kept_alike(one: &State, other: &State) -> bool {
         && one.next_id == other.next_id
 }
 
-// A tree after so many steps, which was cut after half of them.
+/// A tree after so many steps, which was cut after half of them.
 fn after_a_cut(alloc: Global, steps: u32) -> Result<State, Refusal> {
     let mut tree = after(alloc, steps / 2)?;
     tree.cut()?;
@@ -350,7 +351,7 @@ fn after_a_cut(alloc: Global, steps: u32) -> Result<State, Refusal> {
     Ok(tree)
 }
 
-// The outcome of a cut whose allocation `k` fails. The twin is the same tree before the cut.
+/// The outcome of a cut whose allocation `k` fails. The twin is the same tree before the cut.
 fn cut_refused_at(
     alloc: Global,
     tree: &mut State,
@@ -376,7 +377,7 @@ fn cut_refused_at(
     })
 }
 
-// How many allocations a cut makes after so many steps, if all is well when each fails in turn. None if not.
+/// How many allocations a cut makes after so many steps, if all is well when each fails in turn. None if not.
 fn cut_refused_in_turn(alloc: Global, steps: u32) -> Result<Option<u32>, Refusal> {
     for k in 1..10 * MOST {
         let mut tree = after_a_cut(alloc, steps)?;
@@ -402,7 +403,7 @@ fn each_growth_of_a_cut(rt: HostRuntime) -> Result<(), Fail> {
     Ok(())
 }
 
-// The outcome of a fork whose allocation `k` fails. The twin is the same tree.
+/// The outcome of a fork whose allocation `k` fails. The twin is the same tree.
 fn fork_refused_at(
     alloc: Global,
     tree: &mut State,
@@ -430,7 +431,7 @@ fn fork_refused_at(
     }
 }
 
-// How many allocations a fork makes after so many steps, if all is well when each fails in turn. None if not.
+/// How many allocations a fork makes after so many steps, if all is well when each fails in turn. None if not.
 fn fork_refused_in_turn(alloc: Global, steps: u32) -> Result<Option<u32>, Refusal> {
     for k in 1..10 * MOST {
         let mut tree = after_a_cut(alloc, steps)?;
@@ -470,7 +471,7 @@ fn what_a_tree_says_of_itself_takes_no_memory(rt: HostRuntime) -> Result<(), Fai
 /// What the names of a thousand files begin with, so that each takes memory of its own.
 const LONG: &[u8] = b"/a-name-that-is-not-stored-in-place-";
 
-// The path of a file in a tree of a thousand, or of the first directories on its way.
+/// The path of a file in a tree of a thousand, or of the first directories on its way.
 fn path_of(alloc: Global, number: u32, names: u32) -> Result<Path, Refusal> {
     let mut text = Vec::from_slice(alloc, b"/d")?;
     text.push(b'0' + (number / 100 % 10) as u8)?;
@@ -485,7 +486,7 @@ fn path_of(alloc: Global, number: u32, names: u32) -> Result<Path, Refusal> {
     Path::parse(alloc, text.as_slice())
 }
 
-// Makes a file of a tree of a thousand, which has a byte, and its directories where it is their first.
+/// Makes a file of a tree of a thousand, which has a byte, and its directories where it is their first.
 fn add_file(tree: &mut State, alloc: Global, number: u32) -> Result<(), Refusal> {
     if number % 100 == 0 {
         for names in 1..3 {
@@ -508,8 +509,8 @@ fn add_file(tree: &mut State, alloc: Global, number: u32) -> Result<(), Refusal>
     Ok(())
 }
 
-// A thousand files in ten directories, and one instance, which watches the last directory. A copy of such a table takes
-// two allocations for each file, one for its name and one for its byte.
+/// A thousand files in ten directories, and one instance, which watches the last directory. A copy of such a table
+/// takes two allocations for each file, one for its name and one for its byte.
 fn large(alloc: Global) -> Result<State, Refusal> {
     let mut tree = State::new(alloc, Limits::full())?;
     for number in 0..1000 {

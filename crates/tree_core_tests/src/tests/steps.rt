@@ -64,7 +64,7 @@ pub(super) enum Step {
     HearsNothing(u32),
 }
 
-// The call.
+/// The call.
 pub(super) fn call(alloc: Global, ask: Ask) -> Result<Call, Refusal> {
     match ask {
         Ask::Create(path) => create(alloc, path),
@@ -90,7 +90,7 @@ pub(super) fn call(alloc: Global, ask: Ask) -> Result<Call, Refusal> {
     }
 }
 
-// The reply.
+/// The reply.
 pub(super) fn reply(alloc: Global, gives: Gives) -> Result<Reply, Refusal> {
     match gives {
         Gives::Number(it) => number(it),
@@ -107,7 +107,7 @@ pub(super) fn reply(alloc: Global, gives: Gives) -> Result<Reply, Refusal> {
     }
 }
 
-// The step is so.
+/// The step is so.
 fn take(rt: &impl Abort, tree: &mut State, alloc: Global, step: Step) {
     match step {
         Step::Tells(ask, gives) => tells(rt, tree, call(alloc, ask), reply(alloc, gives)),
@@ -122,7 +122,7 @@ fn take(rt: &impl Abort, tree: &mut State, alloc: Global, step: Step) {
     }
 }
 
-// The steps are so, one after another.
+/// The steps are so, one after another.
 pub(super) fn takes(rt: &impl Abort, tree: &mut State, alloc: Global, steps: &[Step]) {
     for step in steps {
         take(rt, tree, alloc, *step);

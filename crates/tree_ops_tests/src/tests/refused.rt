@@ -11,8 +11,8 @@ const MOST: u32 = 200;
 /// How many calls there are.
 const CALLS: u32 = 15;
 
-// A directory with more names than a node of an ordered map takes, files with one and two paths, and an empty
-// directory.
+/// A directory with more names than a node of an ordered map takes, files with one and two paths, and an empty
+/// directory.
 fn prepared(alloc: Global) -> Result<Calls, Refusal> {
     let mut calls = Calls::new(alloc, Limits::full())?;
     mkdir(&mut calls, "/d")?;
@@ -43,7 +43,7 @@ fn mkdir(calls: &mut Calls, text: &str) -> Result<Answer, Refusal> {
     calls.made(&FileCall::Mkdir { path, mode: 0o755 })
 }
 
-// A call of each kind, none of which is refused there. The last seven take no memory.
+/// A call of each kind, none of which is refused there. The last seven take no memory.
 fn call_of(calls: &Calls, which: u32) -> Result<FileCall, Refusal> {
     let path = calls.path("/g")?;
     let new = calls.path("/d/a-name-that-is-not-stored-in-place")?;
@@ -76,7 +76,7 @@ fn call_of(calls: &Calls, which: u32) -> Result<FileCall, Refusal> {
     })
 }
 
-// The calls that take no memory, of a file with two paths.
+/// The calls that take no memory, of a file with two paths.
 fn small_call_of(calls: &Calls, path: Path, which: u32) -> Result<FileCall, Refusal> {
     Ok(match which {
         8 => FileCall::Chmod { path, mode: 0o700 },
@@ -98,7 +98,7 @@ fn small_call_of(calls: &Calls, path: Path, which: u32) -> Result<FileCall, Refu
     })
 }
 
-// Whether two files are the same.
+/// Whether two files are the same.
 fn are_same(one: &FileRow, other: &FileRow) -> bool {
     one.number == other.number
         && one.kind == other.kind
@@ -106,7 +106,7 @@ fn are_same(one: &FileRow, other: &FileRow) -> bool {
         && one.bytes == other.bytes
 }
 
-// Whether both tables have the same paths and the same files.
+/// Whether both tables have the same paths and the same files.
 fn are_alike(one: &Table, other: &Table) -> Result<bool, Refusal> {
     let files = one.files()?;
     let others = other.files()?;
@@ -114,7 +114,7 @@ fn are_alike(one: &Table, other: &Table) -> Result<bool, Refusal> {
     Ok(are_same && files.len() == others.len() && one.flat()? == other.flat()?)
 }
 
-// How many allocations a call makes. Each was made to fail, with the table as it was. `None` if a result was wrong.
+/// How many allocations a call makes. Each was made to fail, with the table as it was. `None` if a result was wrong.
 fn refused_in_turn(alloc: Global, which: u32) -> Result<Option<u32>, Refusal> {
     let control = prepared(alloc)?;
     let mut after = prepared(alloc)?;
@@ -135,7 +135,7 @@ fn refused_in_turn(alloc: Global, which: u32) -> Result<Option<u32>, Refusal> {
     Ok(None)
 }
 
-// Whether allocations can be made to fail.
+/// Whether allocations can be made to fail.
 fn has_refuser(alloc: Global) -> bool {
     let has = refuse(alloc, MOST);
     let _ = was_refused(alloc);
@@ -155,7 +155,7 @@ fn each_growth_of_each_call(rt: HostRuntime) -> Result<(), Fail> {
     Ok(())
 }
 
-// How many rows a table has: of its paths, or of its files.
+/// How many rows a table has: of its paths, or of its files.
 fn counted(table: &Table, are_paths: bool) -> Result<usize, Refusal> {
     if are_paths {
         return Ok(table.flat()?.len());
@@ -163,7 +163,7 @@ fn counted(table: &Table, are_paths: bool) -> Result<usize, Refusal> {
     Ok(table.files()?.len())
 }
 
-// How many allocations the rows take. Each was made to fail. `None` if a result was wrong.
+/// How many allocations the rows take. Each was made to fail. `None` if a result was wrong.
 fn rows_refused_in_turn(alloc: Global, table: &Table, are_paths: bool) -> Option<u32> {
     for k in 1..MOST {
         let _ = refuse(alloc, k);
@@ -190,8 +190,8 @@ fn each_growth_of_the_rows(rt: HostRuntime) -> Result<(), Fail> {
     Ok(())
 }
 
-// How many allocations a copy of a table takes. Each was made to fail, with the table as it was. `None` if a result was
-// wrong.
+/// How many allocations a copy of a table takes. Each was made to fail, with the table as it was. `None` if a result
+/// was wrong.
 fn copy_refused_in_turn(alloc: Global) -> Result<Option<u32>, Refusal> {
     let control = prepared(alloc)?;
     let calls = prepared(alloc)?;
@@ -221,7 +221,7 @@ fn each_allocation_of_a_copy(rt: HostRuntime) -> Result<(), Fail> {
     Ok(())
 }
 
-// Whether the call is let through, or refused as it should be.
+/// Whether the call is let through, or refused as it should be.
 fn is_checked(calls: &Calls, call: &FileCall, wanted: Option<Refusal>) -> bool {
     let paths = Paths::resolve(&calls.table, call);
     check(&paths, &calls.counts, &calls.limits).err() == wanted

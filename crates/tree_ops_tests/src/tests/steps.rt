@@ -53,7 +53,7 @@ fn chmod(calls: &mut Calls, text: &str, mode: u32) -> Result<bool, Refusal> {
     Ok(true)
 }
 
-// Whether the answer is that of a call that was made.
+/// Whether the answer is that of a call that was made.
 fn is_made(answer: Result<Answer, Refusal>) -> Result<bool, Refusal> {
     answer?;
     Ok(true)
@@ -84,7 +84,7 @@ fn holds_bytes(calls: &mut Calls, text: &str, bytes: &str) -> Result<bool, Refus
     Ok(calls.read(text, 0, 100)? == wanted)
 }
 
-// Whether these are the names in the directory, each with a space behind it.
+/// Whether these are the names in the directory, each with a space behind it.
 fn lists(calls: &mut Calls, text: &str, wanted: &str) -> Result<bool, Refusal> {
     let path = calls.path(text)?;
     let Answer::Names(names) = calls.made(&FileCall::List { path })? else {
@@ -105,7 +105,7 @@ fn is_refused(calls: &mut Calls, text: &str, refusal: Refusal) -> Result<bool, R
     }
 }
 
-// Whether the call is made, or what is read is so.
+/// Whether the call is made, or what is read is so.
 fn is_step_well(calls: &mut Calls, step: Step) -> Result<bool, Refusal> {
     match step {
         Step::Mkdir(path) => mkdir(calls, path),
@@ -127,7 +127,7 @@ fn is_step_well(calls: &mut Calls, step: Step) -> Result<bool, Refusal> {
     }
 }
 
-// The index of the first step that fails, if any.
+/// The index of the first step that fails, if any.
 fn failed_of(calls: &mut Calls, steps: &[Step]) -> Result<Option<usize>, Refusal> {
     for (place, it) in steps.iter().enumerate() {
         if !is_step_well(calls, *it)? {
@@ -137,7 +137,7 @@ fn failed_of(calls: &mut Calls, steps: &[Step]) -> Result<Option<usize>, Refusal
     Ok(None)
 }
 
-// The same of steps that begin with a new table.
+/// The same of steps that begin with a new table.
 fn failed(alloc: Global, steps: &[Step]) -> Result<Option<usize>, Refusal> {
     failed_of(&mut Calls::new(alloc, Limits::full())?, steps)
 }
@@ -303,7 +303,7 @@ fn a_name_has_255_bytes(rt: HostRuntime) -> Result<(), Fail> {
     Ok(())
 }
 
-// Renames the directory, looks at a file of it under both paths, and renames it back.
+/// Renames the directory, looks at a file of it under both paths, and renames it back.
 fn moves(calls: &mut Calls) -> Result<bool, Refusal> {
     calls.rename("/d", "/e/d")?;
     let is_there = number_at(calls, "/e/d/9999")? == 10_002;
@@ -323,7 +323,7 @@ fn a_large_directory_moves_back_and_forth(rt: HostRuntime) -> Result<(), Fail> {
     Ok(())
 }
 
-// A new table with an empty file at this path.
+/// A new table with an empty file at this path.
 fn with_file(alloc: Global, text: &str) -> Result<Table, Refusal> {
     let mut calls = Calls::new(alloc, Limits::full())?;
     calls.create(text, 0o644)?;
@@ -331,7 +331,7 @@ fn with_file(alloc: Global, text: &str) -> Result<Table, Refusal> {
     Ok(table)
 }
 
-// Gives the file at the path these bytes. Whether it is a file and has them.
+/// Gives the file at the path these bytes. Whether it is a file and has them.
 fn sets_content(
     table: &mut Table,
     path: &Path,
@@ -362,7 +362,7 @@ fn content_is_set(rt: HostRuntime) -> Result<(), Fail> {
     Ok(())
 }
 
-// A table with a directory, a file of two paths, and a free slot before them.
+/// A table with a directory, a file of two paths, and a free slot before them.
 fn linked(alloc: Global) -> Result<Calls, Refusal> {
     let mut calls = Calls::new(alloc, Limits::full())?;
     failed_of(

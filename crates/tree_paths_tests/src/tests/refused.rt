@@ -20,7 +20,7 @@ const DOUBLED: &[u8] = b"/a/bb///ccc/d/e/a_name_of_just_23_bytes";
 
 const SQUEEZED: &[u8] = b"/a/bb/ccc/d/e/a_name_of_just_23_bytes";
 
-// Two short names.
+/// Two short names.
 fn names_of(alloc: Global) -> Result<Vec<Name>, Refusal> {
     let mut names = Vec::with_capacity(alloc, 2)?;
     for bytes in [b"a".as_slice(), b"b"] {
@@ -31,7 +31,7 @@ fn names_of(alloc: Global) -> Result<Vec<Name>, Refusal> {
     Ok(names)
 }
 
-// Makes a call. Whether its answer is right.
+/// Makes a call. Whether its answer is right.
 fn is_right(alloc: Global, which: u32, path: &Path) -> Result<bool, Refusal> {
     Ok(match which {
         0 => has_names(&Path::parse(alloc, THREE)?, &[THREE_FIRST, b"b", b"c"]),
@@ -45,7 +45,7 @@ fn is_right(alloc: Global, which: u32, path: &Path) -> Result<bool, Refusal> {
     })
 }
 
-// How many allocations of a call were made to fail, each with the right result. `None` if a result was wrong.
+/// How many allocations of a call were made to fail, each with the right result. `None` if a result was wrong.
 fn refused_in_turn(alloc: Global, which: u32, path: &Path) -> Option<u32> {
     for k in 1..MOST {
         let _ = refuse(alloc, k);
@@ -73,7 +73,7 @@ fn each_growth_of_each_call(rt: HostRuntime) {
     }
 }
 
-// Whether texts that are no paths are refused with the right error.
+/// Whether texts that are no paths are refused with the right error.
 fn are_refused(alloc: Global, long: &[u8]) -> bool {
     Path::parse(alloc, b"").err() == Some(Refusal::Enoent)
         && Path::parse(alloc, b"a/b").err() == Some(Refusal::Einval)
@@ -81,7 +81,7 @@ fn are_refused(alloc: Global, long: &[u8]) -> bool {
         && Path::parse(alloc, long).err() == Some(Refusal::Enametoolong)
 }
 
-// Whether the calls of two paths that take no memory answer as they should.
+/// Whether the calls of two paths that take no memory answer as they should.
 fn are_told(above: &Path, below: &Path) -> bool {
     let is_last = match below.last_name() {
         Some(name) => name.as_name().bytes() == b"c".as_slice(),
@@ -102,13 +102,13 @@ fn some_calls_take_no_memory(rt: HostRuntime) {
     holds(&rt, "is_told && !is_refused", is_told && !is_refused);
 }
 
-// Whether a path of these names is made and copied. `Err` means out of memory.
+/// Whether a path of these names is made and copied. `Err` means out of memory.
 fn is_made_and_copied(alloc: Global, text: &[u8], names: &[&[u8]]) -> Result<bool, Refusal> {
     let path = Path::parse(alloc, text)?;
     Ok(has_names(&path, names) && path.copy()? == path)
 }
 
-// Whether paths of short texts are made and copied.
+/// Whether paths of short texts are made and copied.
 fn short_ones_are_made(alloc: Global) -> bool {
     let texts: [(&[u8], &[&[u8]]); 4] = [
         (b"/", &[]),

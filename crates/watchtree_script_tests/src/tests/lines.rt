@@ -14,7 +14,7 @@ use watchtree_script::{
 /// What stands before the line of a call.
 pub(super) const FRONT: &[u8] = b"# run 1\n";
 
-// Runs a line, and compares the line of the call that it made.
+/// Runs a line, and compares the line of the call that it made.
 fn compare_line(
     rt: &impl Abort,
     state: &mut State,
@@ -92,7 +92,7 @@ fn calls_that_no_line_makes(rt: HostRuntime) -> Result<(), Fail> {
     Ok(())
 }
 
-// An entry of caller 1, with this reply to a read.
+/// An entry of caller 1, with this reply to a read.
 pub(super) fn entry_of(reply: Reply) -> Entry
     ensures { result.reply ≡ reply }
 {
@@ -106,7 +106,7 @@ pub(super) fn entry_of(reply: Reply) -> Entry
     }
 }
 
-// The names `a b` and `c`.
+/// The names `a b` and `c`.
 pub(super) fn two_names(alloc: Global) -> Result<Names, Fail> {
     let mut names = Vec::new(alloc);
     names.push(Name::new(alloc, b"a b")?.ok_or("no name")?)?;
@@ -125,7 +125,7 @@ fn entries_with_replies(rt: HostRuntime) -> Result<(), Fail> {
     Ok(())
 }
 
-// Adds the entry of a read of two records to the text.
+/// Adds the entry of a read of two records to the text.
 fn append_read(alloc: Global, text: &mut Vec<u8>) -> Result<(), Fail> {
     let events = [
         Event {

@@ -15,7 +15,7 @@ const MOST: u32 = 60;
 /// What a line prints that runs out of memory.
 const LACKS: &[u8] = b"err ENOMEM 12\n";
 
-// A tree with the directories /d and /d/e, the file /f, and instance 1, and a text long enough for what a line prints.
+/// A tree with the directories /d and /d/e, the file /f, and instance 1, and a text long enough for what a line prints.
 fn prepared(alloc: Global) -> Result<(State, Vec<u8>), Refusal> {
     let mut state = State::new(alloc, Limits::full())?;
     let mut text = Vec::with_capacity(alloc, 999)?;
@@ -27,8 +27,8 @@ fn prepared(alloc: Global) -> Result<(State, Vec<u8>), Refusal> {
     Ok((state, text))
 }
 
-// Runs a line whose allocation `k` fails. Whether one failed, and whether all is well: the line is answered `ENOMEM`,
-// and is no entry, or it is answered what is wanted, and is one.
+/// Runs a line whose allocation `k` fails. Whether one failed, and whether all is well: the line is answered `ENOMEM`,
+/// and is no entry, or it is answered what is wanted, and is one.
 fn refused_at(alloc: Global, line: &str, wanted: &str, k: u32) -> Result<(bool, bool), Refusal> {
     let (mut state, mut text) = prepared(alloc)?;
     let _ = refuse(alloc, k);
@@ -43,7 +43,7 @@ fn refused_at(alloc: Global, line: &str, wanted: &str, k: u32) -> Result<(bool, 
     Ok((is_refused, is_well))
 }
 
-// How many allocations a line makes, each of which failed with all well. None where one did not.
+/// How many allocations a line makes, each of which failed with all well. None where one did not.
 fn refused_in_turn(alloc: Global, line: &str, wanted: &str) -> Result<Option<u32>, Refusal> {
     for k in 1..MOST {
         let (is_refused, is_well) = refused_at(alloc, line, wanted, k)?;
@@ -57,14 +57,14 @@ fn refused_in_turn(alloc: Global, line: &str, wanted: &str) -> Result<Option<u32
     Ok(None)
 }
 
-// Whether allocations can be made to fail.
+/// Whether allocations can be made to fail.
 fn has_refuser(alloc: Global) -> bool {
     let has = refuse(alloc, MOST);
     let _ = was_refused(alloc);
     has
 }
 
-// Their words have no escapes and no bytes, so that what fails is an allocation for a path or for the call.
+/// Their words have no escapes and no bytes, so that what fails is an allocation for a path or for the call.
 #[test]
 fn a_line_goes_on_without_memory(rt: HostRuntime) -> Result<(), Fail> {
     let alloc = rt.alloc();
@@ -86,7 +86,7 @@ fn a_line_goes_on_without_memory(rt: HostRuntime) -> Result<(), Fail> {
     Ok(())
 }
 
-// A text that is no path is refused as such even where there is no memory for the one before it.
+/// A text that is no path is refused as such even where there is no memory for the one before it.
 #[test]
 fn a_text_that_is_no_path_is_told(rt: HostRuntime) -> Result<(), Fail> {
     let alloc = rt.alloc();
@@ -108,7 +108,7 @@ fn a_text_that_is_no_path_is_told(rt: HostRuntime) -> Result<(), Fail> {
     Ok(())
 }
 
-// There is no call yet where a word cannot be read.
+/// There is no call yet where a word cannot be read.
 #[test]
 fn a_word_without_memory_ends_a_line(rt: HostRuntime) -> Result<(), Fail> {
     let alloc = rt.alloc();
@@ -124,7 +124,7 @@ fn a_word_without_memory_ends_a_line(rt: HostRuntime) -> Result<(), Fail> {
     Ok(())
 }
 
-// Each allocation fails in turn: the text is then as it was.
+/// Each allocation fails in turn: the text is then as it was.
 #[test]
 fn an_entry_without_memory(rt: HostRuntime) -> Result<(), Fail> {
     let alloc = rt.alloc();

@@ -22,7 +22,7 @@ enum Asking {
     Thread(u32),
 }
 
-// A storm of four calls. Whether something failed, what came of the storm, and whether both sinks were closed.
+/// A storm of four calls. Whether something failed, what came of the storm, and whether both sinks were closed.
 fn refused_at<R: Threads + Wait + Sync>(
     rt: &R,
     alloc: Global,
@@ -41,8 +41,8 @@ fn refused_at<R: Threads + Wait + Sync>(
     Ok((met, stormed, count.load(Ordering::SeqCst) == 2))
 }
 
-// What a storm may come to where it runs out of memory: a fault, a listener that did not end by the end batch, a book
-// that is not settled, or a settled book with fewer entries.
+/// What a storm may come to where it runs out of memory: a fault, a listener that did not end by the end batch, a book
+/// that is not settled, or a settled book with fewer entries.
 fn is_short_of_memory(stormed: &Result<Stormed, StormFault>, most: u64) -> bool {
     match stormed {
         Err(StormFault::Memory) => true,
@@ -54,7 +54,7 @@ fn is_short_of_memory(stormed: &Result<Stormed, StormFault>, most: u64) -> bool 
     }
 }
 
-// Whether the storm was settled, with all of its entries and records.
+/// Whether the storm was settled, with all of its entries and records.
 fn is_whole_storm(stormed: &Result<Stormed, StormFault>) -> bool {
     match stormed {
         Ok(whole) => is_settled(whole, 25, 18),
@@ -93,7 +93,7 @@ fn each_thread_of_a_storm(rt: HostRuntime) -> Result<(), Fail> {
     Err(Fail::from("a storm has more threads"))
 }
 
-// Both instances of a storm with no calls are closed while the next allocations fail. Whether each was closed.
+/// Both instances of a storm with no calls are closed while the next allocations fail. Whether each was closed.
 fn closed_with<L: Ledger>(
     rt: &impl Wait,
     alloc: Global,
@@ -129,7 +129,7 @@ fn closed_with<L: Ledger>(
     Ok((one, other))
 }
 
-// The same with the ledger of a brand.
+/// The same with the ledger of a brand.
 fn closed_at(rt: &impl Wait, alloc: Global, refused: u32) -> Result<(bool, bool), Fail> {
     closed_with::<Brand>(rt, alloc, Blank::new(65537), refused)
 }

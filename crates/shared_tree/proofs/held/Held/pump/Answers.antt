@@ -53,7 +53,7 @@ returns-in_err-receipt-clause-errors g c =
     let a = c.self.inside in
     let p = err_from_is_err_and c.from_residual-in_err-receipt.result c.from_residual-in_err-receipt.ensures.1 in
     subst (λ (h : TreeWithPipes). IfErr c.from_residual-in_err-receipt.result
-        (λ e. RefusalOf h.state (call.Pump c.args.instance c.args.bytes) e)) c.self.view_is
+    (λ e. RefusalOf h.state (call.Pump c.args.instance c.args.bytes) e)) c.self.view_is
     (subst (λ (x : Result Receipt Refusal). IfErr x (λ e. RefusalOf a.core (call.Pump c.args.instance c.args.bytes) e)) (sym p.1)
     (subst (λ (e : Refusal). RefusalOf a.core (call.Pump c.args.instance c.args.bytes) e) (sym p.2)
     (why-not a.core (call.Pump c.args.instance c.args.bytes) c.in_err-receipt.field-0.0 c.in_err-receipt.ensures.errors)))
