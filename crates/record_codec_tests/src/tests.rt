@@ -11,10 +11,9 @@ use std::io;
 use std::io::{ErrorKind, Read, Write};
 use std::mem::size_of;
 use std::process::Abort;
-use std::test::Fail;
 
-/// What was got is what is wanted. Tests assert in these two functions: the macros in a long body take minutes to
-/// prove.
+/// What was got is what is wanted. Tests assert in these functions, and the helpers end the test where a call fails: a
+/// macro or a `?` in a long body costs seconds to prove.
 fn equal<T: PartialEq + Debug + Drop>(rt: &impl Abort, got: T, wanted: T) {
     assert_eq!(rt; got, wanted);
 }
@@ -30,14 +29,14 @@ const SPELLED: [u8; 48] = [
     0, 0, 255, 255, 255, 255, 0, 0x40, 0, 0, 0, 0, 0, 0, 0, 0, 0, 0,
 ];
 
-fn named(alloc: Global, wd: i32, mask: u32, cookie: u32, name: &[u8]) -> Result<Event, Fail> {
-    let name = Name::new(alloc, name)?;
-    Ok(Event {
+fn named(rt: &impl Abort, alloc: Global, wd: i32, mask: u32, cookie: u32, name: &[u8]) -> Event {
+    let name = Name::new(alloc, name).expect(rt, "memory");
+    Event {
         wd,
         mask,
         cookie,
         name,
-    })
+    }
 }
 
 fn overflow() -> Event {
@@ -49,101 +48,125 @@ fn overflow() -> Event {
     }
 }
 
-fn two_events(alloc: Global) -> Result<Vec<Event>, Fail> {
-    let mut events = Vec::new(alloc);
-    events.push(named(alloc, 1, IN_CREATE, 0, b"f")?)?;
-    events.push(overflow())?;
-    Ok(events)
+fn two_events(rt: &impl Abort, alloc: Global) -> Vec<Event> {
+    let first = named(rt, alloc, 1, IN_CREATE, 0, b"f");
+    vec![in alloc; first, overflow()].expect(rt, "memory")
 }
 
-#[test]
-fn writes_and_reads(rt: HostRuntime) -> Result<(), Fail> {
-    let events = two_events(rt.alloc())?;
-    let mut bytes = encode(rt.alloc(), &events)?;
-    equal(&rt, bytes.as_slice(), SPELLED.as_slice());
-    holds(
-        &rt,
-        "decode(rt.alloc(), &bytes)?.as_slice() == events.as_slice()",
-        decode(rt.alloc(), &bytes)?.as_slice() == events.as_slice(),
-    );
-    holds(&rt, "spells(&events, &bytes)", spells(&events, &bytes));
-    holds(
-        &rt,
-        "!spells(&events, &SPELLED[..47])",
-        !spells(&events, &SPELLED[..47]),
-    );
-    holds(&rt, "!spells(&[], &bytes)", !spells(&[], &bytes));
+/// The records of the events.
+fn encoded(rt: &impl Abort, alloc: Global, events: &[Event]) -> Vec<u8> {
+    encode(alloc, events).expect(rt, "memory")
+}
+
+/// The bytes are read as these events.
+fn reads(rt: &impl Abort, alloc: Global, bytes: &[u8], events: &[Event]) {
+    let read = decode(alloc, bytes).expect(rt, "records");
+    holds(rt, "the events", read.as_slice() == events);
+}
+
+/// A copy of the first event is appended.
+fn appends_the_first(rt: &impl Abort, events: &[Event], bytes: &mut Vec<u8>) {
     if let Some(event) = events.first() {
-        append(&event.copy()?, &mut bytes)?;
+        let copied = event.copy().expect(rt, "memory");
+        append(&copied, bytes).expect(rt, "memory");
     }
-    equal(&rt, bytes.get(48..), SPELLED.get(..32));
-    equal(&rt, decode(rt.alloc(), b"")?.len(), 0);
-    Ok(())
 }
 
 #[test]
-fn lengths(rt: HostRuntime) -> Result<(), Fail> {
+fn writes_and_reads(rt: HostRuntime) {
+    let events = two_events(&rt, rt.alloc());
+    let mut bytes = encoded(&rt, rt.alloc(), &events);
+    equal(&rt, bytes.as_slice(), SPELLED.as_slice());
+    reads(&rt, rt.alloc(), &bytes, &events);
+    equal(&rt, spells(&events, &bytes), true);
+    equal(&rt, spells(&events, &SPELLED[..47]), false);
+    equal(&rt, spells(&[], &bytes), false);
+    appends_the_first(&rt, &events, &mut bytes);
+    equal(&rt, bytes.get(48..).unwrap_or_default(), &SPELLED[..32]);
+    reads(&rt, rt.alloc(), b"", &[]);
+}
+
+/// An event whose name has this length has a record of so many bytes, and the length of its name field in two bytes.
+fn has_length(rt: &impl Abort, alloc: Global, name: &[u8], len: usize, low: u8, high: u8) {
+    let event = named(rt, alloc, 1, IN_CREATE, 0, name);
+    holds(rt, "a name", event.name.is_some());
+    equal(rt, record_len(&event), len);
+    let bytes = encoded(rt, alloc, &[event]);
+    equal(rt, bytes.len(), len);
+    equal(
+        rt,
+        bytes.get(12..16).unwrap_or_default(),
+        &[low, high, 0, 0],
+    );
+}
+
+#[test]
+fn lengths(rt: HostRuntime) {
+    let name = [b'n'; 255];
     for (name_len, len, low, high) in [(15, 32, 16, 0), (16, 48, 32, 0), (255, 272, 0, 1)] {
-        let name = vec![in rt.alloc(); b'n'; name_len]?;
-        let event = named(rt.alloc(), 1, IN_CREATE, 0, &name)?;
-        holds(&rt, "event.name.is_some()", event.name.is_some());
-        equal(&rt, record_len(&event), len);
-        let bytes = encode(rt.alloc(), &[event])?;
-        equal(&rt, bytes.len(), len);
-        equal(
-            &rt,
-            (name_len, bytes.get(12..16)),
-            (name_len, Some([low, high, 0, 0].as_slice())),
-        );
+        has_length(&rt, rt.alloc(), &name[..name_len], len, low, high);
     }
-    Ok(())
+}
+
+/// The name of these bytes.
+fn name(rt: &impl Abort, alloc: Global, bytes: &[u8]) -> Name {
+    let name = Name::new(alloc, bytes).expect(rt, "memory");
+    name.expect(rt, "a name")
+}
+
+/// These bytes are no name.
+fn is_no_name(rt: &impl Abort, alloc: Global, bytes: &[u8]) {
+    let name = Name::new(alloc, bytes).expect(rt, "memory");
+    assert!(rt; name.is_none(), "{bytes:?}");
+}
+
+/// A copy of a name.
+fn copied(rt: &impl Abort, name: &Name) -> Name {
+    name.copy().expect(rt, "memory")
 }
 
 #[test]
-fn names(rt: HostRuntime) -> Result<(), Fail> {
+fn names(rt: HostRuntime) {
     for bytes in [b"".as_slice(), b".", b"..", b"a/b", b"a\0"] {
-        holds(
-            &rt,
-            "Name::new(rt.alloc(), bytes)?.is_none()",
-            Name::new(rt.alloc(), bytes)?.is_none(),
-        );
+        is_no_name(&rt, rt.alloc(), bytes);
     }
     for bytes in [b"a".as_slice(), b"...", b".a", b"\xff"] {
-        let name = Name::new(rt.alloc(), bytes)?.ok_or("a name")?;
-        equal(&rt, name.copy()?.bytes(), bytes);
+        let name = name(&rt, rt.alloc(), bytes);
+        equal(&rt, copied(&rt, &name).bytes(), bytes);
     }
-    let long = vec![in rt.alloc(); b'n'; NAME_MAX + 1]?;
-    holds(
-        &rt,
-        "Name::new(rt.alloc(), &long)?.is_none()",
-        Name::new(rt.alloc(), &long)?.is_none(),
-    );
-    let low = Name::new(rt.alloc(), b"ab")?.ok_or("a name")?;
-    let high = Name::new(rt.alloc(), b"b")?.ok_or("a name")?;
-    holds(
-        &rt,
-        "low < high && low == low.copy()? && low != high",
-        low < high && low == low.copy()? && low != high,
-    );
-    Ok(())
+    is_no_name(&rt, rt.alloc(), &[b'n'; NAME_MAX + 1]);
+    is_lower(&rt, rt.alloc(), b"ab", b"b");
+}
+
+/// The first of two names is lower, and equal to its copy.
+fn is_lower(rt: &impl Abort, alloc: Global, low: &[u8], high: &[u8]) {
+    let low = name(rt, alloc, low);
+    let high = name(rt, alloc, high);
+    let is_same = copied(rt, &low) == low;
+    holds(rt, "lower", low < high && is_same && low != high);
+}
+
+/// A name and its copy have these bytes, and are equal.
+fn is_kept(rt: &impl Abort, alloc: Global, bytes: &[u8]) {
+    let name = name(rt, alloc, bytes);
+    let copied = copied(rt, &name);
+    equal(rt, name.bytes(), bytes);
+    equal(rt, copied.bytes(), bytes);
+    holds(rt, "a copy is equal", copied == name);
 }
 
 #[test]
-fn names_of_each_kind_of_length(rt: HostRuntime) -> Result<(), Fail> {
-    equal(&rt, (NAME_IN_PLACE, NAME_MAX), (31, 255));
-    for len in [1, 30, 31, 32, 255] {
-        let mut bytes = vec![in rt.alloc(); b'm'; len]?;
-        bytes[len - 1] = b'z';
-        let name = Name::new(rt.alloc(), &bytes)?.ok_or("a name")?;
-        equal(&rt, (len, name.bytes()), (len, bytes.as_slice()));
-        let copied = name.copy()?;
-        equal(&rt, (len, copied.bytes()), (len, bytes.as_slice()));
-        bytes[len - 1] = b'a';
-        let lower = Name::new(rt.alloc(), &bytes)?.ok_or("a name")?;
-        let are_compared = copied == name && lower != name && lower < name;
-        holds(&rt, "are_compared", are_compared);
+fn names_of_each_kind_of_length(rt: HostRuntime) {
+    equal(&rt, NAME_IN_PLACE, 31);
+    equal(&rt, NAME_MAX, 255);
+    let mut low = [b'm'; 255];
+    low[254] = b'a';
+    let mut high = [b'm'; 255];
+    high[254] = b'z';
+    for start in [254, 225, 224, 223, 0] {
+        is_kept(&rt, rt.alloc(), &high[start..]);
+        is_lower(&rt, rt.alloc(), &low[start..], &high[start..]);
     }
-    Ok(())
 }
 
 #[test]
@@ -154,90 +177,87 @@ fn sizes(rt: HostRuntime) {
 }
 
 #[test]
-fn lists(rt: HostRuntime) -> Result<(), Fail> {
-    let bytes = Bytes::from_vec(SPELLED.to_vec(rt.alloc())?);
-    let events = Events::from_vec(two_events(rt.alloc())?);
-    holds(&rt, "bytes.copy()? == bytes", bytes.copy()? == bytes);
-    holds(&rt, "events.copy()? == events", events.copy()? == events);
+fn lists(rt: HostRuntime) {
+    let bytes = Bytes::from_vec(SPELLED.to_vec(rt.alloc()).expect(&rt, "memory"));
+    let events = Events::from_vec(two_events(&rt, rt.alloc()));
+    are_copied(&rt, &bytes, &events);
     holds(
         &rt,
-        "events != Events::from_vec(Vec::new(rt.alloc()))",
+        "events",
         events != Events::from_vec(Vec::new(rt.alloc())),
     );
-    holds(
-        &rt,
-        "spells(events.as_slice(), bytes.as_slice())",
-        spells(events.as_slice(), bytes.as_slice()),
-    );
-    holds(
-        &rt,
-        "spells(&events.into_vec(), &bytes.into_vec())",
-        spells(&events.into_vec(), &bytes.into_vec()),
-    );
-    Ok(())
+    equal(&rt, spells(events.as_slice(), bytes.as_slice()), true);
+    equal(&rt, spells(&events.into_vec(), &bytes.into_vec()), true);
+}
+
+/// Lists are equal to their copies.
+fn are_copied(rt: &impl Abort, bytes: &Bytes, events: &Events) {
+    let copied = bytes.copy().expect(rt, "memory");
+    holds(rt, "bytes", copied == *bytes);
+    let copied = events.copy().expect(rt, "memory");
+    holds(rt, "events", copied == *events);
+}
+
+/// The line of an event is appended so.
+fn has_line(rt: &impl Abort, alloc: Global, event: &Event, line: &str) {
+    let mut text = vec![in alloc; b'|'].expect(rt, "memory");
+    append_record_line(event, &mut text).expect(rt, "memory");
+    equal(rt, text.as_slice(), line.as_bytes());
+}
+
+/// The name is appended so.
+fn is_printed(rt: &impl Abort, alloc: Global, bytes: &[u8], printed: &str) {
+    let name = name(rt, alloc, bytes);
+    let mut text = vec![in alloc; b'|'].expect(rt, "memory");
+    append_name(&name, &mut text).expect(rt, "memory");
+    equal(rt, text.as_slice(), printed.as_bytes());
 }
 
 #[test]
-fn prints(rt: HostRuntime) -> Result<(), Fail> {
-    let mut text = Vec::new(rt.alloc());
-    for event in two_events(rt.alloc())? {
-        append_record_line(&event, &mut text)?;
-        text.extend_from_slice(b"|")?;
-    }
-    let moved = named(
-        rt.alloc(),
-        2,
-        IN_MOVED_TO | IN_ISDIR,
-        4_294_967_295,
-        b" !%~\x7f\x0a\xff/",
-    )?;
-    holds(&rt, "moved.name.is_none()", moved.name.is_none());
-    let moved = named(
-        rt.alloc(),
-        2,
-        IN_MOVED_TO | IN_ISDIR,
-        4_294_967_295,
-        b" !%~\x7f\x0a\xff",
-    )?;
-    append_record_line(&moved, &mut text)?;
-    if let Some(name) = &moved.name {
-        text.push(b'|')?;
-        append_name(name, &mut text)?;
-    }
-    let lines =
-        b"1 00000100 0 f|-1 00004000 0|2 40000080 4294967295 %20!%25~%7F%0A%FF|%20!%25~%7F%0A%FF";
-    equal(&rt, text.as_slice(), lines.as_slice());
-    Ok(())
+fn prints(rt: HostRuntime) {
+    let alloc = rt.alloc();
+    has_line(
+        &rt,
+        alloc,
+        &named(&rt, alloc, 1, IN_CREATE, 0, b"f"),
+        "|1 00000100 0 f",
+    );
+    has_line(&rt, alloc, &overflow(), "|-1 00004000 0");
+    is_no_name(&rt, alloc, b" !%~\x7f\x0a\xff/");
+    let name = b" !%~\x7f\x0a\xff";
+    let moved = named(&rt, alloc, 2, IN_MOVED_TO | IN_ISDIR, 4_294_967_295, name);
+    has_line(
+        &rt,
+        alloc,
+        &moved,
+        "|2 40000080 4294967295 %20!%25~%7F%0A%FF",
+    );
+    is_printed(&rt, alloc, name, "|%20!%25~%7F%0A%FF");
 }
 
 /// The records of the events, as bytes that are records.
-fn spelled(alloc: Global, events: &[Event]) -> Result<Vec<u8>, Fail>
-    ensures { IfOk result (λ bytes. AreRecords bytes.items) }
+fn spelled(rt: &impl Abort, alloc: Global, events: &[Event]) -> Vec<u8>
+    ensures { AreRecords result.items }
 {
-    Ok(encode(alloc, events)?)
+    encode(alloc, events).expect(rt, "memory")
+}
+
+/// The line of a record is appended so.
+fn has_view_line(rt: &impl Abort, alloc: Global, record: &RecordView<'_>, line: &str) {
+    let mut text = vec![in alloc; b'|'].expect(rt, "memory");
+    append_view_line(record, &mut text).expect(rt, "memory");
+    equal(rt, text.as_slice(), line.as_bytes());
 }
 
 #[test]
-fn prints_records_where_they_lie(rt: HostRuntime) -> Result<(), Fail> {
-    let events = two_events(rt.alloc())?;
-    let bytes = spelled(rt.alloc(), &events)?;
-    let mut text = Vec::new(rt.alloc());
-    if let Some((first, rest)) = next_record(&bytes) {
-        append_view_line(&first, &mut text)?;
-        text.push(b'|')?;
-        if let Some((second, end)) = next_record(rest) {
-            append_view_line(&second, &mut text)?;
-            holds(&rt, "end.is_empty()", end.is_empty());
-            holds(
-                &rt,
-                "next_record(end).is_none()",
-                next_record(end).is_none(),
-            );
-        }
-    }
-    let lines = b"1 00000100 0 f|-1 00004000 0";
-    equal(&rt, text.as_slice(), lines.as_slice());
-    Ok(())
+fn prints_records_where_they_lie(rt: HostRuntime) {
+    let events = two_events(&rt, rt.alloc());
+    let bytes = spelled(&rt, rt.alloc(), &events);
+    let (first, rest) = next_record(&bytes).expect(&rt, "a record");
+    has_view_line(&rt, rt.alloc(), &first, "|1 00000100 0 f");
+    let (second, end) = next_record(rest).expect(&rt, "a record");
+    has_view_line(&rt, rt.alloc(), &second, "|-1 00004000 0");
+    holds(&rt, "no more", end.is_empty() && next_record(end).is_none());
 }
 
 /// The rows of the table of faults, in their order, for the records from the front on.
@@ -284,72 +304,62 @@ fn field_fault(field: &[u8], at: usize) -> Option<CodecFault> {
     None
 }
 
-/// Whether these bytes are read as they should be: as events that are spelled so, or as the fault of the table.
-fn is_read_right(alloc: Global, bytes: &[u8]) -> Result<bool, Fail> {
+/// These bytes are read as they should be: as events that are spelled so, or as the fault of the table.
+fn is_read_right(rt: &impl Abort, alloc: Global, bytes: &[u8]) {
     match decode(alloc, bytes) {
         Ok(events) => {
-            let again = encode(alloc, &events)?;
-            Ok(again.as_slice() == bytes && first_fault(bytes).is_none())
+            equal(rt, encoded(rt, alloc, &events).as_slice(), bytes);
+            equal(rt, first_fault(bytes), None);
         }
-        Err(fault) => Ok(first_fault(bytes) == Some(fault)),
+        Err(fault) => equal(rt, first_fault(bytes), Some(fault)),
     }
 }
 
 #[test]
-fn reads_every_front_and_every_change(rt: HostRuntime) -> Result<(), Fail> {
+fn reads_every_front_and_every_change(rt: HostRuntime) {
     for len in 0..=SPELLED.len() {
-        equal(
-            &rt,
-            (len, is_read_right(rt.alloc(), &SPELLED[..len])?),
-            (len, true),
-        );
+        is_read_right(&rt, rt.alloc(), &SPELLED[..len]);
     }
     for at in 0..SPELLED.len() {
         for byte in 0..=255 {
             let mut bytes = SPELLED;
             bytes[at] = byte;
-            equal(
-                &rt,
-                (byte, at, is_read_right(rt.alloc(), &bytes)?),
-                (byte, at, true),
-            );
+            is_read_right(&rt, rt.alloc(), &bytes);
         }
     }
-    Ok(())
+}
+
+/// The bytes have this fault.
+fn has_fault(rt: &impl Abort, alloc: Global, bytes: &[u8], fault: CodecFault) {
+    equal(rt, decode(alloc, bytes).err(), Some(fault));
 }
 
 #[test]
-fn reads_faults(rt: HostRuntime) -> Result<(), Fail> {
-    let mut long = SPELLED[..16].to_vec(rt.alloc())?;
-    long.resize(272, b'n')?;
-    long.resize(280, 0)?;
-    equal(&rt, long.len(), 280);
+fn reads_faults(rt: HostRuntime) {
+    let mut long = [b'n'; 280];
+    long[..16].copy_from_slice(&SPELLED[..16]);
+    long[272..].fill(0);
     for (low, high, at, byte, fault) in [
         (16, 1, 16, b'n', CodecFault::BadLen(0)),
         (0, 1, 16, b'n', CodecFault::BadName(0)),
         (0, 1, 271, 0, CodecFault::Short(272)),
         (0, 1, 20, 0, CodecFault::BadPad(0)),
     ] {
-        let mut bytes = long.clone()?;
-        equal(&rt, bytes.len(), 280);
+        let mut bytes = long;
         bytes[12] = low;
         bytes[13] = high;
         bytes[at] = byte;
-        let read = decode(rt.alloc(), &bytes);
-        equal(&rt, read.err(), Some(fault));
+        has_fault(&rt, rt.alloc(), &bytes, fault);
     }
-    Ok(())
 }
 
 /// The record of a file `f` that was made, with one byte of it another: the fault of each rule, and where the record
 /// begins.
 #[test]
-fn reads_the_faults_of_one_record(rt: HostRuntime) -> Result<(), Fail> {
-    let record = &SPELLED[..32];
-    equal(&rt, decode(rt.alloc(), &[])?.len(), 0);
+fn reads_the_faults_of_one_record(rt: HostRuntime) {
+    reads(&rt, rt.alloc(), &[], &[]);
     for len in [15, 31] {
-        let read = decode(rt.alloc(), &record[..len]);
-        equal(&rt, (len, read.err()), (len, Some(CodecFault::Short(0))));
+        has_fault(&rt, rt.alloc(), &SPELLED[..len], CodecFault::Short(0));
     }
     for (at, byte, fault) in [
         (12, 0x18, CodecFault::BadLen(0)),
@@ -357,39 +367,29 @@ fn reads_the_faults_of_one_record(rt: HostRuntime) -> Result<(), Fail> {
         (16, 0x00, CodecFault::BadName(0)),
         (31, 0x01, CodecFault::BadPad(0)),
     ] {
-        let mut bytes = record.to_vec(rt.alloc())?;
-        equal(&rt, bytes.len(), 32);
+        let mut bytes = SPELLED;
         bytes[at] = byte;
-        let read = decode(rt.alloc(), &bytes);
-        equal(&rt, (at, byte, read.err()), (at, byte, Some(fault)));
+        has_fault(&rt, rt.alloc(), &bytes[..32], fault);
     }
-    let mut longer = record.to_vec(rt.alloc())?;
-    longer.extend_from_slice(&[0; 3])?;
-    equal(
-        &rt,
-        decode(rt.alloc(), &longer).err(),
-        Some(CodecFault::Short(32)),
-    );
-    Ok(())
+    let mut longer = SPELLED;
+    longer[32..].fill(0);
+    has_fault(&rt, rt.alloc(), &longer[..35], CodecFault::Short(32));
 }
 
 /// A record whose name has 256 bytes, as some file systems of Linux have them: 288 bytes, of which the name field is
 /// 272.
 #[test]
-fn reads_no_name_of_256_bytes(rt: HostRuntime) -> Result<(), Fail> {
-    let mut bytes = SPELLED[..12].to_vec(rt.alloc())?;
-    bytes.extend_from_slice(&272u32.to_le_bytes())?;
-    bytes.resize(272, b'n')?;
-    bytes.resize(288, 0)?;
-    equal(&rt, bytes.len(), 288);
-    let read = decode(rt.alloc(), &bytes);
-    equal(&rt, read.err(), Some(CodecFault::BadLen(0)));
-    Ok(())
+fn reads_no_name_of_256_bytes(rt: HostRuntime) {
+    let mut bytes = [b'n'; 288];
+    bytes[..12].copy_from_slice(&SPELLED[..12]);
+    bytes[12..16].copy_from_slice(&272u32.to_le_bytes());
+    bytes[272..].fill(0);
+    has_fault(&rt, rt.alloc(), &bytes, CodecFault::BadLen(0));
 }
 
 /// Each fault as it is printed.
 #[test]
-fn faults_have_their_texts(rt: HostRuntime) -> Result<(), Fail> {
+fn faults_have_their_texts(rt: HostRuntime) {
     for (fault, text) in [
         (CodecFault::Short(16), "bytes end within the record at 16"),
         (CodecFault::BadLen(32), "bad length of the name at 32"),
@@ -400,10 +400,9 @@ fn faults_have_their_texts(rt: HostRuntime) -> Result<(), Fail> {
         ),
         (CodecFault::Memory, "out of memory"),
     ] {
-        let printed = format!(in rt.alloc(); "{fault}")?;
+        let printed = format!(in rt.alloc(); "{fault}").expect(&rt, "memory");
         equal(&rt, printed.as_str(), text);
     }
-    Ok(())
 }
 
 /// Gives and takes one byte at a time, and fails at one of its calls.
@@ -458,7 +457,7 @@ impl Write for Halting {
 }
 
 #[test]
-fn counts_faults(rt: HostRuntime) -> Result<(), Fail> {
+fn counts_faults(rt: HostRuntime) {
     for k in 1..5 {
         let mut reader = Port::new(Halting::at(k));
         let mut writer = Port::new(Halting::at(k));
@@ -472,11 +471,10 @@ fn counts_faults(rt: HostRuntime) -> Result<(), Fail> {
         equal(&rt, reader.inner().calls, 4);
         equal(&rt, writer.inner().calls, 4);
     }
-    Ok(())
 }
 
 #[test]
-fn writes_all(rt: HostRuntime) -> Result<(), Fail> {
+fn writes_all(rt: HostRuntime) {
     for k in 1..7 {
         let mut writer = Port::new(Halting::at(k));
         let fails = k < 5;
@@ -494,21 +492,23 @@ fn writes_all(rt: HostRuntime) -> Result<(), Fail> {
             writer.write_all(b"").is_ok(),
         );
     }
-    let mut whole = Port::new(Vec::new(rt.alloc()));
-    equal(&rt, whole.write(b"ab")?, 2);
-    whole.write_all(b"cde")?;
-    equal(&rt, whole.inner().as_slice(), b"abcde".as_slice());
+    writes_into_a_vector(&rt, rt.alloc());
+    fills_a_buffer(&rt);
+}
 
+fn writes_into_a_vector(rt: &impl Abort, alloc: Global) {
+    let mut whole = Port::new(Vec::new(alloc));
+    equal(rt, whole.write(b"ab").expect(rt, "a count"), 2);
+    whole.write_all(b"cde").expect(rt, "memory");
+    equal(rt, whole.inner().as_slice(), b"abcde".as_slice());
+}
+
+fn fills_a_buffer(rt: &impl Abort) {
     let mut room = [0u8; 2];
     let mut full = Port::new(room.as_mut_slice());
-    let result = full.write_all(b"abc");
-    equal(
-        &rt,
-        result.err().map(|e| e.kind()),
-        Some(ErrorKind::WriteZero),
-    );
-    equal(&rt, full.faults(), 1);
-    Ok(())
+    let fault = full.write_all(b"abc").err();
+    equal(rt, fault.map(|e| e.kind()), Some(ErrorKind::WriteZero));
+    equal(rt, full.faults(), 1);
 }
 
 /// A reader and a writer whose first call fails with `Interrupted`, whose second does nothing, and which then do one

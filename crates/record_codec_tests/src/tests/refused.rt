@@ -89,17 +89,16 @@ fn refused_in_turn(alloc: Global, which: u32, event: &Event) -> Result<Option<u3
 }
 
 #[test]
-fn each_growth_of_each_call(rt: HostRuntime) -> Result<(), Fail> {
+fn each_growth_of_each_call(rt: HostRuntime) {
     let alloc = rt.alloc();
     let has_refuser = refuse(alloc, MOST);
     let _ = was_refused(alloc);
-    let event = named(alloc, 1, IN_CREATE, 0, b"f")?;
+    let event = named(&rt, alloc, 1, IN_CREATE, 0, b"f");
     for which in 0..CALLS {
-        let count = refused_in_turn(alloc, which, &event)?;
+        let count = refused_in_turn(alloc, which, &event).expect(&rt, "memory");
         let is_well = matches!(count, Some(count) if (count > 0) == has_refuser);
         assert!(rt; is_well, "call {which}: {count:?}");
     }
-    Ok(())
 }
 
 /// Whether calls that take no memory answer as they should.
@@ -115,15 +114,14 @@ fn is_told(events: &[Event], name: &Name) -> bool {
 }
 
 #[test]
-fn some_calls_take_no_memory(rt: HostRuntime) -> Result<(), Fail> {
+fn some_calls_take_no_memory(rt: HostRuntime) {
     let alloc = rt.alloc();
-    let events = two_events(alloc)?;
-    let name = Name::new(alloc, b"f")?.ok_or("a name")?;
+    let events = two_events(&rt, alloc);
+    let name = name(&rt, alloc, b"f");
     let _ = refuse_from(alloc, 1);
     let is_told = is_told(&events, &name);
     let is_refused = was_refused(alloc);
-    holds(&rt, "is_told && !is_refused", is_told && !is_refused);
-    Ok(())
+    holds(&rt, "told", is_told && !is_refused);
 }
 
 /// Whether a name of these bytes is made and copied. `Err` means out of memory.
@@ -135,22 +133,18 @@ fn is_made_and_copied(alloc: Global, bytes: &[u8]) -> Result<bool, AllocError> {
 }
 
 #[test]
-fn short_names_take_no_memory(rt: HostRuntime) -> Result<(), Fail> {
+fn short_names_take_no_memory(rt: HostRuntime) {
     let alloc = rt.alloc();
     let has_refuser = refuse_from(alloc, 1);
     let short = is_made_and_copied(alloc, &LONG[..NAME_IN_PLACE]);
     let shortest = is_made_and_copied(alloc, &LONG[..1]);
     let is_refused = was_refused(alloc);
     let are_made = matches!(short, Ok(true)) && matches!(shortest, Ok(true));
-    holds(&rt, "are_made && !is_refused", are_made && !is_refused);
+    holds(&rt, "made", are_made && !is_refused);
     let _ = refuse_from(alloc, 1);
     let long = is_made_and_copied(alloc, &LONG);
     let is_refused = was_refused(alloc);
-    holds(
-        &rt,
-        "long.is_err() == has_refuser && is_refused == has_refuser",
-        long.is_err() == has_refuser && is_refused == has_refuser,
-    );
-    holds(&rt, "long", is_made_and_copied(alloc, &LONG)?);
-    Ok(())
+    equal(&rt, long.is_err(), has_refuser);
+    equal(&rt, is_refused, has_refuser);
+    equal(&rt, is_made_and_copied(alloc, &LONG), Ok(true));
 }
