@@ -57,7 +57,7 @@ none-of None h = refl
 none-of (Some x) h = absurd (Rattle.std.proofs.lemmas.Bool.false≢true (sym h))
 
 module _ (m : Instances) (ns : List Notice) (k : ℕ) (none : AreUnwatched m ns k (length ns)) where
-  -- who is a recipient is told by the first notices
+  -- the first notices decide who is a recipient
   pub any-first : (q : ℕ) → list_any (λ (n : Notice). watches_file (told_number n) (instance_of m q)) (take k ns)
       ≡ list_any (λ (n : Notice). watches_file (told_number n) (instance_of m q)) ns
   any-first q = any-cut (λ (n : Notice). watches_file (told_number n) (instance_of m q)) ns k (λ j d a b. none q j d a b)
