@@ -3,4 +3,5 @@ mod Fits
 mod Listing
 mod Opening
 mod Numbers
+mod Recorded
 mod Unmade

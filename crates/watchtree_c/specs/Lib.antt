@@ -1,5 +1,6 @@
 pub mod Owned
 pub mod Answers
+pub mod Recorded
 pub mod Calls
 pub mod Stats
 pub mod Listings

@@ -3,14 +3,15 @@
 ghost use Rattle.std.specs.Prelude.{◌≡◌, ◌+◌, ◌-◌, ◌^◌, ◌++◌, List, ℕ, length, min};
 ghost use Rattle.std.specs.List.{flat_map};
 ghost use Rattle.watchtree_c.specs.Answers.{Answers, AnswersBytes, IsAsked, IsReply, count_number, overlaid};
-ghost use Rattle.watchtree_c.specs.Stats.{Tells, stat_of};
+ghost use Rattle.watchtree_c.specs.Answers.{reply_number};
+ghost use Rattle.watchtree_c.specs.Stats.{Tells, stat_of, told_or};
 ghost use Rattle.watchtree_c.specs.Calls.{asked_bytes, mkdir_call, create_call, rename_call, rename2_call};
 ghost use Rattle.watchtree_c.specs.Calls.{truncate_call, chmod_call, unlink_call, rmdir_call, link_call, write_call};
 ghost use Rattle.watchtree_c.specs.Calls.{read_call, stat_call, list_call};
-ghost use Rattle.watchtree_c.specs.Listings.{Lists, ended};
+ghost use Rattle.watchtree_c.specs.Listings.{IsListed, Lists, ended};
 
-use crate::answers::{count_number, fill, put, reply_number};
-use crate::tree::TreeHandle;
+use crate::answers::{count_number, put, refused_number, reply_number};
+use crate::tree::{TreeHandle, last_reply};
 use inode_table::Kind;
 use record_codec::{Bytes, Name};
 use std::alloc::Global;
@@ -24,7 +25,7 @@ pub extern "C" fn wt_mkdir(alloc: Global, tree: &mut TreeHandle, path: &[u8], mo
     ensures { Answers (IsReply tree.old.held.state (mkdir_call path.now mode) tree.new.held.state) result }
 {
     let call = Path::parse(alloc, path).map(|path| Call::File(FileCall::Mkdir { path, mode }));
-    reply_number(&tree.make(alloc, call))
+    tree.make(alloc, call)
 }
 
 /// As open(2) with `O_CREAT | O_EXCL` and close(2), but it answers the number of the file.
@@ -33,7 +34,7 @@ pub extern "C" fn wt_create(alloc: Global, tree: &mut TreeHandle, path: &[u8], m
     ensures { Answers (IsReply tree.old.held.state (create_call path.now mode) tree.new.held.state) result }
 {
     let call = Path::parse(alloc, path).map(|path| Call::File(FileCall::Create { path, mode }));
-    reply_number(&tree.make(alloc, call))
+    tree.make(alloc, call)
 }
 
 /// As rename(2).
@@ -41,7 +42,7 @@ pub extern "C" fn wt_create(alloc: Global, tree: &mut TreeHandle, path: &[u8], m
 pub extern "C" fn wt_rename(alloc: Global, tree: &mut TreeHandle, old: &[u8], to: &[u8]) -> i64
     ensures { Answers (IsReply tree.old.held.state (rename_call old.now to.now) tree.new.held.state) result }
 {
-    reply_number(&tree.make(alloc, rename(alloc, old, to)))
+    tree.make(alloc, rename(alloc, old, to))
 }
 
 fn rename(alloc: Global, old: &[u8], new: &[u8]) -> Result<Call, Refusal>
@@ -63,7 +64,7 @@ pub extern "C" fn wt_rename2(
 ) -> i64
     ensures { Answers (IsReply tree.old.held.state (rename2_call old.now to.now flags) tree.new.held.state) result }
 {
-    reply_number(&tree.make(alloc, rename2(alloc, old, to, flags)))
+    tree.make(alloc, rename2(alloc, old, to, flags))
 }
 
 fn rename2(alloc: Global, old: &[u8], new: &[u8], flags: u32) -> Result<Call, Refusal>
@@ -80,7 +81,7 @@ pub extern "C" fn wt_truncate(alloc: Global, tree: &mut TreeHandle, path: &[u8],
     ensures { Answers (IsReply tree.old.held.state (truncate_call path.now len) tree.new.held.state) result }
 {
     let call = Path::parse(alloc, path).map(|path| Call::File(FileCall::Truncate { path, len }));
-    reply_number(&tree.make(alloc, call))
+    tree.make(alloc, call)
 }
 
 /// As chmod(2).
@@ -89,7 +90,7 @@ pub extern "C" fn wt_chmod(alloc: Global, tree: &mut TreeHandle, path: &[u8], mo
     ensures { Answers (IsReply tree.old.held.state (chmod_call path.now mode) tree.new.held.state) result }
 {
     let call = Path::parse(alloc, path).map(|path| Call::File(FileCall::Chmod { path, mode }));
-    reply_number(&tree.make(alloc, call))
+    tree.make(alloc, call)
 }
 
 /// As unlink(2).
@@ -98,7 +99,7 @@ pub extern "C" fn wt_unlink(alloc: Global, tree: &mut TreeHandle, path: &[u8]) -
     ensures { Answers (IsReply tree.old.held.state (unlink_call path.now) tree.new.held.state) result }
 {
     let call = Path::parse(alloc, path).map(|path| Call::File(FileCall::Unlink { path }));
-    reply_number(&tree.make(alloc, call))
+    tree.make(alloc, call)
 }
 
 /// As rmdir(2).
@@ -107,7 +108,7 @@ pub extern "C" fn wt_rmdir(alloc: Global, tree: &mut TreeHandle, path: &[u8]) ->
     ensures { Answers (IsReply tree.old.held.state (rmdir_call path.now) tree.new.held.state) result }
 {
     let call = Path::parse(alloc, path).map(|path| Call::File(FileCall::Rmdir { path }));
-    reply_number(&tree.make(alloc, call))
+    tree.make(alloc, call)
 }
 
 /// As link(2).
@@ -115,7 +116,7 @@ pub extern "C" fn wt_rmdir(alloc: Global, tree: &mut TreeHandle, path: &[u8]) ->
 pub extern "C" fn wt_link(alloc: Global, tree: &mut TreeHandle, old: &[u8], to: &[u8]) -> i64
     ensures { Answers (IsReply tree.old.held.state (link_call old.now to.now) tree.new.held.state) result }
 {
-    reply_number(&tree.make(alloc, link(alloc, old, to)))
+    tree.make(alloc, link(alloc, old, to))
 }
 
 fn link(alloc: Global, old: &[u8], new: &[u8]) -> Result<Call, Refusal>
@@ -137,7 +138,7 @@ pub extern "C" fn wt_write(
 ) -> i64
     ensures { Answers (IsReply tree.old.held.state (write_call path.now offset bytes.now) tree.new.held.state) result }
 {
-    reply_number(&tree.make(alloc, write(alloc, path, offset, bytes)))
+    tree.make(alloc, write(alloc, path, offset, bytes))
 }
 
 fn write(alloc: Global, path: &[u8], offset: u64, bytes: &[u8]) -> Result<Call, Refusal>
@@ -174,9 +175,7 @@ pub extern "C" fn wt_pread(
             count,
         })
     });
-    let reply = tree.make(alloc, call);
-    fill(out, &reply);
-    reply_number(&reply)
+    tree.read(alloc, call, out)
 }
 
 /// What stands at a path, as C has it: `struct wt_stat`.
@@ -196,14 +195,28 @@ pub extern "C" fn wt_stat(alloc: Global, tree: &mut TreeHandle, path: &[u8], out
     ensures { Tells (IsReply tree.old.held.state (stat_call path.now) tree.new.held.state) result out.old out.new }
 {
     let call = Path::parse(alloc, path).map(|path| Call::File(FileCall::Stat { path }));
-    let reply = tree.make(alloc, call);
-    if let Some(stat) = stat_of(&reply) {
-        *out = stat;
+    match tree.record(alloc, call) {
+        Ok(opened) => {
+            let number = put_stat(out, last_reply(&opened.state));
+            *tree = TreeHandle::of(opened);
+            number
+        }
+        Err(refusal) => refused_number(refusal),
     }
-    reply_number(&reply)
 }
 
-pub(crate) fn stat_of(reply: &Reply) -> Option<Stat>
+/// Puts the status that a reply has, if any, in `out`. It answers the number of the reply.
+pub(crate) fn put_stat(out: &mut Stat, reply: &Reply) -> i64
+    ensures number { result ≡ reply_number reply.now }
+    ensures told { out.new ≡ told_or (stat_of reply.now) out.old }
+{
+    if let Some(stat) = stat_of(reply) {
+        *out = stat;
+    }
+    reply_number(reply)
+}
+
+fn stat_of(reply: &Reply) -> Option<Stat>
     ensures { result ≡ stat_of reply.now }
 {
     let Reply::File(
@@ -234,9 +247,23 @@ pub extern "C" fn wt_list(alloc: Global, tree: &mut TreeHandle, path: &[u8], out
     ensures { Lists (IsReply tree.old.held.state (list_call path.now) tree.new.held.state) result out.old out.new }
 {
     let call = Path::parse(alloc, path).map(|path| Call::File(FileCall::List { path }));
-    let reply = tree.make(alloc, call);
-    let Reply::File(Answer::Names(names)) = &reply else {
-        return reply_number(&reply);
+    match tree.record(alloc, call) {
+        Ok(opened) => {
+            let number = put_listing(out, last_reply(&opened.state));
+            *tree = TreeHandle::of(opened);
+            number
+        }
+        Err(refusal) => refused_number(refusal),
+    }
+}
+
+/// Puts the names that a reply has, if any, at the front of `out`. It answers how many bytes all of them are, or the
+/// number of a reply that has none.
+fn put_listing(out: &mut [u8], reply: &Reply) -> i64
+    ensures { IsListed reply.now result out.old out.new }
+{
+    let Reply::File(Answer::Names(names)) = reply else {
+        return reply_number(reply);
     };
     put_names(out, names.as_slice())
 }

@@ -5,7 +5,7 @@ ghost use Rattle.tree_core.specs.declared.call.Call.TheVariants as call;
 ghost use Rattle.watchtree_c.specs.Answers.{Answers, AnswersBytes, IsMade, IsReply, waiting_number};
 ghost use Rattle.watchtree_c.specs.Calls.{add_watch_call, asked_bytes};
 
-use crate::answers::{count_number, fill, refused_number, reply_number};
+use crate::answers::{count_number, refused_number};
 use crate::tree::TreeHandle;
 use std::alloc::Global;
 use tree_core::Call;
@@ -20,7 +20,7 @@ pub extern "C" fn wt_inotify_init(alloc: Global, tree: &mut TreeHandle, limit: u
         limit,
         piped: false,
     };
-    reply_number(&tree.make(alloc, Ok(call)))
+    tree.make(alloc, Ok(call))
 }
 
 /// As inotify_add_watch(2).
@@ -39,7 +39,7 @@ pub extern "C" fn wt_inotify_add_watch(
         path,
         mask,
     });
-    reply_number(&tree.make(alloc, call))
+    tree.make(alloc, call)
 }
 
 /// As read(2) of an inotify file descriptor that does not block: as many records as fit whole, or `EINVAL` where the
@@ -55,9 +55,7 @@ pub extern "C" fn wt_read(
         (Ok (call.Read instance (asked_bytes out.old))) tree.new.held.state) result out.old out.new }
 {
     let bytes = u32::try_from(out.len()).unwrap_or(u32::MAX);
-    let reply = tree.make(alloc, Ok(Call::Read { instance, bytes }));
-    fill(out, &reply);
-    reply_number(&reply)
+    tree.read(alloc, Ok(Call::Read { instance, bytes }), out)
 }
 
 /// As inotify_rm_watch(2).
@@ -70,7 +68,7 @@ pub extern "C" fn wt_inotify_rm_watch(
 ) -> i64
     ensures { Answers (IsMade tree.old.held.state (Ok (call.RmWatch instance wd)) tree.new.held.state) result }
 {
-    reply_number(&tree.make(alloc, Ok(Call::RmWatch { instance, wd })))
+    tree.make(alloc, Ok(Call::RmWatch { instance, wd }))
 }
 
 /// As close(2) of an inotify file descriptor.
@@ -78,7 +76,7 @@ pub extern "C" fn wt_inotify_rm_watch(
 pub extern "C" fn wt_inotify_close(alloc: Global, tree: &mut TreeHandle, instance: u32) -> i64
     ensures { Answers (IsMade tree.old.held.state (Ok (call.Close instance)) tree.new.held.state) result }
 {
-    reply_number(&tree.make(alloc, Ok(Call::Close { instance })))
+    tree.make(alloc, Ok(Call::Close { instance }))
 }
 
 /// How many records wait in an instance. No call is made for it.

@@ -11,8 +11,8 @@ ghost use Rattle.watchtree_c.specs.Stats.{Tells};
 ghost use Rattle.tree_core.specs.Journal.{now};
 ghost use Rattle.tree_core.specs.Tree.{reply_of};
 
-use crate::answers::{count_number, put, refused_number, reply_number};
-use crate::files::{Stat, put_more, put_names, stat_of};
+use crate::answers::{count_number, put, refused_number};
+use crate::files::{Stat, put_more, put_names, put_stat};
 use crate::tree::TreeHandle;
 use std::alloc::Global;
 use tree_core::{Call, Reply, State};
@@ -74,10 +74,7 @@ pub extern "C" fn wt_peek_stat(
     };
     let reply = stat_reply(alloc, &opened.state, path);
     *tree = TreeHandle::of(opened);
-    if let Some(stat) = stat_of(&reply) {
-        *out = stat;
-    }
-    reply_number(&reply)
+    put_stat(out, &reply)
 }
 
 fn stat_reply(alloc: Global, state: &State, path: &[u8]) -> Reply

@@ -1,9 +1,13 @@
 //! What C holds of a tree: the address of what it opened.
 
-ghost use Rattle.std.specs.Prelude.{◌≡◌, true, Option, Some, None, is_some, option_map};
+ghost use Rattle.std.specs.Prelude.{◌≡◌, true, Option, Some, None, IfErr, IfOk, OnOk, is_some, option_map};
+ghost use Rattle.std.specs.List.{last_or};
+ghost use Rattle.tree_core.specs.declared.reply.Entry.{Entry};
 ghost use Rattle.watchtree_c.specs.Owned.{held_owns, held_code, Content};
-ghost use Rattle.watchtree_c.specs.Answers.{IsMade, IsReplied};
+ghost use Rattle.watchtree_c.specs.Answers.{Answers, IsMade, IsReplied};
+ghost use Rattle.watchtree_c.specs.Recorded.{Fills, IsLastReply, IsRecorded, IsTaken};
 
+use crate::answers::{fill, refused_number, reply_number};
 use crate::opened::Opened;
 use crate::parts::Parts;
 use std::alloc::Global;
@@ -107,28 +111,81 @@ impl TreeHandle {
         }
     }
 
-    /// Makes a call, or answers why there is none to make. `EBADF`, where the tree is not open.
-    pub(crate) fn make(&mut self, alloc: Global, call: Result<Call, Refusal>) -> Reply
-        ensures { IsMade self.old.held.state call self.new.held.state result }
+    /// Makes a call, and takes out what is open: the last entry of its journal is the call, with the only copy of the
+    /// reply. The caller puts it back.
+    ///
+    /// # Errors
+    /// The reply of a call that did not join the journal; what is open is then put back.
+    /// - `EBADF`, where the tree is not open.
+    /// - Why there is no call to make.
+    /// - `JournalFull` and `ENOMEM`, as [`State::record`] answers them.
+    pub(crate) fn record(
+        &mut self,
+        alloc: Global,
+        call: Result<Call, Refusal>,
+    ) -> Result<Box<Opened>, Refusal>
+        ensures ok { IfOk result (λ opened. IsTaken self.old.held.state call opened.value) }
+        ensures err { IfErr result (λ refusal.
+            IsMade self.old.held.state call self.new.held.state (Reply.Refused refusal)) }
     {
         let Some(mut opened) = self.take(alloc) else {
-            return Reply::Refused(Refusal::Ebadf);
+            return Err(Refusal::Ebadf);
         };
-        let reply = reply_to(&mut opened.state, call);
-        *self = TreeHandle::of(opened);
-        reply
+        match record(&mut opened.state, call) {
+            Ok(()) => Ok(opened),
+            Err(refusal) => {
+                *self = TreeHandle::of(opened);
+                Err(refusal)
+            }
+        }
+    }
+
+    /// Makes a call, and answers the number of its reply.
+    pub(crate) fn make(&mut self, alloc: Global, call: Result<Call, Refusal>) -> i64
+        ensures { Answers (IsMade self.old.held.state call self.new.held.state) result }
+    {
+        match self.record(alloc, call) {
+            Ok(opened) => {
+                let number = reply_number(last_reply(&opened.state));
+                *self = TreeHandle::of(opened);
+                number
+            }
+            Err(refusal) => refused_number(refusal),
+        }
+    }
+
+    /// Makes a call, puts the bytes of its reply at the front of `out`, as many as fit, and answers its number.
+    pub(crate) fn read(&mut self, alloc: Global, call: Result<Call, Refusal>, out: &mut [u8]) -> i64
+        ensures { Fills (IsMade self.old.held.state call self.new.held.state) result out.old out.new }
+    {
+        match self.record(alloc, call) {
+            Ok(opened) => {
+                let reply = last_reply(&opened.state);
+                fill(out, reply);
+                let number = reply_number(reply);
+                *self = TreeHandle::of(opened);
+                number
+            }
+            Err(refusal) => refused_number(refusal),
+        }
     }
 }
 
-fn reply_to(state: &mut State, call: Result<Call, Refusal>) -> Reply
-    ensures { IsReplied state.old call result state.new }
+fn record(state: &mut State, call: Result<Call, Refusal>) -> Result<(), Refusal>
+    ensures ok { OnOk result (IsRecorded state.old call state.new) }
+    ensures err { IfErr result (λ refusal. IsReplied state.old call (Reply.Refused refusal) state.new) }
 {
-    let call = match call {
-        Ok(call) => call,
-        Err(refusal) => return Reply::Refused(refusal),
+    state.record(CALLER, call?)?;
+    Ok(())
+}
+
+/// The reply of the journal's last entry.
+pub(crate) fn last_reply(state: &State) -> &Reply
+    requires { (entry : Entry) × (last_or None state.now.entries ≡ Some entry) }
+    ensures { IsLastReply state.now result.now }
+{
+    let Some(entry) = state.last_entry() else {
+        unreachable!()
     };
-    match state.apply(CALLER, call) {
-        Ok(receipt) => receipt.reply,
-        Err(refusal) => Reply::Refused(refusal),
-    }
+    &entry.reply
 }

@@ -8,5 +8,5 @@ use Rattle.watchtree_c.proofs.instances.wt_read.Goals as goal
 pub returns : goal.returns
 returns c =
     let n = asked_bytes c.args.out.now in
-    answers_bytes c.args.tree.now.held.state (Ok (call.Read c.args.instance n)) _ _ _ _ c.make-reply.result (λ t. read_fits t c.args.instance n)
+    answers_bytes c.args.tree.now.held.state (Ok (call.Read c.args.instance n)) _ _ _ _ c.read.ensures.r (λ t. read_fits t c.args.instance n)
     (search rules) (search rules) (search rules)
