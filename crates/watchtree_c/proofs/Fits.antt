@@ -21,15 +21,15 @@ use Rattle.watchtree_c.specs.Answers.{Fits, IsFilled, IsReplied, IsMade, IsReply
 use Rattle.watchtree_c.specs.Calls.{asked_bytes, on_path, read_call}
 
 read_by : (n : ℕ) (r : Option Refusal) (i : Option Instance) → Fits (reply_by r (read_answer n i)) n
-read_by n (Some r) i = tt
-read_by n None None = tt
+read_by n (Some r) i = omega arith
+read_by n None None = omega arith
 read_by n None (Some i) = (fitting_is_greatest n i.queue.waiting).fits
 
 pub read_fits : (t : Tree) (id n : ℕ) → Fits (reply_of t (call.Read id n)) n
 read_fits t id n = read_by n (refusal_of t (call.Read id n)) (instance_of t.instances id)
 
 bytes_by : (n : ℕ) (bytes : List ℕ) (r : Option Refusal) → Fits (reply_by r (reply.File (answer.Bytes (take n bytes)))) n
-bytes_by n bytes (Some r) = tt
+bytes_by n bytes (Some r) = omega arith
 bytes_by n bytes None = let l = length-take n bytes in omega (arith, l)
 
 pub file_fits : (t : Tree) (p : List (List ℕ)) (offset n : ℕ) → Fits (reply_of t (call.File (file.ReadFile p offset n))) n
@@ -37,17 +37,7 @@ file_fits t p offset n = bytes_by n _ (refusal_of t (call.File (file.ReadFile p 
 
 -- what fits a buffer fits a longer one
 pub more_room : (r : Reply) (n m : ℕ) → n ≤ m → Fits r n → Fits r m
-more_room (reply.Records bytes) n m l f = omega arith
-more_room (reply.File (answer.Bytes bytes)) n m l f = omega arith
-more_room (reply.File answer.Done) n m l f = tt
-more_room (reply.File (answer.Number number)) n m l f = tt
-more_room (reply.File (answer.Count count)) n m l f = tt
-more_room (reply.File (answer.Names names)) n m l f = tt
-more_room (reply.File (answer.Stat number kind mode links size)) n m l f = tt
-more_room (reply.Instance id) n m l f = tt
-more_room (reply.Wd wd) n m l f = tt
-more_room reply.Done n m l f = tt
-more_room (reply.Refused refusal) n m l f = tt
+more_room r n m l f = omega (arith, l, f)
 
 -- the replies to a call, if there is one to make, fit
 abbrev pub AllFit : ℕ → Result Call Refusal → Type 0
@@ -56,23 +46,23 @@ AllFit n (Err refusal) = (t : Tree) → Fits (reply.Refused refusal) n
 
 replied_fits : (n : ℕ) (old : Journaled) (c : Result Call Refusal) (r : Reply) (new : Journaled) → AllFit n c → IsReplied old c r new → Fits r n
 replied_fits n old (Ok c) r new f (inl (inl a)) = subst (λ (x : Reply). Fits x n) (sym a.answer) (f (now old))
-replied_fits n old (Ok c) r new f (inl (inr a)) = subst (λ (x : Reply). Fits x n) (sym a.answer) tt
-replied_fits n old (Ok c) r new f (inr a) = subst (λ (x : Reply). Fits x n) (sym a.answer) tt
-replied_fits n old (Err refusal) r new f is = subst (λ (x : Reply). Fits x n) (sym is.0) tt
+replied_fits n old (Ok c) r new f (inl (inr a)) = subst (λ (x : Reply). Fits x n) (sym a.answer) (omega arith)
+replied_fits n old (Ok c) r new f (inr a) = subst (λ (x : Reply). Fits x n) (sym a.answer) (omega arith)
+replied_fits n old (Err refusal) r new f is = subst (λ (x : Reply). Fits x n) (sym is.0) (omega arith)
 
 pub made_fits : (n : ℕ) (old : Option Opened) (c : Result Call Refusal) (r : Reply) (new : Option Opened) → AllFit n c → IsMade old c new r → Fits r n
 made_fits n (Some old) c r new f is = replied_fits n old.state c r is.0 f is.1
-made_fits n None c r new f is = subst (λ (x : Reply). Fits x n) (sym is.0) tt
+made_fits n None c r new f is = subst (λ (x : Reply). Fits x n) (sym is.0) (omega arith)
 
 pub reply_fits : (n : ℕ) (old : Option Opened) (c : Result Call Refusal) (r : Reply) (new : Option Opened) → AllFit n c → IsReply old c new r → Fits r n
 reply_fits n old c r new f (inl is) = made_fits n old c r new f is
-reply_fits n old c r new f (inr is) = made_fits n old (Err Enomem) r new (λ t. tt) is
+reply_fits n old c r new f (inr is) = made_fits n old (Err Enomem) r new (λ t. omega arith) is
 
 pub read_call_fits : (text : List ℕ) (offset n : ℕ) → AllFit n (read_call text offset n)
 read_call_fits text offset n = by (parsed text) where
   by : (o : Result (List (List ℕ)) Refusal) → AllFit n (on_path (λ p. call.File (file.ReadFile p offset n)) o)
   by (Ok p) = λ t. file_fits t p offset n
-  by (Err refusal) = λ t. tt
+  by (Err refusal) = λ t. omega arith
 
 pub asked_within : (out : List ℕ) → asked_bytes out ≤ length out
 asked_within out = omega arith

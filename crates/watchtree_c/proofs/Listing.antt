@@ -12,8 +12,8 @@ use Rattle.tree_paths.specs.Paths.{pathname_of, slashed}
 use Rattle.watchtree_c.specs.Answers.{count_number, overlaid}
 use Rattle.watchtree_c.specs.Listings.{ended}
 
-pub overlaid-none : (old : List ℕ) → overlaid [] old ≡ old
-overlaid-none old = ap (λ (t : List ℕ). t ++ old) (take_all (length old) [] (omega arith))
+pub overlaid_none : (old : List ℕ) → overlaid [] old ≡ old
+overlaid_none old = ap (λ (t : List ℕ). t ++ old) (take_all (length old) [] (omega arith))
 
 overlaid-nothing : (xs : List ℕ) → overlaid xs [] ≡ []
 overlaid-nothing xs = drop_all (length xs) [] (omega arith)

@@ -1,5 +1,5 @@
 -- Calls that are not made, on what C asks for.
-use Rattle.std.proofs.Common.{◌≡◌, ℕ, List, Option, Some, None, refl, sym, ap, subst, inl, inr, length}
+use Rattle.std.proofs.Common.{◌≡◌, ℕ, List, Option, Some, None, refl, sym, ap, ◌∙◌, subst, inl, inr, length, arith}
 use Rattle.std.specs.Prelude.{◌⊎◌, ℤ, Result, Ok, Err}
 use Rattle.tree_paths.specs.declared.refusal.Refusal.{Refusal}
 use Rattle.tree_paths.specs.declared.refusal.Refusal.TheVariants.{Ebadf, Enomem}
@@ -20,6 +20,7 @@ use Rattle.watchtree_c.specs.Listings.{Lists}
 use Rattle.watchtree_c.specs.Peeks.{IsPeeked, MayReply, WouldReply}
 use Rattle.watchtree_c.specs.Stats.{Tells, stat_of, told_or}
 use Rattle.watchtree_c.proofs.Fits.{asked_within, file_fits, more_room}
+use Rattle.watchtree_c.proofs.Listing.{overlaid_none}
 
 -- there is no call to make
 pub unasked : (s : Journaled) (f : List (List ℕ) → Call) (text : List ℕ) (e : Refusal) → (e ≡ Enomem) ⊎ (parsed text ≡ Err e)
@@ -85,7 +86,7 @@ pub read-refused : (s : Journaled) (p : List (List ℕ)) (offset n : ℕ) (out f
     → AnswersBytes (MayReply s (call.File (file.ReadFile p offset (asked_bytes out)))) number out filled
 read-refused s p offset n out filled e number is said is_number is_filled =
     let told = subst (λ m. reply_of (now s) (call.File (file.ReadFile p offset m)) ≡ reply.Refused e) is said in
-    record { r = reply.Refused e; made = inl (sym told); is_number = is_number; is_filled = is_filled; fits = tt }
+    record { r = reply.Refused e; made = inl (sym told); is_number = is_number; is_filled = is_filled ∙ sym (overlaid_none out); fits = omega arith }
 
 -- the same of a tree that is open
 module _ (old : Option Opened) (content : Opened) (c : Result Call Refusal) (is : old ≡ Some content) where

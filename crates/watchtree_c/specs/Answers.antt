@@ -1,5 +1,5 @@
 -- What a call of C answers, and what becomes of its tree.
-use Rattle.std.specs.Prelude.{◌≡◌, ◌⊎◌, ⊤, ◌≤◌, ℕ, ◌^◌, ◌-◌, ℤ, pos, neg_ℤ, List, ◌++◌, [], length, take, drop, min}
+use Rattle.std.specs.Prelude.{◌≡◌, ◌⊎◌, ◌≤◌, ℕ, ◌^◌, ◌-◌, ℤ, pos, neg_ℤ, List, ◌++◌, [], length, take, drop, min}
 use Rattle.std.specs.Prelude.{Option, Some, None, Result, Ok, Err}
 use Rattle.tree_paths.specs.declared.refusal.Refusal.{Refusal}
 use Rattle.tree_paths.specs.declared.refusal.Refusal.TheVariants.{Ebadf, Ebusy, Enomem}
@@ -75,33 +75,19 @@ pub record Answers (M : Reply → Type 0) (number : ℤ) : Type 0 where
 abbrev pub overlaid : List ℕ → List ℕ → List ℕ
 overlaid bytes old = take (length old) bytes ++ drop (length bytes) old
 
+-- the bytes that a reply has for C, which are none where it has none
+abbrev pub bytes_of : Reply → List ℕ
+bytes_of (reply.Records bytes) = bytes
+bytes_of (reply.File (answer.Bytes bytes)) = bytes
+bytes_of _ = []
+
 -- the bytes of a reply are put over the front of C's
 abbrev pub IsFilled : Reply → List ℕ → List ℕ → Type 0
-IsFilled (reply.Records bytes) old new = new ≡ overlaid bytes old
-IsFilled (reply.File (answer.Bytes bytes)) old new = new ≡ overlaid bytes old
-IsFilled (reply.File answer.Done) old new = new ≡ old
-IsFilled (reply.File (answer.Number number)) old new = new ≡ old
-IsFilled (reply.File (answer.Count count)) old new = new ≡ old
-IsFilled (reply.File (answer.Names names)) old new = new ≡ old
-IsFilled (reply.File (answer.Stat number kind mode links size)) old new = new ≡ old
-IsFilled (reply.Instance id) old new = new ≡ old
-IsFilled (reply.Wd wd) old new = new ≡ old
-IsFilled reply.Done old new = new ≡ old
-IsFilled (reply.Refused refusal) old new = new ≡ old
+IsFilled r old new = new ≡ overlaid (bytes_of r) old
 
 -- the bytes of a reply are so many at most
 abbrev pub Fits : Reply → ℕ → Type 0
-Fits (reply.Records bytes) room = length bytes ≤ room
-Fits (reply.File (answer.Bytes bytes)) room = length bytes ≤ room
-Fits (reply.File answer.Done) room = ⊤
-Fits (reply.File (answer.Number number)) room = ⊤
-Fits (reply.File (answer.Count count)) room = ⊤
-Fits (reply.File (answer.Names names)) room = ⊤
-Fits (reply.File (answer.Stat number kind mode links size)) room = ⊤
-Fits (reply.Instance id) room = ⊤
-Fits (reply.Wd wd) room = ⊤
-Fits reply.Done room = ⊤
-Fits (reply.Refused refusal) room = ⊤
+Fits r room = length (bytes_of r) ≤ room
 
 -- what C asks for is answered by the number of such a reply, and by its bytes, all of which fit
 pub record AnswersBytes (M : Reply → Type 0) (number : ℤ) (out filled : List ℕ) : Type 0 where

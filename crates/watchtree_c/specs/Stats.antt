@@ -16,16 +16,7 @@ directory_number Directory = 1
 abbrev pub stat_of : Reply → Option Stat
 stat_of (reply.File (answer.Stat number kind mode links size)) =
     Some (record { links = links; size = size; number = number; mode = mode; is_directory = directory_number kind })
-stat_of (reply.File answer.Done) = None
-stat_of (reply.File (answer.Number number)) = None
-stat_of (reply.File (answer.Count count)) = None
-stat_of (reply.File (answer.Bytes bytes)) = None
-stat_of (reply.File (answer.Names names)) = None
-stat_of (reply.Instance id) = None
-stat_of (reply.Wd wd) = None
-stat_of (reply.Records bytes) = None
-stat_of reply.Done = None
-stat_of (reply.Refused refusal) = None
+stat_of _ = None
 
 -- the new status if there is one, and the old one otherwise
 abbrev pub told_or : Option Stat → Stat → Stat

@@ -1,8 +1,8 @@
 //! The numbers that C is answered with.
 
 ghost use Rattle.std.specs.Prelude.{◌≡◌, ◌++◌, ◌≤◌, ◌^◌, ◌-◌, length, take, drop};
-ghost use Rattle.watchtree_c.specs.Answers.{reply_number, answer_number, refused_number, count_number, IsFilled};
-ghost use Rattle.watchtree_c.specs.Answers.{overlaid};
+ghost use Rattle.watchtree_c.specs.Answers.{reply_number, answer_number, refused_number, count_number};
+ghost use Rattle.watchtree_c.specs.Answers.{bytes_of, overlaid};
 
 use tree_core::Reply;
 use tree_ops::Answer;
@@ -48,17 +48,18 @@ pub(crate) fn count_number(count: u64) -> i64
     count.min(i64::MAX as u64) as i64
 }
 
-/// Puts the bytes of a reply at the front of `out`, as many as fit.
-pub(crate) fn fill(out: &mut [u8], reply: &Reply)
-    ensures { IsFilled reply.now out.old out.new }
+/// The bytes that a reply has for C: none, where it has none.
+pub(crate) fn bytes_of(reply: &Reply) -> &[u8]
+    ensures { result.now ≡ bytes_of reply.now }
 {
     match reply {
-        Reply::Records(bytes) => put(out, bytes.as_slice()),
-        Reply::File(Answer::Bytes(bytes)) => put(out, bytes.as_slice()),
-        _ => {}
+        Reply::Records(bytes) => bytes.as_slice(),
+        Reply::File(Answer::Bytes(bytes)) => bytes.as_slice(),
+        _ => b"",
     }
 }
 
+/// Puts bytes at the front of `out`, as many as fit.
 pub(crate) fn put(out: &mut [u8], bytes: &[u8])
     ensures { out.new ≡ overlaid bytes.now out.old }
 {

@@ -7,7 +7,7 @@ ghost use Rattle.watchtree_c.specs.Owned.{held_owns, held_code, Content};
 ghost use Rattle.watchtree_c.specs.Answers.{Answers, IsMade, IsReplied};
 ghost use Rattle.watchtree_c.specs.Recorded.{Fills, IsLastReply, IsRecorded, IsTaken};
 
-use crate::answers::{fill, refused_number, reply_number};
+use crate::answers::{bytes_of, put, refused_number, reply_number};
 use crate::opened::Opened;
 use crate::parts::Parts;
 use std::alloc::Global;
@@ -161,7 +161,7 @@ impl TreeHandle {
         match self.record(alloc, call) {
             Ok(opened) => {
                 let reply = last_reply(&opened.state);
-                fill(out, reply);
+                put(out, bytes_of(reply));
                 let number = reply_number(reply);
                 *self = TreeHandle::of(opened);
                 number

@@ -3,11 +3,11 @@ use Rattle.std.proofs.lemmas.Int.{to_z-of_z}
 use Rattle.std.proofs.lemmas.List.{append-nil}
 use Rattle.tree_paths.specs.Paths.{pathname_of, slashed}
 use Rattle.watchtree_c.specs.Answers.{overlaid, count_number}
-use Rattle.watchtree_c.proofs.Listing.{overlaid-none, put_next, slashed_all, count_same}
+use Rattle.watchtree_c.proofs.Listing.{overlaid_none, put_next, slashed_all, count_same}
 use Rattle.watchtree_c.proofs.peeking.put_pathname.Goals as goal
 
 pub loop-name-init : goal.loop-name-init
-loop-name-init c = record { front = []; whole = refl; len = refl; bytes = sym (overlaid-none c.args.out.now) }
+loop-name-init c = record { front = []; whole = refl; len = refl; bytes = sym (overlaid_none c.args.out.now) }
 
 pub loop-name-preserved-in-Some : goal.loop-name-preserved-in-Some
 loop-name-preserved-in-Some c =
