@@ -1,0 +1,111 @@
+//! A script as it is written.
+
+use crate::digest::Digest;
+use crate::fault::BenchFault;
+use itoa::Buffer;
+use record_codec::Port;
+use std::alloc::{AllocError, Global};
+use std::io;
+use std::io::Read;
+use watchtree_script::run_script;
+
+/// The limit of instances that name none.
+const QUEUE: u32 = 16_384;
+
+/// The text of a script.
+#[derive(Drop)]
+pub(crate) struct Script {
+    text: Vec<u8>,
+}
+
+impl Script {
+    /// An empty script.
+    pub(crate) fn new(alloc: Global) -> Script {
+        Script {
+            text: Vec::new(alloc),
+        }
+    }
+
+    /// How many bytes it has.
+    pub(crate) fn len(&self) -> usize {
+        self.text.len()
+    }
+
+    /// Its bytes.
+    pub(crate) fn as_slice(&self) -> &[u8] {
+        self.text.as_slice()
+    }
+
+    /// Adds text as it is.
+    pub(crate) fn text(&mut self, text: &str) -> Result<(), AllocError> {
+        self.text.extend_from_slice(text.as_bytes())
+    }
+
+    /// Adds bytes as they are.
+    pub(crate) fn bytes(&mut self, bytes: &[u8]) -> Result<(), AllocError> {
+        self.text.extend_from_slice(bytes)
+    }
+
+    /// Takes all of it away.
+    pub(crate) fn clear(&mut self) {
+        self.text.clear();
+    }
+
+    /// Adds a number in decimal.
+    pub(crate) fn number(&mut self, number: u64) -> Result<(), AllocError> {
+        let mut digits = Buffer::new();
+        self.text
+            .extend_from_slice(digits.format(number).as_bytes())
+    }
+
+    /// Adds so many pairs of hexadecimal digits.
+    pub(crate) fn pairs(&mut self, bits: u64, count: u64) -> Result<(), AllocError> {
+        let mut left = bits;
+        for _ in 0..count {
+            self.text.extend_from_slice(pair_of(left))?;
+            left = left.rotate_right(5);
+        }
+        Ok(())
+    }
+
+    /// Runs the script on a new tree, and adds what it prints, and how it ends, to the digest.
+    pub(crate) fn run(&self, alloc: Global, digest: Digest) -> Result<Digest, BenchFault> {
+        let mut input = Port::new(Source {
+            rest: self.text.as_slice(),
+        });
+        let mut output = Port::new(digest);
+        run_script(alloc, &mut input, &mut output, QUEUE)?;
+        let mut digest = Digest::new();
+        digest.add(output.inner().value());
+        Ok(digest)
+    }
+}
+
+/// Two hexadecimal digits.
+fn pair_of(bits: u64) -> &'static [u8] {
+    match bits % 8 {
+        0 => b"00",
+        1 => b"61",
+        2 => b"7f",
+        3 => b"C3",
+        4 => b"a9",
+        5 => b"20",
+        6 => b"0a",
+        _ => b"fE",
+    }
+}
+
+/// A reader of bytes.
+#[derive(Drop)]
+struct Source<'a> {
+    rest: &'a [u8],
+}
+
+impl Read for Source<'_> {
+    fn read(&mut self, buf: &mut [u8]) -> io::Result<usize> {
+        let count = self.rest.len().min(buf.len());
+        buf[..count].copy_from_slice(&self.rest[..count]);
+        self.rest = &self.rest[count..];
+        Ok(count)
+    }
+}
