@@ -199,7 +199,7 @@ impl Project {
         self.script.text("\n")
     }
 
-    /// A file is moved to another place, where nothing may be.
+    /// A file is moved to another path, if nothing is there.
     fn shift(&mut self, file: File) -> Result<(), AllocError> {
         let other = self.any_file();
         if !self.is_there(other) {
