@@ -25,7 +25,23 @@ pub(crate) fn place_of(rows: &[Opened], id: u32, first: usize) -> Result<usize, 
     {
         return Ok(first);
     }
-    find_row(rows, id)
+    find_near(rows, id)
+}
+
+/// Where the instance of a number is, or else where it is put in. The index at which it is if no instance between the
+/// first one and it was closed is tried first.
+fn find_near(rows: &[Opened], id: u32) -> Result<usize, usize>
+    requires { IsStrictlySortedBy nat_cmp (ids_of rows.now) }
+    ensures { IsPlace (ids_of rows.now) id result }
+{
+    let index = match rows.first() {
+        Some(front) => id.saturating_sub(front.id) as usize,
+        None => 0,
+    };
+    match rows.get(index) {
+        Some(near) if near.id == id => Ok(index),
+        _ => find_row(rows, id),
+    }
 }
 
 /// Where the instance of a number is, or else where it is put in. The last one is looked at first, as numbers mostly
