@@ -1,6 +1,6 @@
 //! A bounded queue of events.
 ghost use Rattle.std.specs.Prelude.{◌≡◌, ◌≤◌, ◌+◌, ◌==◌, [], ◌∷◌, ◌++◌, false, true, IfOk, IfErr, nat_lt, length, take};
-ghost use Rattle.std.specs.Prelude.{slice_get, option_copied};
+ghost use Rattle.std.specs.Prelude.{slice_get, option_copied, drop};
 ghost use Rattle.event_queue.specs.Backlogs.{IsLimit, overflow_mark, is_mark, has_mark, is_repeated, offered};
 ghost use Rattle.event_queue.specs.Backlogs.{after_offer, after_take};
 ghost use Rattle.record_codec.specs.Equality.{event_eq};
@@ -173,6 +173,32 @@ impl Queue {
             self.marks -= 1;
         }
         Some(event)
+    }
+
+    /// Reads so many of the oldest records, or all where fewer wait: they are dropped, as [`Queue::take`] of each does.
+    ///
+    /// Where no record is left, the next one is kept where the oldest was, so that a queue that is read whole over and
+    /// over stays in the same part of its buffer.
+    pub fn drop_oldest(&mut self, count: usize)
+        ensures { self.new ≡ record self.old { waiting = drop count self.old.waiting } }
+    {
+        if self.len() <= count {
+            self.records.clear();
+            self.marks = 0;
+        } else if self.marks == 0 {
+            self.records.truncate_front(self.records.len() - count);
+        } else {
+            self.take_each(count);
+        }
+    }
+
+    /// Takes so many records, one by one.
+    fn take_each(&mut self, count: usize)
+        ensures { self.new ≡ record self.old { waiting = drop count self.old.waiting } }
+    {
+        for _ in 0..count {
+            self.take();
+        }
     }
 
     /// How many records wait, an overflow mark counted: at most one more than the limit.

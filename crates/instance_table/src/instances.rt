@@ -227,7 +227,7 @@ impl Instances {
         let Ok(found) = place_of(&self.opened, id, place) else {
             return;
         };
-        drop_oldest(&mut self.opened[found].instance.queue, count);
+        self.opened[found].instance.queue.drop_oldest(count);
     }
 
     /// Moves the oldest records out of an instance's queue, to the end of a vector that has the capacity for them. It
@@ -343,15 +343,6 @@ fn forget(index: &mut Index, watches: &Watches, id: u32)
 {
     for number in watches.numbers() {
         index.remove(*number, id);
-    }
-}
-
-/// Takes the oldest records out of a queue.
-fn drop_oldest(queue: &mut Queue, count: usize)
-    ensures { queue.new ≡ record queue.old { waiting = drop count queue.old.waiting } }
-{
-    for _ in 0..count {
-        queue.take();
     }
 }
 

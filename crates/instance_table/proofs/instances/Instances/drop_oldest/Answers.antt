@@ -16,7 +16,7 @@ invariant_of-self c =
     let row = c.index_mut.result.now in
     let was = there a c.self.invariant c.args.id c.deref.result.now c.deref.ensures.value c.in-Ok.found c.in-Ok.ensures row c.index_mut.ensures.value in
     NotesEveryWatch-kept a c.self.invariant c.args.id c.deref.result.now c.deref.ensures.value c.in-Ok.found c.in-Ok.ensures row
-    c.index_mut.ensures.value (record row.instance { queue = c.drop_oldest.new.queue }) refl
+    c.index_mut.ensures.value (record row.instance { queue = c.drop_oldest.new.self }) refl
     (subst (λ q. AreEvents q.waiting) (sym c.drop_oldest.ensures)
     (events-drop c.args.count row.instance.queue.waiting (events-at a c.self.invariant c.args.id row.instance was)))
 
@@ -24,5 +24,5 @@ pub returns : goal.returns
 returns c =
     let row = c.index_mut.result.now in
     instances_of-changed c.self.inside c.self.invariant c.args.id c.deref.result.now c.deref.ensures.value c.in-Ok.found c.in-Ok.ensures
-    row c.index_mut.ensures.value (record row.instance { queue = c.drop_oldest.new.queue }) c.args.self.now c.self.view_is
+    row c.index_mut.ensures.value (record row.instance { queue = c.drop_oldest.new.self }) c.args.self.now c.self.view_is
     (after_read c.args.count) (ap (λ q. record row.instance { queue = q }) (sym c.drop_oldest.ensures))
