@@ -2,14 +2,20 @@
 
 ghost use Rattle.std.specs.Prelude.{◌≡◌, ◌≤◌, ◌<◌, ◌-◌, ◌++◌, IfOk, IfSome, IsOk, OnSome, length, replicate};
 ghost use Rattle.record_codec.specs.declared.name.TheConstants.{NAME_IN_PLACE};
-ghost use Rattle.record_codec.specs.NameBuf.{IsKept, front_of, kept_bytes};
+ghost use Rattle.std.specs.Cmp.Lexicographic.{slice_cmp};
+ghost use Rattle.std.specs.Ordering.{nat_cmp};
+ghost use Rattle.record_codec.specs.NameBuf.{IsKept, IsKeptName, front_of, kept_bytes};
 
 use crate::name::NAME_IN_PLACE;
 use byteorder::{BigEndian, ByteOrder};
 use std::alloc::{AllocError, Global};
+use std::cmp::Ordering;
 
 /// How many bytes [`NameBuf::front`] looks at.
-pub(crate) const FRONT_LEN: usize = 8;
+const FRONT_LEN: usize = 8;
+
+/// How many bytes stand before the last eight of those that a short name has in the value.
+const BACK_START: usize = NAME_IN_PLACE - 9;
 
 /// The bytes of a name: in the value itself if they fit there, and else in memory.
 ///
@@ -101,6 +107,7 @@ impl NameBuf {
 
     /// The first eight bytes as a number, the first one worth most, as if zero bytes stood behind fewer. Where those of
     /// two names differ, the names are ordered as they are.
+    #[inline(always)]
     pub(crate) fn front(&self) -> u64
         requires { IsKept self.now }
         ensures { result ≡ front_of (kept_bytes self.now) }
@@ -110,6 +117,37 @@ impl NameBuf {
             NameBuf::Short { bytes, .. } => BigEndian::read_u64(bytes),
             NameBuf::Long(bytes) => BigEndian::read_u64(bytes.as_slice()),
         }
+    }
+
+    /// The order of two names whose first eight bytes are the same.
+    ///
+    /// Zero bytes stand behind a short name, and a name has none: so two short ones are ordered as the numbers of the
+    /// bytes behind.
+    #[inline(never)]
+    pub(crate) fn cmp_behind(&self, other: &NameBuf) -> Ordering
+        requires name { IsKeptName self.now }
+        requires other { IsKeptName other.now }
+        requires fronts { front_of (kept_bytes self.now) ≡ front_of (kept_bytes other.now) }
+        ensures { result ≡ slice_cmp nat_cmp (kept_bytes self.now) (kept_bytes other.now) }
+    {
+        let (
+            NameBuf::Short { bytes, .. },
+            NameBuf::Short {
+                bytes: other_bytes,
+                ..
+            },
+        ) = (self, other)
+        else {
+            return self.bytes().cmp(other.bytes());
+        };
+        let middle = BigEndian::read_u128(&bytes[FRONT_LEN..]);
+        let other_middle = BigEndian::read_u128(&other_bytes[FRONT_LEN..]);
+        if middle != other_middle {
+            return middle.cmp(&other_middle);
+        }
+        let back = BigEndian::read_u64(&bytes[BACK_START..]);
+        let other_back = BigEndian::read_u64(&other_bytes[BACK_START..]);
+        back.cmp(&other_back)
     }
 
     /// The same bytes once more. At most [`NAME_IN_PLACE`] take no memory.
