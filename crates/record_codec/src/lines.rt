@@ -23,6 +23,9 @@ const NUMBERS_LEN: usize = 11 + 1 + 8 + 1 + 10;
 /// The most bytes of a name that are printed one by one, which takes fewer instructions than a test of all and a copy.
 const SHORT_NAME_LEN: usize = 8;
 
+/// How many bytes of a name are tested at a time.
+const CHUNK_LEN: usize = 8;
+
 /// Adds the printed name at the end: its bytes 0x21 to 0x7e but `%` as they are, each other one as `%` and two
 /// upper-case hexadecimal digits.
 ///
@@ -132,11 +135,38 @@ fn add_name(name: &[u8], out: &mut Vec<u8>)
     }
 }
 
-/// Whether the bytes are printed as they are.
+/// Whether the bytes are printed as they are. Eight of them are tested at a time.
 fn are_plain(name: &[u8]) -> bool
     ensures { result ≡ list_all is_plain name.now }
 {
-    name.iter().all(|b| is_plain(*b))
+    let mut rest = name;
+    while let Some((chunk, more)) = rest.split_first_chunk::<CHUNK_LEN>() {
+        if !is_plain_chunk(chunk) {
+            return false;
+        }
+        rest = more;
+    }
+    is_plain_rest(rest)
+}
+
+/// Whether eight bytes are printed as they are.
+#[inline(always)]
+fn is_plain_chunk(chunk: &[u8; CHUNK_LEN]) -> bool
+    ensures { result ≡ list_all is_plain chunk.now }
+{
+    let mut is_all = true;
+    for byte in chunk {
+        is_all &= is_plain(*byte);
+    }
+    is_all
+}
+
+/// Whether the bytes behind the last eight are printed as they are.
+#[inline(always)]
+fn is_plain_rest(rest: &[u8]) -> bool
+    ensures { result ≡ list_all is_plain rest.now }
+{
+    rest.iter().all(|b| is_plain(*b))
 }
 
 fn add_byte(byte: u8, out: &mut Vec<u8>)
