@@ -106,7 +106,7 @@ or_false false = refl
 abbrev pub behind_front : List ℕ → ℕ → List ℕ
 behind_front w n = take (length w - (n + 1)) (drop (n + 1) w)
 
-behind_is : (w : List ℕ) (n : ℕ) → drop (n + 1) w ≡ behind_front w n
+pub behind_is : (w : List ℕ) (n : ℕ) → drop (n + 1) w ≡ behind_front w n
 behind_is w n = sym (take_all (length w - (n + 1)) (drop (n + 1) w) (omega (arith, length-drop (n + 1) w)))
 
 pub record IsCut (w : List ℕ) (n : ℕ) : Type 0 where

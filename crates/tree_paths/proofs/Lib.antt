@@ -4,3 +4,4 @@ mod PathLemmas
 mod PathnameLemmas
 mod PieceLemmas
 mod SlashedLemmas
+mod StopLemmas

@@ -1,9 +1,10 @@
 -- Where a path keeps its names. No public clause cites this module.
-use Rattle.std.specs.Prelude.{◌≡◌, ℕ, ◌<◌, ◌≤◌, ◌-◌, ◌==◌, Bool, true, not, nat_le, List, ◌∷◌, length, take, drop}
+use Rattle.std.specs.Prelude.{◌≡◌, ℕ, ◌<◌, ◌≤◌, ◌-◌, ◌==◌, Bool, true, not, nat_le, List, ◌∷◌, [], ◌++◌, ◌+◌, map, length, take, drop}
 use Rattle.std.specs.Prelude.{slice_index, IsTrue}
 use Rattle.std.specs.List.{list_all}
 use Rattle.record_codec.specs.declared.name.TheConstants.{NAME_IN_PLACE}
-use Rattle.record_codec.specs.Names.{is_name}
+use Rattle.std.specs.Simd.Lanes.{mask_l}
+use Rattle.record_codec.specs.Names.{is_name, is_name_byte}
 use Rattle.tree_paths.specs.declared.path_text.PathText.{PathText}
 use Rattle.tree_paths.specs.declared.path_text.PathText.TheVariants.{Short, Text, Names}
 use Rattle.tree_paths.specs.declared.path_text.TheConstants.{SHORT_MAX}
@@ -49,13 +50,28 @@ IsKept (Short len text) = (len ≤ SHORT_MAX) × IsSlashed (take len text)
 IsKept (Text text) = IsSlashed text.items
 IsKept (Names names) = Unit {0}
 
+-- a slash or a zero byte: no name goes on there
+abbrev pub is_stop : ℕ → Bool
+is_stop b = not (is_name_byte b)
+
+-- bit k says whether byte k is a stop
+abbrev pub stops_in : List ℕ → ℕ
+stops_in bytes = mask_l (map is_stop bytes)
+
+-- these are stops of a text and of a slash behind it, for so many bytes of them
+pub record IsMarked (text : List ℕ) (stops : ℕ) : Type 0 where
+  pub window : ℕ
+  pub few : window ≤ 64
+  pub within : window ≤ length text + 1
+  pub is : stops ≡ stops_in (take window (text ++ slash ∷ []))
+
 abbrev pub left_names : Left → List (List ℕ)
-left_names (InText text) = names_of text.now
+left_names (InText text stops) = names_of text.now
 left_names (InList names) = names.now
 
 -- what every PathNames keeps
 abbrev pub IsLeft : Left → Type 0
-IsLeft (InText text) = IsSlashed text.now
+IsLeft (InText text stops) = IsSlashed text.now × IsMarked (drop 1 text.now) stops
 IsLeft (InList names) = Unit {0}
 
 abbrev pub found_name : Found → List ℕ

@@ -1,18 +1,38 @@
 //! Names that are left to read.
 
-ghost use Rattle.std.specs.Prelude.{◌≡◌, ◌∷◌, [], ◌<◌, length, MatchOption, IsTrue, ◌↔◌};
-ghost use Rattle.tree_paths.specs.PathText.{left_names, IsLeft, IsSlashed, IsSplit};
+ghost use Rattle.std.specs.Prelude.{◌≡◌, ◌∷◌, [], ◌<◌, length, drop, MatchOption, IsTrue, ◌↔◌};
+ghost use Rattle.tree_paths.specs.PathText.{left_names, IsLeft, IsSlashed, IsSplit, IsMarked};
+ghost use Rattle.tree_paths.specs.Paths.{names_of};
 
-use crate::parse::front_len;
 use crate::path_name::{NamePlace, PathName};
+use crate::stops::{next_stop, stops_of};
 use record_codec::Name;
 use std::marker::Model;
 
 /// Names that are left to read: a text with a slash before each, or a list.
 #[derive(Clone, Copy)]
 pub(crate) enum Left<'a> {
-    InText(&'a [u8]),
+    /// Beside the text, the stops behind its first byte.
+    InText { text: &'a [u8], stops: u64 },
     InList(&'a [Name]),
+}
+
+impl<'a> Left<'a> {
+    /// The names of a text.
+    #[inline(always)]
+    pub(crate) fn in_text(text: &'a [u8]) -> Left<'a>
+        requires { IsSlashed text.now }
+        ensures names { left_names result ≡ names_of text.entry.now }
+        ensures sound { IsLeft result }
+    {
+        if text.is_empty() {
+            return Left::InText { text, stops: 0 };
+        }
+        Left::InText {
+            text,
+            stops: stops_of(&text[1..]),
+        }
+    }
 }
 
 /// The names of a path that are left to read, the first of them nearest to the root.
@@ -47,12 +67,15 @@ impl<'a> PathNames<'a> {
         ensures { MatchOption result ((self.old ≡ []) × (self.new ≡ [])) (λ name. self.old ≡ name ∷ self.new) }
     {
         match self.left {
-            Left::InText(text) => {
+            Left::InText { text, stops } => {
                 if text.is_empty() {
                     return None;
                 }
-                let (name, behind) = split_first(text);
-                self.left = Left::InText(behind);
+                let (name, behind, stops) = split_first(text, stops);
+                self.left = Left::InText {
+                    text: behind,
+                    stops,
+                };
                 Some(NamePlace::in_text(name))
             }
             Left::InList(names) => {
@@ -76,20 +99,22 @@ impl<'a> PathNames<'a> {
         ensures { IsTrue result ↔ (self.now ≡ []) }
     {
         match self.left {
-            Left::InText(text) => text.is_empty(),
+            Left::InText { text, stops: _ } => text.is_empty(),
             Left::InList(names) => names.is_empty(),
         }
     }
 }
 
-/// The first name of a text, and what stands behind it.
+/// The first name of a text, what stands behind it, and the stops there.
 #[inline(always)]
-fn split_first(text: &[u8]) -> (&[u8], &[u8])
+fn split_first(text: &[u8], stops: u64) -> (&[u8], &[u8], u64)
     requires slashed { IsSlashed text.now }
     requires some { 0 < length text.now }
-    ensures { IsSplit text.now result.0.now result.1.now }
+    requires marked { IsMarked (drop 1 text.now) stops }
+    ensures split { IsSplit text.now result.0.now result.1.now }
+    ensures marked { IsMarked (drop 1 result.1.now) result.2 }
 {
     let rest = &text[1..];
-    let len = front_len(rest);
-    (&rest[..len], &rest[len..])
+    let (len, behind) = next_stop(rest, stops);
+    (&rest[..len], &rest[len..], behind)
 }

@@ -10,6 +10,7 @@ mod path;
 mod path_name;
 mod path_text;
 mod refusal;
+mod stops;
 
 pub use laws::{is_below_tells_proper_prefixes, parsed_names_are_names, pathnames_are_parsed};
 pub use left::PathNames;

@@ -10,6 +10,7 @@ ghost use Rattle.tree_paths.specs.Pieces.{is_nonempty};
 ghost use Rattle.tree_paths.specs.Paths.{parsed, names_of, is_null, is_dots, is_long, slash, slashed};
 
 use crate::Refusal;
+use crate::stops::{next_stop, stops_of};
 use record_codec::{NAME_IN_PLACE, NAME_MAX, Name};
 use std::alloc::{AllocError, Global};
 
@@ -60,12 +61,13 @@ fn shape_between(text: &[u8]) -> Result<Shape, Refusal>
         else Ok (shape_of (names_of text.now))) }
 {
     let mut rest = text;
+    let mut stops = stops_of(text);
     let mut count = 0;
     let mut bytes = 0;
     let mut has_long = false;
     let mut fits = true;
     loop {
-        let len = front_len(rest);
+        let (len, behind) = next_stop(rest, stops);
         let front = &rest[..len];
         if has_dots(front) {
             return Err(Refusal::Einval);
@@ -85,6 +87,7 @@ fn shape_between(text: &[u8]) -> Result<Shape, Refusal>
             return Err(Refusal::Einval);
         }
         rest = &rest[len + 1..];
+        stops = behind;
     }
 }
 
@@ -110,7 +113,11 @@ fn has_dots(name: &[u8]) -> bool
     if 2 < name.len() {
         return false;
     }
-    name == b".".as_slice() || name == b"..".as_slice()
+    match name {
+        [first] => *first == b'.',
+        [first, second] => *first == b'.' && *second == b'.',
+        _ => false,
+    }
 }
 
 /// The names of a path's text, in memory for `count` of them.

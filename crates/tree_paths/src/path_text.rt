@@ -127,8 +127,8 @@ impl PathText {
         ensures sound { IsLeft result }
     {
         match self {
-            PathText::Short { len, text } => Left::InText(&text[..*len as usize]),
-            PathText::Text(text) => Left::InText(text),
+            PathText::Short { len, text } => Left::in_text(&text[..*len as usize]),
+            PathText::Text(text) => Left::in_text(text),
             PathText::Names(names) => Left::InList(names),
         }
     }

@@ -3,9 +3,9 @@ use Rattle.std.proofs.lemmas.List.{length-drop}
 use Rattle.tree_paths.proofs.SlashedLemmas.{first-split}
 use Rattle.tree_paths.proofs.left.split_first.Goals as goal
 
-pub returns : goal.returns
-returns c =
+pub returns-clause-split : goal.returns-clause-split
+returns-clause-split c =
     let text = c.args.text.now in
-    let ens = c.front_len-len.ensures in
-    first-split text _ c.front_len-len.result c.requires.slashed c.requires.some
+    let ens = c.next_stop-len.ensures in
+    first-split text _ c.next_stop-len.result.0 c.requires.slashed c.requires.some
     (take_all (length text - 1) (drop 1 text) (omega (arith, length-drop 1 text))) ens.front ens.end

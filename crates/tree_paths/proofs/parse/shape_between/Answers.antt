@@ -1,8 +1,8 @@
-use Rattle.std.proofs.Common.{◌≡◌, ◌<◌, ◌+◌, true, false, ◌&&◌, leb, Ok, ap, length, refl, sym, ◌∙◌, arith}
+use Rattle.std.proofs.Common.{◌≡◌, ◌<◌, ◌+◌, true, false, ◌&&◌, leb, List, ℕ, Ok, ap, subst, length, refl, sym, ◌∙◌, arith}
 use Rattle.std.specs.List.{list_any, list_all}
-use Rattle.tree_paths.specs.PathText.{is_in_place}
+use Rattle.tree_paths.specs.PathText.{is_in_place, IsMarked}
 use Rattle.tree_paths.specs.Paths.{names_of, is_null, is_dots, is_long, slashed}
-use Rattle.tree_paths.proofs.FrontLemmas.{IsCut, IsWhole, null_step, dots_step, long_step, count_step, len_step}
+use Rattle.tree_paths.proofs.FrontLemmas.{IsCut, behind_is, IsWhole, null_step, dots_step, long_step, count_step, len_step}
 use Rattle.tree_paths.proofs.FrontLemmas.{fits_step, one_most, shape_by, null_end, dots_end, long_end, count_end}
 use Rattle.tree_paths.proofs.FrontLemmas.{len_end, fits_end}
 use Rattle.tree_paths.proofs.parse.shape_between.Goals as goal
@@ -10,10 +10,10 @@ use Rattle.tree_paths.proofs.parse.shape_between.Goals as goal
 pub returns-then-has_long : goal.returns-then-has_long
 returns-then-has_long c =
     let w = c.loop-rest.rest.now in
-    let n = c.front_len-len.result in
+    let n = c.next_stop-len.result.0 in
     let inv = c.loop-rest.invariant in
-    let is : IsWhole w n = record { all = c.if-len-rest.true; front = c.front_len-len.ensures.front } in
-    let null : list_any is_null c.args.text.now ≡ false = inv.null ∙ null_end w n c.if-len-rest.true c.front_len-len.ensures.front in
+    let is : IsWhole w n = record { all = c.if-len-rest.true; front = c.next_stop-len.ensures.front } in
+    let null : list_any is_null c.args.text.now ≡ false = inv.null ∙ null_end w n c.if-len-rest.true c.next_stop-len.ensures.front in
     let dots : list_any is_dots (names_of c.args.text.now) ≡ false = inv.dots ∙ dots_end w n is (sym c.has_dots.ensures ∙ c.if-has_dots.false) in
     let long : list_any is_long (names_of c.args.text.now) ≡ true = inv.long ∙ long_end w n is c.loop-rest.has_long ∙ c.if-has_long.true in
     rw (null, dots, long) refl
@@ -21,10 +21,10 @@ returns-then-has_long c =
 pub returns-then-len-rest : goal.returns-then-len-rest
 returns-then-len-rest c =
     let w = c.loop-rest.rest.now in
-    let n = c.front_len-len.result in
+    let n = c.next_stop-len.result.0 in
     let inv = c.loop-rest.invariant in
-    let is : IsWhole w n = record { all = c.if-len-rest.true; front = c.front_len-len.ensures.front } in
-    let null : list_any is_null c.args.text.now ≡ false = inv.null ∙ null_end w n c.if-len-rest.true c.front_len-len.ensures.front in
+    let is : IsWhole w n = record { all = c.if-len-rest.true; front = c.next_stop-len.ensures.front } in
+    let null : list_any is_null c.args.text.now ≡ false = inv.null ∙ null_end w n c.if-len-rest.true c.next_stop-len.ensures.front in
     let dots : list_any is_dots (names_of c.args.text.now) ≡ false = inv.dots ∙ dots_end w n is (sym c.has_dots.ensures ∙ c.if-has_dots.false) in
     let long : list_any is_long (names_of c.args.text.now) ≡ false = inv.long ∙ long_end w n is c.loop-rest.has_long ∙ c.if-has_long.false in
     let count : length (names_of c.args.text.now) ≡ c.loop-rest.count + c.from-count.result =
@@ -37,10 +37,10 @@ returns-then-len-rest c =
 pub loop-rest-preserved : goal.loop-rest-preserved
 loop-rest-preserved c =
     let w = c.loop-rest.rest.now in
-    let n = c.front_len-len.result in
+    let n = c.next_stop-len.result.0 in
     let inv = c.loop-rest.invariant in
-    let inside : n < length w = omega (arith, c.front_len-len.ensures.within, c.if-len-rest.false) in
-    let is : IsCut w n = record { inside = inside; front = c.front_len-len.ensures.front; slash = c.if-rest-len-ne-SEPARATOR.false } in
+    let inside : n < length w = omega (arith, c.next_stop-len.ensures.within, c.if-len-rest.false) in
+    let is : IsCut w n = record { inside = inside; front = c.next_stop-len.ensures.front; slash = c.if-rest-len-ne-SEPARATOR.false } in
     record {
       null = inv.null ∙ null_step w n is;
       dots = inv.dots ∙ dots_step w n is (sym c.has_dots.ensures ∙ c.if-has_dots.false);
@@ -49,4 +49,5 @@ loop-rest-preserved c =
       len = omega (arith, inv.len, len_step w n is, c.from-count.ensures);
       fits = inv.fits ∙ fits_step w n is c.loop-rest.fits;
       room = omega (arith, inv.room, c.from-count.ensures, one_most n, inside);
+      marked = subst (λ (t : List ℕ). IsMarked t c.next_stop-len.result.1) (behind_is w n) c.next_stop-len.ensures.behind;
     }

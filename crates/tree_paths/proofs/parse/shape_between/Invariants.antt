@@ -1,6 +1,6 @@
 use Rattle.std.proofs.Common.{◌≡◌, ◌≤◌, ◌+◌, ◌&&◌, ◌||◌, length}
 use Rattle.std.specs.List.{list_any, list_all}
-use Rattle.tree_paths.specs.PathText.{is_in_place}
+use Rattle.tree_paths.specs.PathText.{is_in_place, IsMarked}
 use Rattle.tree_paths.specs.Paths.{names_of, is_null, is_dots, is_long, slashed}
 use Rattle.tree_paths.proofs.parse.shape_between.Given as goal
 
@@ -12,6 +12,7 @@ invariant-loop-rest l = record {
   count : length (names_of l.text) ≡ l.count + length (names_of l.rest);
   len : length (slashed (names_of l.text)) ≡ (l.count + l.bytes) + length (slashed (names_of l.rest));
   fits : list_all is_in_place (names_of l.text) ≡ (l.fits && list_all is_in_place (names_of l.rest));
+  marked : IsMarked l.rest l.stops;
   room : (l.count + l.bytes) + length l.rest ≤ length l.text;
 }
 

@@ -1,0 +1,96 @@
+//! Where the names of a text end, as bits of a number.
+
+ghost use Rattle.std.specs.Prelude.{◌≡◌, ◌+◌, ◌<◌, ◌≤◌, length, take, drop, slice_index, true, false};
+ghost use Rattle.std.specs.List.{list_all};
+ghost use Rattle.record_codec.specs.Names.{is_name_byte};
+ghost use Rattle.tree_paths.specs.PathText.{stops_in, IsMarked};
+
+use crate::parse::{SEPARATOR, front_len};
+use std::simd::prelude::*;
+
+/// How many bits a number of stops has.
+const BITS: usize = 64;
+
+/// The stops of `N` bytes from an index on.
+#[inline(always)]
+fn block_stops<const N: usize>(text: &[u8], at: usize) -> u64
+    requires lanes { N ≤ 16 }
+    requires within { at + N ≤ length text.now }
+    ensures { result ≡ stops_in (take N (drop at text.now)) }
+{
+    let bytes = Simd::<u8, N>::from_slice(&text[at..]);
+    (bytes.simd_eq(Simd::splat(SEPARATOR)) | bytes.simd_eq(Simd::splat(0))).to_bitmask()
+}
+
+/// The stops of a text of at least `N` bytes. The last block overlaps the one before it.
+#[inline(always)]
+fn stops_by<const N: usize>(text: &[u8]) -> u64
+    requires some { 0 < N }
+    requires lanes { N ≤ 16 }
+    requires long { N ≤ length text.now }
+    ensures { IsMarked text.now result }
+{
+    let len = text.len();
+    let mut stops = block_stops::<N>(text, 0);
+    let mut seen = N;
+    while seen + N + N <= BITS && N <= len - seen {
+        stops += block_stops::<N>(text, seen) << seen;
+        seen += N;
+    }
+    if N <= len - seen {
+        return stops;
+    }
+    let last = block_stops::<N>(text, len - N) >> (N - (len - seen));
+    stops + (last << seen) + (1 << len)
+}
+
+/// The stops of a text.
+#[inline(always)]
+pub(crate) fn stops_of(text: &[u8]) -> u64
+    ensures { IsMarked text.now result }
+{
+    if 16 <= text.len() {
+        return stops_by::<16>(text);
+    }
+    if 8 <= text.len() {
+        return stops_by::<8>(text);
+    }
+    if 4 <= text.len() {
+        return stops_by::<4>(text);
+    }
+    if text.is_empty() {
+        return 1;
+    }
+    stops_by::<1>(text)
+}
+
+/// How many bytes stand before the first stop, and the stops behind that one.
+#[inline(always)]
+pub(crate) fn next_stop(text: &[u8], stops: u64) -> (usize, u64)
+    requires { IsMarked text.now stops }
+    ensures within { result.0 ≤ length text.now }
+    ensures front { list_all is_name_byte (take result.0 text.now) ≡ true }
+    ensures end { result.0 < length text.now → is_name_byte (slice_index text.now result.0) ≡ false }
+    ensures behind { IsMarked (drop (result.0 + 1) text.now) result.1 }
+{
+    if stops == 0 {
+        return far_stop(text);
+    }
+    let len = stops.trailing_zeros() as usize;
+    (len, (stops >> len) >> 1)
+}
+
+/// The same where no stop is known.
+#[cold]
+fn far_stop(text: &[u8]) -> (usize, u64)
+    ensures within { result.0 ≤ length text.now }
+    ensures front { list_all is_name_byte (take result.0 text.now) ≡ true }
+    ensures end { result.0 < length text.now → is_name_byte (slice_index text.now result.0) ≡ false }
+    ensures behind { IsMarked (drop (result.0 + 1) text.now) result.1 }
+{
+    let len = front_len(text);
+    if len == text.len() {
+        return (len, 0);
+    }
+    (len, stops_of(&text[len + 1..]))
+}
