@@ -1,5 +1,6 @@
 mod BelowLemmas
 mod FrontLemmas
+mod LastLemmas
 mod PathLemmas
 mod PathnameLemmas
 mod PieceLemmas

@@ -91,6 +91,13 @@ IsPlace (place.InList name) = Unit {0}
 abbrev pub is_other : ℕ → Bool
 is_other b = not (b == slash)
 
+abbrev pub is_slash : ℕ → Bool
+is_slash b = b == slash
+
+-- bit k says whether byte k is a slash
+abbrev pub slashes_in : List ℕ → ℕ
+slashes_in bytes = mask_l (map is_slash bytes)
+
 -- the last slash of a text stands before this index
 pub record IsLastStart (text : List ℕ) (start : ℕ) : Type 0 where
   pub some : 0 < start

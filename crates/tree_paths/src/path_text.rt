@@ -1,10 +1,11 @@
 //! Where a path keeps its names.
 
-ghost use Rattle.std.specs.Prelude.{◌≡◌, ◌++◌, ◌∷◌, [], IfOk, IfSome, IsTrue, MatchOption, ◌≤◌, ◌<◌, ◌-◌, length, take};
+ghost use Rattle.std.specs.Prelude.{◌≡◌, ◌++◌, ◌∷◌, [], IfOk, IfSome, IsTrue, MatchOption, ◌≤◌, ◌<◌, ◌-◌, length, take, drop};
 ghost use Rattle.std.specs.Prelude.{Ok};
 ghost use Rattle.record_codec.specs.declared.name.TheConstants.{NAME_IN_PLACE};
 ghost use Rattle.record_codec.specs.Names.{is_name};
-ghost use Rattle.tree_paths.specs.PathText.{kept_names, left_names, shape_of, IsKept, IsLeft, IsSlashed, IsLastStart};
+ghost use Rattle.tree_paths.specs.PathText.{kept_names, left_names, shape_of, IsKept, slashes_in, IsLeft, IsSlashed, IsLastStart};
+ghost use Rattle.tree_paths.specs.declared.path_text.TheConstants.{BLOCK};
 ghost use Rattle.tree_paths.specs.Paths.{names_of, parsed, slashed};
 
 use crate::left::{Left, PathNames};
@@ -12,9 +13,13 @@ use crate::parse::{SEPARATOR, Shape, names_in, put_name, squeeze};
 use crate::path_name::NamePlace;
 use record_codec::{NAME_IN_PLACE, Name};
 use std::alloc::{AllocError, Global};
+use std::simd::prelude::*;
 
 /// The most bytes of a text that the value itself has a buffer for.
 pub(crate) const SHORT_MAX: usize = 30;
+
+/// How many bytes at the end of a text are searched at once.
+const BLOCK: usize = 16;
 
 /// The names of a path. A text has a slash before each name, so that the root's is empty, and no name that needs an
 /// allocation. The value takes 32 bytes.
@@ -221,16 +226,35 @@ fn last_in(text: &[u8]) -> Option<NamePlace<'_>>
 }
 
 /// Where the last name of a text begins.
+#[inline(always)]
 fn last_start(text: &[u8]) -> usize
     requires slashed { IsSlashed text.now }
     requires some { 0 < length text.now }
     ensures { IsLastStart text.now result }
 {
     let mut start = text.len();
+    if BLOCK < start {
+        start -= BLOCK;
+        let slashes = last_slashes(text);
+        if slashes != 0 {
+            return start + slashes.ilog2() as usize + 1;
+        }
+    }
     while text[start - 1] != SEPARATOR {
         start -= 1;
     }
     start
+}
+
+/// Bit k says whether byte k of a text's last block is a slash.
+#[inline(always)]
+fn last_slashes(text: &[u8]) -> u64
+    requires { BLOCK ≤ length text.now }
+    ensures { result ≡ slashes_in (drop (length text.now - BLOCK) text.now) }
+{
+    u8x16::from_slice(&text[text.len() - BLOCK..])
+        .simd_eq(u8x16::splat(SEPARATOR))
+        .to_bitmask()
 }
 
 /// Copies of the names, and of one more.
