@@ -147,13 +147,15 @@ pub(crate) fn squeeze(text: &[u8], out: &mut [u8])
 {
     let mut at = 0;
     let mut rest = &text[1..];
+    let mut stops = stops_of(rest);
     loop {
-        let len = front_len(rest);
+        let (len, behind) = next_stop(rest, stops);
         at = put_front(out, at, &rest[..len]);
         if len == rest.len() {
             return;
         }
         rest = &rest[len + 1..];
+        stops = behind;
     }
 }
 
