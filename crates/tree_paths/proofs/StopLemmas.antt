@@ -7,7 +7,8 @@ use Rattle.std.proofs.Math.Seq.{take-add}
 use Rattle.std.specs.List.{list_all, prefix_len}
 use Rattle.std.specs.Simd.Lanes.{mask_l}
 use Rattle.std.proofs.lemmas.Bool.{agree_below, agree_below_at, not-true, not-false, cases_lt}
-use Rattle.std.proofs.lemmas.List.{length-map, length-drop, length-take-le, map-append, drop-map, drop-take, drop-drop, drop-append-le, take-append-drop, get_or-take, get_or_append_left}
+use Rattle.std.proofs.lemmas.List.{length-map, get_or-drop, take-append-le, length-drop, length-take-le, map-append, drop-map, drop-take, drop-drop, drop-append-le, take-append-drop, get_or-take, get_or_append_left}
+use Rattle.std.proofs.lemmas.List.Folds.{list_all-append}
 use Rattle.std.proofs.lemmas.List.Sums.{list_all-from_AllPass}
 use Rattle.std.proofs.lemmas.List.Elements.{All-from_get_or}
 use Rattle.std.proofs.lemmas.Simd.{map-map, mask_l-mod, mask_l-lt, chunk-fits, length-chunk, trailing_mask_l}
@@ -202,3 +203,39 @@ module _ (text : List ℕ) (stops at : ℕ) (m : IsMarked text stops) (some : 0 
               is = halved ∙ ap stops_in (cut ∙ ap (λ n. take n (drop (at + 1) ended)) none);
             }
       ]
+
+-- ---- a front, by blocks
+
+pub front-more : (text : List ℕ) (i k : ℕ) → list_all is_name_byte (take i text) ≡ true → list_all is_name_byte (take k (drop i text)) ≡ true
+    → list_all is_name_byte (take (i + k) text) ≡ true
+front-more text i k f g =
+    ap (list_all is_name_byte) (take-add i k text) ∙ list_all-append is_name_byte (take i text) (take k (drop i text)) ∙ rw (f, g) refl
+
+pub no-stops : (xs : List ℕ) → stops_in xs ≡ 0 → list_all is_name_byte xs ≡ true
+no-stops [] none = refl
+no-stops (x ∷ xs) none = by (is_stop x) refl none (no-stops xs)
+  where
+    by : (b : Bool) → is_stop x ≡ b → cond b 1 0 + 2 * stops_in xs ≡ 0 → (stops_in xs ≡ 0 → list_all is_name_byte xs ≡ true)
+        → list_all is_name_byte (x ∷ xs) ≡ true
+    by true e f more = absurd (omega (arith, f))
+    by false e f more = rw (no_stop x e) (more (omega (arith, f)))
+
+marked-block : (rest : List ℕ) (stops : ℕ) → 16 ≤ length rest → stops ≡ stops_in (take 16 rest) → IsMarked rest stops
+marked-block rest stops long e = record {
+  window = 16;
+  few = omega arith;
+  within = omega (arith, long);
+  is = e ∙ ap stops_in (sym (take-append-le 16 rest (47 ∷ []) long));
+}
+
+pub block-front : (text : List ℕ) (i stops at : ℕ) → i + 16 ≤ length text → list_all is_name_byte (take i text) ≡ true
+    → stops ≡ stops_in (take 16 (drop i text)) → 0 < stops → at ≡ count_trailing_zeros 64 stops → IsFirstStop text (i + at)
+block-front text i stops at within front e some is =
+    let m = marked-block (drop i text) stops (omega (arith, within, length-drop i text)) e in
+    let f = first-stop (drop i text) stops at m some is in
+    let lt = early (drop i text) stops at m some is in
+    record {
+      within = omega (arith, within, f.within, length-drop i text);
+      front = front-more text i at front f.front;
+      end = λ lt. ap is_name_byte (sym (get_or-drop i text at 0)) ∙ f.end (omega (arith, lt, length-drop i text));
+    }

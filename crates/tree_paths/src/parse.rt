@@ -10,7 +10,7 @@ ghost use Rattle.tree_paths.specs.Pieces.{is_nonempty};
 ghost use Rattle.tree_paths.specs.Paths.{parsed, names_of, is_null, is_dots, is_long, slash, slashed};
 
 use crate::Refusal;
-use crate::stops::{next_stop, stops_of};
+use crate::stops::{BLOCK, block_stops, next_stop, stops_of};
 use record_codec::{NAME_IN_PLACE, NAME_MAX, Name};
 use std::alloc::{AllocError, Global};
 
@@ -97,13 +97,18 @@ pub(crate) fn front_len(text: &[u8]) -> usize
     ensures front { list_all is_name_byte (take result text.now) ≡ true }
     ensures end { result < length text.now → is_name_byte (slice_index text.now result) ≡ false }
 {
-    for (i, b) in text.iter().enumerate() {
-        // The first test alone passes over most bytes of a name.
-        if *b <= SEPARATOR && (*b == SEPARATOR || *b == 0) {
-            return i;
+    let mut len = 0;
+    while BLOCK <= text.len() - len {
+        let stops = block_stops::<BLOCK>(text, len);
+        if stops != 0 {
+            return len + stops.trailing_zeros() as usize;
         }
+        len += BLOCK;
     }
-    text.len()
+    while len < text.len() && text[len] != SEPARATOR && text[len] != 0 {
+        len += 1;
+    }
+    len
 }
 
 /// Whether a name is `.` or `..`.

@@ -5,21 +5,19 @@ ghost use Rattle.std.specs.Prelude.{Ok};
 ghost use Rattle.record_codec.specs.declared.name.TheConstants.{NAME_IN_PLACE};
 ghost use Rattle.record_codec.specs.Names.{is_name};
 ghost use Rattle.tree_paths.specs.PathText.{kept_names, left_names, shape_of, IsKept, slashes_in, IsLeft, IsSlashed, IsLastStart};
-ghost use Rattle.tree_paths.specs.declared.path_text.TheConstants.{BLOCK};
+ghost use Rattle.tree_paths.specs.declared.stops.TheConstants.{BLOCK};
 ghost use Rattle.tree_paths.specs.Paths.{names_of, parsed, slashed};
 
 use crate::left::{Left, PathNames};
 use crate::parse::{SEPARATOR, Shape, names_in, put_name, squeeze};
 use crate::path_name::NamePlace;
+use crate::stops::BLOCK;
 use record_codec::{NAME_IN_PLACE, Name};
 use std::alloc::{AllocError, Global};
 use std::simd::prelude::*;
 
 /// The most bytes of a text that the value itself has a buffer for.
 pub(crate) const SHORT_MAX: usize = 30;
-
-/// How many bytes at the end of a text are searched at once.
-const BLOCK: usize = 16;
 
 /// The names of a path. A text has a slash before each name, so that the root's is empty, and no name that needs an
 /// allocation. The value takes 32 bytes.

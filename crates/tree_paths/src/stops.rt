@@ -8,12 +8,15 @@ ghost use Rattle.tree_paths.specs.PathText.{stops_in, IsMarked};
 use crate::parse::{SEPARATOR, front_len};
 use std::simd::prelude::*;
 
+/// How many bytes are compared at once in a text that has as many.
+pub(crate) const BLOCK: usize = 16;
+
 /// How many bits a number of stops has.
 const BITS: usize = 64;
 
 /// The stops of `N` bytes from an index on.
 #[inline(always)]
-fn block_stops<const N: usize>(text: &[u8], at: usize) -> u64
+pub(crate) fn block_stops<const N: usize>(text: &[u8], at: usize) -> u64
     requires lanes { N ≤ 16 }
     requires within { at + N ≤ length text.now }
     ensures { result ≡ stops_in (take N (drop at text.now)) }
@@ -49,8 +52,8 @@ fn stops_by<const N: usize>(text: &[u8]) -> u64
 pub(crate) fn stops_of(text: &[u8]) -> u64
     ensures { IsMarked text.now result }
 {
-    if 16 <= text.len() {
-        return stops_by::<16>(text);
+    if BLOCK <= text.len() {
+        return stops_by::<BLOCK>(text);
     }
     if 8 <= text.len() {
         return stops_by::<8>(text);
