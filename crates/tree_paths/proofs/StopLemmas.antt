@@ -7,7 +7,8 @@ use Rattle.std.proofs.Math.Seq.{take-add}
 use Rattle.std.specs.List.{list_all, prefix_len}
 use Rattle.std.specs.Simd.Lanes.{mask_l}
 use Rattle.std.proofs.lemmas.Bool.{agree_below, agree_below_at, not-true, not-false, cases_lt}
-use Rattle.std.proofs.lemmas.List.{length-map, get_or-drop, take-append-le, length-drop, length-take-le, map-append, drop-map, drop-take, drop-drop, drop-append-le, take-append-drop, get_or-take, get_or_append_left}
+use Rattle.std.proofs.lemmas.List.{length-map, get_or-drop, take-append-le, length-drop, length-take-le, map-append}
+use Rattle.std.proofs.lemmas.List.{drop-map, drop-take, drop-drop, drop-append-le, take-append-drop, get_or-take, get_or_append_left}
 use Rattle.std.proofs.lemmas.List.Folds.{list_all-append}
 use Rattle.std.proofs.lemmas.List.Sums.{list_all-from_AllPass}
 use Rattle.std.proofs.lemmas.List.Elements.{All-from_get_or}
@@ -131,7 +132,8 @@ pub record IsFirstStop (text : List ℕ) (at : ℕ) : Type 0 where
   pub front : list_all is_name_byte (take at text) ≡ true
   pub end : at < length text → is_name_byte (get_or text at 0) ≡ false
 
-front-by : (text : List ℕ) (at : ℕ) → at ≤ length text → ((k : ℕ) → k < at → is_name_byte (get_or text k 0) ≡ true) → list_all is_name_byte (take at text) ≡ true
+front-by : (text : List ℕ) (at : ℕ) → at ≤ length text → ((k : ℕ) → k < at → is_name_byte (get_or text k 0) ≡ true)
+    → list_all is_name_byte (take at text) ≡ true
 front-by text at within h =
     list_all-from_AllPass is_name_byte (take at text)
     (All-from_get_or (λ b. is_name_byte b ≡ true) (take at text) 0

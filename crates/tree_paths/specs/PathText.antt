@@ -1,6 +1,6 @@
 -- Where a path keeps its names. No public clause cites this module.
-use Rattle.std.specs.Prelude.{◌≡◌, ℕ, ◌<◌, ◌≤◌, ◌-◌, ◌==◌, Bool, true, not, nat_le, List, ◌∷◌, [], ◌++◌, ◌+◌, map, length, take, drop}
-use Rattle.std.specs.Prelude.{slice_index, IsTrue}
+use Rattle.std.specs.Prelude.{◌≡◌, ℕ, ◌<◌, ◌≤◌, ◌-◌, ◌==◌, Bool, true, not, nat_le, List, ◌∷◌, length, take, drop}
+use Rattle.std.specs.Prelude.{[], ◌++◌, ◌+◌, map, slice_index, IsTrue}
 use Rattle.std.specs.List.{list_all}
 use Rattle.record_codec.specs.declared.name.TheConstants.{NAME_IN_PLACE}
 use Rattle.std.specs.Simd.Lanes.{mask_l}

@@ -1,10 +1,11 @@
 //! Where a path keeps its names.
 
-ghost use Rattle.std.specs.Prelude.{◌≡◌, ◌++◌, ◌∷◌, [], IfOk, IfSome, IsTrue, MatchOption, ◌≤◌, ◌<◌, ◌-◌, length, take, drop};
-ghost use Rattle.std.specs.Prelude.{Ok};
+ghost use Rattle.std.specs.Prelude.{◌≡◌, ◌++◌, ◌∷◌, [], IfOk, IfSome, IsTrue, MatchOption, ◌≤◌, ◌<◌, ◌-◌, length, take};
+ghost use Rattle.std.specs.Prelude.{Ok, drop};
 ghost use Rattle.record_codec.specs.declared.name.TheConstants.{NAME_IN_PLACE};
 ghost use Rattle.record_codec.specs.Names.{is_name};
-ghost use Rattle.tree_paths.specs.PathText.{kept_names, left_names, shape_of, IsKept, slashes_in, IsLeft, IsSlashed, IsLastStart};
+ghost use Rattle.tree_paths.specs.PathText.{kept_names, left_names, shape_of, IsKept, IsLeft, IsSlashed, IsLastStart};
+ghost use Rattle.tree_paths.specs.PathText.{slashes_in};
 ghost use Rattle.tree_paths.specs.declared.stops.TheConstants.{BLOCK};
 ghost use Rattle.tree_paths.specs.Paths.{names_of, parsed, slashed};
 
