@@ -1,30 +1,13 @@
--- Records and digits that are printed one after another.
-use Rattle.std.proofs.Common.{◌≡◌, ℕ, ◌+◌, ◌<◌, List, [], ◌∷◌, ◌++◌, length, refl, sym, ap, ◌∙◌, arith, length-append, append_assoc, take, get_or, ◌/◌, ◌%◌}
-use Rattle.std.specs.Prelude.{slice_index}
+-- Records that are printed one after another.
+use Rattle.std.proofs.Common.{◌≡◌, ℕ, ◌<◌, List, [], ◌∷◌, ◌++◌, length, refl, sym, ap, ◌∙◌, arith, length-append, append_assoc}
 use Rattle.std.specs.List.{flat_map}
-use Rattle.std.proofs.lemmas.List.{append-nil, take_more}
+use Rattle.std.proofs.lemmas.List.{append-nil}
 use Rattle.std.proofs.lemmas.Grind.{flat_map-append}
-use Rattle.hex.specs.Hex.{encode_lower, encode_with, lower_digits}
 use Rattle.record_codec.specs.declared.event.Event.{Event}
 use Rattle.record_codec.specs.Records.{AreEvents, IsEvent, record_bytes, spelling}
 use Rattle.record_codec.specs.Views.{AreRecords}
 use Rattle.record_codec.proofs.DecodeLemmas.{AreEvents-push, record_bytes-some}
 use Rattle.watchtree_script.specs.Replies.{AreEventsIn, event_line}
-
-encode_with-append : (t xs ys : List ℕ) → encode_with t (xs ++ ys) ≡ encode_with t xs ++ encode_with t ys
-unfolding encode_with
-encode_with-append t [] ys = refl
-encode_with-append t (x ∷ xs) ys = ap (λ (d : List ℕ). slice_index t (x / 16) ∷ slice_index t (x % 16) ∷ d) (encode_with-append t xs ys)
-
-pub encode_lower-append : (xs ys : List ℕ) → encode_lower (xs ++ ys) ≡ encode_lower xs ++ encode_lower ys
-encode_lower-append xs ys = encode_with-append lower_digits xs ys
-
-pub encode_lower-none : encode_lower [] ≡ []
-unfolding encode_with
-encode_lower-none = refl
-
-pub encode_lower-next : (xs : List ℕ) (i : ℕ) → i < length xs → encode_lower (take (i + 1) xs) ≡ encode_lower (take i xs) ++ encode_lower (get_or xs i 0 ∷ [])
-encode_lower-next xs i lt = ap encode_lower (take_more xs i 0 lt) ∙ encode_lower-append (take i xs) (get_or xs i 0 ∷ [])
 
 -- the records before the rest are printed
 pub record ArePrinted (bytes rest old new : List ℕ) : Type 0 where

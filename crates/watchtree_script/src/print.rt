@@ -1,6 +1,6 @@
 //! Replies as text.
 
-ghost use Rattle.std.specs.Prelude.{◌≡◌, ◌∷◌, ◌++◌, List, [], OnOk, codes, decimal, length};
+ghost use Rattle.std.specs.Prelude.{◌≡◌, ◌++◌, List, [], OnOk, codes, decimal, length};
 ghost use Rattle.std.specs.List.{flat_map};
 ghost use Rattle.watchtree_script.specs.Replies.{ok_line, done_line, hexadecimal, name_line, event_line, kind_letter};
 ghost use Rattle.watchtree_script.specs.Replies.{mode_text, octal_digit, refusal_text, answer_text, AreEventsIn};
@@ -200,18 +200,17 @@ fn push_read(text: &mut Vec<u8>, format: OutputFormat, bytes: &[u8]) -> Result<(
 pub(crate) fn push_digits(text: &mut Vec<u8>, bytes: &[u8]) -> Result<(), AllocError>
     ensures { OnOk result (text.new.items ≡ text.old.items ++ encode_lower bytes.now) }
 {
-    for byte in bytes {
-        push_byte(text, *byte)?;
-    }
+    let len = text.len();
+    let Some(end) = bytes
+        .len()
+        .checked_mul(2)
+        .and_then(|digits| len.checked_add(digits))
+    else {
+        return Err(AllocError);
+    };
+    text.resize(end, 0)?;
+    hex::encode_to_slice(bytes, &mut text[len..]).unwrap();
     Ok(())
-}
-
-fn push_byte(text: &mut Vec<u8>, byte: u8) -> Result<(), AllocError>
-    ensures { OnOk result (text.new.items ≡ text.old.items ++ encode_lower (byte ∷ [])) }
-{
-    let mut digits = [0; 2];
-    hex::encode_to_slice([byte].as_slice(), &mut digits).unwrap();
-    text.extend_from_slice(&digits)
 }
 
 /// A line for each record.
