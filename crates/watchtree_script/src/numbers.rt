@@ -16,7 +16,7 @@ pub(crate) fn number_spelled(radix: u32, most: usize, greatest: u64, digits: &[u
     ensures value { result ≡ number_spelled radix most greatest digits.now }
     ensures within { IfSome result (λ number. number ≤ greatest) }
 {
-    if most < digits.len() || !are_digits(radix, digits) {
+    if most < digits.len() {
         return None;
     }
     match value_of(radix, digits) {
@@ -25,24 +25,29 @@ pub(crate) fn number_spelled(radix: u32, most: usize, greatest: u64, digits: &[u
     }
 }
 
-fn are_digits(radix: u32, bytes: &[u8]) -> bool
-    requires least { 2 ≤ radix }
-    requires largest { radix ≤ 36 }
-    ensures { result ≡ list_all (λ c. is_digit c radix) bytes.now }
-{
-    bytes.iter().all(|b| char::from(*b).is_digit(radix))
-}
-
-/// The number of digits, if there are any and it fits.
+/// The number of digits, if there are any, all are of the radix, and it fits.
+#[inline(always)]
 fn value_of(radix: u32, digits: &[u8]) -> Option<u64>
     requires least { 2 ≤ radix }
     requires largest { radix ≤ 36 }
-    requires all { list_all (λ c. is_digit c radix) digits.now ≡ true }
-    ensures { SomeIff result ((0 < length digits.now) × (digits_value radix digits.now < 2 ^ 64))
-        (digits_value radix digits.now) }
+    ensures { SomeIff result ((0 < length digits.now) × (list_all (λ c. is_digit c radix) digits.now ≡ true)
+        × (digits_value radix digits.now < 2 ^ 64)) (digits_value radix digits.now) }
 {
-    match str::from_utf8(digits) {
-        Ok(text) => u64::from_str_radix(text, radix).ok(),
-        Err(_) => None,
+    if digits.is_empty() {
+        return None;
     }
+    let mut number: u64 = 0;
+    for byte in digits {
+        let Some(digit) = char::from(*byte).to_digit(radix) else {
+            return None;
+        };
+        let Some(shifted) = number.checked_mul(u64::from(radix)) else {
+            return None;
+        };
+        let Some(next) = shifted.checked_add(u64::from(digit)) else {
+            return None;
+        };
+        number = next;
+    }
+    Some(number)
 }
