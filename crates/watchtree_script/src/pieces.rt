@@ -1,8 +1,8 @@
 //! Bytes between separators.
 
-ghost use Rattle.std.specs.Prelude.{◌≡◌, ◌∷◌, [], MatchOption, false, length, position, ◌==◌};
+ghost use Rattle.std.specs.Prelude.{◌≡◌, ◌∷◌, ◌<◌, [], MatchOption, false, filter, length, position, ◌==◌};
 ghost use Rattle.std.specs.Option.{option_copied};
-ghost use Rattle.tree_paths.specs.Pieces.{pieces, runs};
+ghost use Rattle.tree_paths.specs.Pieces.{is_nonempty, pieces, runs};
 ghost use Rattle.watchtree_script.specs.Reading.{pieces_in};
 
 use memchr::memchr;
@@ -11,56 +11,20 @@ use std::marker::Model;
 /// A byte is found among at most so many by a look at each, which takes fewer instructions than a call of memchr.
 pub(crate) const FEW: usize = 16;
 
-/// The pieces between separators that are left.
-#[derive(Drop)]
-pub(crate) struct Split<'a> {
-    separator: u8,
-    rest: Option<&'a [u8]>,
-}
-
-impl<'a> Model for Split<'a> {
-    ghost use Rattle.std.specs.Prelude.{ℕ, List};
-    ghost use Rattle.std.specs.Option.{option_copied};
-    ghost use Rattle.watchtree_script.specs.Reading.{pieces_in};
-
-    ghost Value = { List (List ℕ) };
-
-    ghost view = { λ p. pieces_in p.separator (option_copied p.rest) };
-}
-
-impl<'a> Split<'a> {
-    pub fn new(separator: u8, bytes: &'a [u8]) -> Split<'a>
-        ensures { result ≡ pieces separator bytes.entry.now }
-    {
-        Split {
-            separator,
-            rest: Some(bytes),
-        }
-    }
-
-    pub fn next_part(&mut self) -> Option<&'a [u8]>
-        ensures { MatchOption result ((self.old ≡ []) × (self.new ≡ [])) (λ piece. self.old ≡ piece.now ∷ self.new) }
-    {
-        let bytes = self.rest?;
-        let (piece, rest) = split_first(self.separator, bytes);
-        self.rest = rest;
-        Some(piece)
-    }
-}
-
 /// The nonempty pieces between separators that are left.
 #[derive(Drop)]
 pub(crate) struct Words<'a> {
-    pieces: Split<'a>,
+    separator: u8,
+    rest: &'a [u8],
 }
 
 impl<'a> Model for Words<'a> {
-    ghost use Rattle.std.specs.Prelude.{ℕ, List, filter};
-    ghost use Rattle.tree_paths.specs.Pieces.{is_nonempty};
+    ghost use Rattle.std.specs.Prelude.{ℕ, List};
+    ghost use Rattle.tree_paths.specs.Pieces.{runs};
 
     ghost Value = { List (List ℕ) };
 
-    ghost view = { λ r. filter is_nonempty r.pieces };
+    ghost view = { λ words. runs words.separator words.rest.now };
 }
 
 impl<'a> Words<'a> {
@@ -68,14 +32,17 @@ impl<'a> Words<'a> {
         ensures { result ≡ runs separator bytes.entry.now }
     {
         Words {
-            pieces: Split::new(separator, bytes),
+            separator,
+            rest: bytes,
         }
     }
 
     pub fn next_word(&mut self) -> Option<&'a [u8]>
         ensures { MatchOption result ((self.old ≡ []) × (self.new ≡ [])) (λ run. self.old ≡ run.now ∷ self.new) }
     {
-        while let Some(piece) = self.pieces.next_part() {
+        while !self.rest.is_empty() {
+            let (piece, rest) = cut_first(self.separator, self.rest);
+            self.rest = rest;
             if !piece.is_empty() {
                 return Some(piece);
             }
@@ -88,10 +55,8 @@ impl<'a> Words<'a> {
         ensures { result ≡ self.now }
     {
         Words {
-            pieces: Split {
-                separator: self.pieces.separator,
-                rest: self.pieces.rest,
-            },
+            separator: self.separator,
+            rest: self.rest,
         }
     }
 
@@ -103,6 +68,7 @@ impl<'a> Words<'a> {
     }
 
     /// The only one that is left.
+    #[inline(always)]
     pub fn one(mut self) -> Option<&'a [u8]>
         ensures { MatchOption result ((length self.entry == 1) ≡ false) (λ run. self.entry ≡ run.now ∷ []) }
     {
@@ -122,6 +88,7 @@ impl<'a> Words<'a> {
     }
 
     /// The only three that are left.
+    #[inline(always)]
     pub fn three(mut self) -> Option<(&'a [u8], &'a [u8], &'a [u8])>
         ensures { MatchOption result ((length self.entry == 3) ≡ false)
             (λ runs. self.entry ≡ runs.0.now ∷ runs.1.now ∷ runs.2.now ∷ []) }
@@ -142,6 +109,22 @@ pub(crate) fn split_first<'a>(separator: u8, bytes: &'a [u8]) -> (&'a [u8], Opti
             (piece, Some(&rest[1..]))
         }
         None => (bytes, None),
+    }
+}
+
+/// The first piece, and what stands behind its separator: nothing, where there is none.
+#[inline(always)]
+fn cut_first<'a>(separator: u8, bytes: &'a [u8]) -> (&'a [u8], &'a [u8])
+    ensures cut { runs separator bytes.entry.now
+        ≡ filter is_nonempty (result.0.now ∷ pieces separator result.1.now) }
+    ensures fewer { 0 < length bytes.entry.now → length result.1.now < length bytes.entry.now }
+{
+    match position_of(separator, bytes) {
+        Some(at) => {
+            let (piece, rest) = bytes.split_at(at);
+            (piece, &rest[1..])
+        }
+        None => (bytes, &[]),
     }
 }
 

@@ -1,10 +1,9 @@
 use Rattle.std.proofs.Common.{◌≡◌, length}
-use Rattle.std.specs.Prelude.{filter}
-use Rattle.tree_paths.specs.Pieces.{is_nonempty}
+use Rattle.tree_paths.specs.Pieces.{runs}
 use Rattle.watchtree_script.proofs.pieces.Words.next_word.Given as goal
 
-abbrev pub invariant-loop-piece : goal.invariant-loop-piece
-invariant-loop-piece l = filter is_nonempty l.self-inside.pieces ≡ l.fn.self
+abbrev pub invariant-loop-self : goal.invariant-loop-self
+invariant-loop-self l = runs l.self-inside.separator l.self-inside.rest.now ≡ l.fn.self
 
-abbrev pub decreases-loop-piece : goal.decreases-loop-piece
-decreases-loop-piece l = length l.self-inside.pieces
+abbrev pub decreases-loop-self : goal.decreases-loop-self
+decreases-loop-self l = length l.self-inside.rest.now
