@@ -24,6 +24,7 @@ use crate::turn_laws::trees_are_sound;
 use record_codec::Events;
 use std::alloc::{AllocError, Global};
 use std::marker::Model;
+use tree_ops::Answer;
 use tree_paths::{Limits, Refusal};
 
 mod forking;
@@ -165,23 +166,34 @@ impl State {
         ensures spelled { IfOk result (λ r. IsSpelled r.0.reply) }
         ensures kept { IfOk result (λ r. IsKeptAs r.0 r.1 call) }
     {
-        make_room(
+        if let Err(refusal) = make_room(
             &mut self.journal,
             &self.file_system.limits,
             self.snapshot.place,
-        )?;
-        let copy = call.copy()?;
+        ) {
+            return Err(drop_cold(call, refusal));
+        }
+        let copy = match call.copy() {
+            Ok(copy) => copy,
+            Err(refusal) => return Err(drop_cold(call, refusal)),
+        };
         self.file_system.instances.law();
-        let Begun { reply, rest } = self.file_system.begin(&call)?;
+        let Begun { reply, rest } = match self.file_system.begin(&call) {
+            Ok(begun) => begun,
+            Err(refusal) => return Err(drop_both_cold(call, copy, refusal)),
+        };
+        let (given, kept) = match copies(&reply) {
+            Ok(copies) => copies,
+            Err(refusal) => return Err(drop_both_cold(call, copy, refusal)),
+        };
         let place = self.snapshot.place + self.journal.len() as u64 + 1;
-        let (receipt, kept) = copies(&reply, place, copy)?;
         self.file_system.finish(rest);
         self.journal.push_reserved(Entry {
             caller,
             call,
             reply,
         });
-        Ok((receipt, kept))
+        Ok(receipt_and_kept(place, given, copy, kept))
     }
 
     /// Carries out a [`Call::Pump`] as [`State::keep`], and also gives the records that it read, moved out of the
@@ -209,13 +221,14 @@ impl State {
         self.file_system.instances.law();
         let Begun { reply, rest } = self.file_system.begin_pump(instance, bytes)?;
         let place = self.snapshot.place + self.journal.len() as u64 + 1;
-        let (receipt, kept) = copies(&reply, place, Call::Pump { instance, bytes })?;
+        let (given, kept) = copies(&reply)?;
         let records = self.file_system.finish_pump(rest)?;
         self.journal.push_reserved(Entry {
             caller,
             call: Call::Pump { instance, bytes },
             reply,
         });
+        let (receipt, kept) = receipt_and_kept(place, given, Call::Pump { instance, bytes }, kept);
         Ok((receipt, kept, records))
     }
 
@@ -339,21 +352,66 @@ fn drop_cold(_call: Call, refusal: Refusal) -> Refusal
     refusal
 }
 
-/// The receipt of a call and what is kept of it, with copies of the reply.
-fn copies(reply: &Reply, place: u64, call: Call) -> Result<(Receipt, Kept), Refusal>
-    ensures receipt { IfOk result (λ r. r.0 ≡ record { place = place; reply = reply.now }) }
-    ensures kept { IfOk result (λ r. IsKeptAs r.0 r.1 call) }
-    ensures err { IfErr result (λ refusal. refusal ≡ Refusal.Enomem) }
-    ensures memory { OnErr result (takes_memory reply.now ≡ true) }
+/// Drops a call that was not answered and its copy, away from what calls mostly do.
+#[cold]
+#[inline(never)]
+fn drop_both_cold(_call: Call, _copy: Call, refusal: Refusal) -> Refusal
+    ensures { result ≡ refusal }
+{
+    refusal
+}
+
+/// The receipt of a call, and what is kept of it.
+#[inline(always)]
+fn receipt_and_kept(place: u64, given: Reply, call: Call, kept: Reply) -> (Receipt, Kept)
+    ensures receipt { result.0 ≡ record { place = place; reply = given } }
+    ensures kept { result.1 ≡ record { place = place; call = call; reply = kept } }
 {
     let receipt = Receipt {
         place,
-        reply: reply.copy()?,
+        reply: given,
     };
     let kept = Kept {
         place,
         call,
-        reply: reply.copy()?,
+        reply: kept,
     };
-    Ok((receipt, kept))
+    (receipt, kept)
+}
+
+/// Two copies of a reply.
+#[inline(always)]
+fn copies(reply: &Reply) -> Result<(Reply, Reply), Refusal>
+    ensures given { IfOk result (λ r. r.0 ≡ reply.now) }
+    ensures kept { IfOk result (λ r. r.1 ≡ reply.now) }
+    ensures err { IfErr result (λ refusal. refusal ≡ Refusal.Enomem) }
+    ensures memory { OnErr result (takes_memory reply.now ≡ true) }
+{
+    match reply {
+        Reply::Refused(refusal) => Ok((Reply::Refused(*refusal), Reply::Refused(*refusal))),
+        Reply::Done => Ok((Reply::Done, Reply::Done)),
+        Reply::File(Answer::Done) => Ok((Reply::File(Answer::Done), Reply::File(Answer::Done))),
+        Reply::File(Answer::Number(number)) => Ok((
+            Reply::File(Answer::Number(*number)),
+            Reply::File(Answer::Number(*number)),
+        )),
+        Reply::File(Answer::Count(count)) => Ok((
+            Reply::File(Answer::Count(*count)),
+            Reply::File(Answer::Count(*count)),
+        )),
+        _ => copies_of_any(reply),
+    }
+}
+
+/// Two copies of a reply that may hold bytes or names.
+#[inline(never)]
+fn copies_of_any(reply: &Reply) -> Result<(Reply, Reply), Refusal>
+    ensures given { IfOk result (λ r. r.0 ≡ reply.now) }
+    ensures kept { IfOk result (λ r. r.1 ≡ reply.now) }
+    ensures err { IfErr result (λ refusal. refusal ≡ Refusal.Enomem) }
+    ensures memory { OnErr result (takes_memory reply.now ≡ true) }
+{
+    let given = reply.copy()?;
+    let kept = reply.copy()?;
+    Ok((given, kept))
 }

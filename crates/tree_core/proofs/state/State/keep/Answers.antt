@@ -1,4 +1,4 @@
-use Rattle.std.proofs.Common.{refl, ◌≡◌, [], ◌∷◌, ◌++◌, Ok, sym, ap, subst, ◌∙◌, rules}
+use Rattle.std.proofs.Common.{refl, ◌≡◌, [], ◌∷◌, ◌++◌, sym, ap, subst, ◌∙◌, rules}
 use Rattle.tree_core.specs.declared.reply.Entry.{Entry}
 use Rattle.tree_core.specs.declared.reply.Receipt.{Receipt}
 use Rattle.tree_core.specs.Journal.{now, with_entry}
@@ -12,38 +12,38 @@ use Rattle.tree_core.proofs.Lawful.{limits-executed}
 use Rattle.tree_core.proofs.Keeping.{IsKept-same, IsKept-more}
 use Rattle.tree_core.proofs.state.State.keep.Goals as goal
 
-pub invariant_of-self-in_err-reply : goal.invariant_of-self-in_err-reply
-invariant_of-self-in_err-reply c =
+pub invariant_of-self-in-Err-begin : goal.invariant_of-self-in-Err-begin
+invariant_of-self-in-Err-begin c =
     let a = c.self.inside in
-    let same : tree_in c.begin.new.self ≡ tree_in a.file_system = c.in_err-reply.ensures.err in
+    let same : tree_in c.begin.new.self ≡ tree_in a.file_system = c.in-Err-begin.ensures.err in
     IsKept-same a (record { file_system = c.begin.new.self; snapshot = a.snapshot; journal = c.make_room.new.journal })
     c.self.invariant refl (ap (λ (t : Tree). t.limits) same) c.make_room.ensures.items same
 
-pub invariant_of-self-in_err-receipt : goal.invariant_of-self-in_err-receipt
-invariant_of-self-in_err-receipt c =
+pub invariant_of-self-in-Err-copies : goal.invariant_of-self-in-Err-copies
+invariant_of-self-in-Err-copies c =
     let a = c.self.inside in
-    let same : tree_in c.begin.new.self ≡ tree_in a.file_system = c.in_ok-reply.ensures.begun c.in_err-receipt.ensures.memory in
+    let same : tree_in c.begin.new.self ≡ tree_in a.file_system = c.in-Ok-begin.ensures.begun c.in-Err-copies.ensures.memory in
     IsKept-same a (record { file_system = c.begin.new.self; snapshot = a.snapshot; journal = c.make_room.new.journal })
     c.self.invariant refl (ap (λ (t : Tree). t.limits) same) c.make_room.ensures.items same
 
 pub invariant_of-self-2 : goal.invariant_of-self-2
 invariant_of-self-2 c =
     let a = c.self.inside in
-    let served : Executes a.file_system c.args.call c.in_ok-reply.field-0.reply c.finish.new.self =
-    finished-executes a.file_system c.begin.new.self c.args.call c.in_ok-reply.field-0 c.in_ok-reply.ensures c.finish.new.self c.finish.ensures in
-    let entry : Entry = record { caller = c.args.caller; call = c.args.call; reply = c.in_ok-reply.field-0.reply } in
+    let served : Executes a.file_system c.args.call c.in-Ok-begin.begun.reply c.finish.new.self =
+    finished-executes a.file_system c.begin.new.self c.args.call c.in-Ok-begin.begun c.in-Ok-begin.ensures c.finish.new.self c.finish.ensures in
+    let entry : Entry = record { caller = c.args.caller; call = c.args.call; reply = c.in-Ok-begin.begun.reply } in
     IsKept-more a (record { file_system = c.finish.new.self; snapshot = a.snapshot; journal = c.push_reserved.new.self })
     c.self.invariant refl (limits-executed a.file_system c.finish.new.self c.args.call served.tree) entry
-    (c.push_reserved.ensures.items ∙ ap (λ es. es ++ entry ∷ []) c.make_room.ensures.items) c.in_ok-make_room.ensures.free c.in_ok-make_room.ensures.small
+    (c.push_reserved.ensures.items ∙ ap (λ es. es ++ entry ∷ []) c.make_room.ensures.items) c.in_default.ensures.free c.in_default.ensures.small
     served.reply served.tree served.numbered c.law.ensures
 
 pub returns-clause-applied : goal.returns-clause-applied
 returns-clause-applied c = record {
   entry =
       let a = c.self.inside in
-      let served : Executes a.file_system c.args.call c.in_ok-reply.field-0.reply c.finish.new.self =
-      finished-executes a.file_system c.begin.new.self c.args.call c.in_ok-reply.field-0 c.in_ok-reply.ensures c.finish.new.self c.finish.ensures in
-      let entry : Entry = record { caller = c.args.caller; call = c.args.call; reply = c.in_ok-reply.field-0.reply } in
+      let served : Executes a.file_system c.args.call c.in-Ok-begin.begun.reply c.finish.new.self =
+      finished-executes a.file_system c.begin.new.self c.args.call c.in-Ok-begin.begun c.in-Ok-begin.ensures c.finish.new.self c.finish.ensures in
+      let entry : Entry = record { caller = c.args.caller; call = c.args.call; reply = c.in-Ok-begin.begun.reply } in
       let items : c.push_reserved.new.self.items ≡ a.journal.items ++ entry ∷ [] =
       c.push_reserved.ensures.items ∙ ap (λ es. es ++ entry ∷ []) c.make_room.ensures.items in
       (λ i. record {
@@ -52,10 +52,14 @@ returns-clause-applied c = record {
         entries = items i;
       })
       ∙ (λ i. with_entry (c.self.view_is i)
-      (record { caller = c.args.caller; call = c.args.call; reply = (sym (ap (λ (r : Receipt). r.reply) c.in_ok-receipt.ensures.receipt)) i }));
+      (record {
+        caller = c.args.caller;
+        call = c.args.call;
+        reply = (sym (ap (λ (r : Receipt). r.reply) c.receipt_and_kept.ensures.receipt ∙ c.in-Ok-copies.ensures.given)) i;
+      }));
   place = search rules;
   reply =
-      ap (λ (r : Receipt). r.reply) c.in_ok-receipt.ensures.receipt ∙ c.in_ok-reply.ensures.reply
+      ap (λ (r : Receipt). r.reply) c.receipt_and_kept.ensures.receipt ∙ c.in-Ok-copies.ensures.given ∙ c.in-Ok-begin.ensures.reply
       ∙ ap (λ (t : Tree). reply_of t c.args.call) c.self.invariant.stands ∙ ap (λ s. reply_of (now s) c.args.call) c.self.view_is;
   lawful = (invariant_of-self-2 c).lawful;
   err = search rules;
@@ -66,5 +70,5 @@ returns-clause-applied c = record {
 pub returns-clause-spelled : goal.returns-clause-spelled
 returns-clause-spelled c =
     let t = tree_in c.self.inside.file_system in
-    subst IsSpelled (sym (ap (λ (r : Receipt). r.reply) c.in_ok-receipt.ensures.receipt ∙ c.in_ok-reply.ensures.reply))
+    subst IsSpelled (sym (ap (λ (r : Receipt). r.reply) c.receipt_and_kept.ensures.receipt ∙ c.in-Ok-copies.ensures.given ∙ c.in-Ok-begin.ensures.reply))
     (reply-spelled t c.law.ensures c.args.call)

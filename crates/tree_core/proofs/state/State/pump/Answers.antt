@@ -1,4 +1,4 @@
-use Rattle.std.proofs.Common.{refl, ◌≡◌, [], ◌∷◌, ◌++◌, Ok, sym, ap, ◌∙◌, rules}
+use Rattle.std.proofs.Common.{refl, ◌≡◌, [], ◌∷◌, ◌++◌, sym, ap, ◌∙◌, rules}
 use Rattle.tree_core.specs.declared.call.Call.TheVariants as call
 use Rattle.tree_core.specs.declared.reply.Entry.{Entry}
 use Rattle.tree_core.specs.declared.reply.Receipt.{Receipt}
@@ -44,11 +44,11 @@ returns-clause-applied c = record {
       (record {
         caller = c.args.caller;
         call = (call.Pump c.args.instance c.args.bytes);
-        reply = (sym (ap (λ (r : Receipt). r.reply) c.in_ok-receipt.ensures.receipt)) i;
+        reply = (sym (ap (λ (r : Receipt). r.reply) c.receipt_and_kept-receipt.ensures.receipt ∙ c.in_ok-given.ensures.given)) i;
       }));
   place = search rules;
   reply =
-      ap (λ (r : Receipt). r.reply) c.in_ok-receipt.ensures.receipt ∙ c.in_ok-reply.ensures.begun.reply
+      ap (λ (r : Receipt). r.reply) c.receipt_and_kept-receipt.ensures.receipt ∙ c.in_ok-given.ensures.given ∙ c.in_ok-reply.ensures.begun.reply
       ∙ ap (λ (t : Tree). reply_of t (call.Pump c.args.instance c.args.bytes)) c.self.invariant.stands
       ∙ ap (λ s. reply_of (now s) (call.Pump c.args.instance c.args.bytes)) c.self.view_is;
   lawful = (invariant_of-self-2 c).lawful;
@@ -66,4 +66,4 @@ pub returns-clause-spelled : goal.returns-clause-spelled
 returns-clause-spelled c =
     records-spelled (tree_in c.self.inside.file_system) c.law.ensures c.args.instance c.args.bytes c.in_ok-records.records _
     (c.in_ok-records.ensures.records ∙ c.in_ok-reply.ensures.records)
-    (ap (λ (r : Receipt). r.reply) c.in_ok-receipt.ensures.receipt ∙ c.in_ok-reply.ensures.begun.reply)
+    (ap (λ (r : Receipt). r.reply) c.receipt_and_kept-receipt.ensures.receipt ∙ c.in_ok-given.ensures.given ∙ c.in_ok-reply.ensures.begun.reply)
