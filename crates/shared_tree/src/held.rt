@@ -96,6 +96,15 @@ fn make_room(core: &State, kept: &mut Vec<Kept>) -> Result<(), Refusal>
     Ok(())
 }
 
+/// Drops a call that is refused, away from what calls mostly do.
+#[cold]
+#[inline(never)]
+fn drop_cold(_call: Call, refusal: Refusal) -> Refusal
+    ensures { result ≡ refusal }
+{
+    refusal
+}
+
 /// Carries a call out, and keeps it in the seat and the ledger.
 fn enter<L: Ledger>(
     core: &mut State,
@@ -114,7 +123,9 @@ fn enter<L: Ledger>(
         kept,
         share,
     } = seat;
-    make_room(core, kept)?;
+    if let Err(refusal) = make_room(core, kept) {
+        return Err(drop_cold(call, refusal));
+    }
     let (receipt, copy) = core.keep(*number, call)?;
     kept.push_reserved(copy);
     book.add(share, 1);
@@ -300,7 +311,10 @@ impl<L: Ledger> Held<L> {
             book,
         } = self;
         let closed = closed_by(&call);
-        let at = pipes.look(core, closed)?;
+        let at = match pipes.look(core, closed) {
+            Ok(at) => at,
+            Err(refusal) => return Err(drop_cold(call, refusal)),
+        };
         let receipt = enter(core, book, seat, call)?;
         let batch = end_batch(*alloc, closed, &receipt);
         pipes.hand_over(at, batch);

@@ -14,7 +14,7 @@ use Rattle.shared_tree.proofs.held.Held.call.Goals as goal
 
 pub invariant_of-self-2 : goal.invariant_of-self-2
 invariant_of-self-2 g c =
-    rw (c.hand_over.ensures.sent, c.hand_over.ensures.numbers, c.in_ok-at.ensures.sent, c.in_ok-at.ensures.numbers)
+    rw (c.hand_over.ensures.sent, c.hand_over.ensures.numbers, c.in-Ok.ensures.sent, c.in-Ok.ensures.numbers)
     (held-call c.replies_tell.ensures c.self.inside.core c.enter.new.core c.args.seat.now c.enter.new.seat
     c.in_ok-receipt.receipt c.self.inside.pipes.numbers (sents c.self.inside.pipes.ends) c.self.inside.book.total
     c.enter.new.book.total c.self.invariant
@@ -30,26 +30,24 @@ returns-clause-hands g c =
     (hands-call old new c.args.seat.now c.enter.new.seat c.args.call c.in_ok-receipt.receipt c.closed_by-closed.result
     c.end_batch-batch.result c.in_ok-receipt.ensures.ok c.requires.plain c.closed_by-closed.ensures
     c.end_batch-batch.ensures
-    (c.hand_over.ensures.numbers ∙ c.in_ok-at.ensures.numbers)
+    (c.hand_over.ensures.numbers ∙ c.in-Ok.ensures.numbers)
     (c.hand_over.ensures.sent
-    ∙ (λ i. deliver c.end_batch-batch.result (c.in_ok-at.ensures.numbers i) (c.in_ok-at.ensures.sent i)))
+    ∙ (λ i. deliver c.end_batch-batch.result (c.in-Ok.ensures.numbers i) (c.in-Ok.ensures.sent i)))
     c.in_ok-receipt.ensures.total)
 
-pub returns-in_err-at-clause-errors : goal.returns-in_err-at-clause-errors
-returns-in_err-at-clause-errors g c =
+pub returns-in-Err-clause-errors : goal.returns-in-Err-clause-errors
+returns-in-Err-clause-errors g c =
     let a = c.self.inside in
-    let p = err_from_is_err_and c.from_residual.result c.from_residual.ensures.1 in
-    subst (λ (h : TreeWithPipes). IfErr c.from_residual.result (λ e. RefusalOf h.state c.args.call e)) c.self.view_is
-    (subst (λ (x : Result Receipt Refusal). IfErr x (λ e. RefusalOf a.core c.args.call e)) (sym p.1)
-    (subst (λ (e : Refusal). RefusalOf a.core c.args.call e) (sym p.2)
+    subst (λ (h : TreeWithPipes). RefusalOf h.state c.args.call c.drop_cold.result) c.self.view_is
+    (subst (λ (e : Refusal). RefusalOf a.core c.args.call e) (sym c.drop_cold.ensures)
     (close-why a.core a.pipes.numbers (sents a.pipes.ends) a.book.total c.args.call c.closed_by-closed.result
-    c.in_err-at.field-0.0 c.self.invariant c.closed_by-closed.ensures c.in_err-at.ensures.err)))
+    c.in-Err.refusal c.self.invariant c.closed_by-closed.ensures c.in-Err.ensures.err))
 
 pub returns-in_err-receipt-clause-errors : goal.returns-in_err-receipt-clause-errors
 returns-in_err-receipt-clause-errors g c =
     let a = c.self.inside in
-    let p = err_from_is_err_and c.from_residual-in_err-receipt.result c.from_residual-in_err-receipt.ensures.1 in
-    subst (λ (h : TreeWithPipes). IfErr c.from_residual-in_err-receipt.result (λ e. RefusalOf h.state c.args.call e)) c.self.view_is
+    let p = err_from_is_err_and c.from_residual.result c.from_residual.ensures.1 in
+    subst (λ (h : TreeWithPipes). IfErr c.from_residual.result (λ e. RefusalOf h.state c.args.call e)) c.self.view_is
     (subst (λ (x : Result Receipt Refusal). IfErr x (λ e. RefusalOf a.core c.args.call e)) (sym p.1)
     (subst (λ (e : Refusal). RefusalOf a.core c.args.call e) (sym p.2)
     (why-not a.core c.args.call c.in_err-receipt.field-0.0 c.in_err-receipt.ensures.errors)))
