@@ -83,6 +83,7 @@ impl Pipes {
     }
 
     /// Finds the pipe of an open instance, and checks that it has a free slot.
+    #[inline(always)]
     pub(crate) fn look(
         &mut self,
         core: &State,
@@ -93,10 +94,23 @@ impl Pipes {
         ensures ok { IfOk result (λ at. IsPipeFound self.new.numbers self.new.ends (now core.now) target at) }
         ensures err { IfErr result (λ e. (e ≡ PipeFull) × IsFilled self.old.numbers (now core.now) target) }
     {
-        let Pipes { numbers, ends } = self;
         let Some(instance) = target else {
             return Ok(None);
         };
+        self.look_for(core, instance)
+    }
+
+    /// Finds the pipe of the instance of this number, if it is open, and checks that it has a free slot.
+    #[inline(never)]
+    fn look_for(&mut self, core: &State, instance: u32) -> Result<Option<usize>, Refusal>
+        ensures numbers { self.new.numbers ≡ self.old.numbers }
+        ensures sent { sents self.new.ends ≡ sents self.old.ends }
+        ensures ok { IfOk result (λ at.
+            IsPipeFound self.new.numbers self.new.ends (now core.now) (Some instance) at) }
+        ensures err { IfErr result (λ e.
+            (e ≡ PipeFull) × IsFilled self.old.numbers (now core.now) (Some instance)) }
+    {
+        let Pipes { numbers, ends } = self;
         if core.waiting(instance).is_none() {
             return Ok(None);
         }
@@ -110,6 +124,7 @@ impl Pipes {
     }
 
     /// Hands a batch over, where there is one and its instance has a pipe.
+    #[inline(always)]
     pub(crate) fn hand_over(&mut self, at: Option<usize>, batch: Option<Batch>)
         requires { IsReady self.old.numbers self.old.ends at batch }
         ensures numbers { self.new.numbers ≡ self.old.numbers }
