@@ -208,6 +208,8 @@ pub(crate) fn push_digits(text: &mut Vec<u8>, bytes: &[u8]) -> Result<(), AllocE
     else {
         return Err(AllocError);
     };
+    // A line feed comes behind the digits, and takes no allocation of its own.
+    text.reserve((end - len).saturating_add(1))?;
     text.resize(end, 0)?;
     hex::encode_to_slice(bytes, &mut text[len..]).unwrap();
     Ok(())
