@@ -1,5 +1,6 @@
 -- The order of names, which the numbers of their first bytes decide where these differ.
-use Rattle.std.proofs.Common.{◌≡◌, ◌≢◌, ℕ, zero, suc, ◌<◌, ◌≤◌, ◌+◌, ◌*◌, ◌^◌, true, List, [], ◌∷◌, length, take, drop, IsTrue, refl, sym, ap, ◌∙◌, arith, inl, inr}
+use Rattle.std.proofs.Common.{◌≡◌, ◌≢◌, ℕ, zero, suc, ◌<◌, ◌≤◌, ◌+◌, ◌*◌, ◌^◌, true, List, [], ◌∷◌, length, take, drop, IsTrue}
+use Rattle.std.proofs.Common.{refl, sym, ap, ◌∙◌, arith, inl, inr}
 use Rattle.std.specs.Prelude.{slice_index, slice_range}
 use Rattle.std.specs.List.{list_all}
 use Rattle.std.specs.Cmp.{nat_cmp_is}
@@ -258,8 +259,10 @@ backs_decide len other_len kept other m n f g h middle other_middle same back ot
     let mine = named xs h.name in
     let theirs = named ys h.other_name in
     let middles : big_from 0 16 (drop 8 xs) ≡ big_from 0 16 (drop 8 ys) =
-    sym (kept-number 16 8 22 len kept (omega arith) h.zeros) ∙ sym middle ∙ same ∙ other_middle ∙ kept-number 16 8 22 other_len other (omega arith) h.other_zeros in
-    (λ k. nat_cmp ((back ∙ kept-number 8 22 8 len kept (omega arith) h.zeros) k) ((other_back ∙ kept-number 8 22 8 other_len other (omega arith) h.other_zeros) k))
+    sym (kept-number 16 8 22 len kept (omega arith) h.zeros) ∙ sym middle ∙ same ∙ other_middle
+    ∙ kept-number 16 8 22 other_len other (omega arith) h.other_zeros in
+    (λ k. nat_cmp ((back ∙ kept-number 8 22 8 len kept (omega arith) h.zeros) k)
+    ((other_back ∙ kept-number 8 22 8 other_len other (omega arith) h.other_zeros) k))
     ∙ whole 8 (drop 22 xs) (drop 22 ys) (dropped 22 xs mine) (dropped 22 ys theirs)
     (last-eight len kept h.short) (last-eight other_len other h.other_short)
     ∙ sym ((λ k. slice_cmp nat_cmp (drop-drop 14 8 xs k) (drop-drop 14 8 ys k)))

@@ -12,7 +12,7 @@ use std::marker::Model;
 /// Names that are left to read: a text with a slash before each, or a list.
 #[derive(Clone, Copy)]
 pub(crate) enum Left<'a> {
-    /// Beside the text, the stops behind its first byte.
+    /// Beside the text, stops behind its first byte: those of the next bytes, or none.
     InText { text: &'a [u8], stops: u64 },
     InList(&'a [Name]),
 }

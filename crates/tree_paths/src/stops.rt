@@ -25,7 +25,8 @@ pub(crate) fn block_stops<const N: usize>(text: &[u8], at: usize) -> u64
     (bytes.simd_eq(Simd::splat(SEPARATOR)) | bytes.simd_eq(Simd::splat(0))).to_bitmask()
 }
 
-/// The stops of a text of at least `N` bytes. The last block overlaps the one before it.
+/// The stops of a text of at least `N` bytes and of a slash behind it, for as many bytes as whole blocks have in 64, or
+/// for all. The last block then overlaps the one before it.
 #[inline(always)]
 fn stops_by<const N: usize>(text: &[u8]) -> u64
     requires some { 0 < N }
@@ -47,7 +48,7 @@ fn stops_by<const N: usize>(text: &[u8]) -> u64
     stops + (last << seen) + (1 << len)
 }
 
-/// The stops of a text.
+/// The stops of a text and of a slash behind it, for as many bytes as the bits of a number are used for.
 #[inline(always)]
 pub(crate) fn stops_of(text: &[u8]) -> u64
     ensures { IsMarked text.now result }

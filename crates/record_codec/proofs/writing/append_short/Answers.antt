@@ -1,4 +1,3 @@
-use Rattle.std.proofs.Common.{arith}
 use Rattle.record_codec.proofs.PaddedLemmas.{record-of-field}
 use Rattle.record_codec.proofs.writing.append_short.Goals as goal
 
