@@ -1,5 +1,5 @@
 -- One notice more.
-use Rattle.std.proofs.Common.{◌≡◌, ℕ, true, ◌+◌, ◌<◌, List, [], ◌∷◌, ◌++◌, Some, length, take, map, get_or, sym, ap, ◌∙◌, append_assoc}
+use Rattle.std.proofs.Common.{◌≡◌, ℕ, true, ◌+◌, ◌<◌, List, [], ◌∷◌, ◌++◌, Some, length, take, map, get_or, refl, sym, ap, ◌∙◌, append_assoc}
 use Rattle.std.specs.Prelude.{ℤ, Option, fold, if◌then◌else◌}
 use Rattle.std.proofs.lemmas.List.{append-nil, map-append, take_more}
 use Rattle.record_codec.specs.declared.event.Event.{Event}
@@ -10,11 +10,15 @@ use Rattle.event_rules.specs.Raised.{raised, raised_at, ended, ended_by, ends_wa
 use Rattle.event_rules.specs.Raised.{told_number, events_of, wds_ended, watches_after}
 use Rattle.event_rules.specs.Staging.{staged_event}
 
-events_of-push : (w : Watching) (ns : List Notice) (n : Notice) → events_of w (ns ++ n ∷ []) ≡ events_of w ns ++ raised (watches_after w ns) n
+pub events_of-push : (w : Watching) (ns : List Notice) (n : Notice) → events_of w (ns ++ n ∷ []) ≡ events_of w ns ++ raised (watches_after w ns) n
 events_of-push w [] n = append-nil (raised w n)
 events_of-push w (m ∷ ms) n =
     ap (λ es. raised w m ++ es) (events_of-push (left w m) ms n)
     ∙ sym (append_assoc (raised w m) (events_of (left w m) ms) (raised (watches_after (left w m) ms) n))
+
+pub watches_after-push : (w : Watching) (ns : List Notice) (n : Notice) → watches_after w (ns ++ n ∷ []) ≡ left (watches_after w ns) n
+watches_after-push w [] n = refl
+watches_after-push w (m ∷ ms) n = watches_after-push (left w m) ms n
 
 wds_ended-push : (w : Watching) (ns : List Notice) (n : Notice) → wds_ended w (ns ++ n ∷ []) ≡ wds_ended w ns ++ ended (watches_after w ns) n
 wds_ended-push w [] n = append-nil (ended w n)

@@ -14,5 +14,5 @@ pub use laws::{
     removed_watches_are_left_out, unwatched_files_raise_nothing,
 };
 pub use notice::{NO_COOKIE, Notice, Notices};
-pub use staging::{Staged, StagedEnd, StagedEvent, ignored, stage};
+pub use staging::{Staged, StagedEnd, StagedEvent, ignored, stage, stage_kept};
 pub use telling::notices;

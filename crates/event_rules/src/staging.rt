@@ -1,6 +1,6 @@
 //! The events that notices raise for the watches of an instance.
 
-ghost use Rattle.std.specs.Prelude.{◌≡◌, ◌++◌, [], fold, map, IfOk, IfErr, OnOk};
+ghost use Rattle.std.specs.Prelude.{◌≡◌, ◌++◌, [], Some, true, false, not, fold, map, IfOk, IfErr, OnOk};
 ghost use Rattle.watch_table.specs.Masks.{has_any};
 ghost use Rattle.watch_table.specs.Watching.{removed, watch_of};
 ghost use Rattle.event_rules.specs.Staging.{staged_end, staged_event};
@@ -105,6 +105,32 @@ pub fn stage(
     raise(id, watches, notices, &mut staged.events, &mut staged.wds)?;
     end(id, &staged.wds, &mut staged.drops)?;
     Ok(())
+}
+
+/// Stages for an instance what one notice raises for the watch of its file, behind what was staged, unless the notice
+/// ends the watch. The answer is whether the watch stays. If it does not, nothing is staged.
+///
+/// # Errors
+/// `ENOMEM` alone.
+#[inline(always)]
+pub fn stage_kept(
+    id: u32,
+    watch: (i32, u32),
+    notice: &Notice,
+    staged: &mut Staged,
+) -> Result<bool, Refusal>
+    ensures kept { IfOk result (λ stays. stays ≡ not (ends_watch notice.now watch)) }
+    ensures events { IfOk result (λ stays. stays ≡ true → staged.new.events.items
+        ≡ staged.old.events.items ++ map (staged_event id) (raised_at notice.now (Some watch))) }
+    ensures ended { IfOk result (λ stays. stays ≡ false → staged.new.events.items ≡ staged.old.events.items) }
+    ensures drops { staged.new.drops.items ≡ staged.old.drops.items }
+    ensures memory { IfErr result (λ refusal. refusal ≡ Refusal.Enomem) }
+{
+    if ends_watch(notice, watch) {
+        return Ok(false);
+    }
+    raise_told(id, notice, watch, &mut staged.events)?;
+    Ok(true)
 }
 
 /// Adds the events that notices raise for an instance, and the descriptors of the watches that they end, where none is
