@@ -52,7 +52,7 @@ watches-cut w (n ∷ ns) zero h = sym (watches_after-unwatched w (n ∷ ns) (λ 
 watches-cut w (n ∷ ns) (suc k) h =
     watches-cut (left w n) ns k (λ j d a b. unwatched-left w n (told_number (get_or ns j d)) (h (suc j) d (omega arith) (omega arith)))
 
-none-of : (o : Option Watch) → is_some o ≡ false → o ≡ None
+pub none-of : (o : Option Watch) → is_some o ≡ false → o ≡ None
 none-of None h = refl
 none-of (Some x) h = absurd (Rattle.std.proofs.lemmas.Bool.false≢true (sym h))
 

@@ -1,5 +1,5 @@
 -- The open instances and the index of watchers, changed together.
-use Rattle.std.proofs.Common.{◌≡◌, ℕ, Bool, true, false, not, cond, ◌||◌, ◌&&◌, ◌++◌, ◌∷◌, [], suc, List, take, drop}
+use Rattle.std.proofs.Common.{◌≡◌, ℕ, Bool, true, false, cond, ◌&&◌, ◌++◌, ◌∷◌, [], suc, List, take, drop}
 use Rattle.std.proofs.Common.{set, get_or, eqb, Option, Some, None, is_some, refl, sym, ap, ◌∙◌, subst, arith}
 use Rattle.std.specs.Prelude.{pos, ℤ, Result, Ok, Err, OnOk, OnErr}
 use Rattle.record_codec.specs.Records.{AreEvents}
@@ -7,19 +7,20 @@ use Rattle.tree_paths.specs.declared.refusal.Refusal.{Refusal}
 use Rattle.std.specs.Vec.{with_item}
 use Rattle.std.specs.FinMap as map
 use Rattle.std.specs.FinMap.{get-insert, get-remove, same_map, nat_cmp-IsAntisymmetric}
-use Rattle.std.specs.Ordering.{nat_cmp, eq_by_cmp}
+use Rattle.std.specs.Ordering.{nat_cmp}
 use Rattle.std.specs.Cmp.{nat_cmp_total, unsigned_tied}
 use Rattle.event_queue.specs.Backlogs.{Backlog}
 use Rattle.watch_table.specs.Watching.{Watch, Watching, watch_of, added, dropped}
 use Rattle.instance_table.specs.declared.index.Index.{Index}
 use Rattle.instance_table.specs.declared.instance.Instance.{Instance}
 use Rattle.instance_table.specs.declared.instances.Instances.TheInside.{Inside}
-use Rattle.instance_table.specs.Index.{HasNoEmptyRow, is_noted}
-use Rattle.instance_table.specs.Instances.{Instances, WaitingAreEvents, instance_of, changed, waiting_of, watches_file}
+use Rattle.instance_table.specs.Index.{HasNoEmptyRow, watch_noted}
+use Rattle.instance_table.specs.Instances.{Instances, WaitingAreEvents, instance_of, changed, waiting_of}
 use Rattle.instance_table.specs.declared.opened.Opened.{Opened}
 use Rattle.instance_table.specs.Ids.{IsPlace}
 use Rattle.instance_table.specs.Opened.{by_number, ids_of}
 use Rattle.instance_table.specs.Views.{instances_of, NotesEveryWatch}
+use Rattle.instance_table.specs.Watchers.{watch_at}
 use Rattle.instance_table.proofs.Rising.{entries-rising, get-absent, get-at, length-keys, cut-absent, map-cut, map-put}
 use Rattle.instance_table.proofs.Rising.{map-set, rises-cut, rises-put, rises-set}
 use Rattle.std.proofs.lemmas.List.{get_or-map}
@@ -54,47 +55,59 @@ put-same m id i h = same_map nat_cmp_total nat_cmp-IsAntisymmetric _ _ (λ q.
       | false ↦ λ t. refl
     ] refl)
 
--- who watches a file where an instance has other watches
+-- the watches for a file where an instance has other watches
 pub watched-put : (m : Instances) (id : ℕ) (i : Instance) (n q : ℕ)
-    → watches_file n (instance_of (map.insert m id i) q) ≡ cond (eqb q id) (is_some (watch_of i.watches n)) (watches_file n (instance_of m q))
+    → watch_at n (instance_of (map.insert m id i) q) ≡ cond (eqb q id) (watch_of i.watches n) (watch_at n (instance_of m q))
 watched-put m id i n q =
-    ap (watches_file n) (get-put m id i q)
-    ∙ elim (eqb q id) as (λ t. watches_file n (cond t (Some i) (instance_of m q))
-    ≡ cond t (is_some (watch_of i.watches n)) (watches_file n (instance_of m q)))
+    ap (watch_at n) (get-put m id i q)
+    ∙ elim (eqb q id) as (λ t. watch_at n (cond t (Some i) (instance_of m q)) ≡ cond t (watch_of i.watches n) (watch_at n (instance_of m q)))
     [ true ↦ refl | false ↦ refl ]
 
-pub watched-cut : (m : Instances) (id n q : ℕ) → watches_file n (instance_of (map.remove m id) q) ≡ cond (eqb q id) false (watches_file n (instance_of m q))
+pub watched-cut : (m : Instances) (id n q : ℕ) → watch_at n (instance_of (map.remove m id) q) ≡ cond (eqb q id) None (watch_at n (instance_of m q))
 watched-cut m id n q =
-    ap (watches_file n) (get-cut m id q)
-    ∙ elim (eqb q id) as (λ t. watches_file n (cond t None (instance_of m q)) ≡ cond t false (watches_file n (instance_of m q))) [ true ↦ refl | false ↦ refl ]
+    ap (watch_at n) (get-cut m id q)
+    ∙ elim (eqb q id) as (λ t. watch_at n (cond t None (instance_of m q)) ≡ cond t None (watch_at n (instance_of m q))) [ true ↦ refl | false ↦ refl ]
 
-is_some-cut : (b : Bool) {A : Type 0} (o : Option A) → is_some (cond b None o) ≡ (not b && is_some o)
-is_some-cut true o = refl
-is_some-cut false o = refl
-
-pub watched-dropped : (w : Watching) (number n : ℕ) → is_some (watch_of (dropped w number) n) ≡ (not (eqb n number) && is_some (watch_of w n))
+pub watched-dropped : (w : Watching) (number n : ℕ) → watch_of (dropped w number) n ≡ cond (eqb n number) None (watch_of w n)
 unfolding dropped
 watched-dropped w number n =
-    ap is_some (get-remove nat_cmp_total w.watches number n) ∙ is_some-cut (eq_by_cmp nat_cmp n number) (watch_of w n)
-    ∙ ap (λ t. not t && is_some (watch_of w n)) (unsigned_tied n number)
-
-is_some-put : {A : Type 0} (b : Bool) (x : A) (o : Option A) → is_some (cond b (Some x) o) ≡ (b || is_some o)
-is_some-put true x o = refl
-is_some-put false x o = refl
+    get-remove nat_cmp_total w.watches number n ∙ ap (λ t. cond t None (watch_of w n)) (unsigned_tied n number)
 
 watched-inserted : (m : map.FinMap nat_cmp Watch) (number n : ℕ) (x : Watch)
-    → is_some (map.get (map.insert m number x) n) ≡ (eqb n number || is_some (map.get m n))
+    → map.get (map.insert m number x) n ≡ cond (eqb n number) (map.get (map.insert m number x) number) (map.get m n)
 watched-inserted m number n x =
-    ap is_some (get-insert nat_cmp_total m number x n) ∙ is_some-put (eq_by_cmp nat_cmp n number) x (map.get m n)
-    ∙ ap (λ t. t || is_some (map.get m n)) (unsigned_tied n number)
+    get-insert nat_cmp_total m number x n ∙ ap (λ t. cond t (Some x) (map.get m n)) (unsigned_tied n number)
+    ∙ ap (λ o. cond (eqb n number) o (map.get m n)) (sym at)
+  where
+    at : map.get (map.insert m number x) number ≡ Some x
+    at =
+        get-insert nat_cmp_total m number x number
+        ∙ ap (λ t. cond t (Some x) (map.get m number)) (unsigned_tied number number ∙ Rattle.std.proofs.lemmas.Bool.eq-eqb number number refl)
 
-pub watched-added : (w : Watching) (number mask n : ℕ) → is_some (watch_of (added w number mask) n) ≡ (eqb n number || is_some (watch_of w n))
+-- only the watch of one file is another after a call to watch it
+pub watched-added : (w : Watching) (number mask n : ℕ)
+    → watch_of (added w number mask) n ≡ cond (eqb n number) (watch_of (added w number mask) number) (watch_of w n)
 unfolding added
 watched-added w number mask n = by (watch_of w number)
   where
-    by : (o : Option Watch) → is_some (watch_of (Rattle.watch_table.specs.Watching.added_to w number mask o) n) ≡ (eqb n number || is_some (watch_of w n))
+    by : (o : Option Watch) → watch_of (Rattle.watch_table.specs.Watching.added_to w number mask o) n
+        ≡ cond (eqb n number) (watch_of (Rattle.watch_table.specs.Watching.added_to w number mask o) number) (watch_of w n)
     by None = watched-inserted w.watches number n (pos w.next_wd, Rattle.watch_table.specs.Masks.stored mask)
     by (Some watch) = watched-inserted w.watches number n (watch.0, Rattle.watch_table.specs.Watching.next_bits mask watch.1)
+
+-- the file has a watch then
+pub watched-there : (w : Watching) (number mask : ℕ) → is_some (watch_of (added w number mask) number) ≡ true
+unfolding added
+watched-there w number mask = by (watch_of w number)
+  where
+    put : (x : Watch) → is_some (map.get (map.insert w.watches number x) number) ≡ true
+    put x =
+        ap is_some (get-insert nat_cmp_total w.watches number x number
+        ∙ ap (λ t. cond t (Some x) (map.get w.watches number)) (unsigned_tied number number ∙ Rattle.std.proofs.lemmas.Bool.eq-eqb number number refl))
+
+    by : (o : Option Watch) → is_some (watch_of (Rattle.watch_table.specs.Watching.added_to w number mask o) number) ≡ true
+    by None = put (pos w.next_wd, Rattle.watch_table.specs.Masks.stored mask)
+    by (Some watch) = put (watch.0, Rattle.watch_table.specs.Watching.next_bits mask watch.1)
 
 -- ---- what waits
 
@@ -150,72 +163,69 @@ some-at (row ∷ rows) id place rising at free =
 
 -- ---- what the index notes of one instance
 
+both : (b : Bool) (x y : Option Watch) → cond (b && true) x y ≡ cond b x y
+both true x y = refl
+both false x y = refl
+
+alone : (b : Bool) (x y : Option Watch) → cond (b && false) x y ≡ y
+alone true x y = refl
+alone false x y = refl
+
 module _ (a : Inside) (whole : NotesEveryWatch a) (id : ℕ) (i : Instance) (was : instance_of (instances_of a) id ≡ Some i) where
   -- what waits in an instance are events
   pub events-at : AreEvents i.queue.waiting
   events-at = subst (λ o. AreEvents (waiting_of o)) was (whole.records id)
 
-  here : (n q : ℕ) → eqb q id ≡ true → is_noted a.index n q ≡ is_some (watch_of i.watches n)
-  here n q t = whole.noted n q ∙ ap (λ x. watches_file n (instance_of (instances_of a) x)) (is-same q id t) ∙ ap (watches_file n) was
+  here : (n q : ℕ) → eqb q id ≡ true → watch_noted a.index n q ≡ watch_of i.watches n
+  here n q t = whole.noted n q ∙ ap (λ x. watch_at n (instance_of (instances_of a) x)) (is-same q id t) ∙ ap (watch_at n) was
 
   -- the watch of one file is dropped
   pub noted-dropped : (number : ℕ) (w : Watching) → w ≡ dropped i.watches number → (index : Index)
-      → ((n q : ℕ) → is_noted index n q ≡ (not (eqb n number && eqb q id) && is_noted a.index n q))
-      → (n q : ℕ) → is_noted index n q ≡ cond (eqb q id) (is_some (watch_of w n)) (is_noted a.index n q)
+      → ((n q : ℕ) → watch_noted index n q ≡ cond (eqb n number && eqb q id) None (watch_noted a.index n q))
+      → (n q : ℕ) → watch_noted index n q ≡ cond (eqb q id) (watch_of w n) (watch_noted a.index n q)
   noted-dropped number w e index cut n q =
       cut n q
-      ∙ elim (eqb q id) as (λ t. eqb q id ≡ t → (not (eqb n number && t) && is_noted a.index n q) ≡ cond t (is_some (watch_of w n)) (is_noted a.index n q)) [
+      ∙ elim (eqb q id) as (λ t. eqb q id ≡ t
+      → cond (eqb n number && t) None (watch_noted a.index n q) ≡ cond t (watch_of w n) (watch_noted a.index n q)) [
         | true ↦
-            λ t. ap (λ b. not (eqb n number && true) && b) (here n q t) ∙ both (eqb n number) (is_some (watch_of i.watches n))
-            ∙ sym (watched-dropped i.watches number n) ∙ ap (λ x. is_some (watch_of x n)) (sym e)
-        | false ↦ λ t. alone (eqb n number) (is_noted a.index n q)
+            λ t. ap (λ x. cond (eqb n number && true) None x) (here n q t) ∙ both (eqb n number) None (watch_of i.watches n)
+            ∙ sym (watched-dropped i.watches number n) ∙ ap (λ x. watch_of x n) (sym e)
+        | false ↦ λ t. alone (eqb n number) None (watch_noted a.index n q)
       ] refl
-    where
-      both : (b c : Bool) → (not (b && true) && c) ≡ (not b && c)
-      both true c = refl
-      both false c = refl
-
-      alone : (b c : Bool) → (not (b && false) && c) ≡ c
-      alone true c = refl
-      alone false c = refl
 
   -- nothing has changed
   pub noted-same : (w : Watching) → w ≡ i.watches → (index : Index)
-      → ((n q : ℕ) → is_noted index n q ≡ is_noted a.index n q) → (n q : ℕ)
-      → is_noted index n q ≡ cond (eqb q id) (is_some (watch_of w n)) (is_noted a.index n q)
+      → ((n q : ℕ) → watch_noted index n q ≡ watch_noted a.index n q) → (n q : ℕ)
+      → watch_noted index n q ≡ cond (eqb q id) (watch_of w n) (watch_noted a.index n q)
   noted-same w e index same n q =
       same n q
-      ∙ elim (eqb q id) as (λ t. eqb q id ≡ t → is_noted a.index n q ≡ cond t (is_some (watch_of w n)) (is_noted a.index n q)) [
-        | true ↦ λ t. here n q t ∙ ap (λ x. is_some (watch_of x n)) (sym e)
+      ∙ elim (eqb q id) as (λ t. eqb q id ≡ t → watch_noted a.index n q ≡ cond t (watch_of w n) (watch_noted a.index n q)) [
+        | true ↦ λ t. here n q t ∙ ap (λ x. watch_of x n) (sym e)
         | false ↦ λ t. refl
       ] refl
 
   -- a file is watched
   noted-added : (number mask : ℕ) (w : Watching) → w ≡ added i.watches number mask → (index : Index)
-      → ((n q : ℕ) → is_noted index n q ≡ ((eqb n number && eqb q id) || is_noted a.index n q))
-      → (n q : ℕ) → is_noted index n q ≡ cond (eqb q id) (is_some (watch_of w n)) (is_noted a.index n q)
+      → ((n q : ℕ) → watch_noted index n q ≡ cond (eqb n number && eqb q id) (watch_of w number) (watch_noted a.index n q))
+      → (n q : ℕ) → watch_noted index n q ≡ cond (eqb q id) (watch_of w n) (watch_noted a.index n q)
   noted-added number mask w e index put n q =
       put n q
-      ∙ elim (eqb q id) as (λ t. eqb q id ≡ t → ((eqb n number && t) || is_noted a.index n q) ≡ cond t (is_some (watch_of w n)) (is_noted a.index n q)) [
+      ∙ elim (eqb q id) as (λ t. eqb q id ≡ t
+      → cond (eqb n number && t) (watch_of w number) (watch_noted a.index n q) ≡ cond t (watch_of w n) (watch_noted a.index n q)) [
         | true ↦
-            λ t. ap (λ b. (eqb n number && true) || b) (here n q t) ∙ both (eqb n number) (is_some (watch_of i.watches n))
-            ∙ sym (watched-added i.watches number mask n) ∙ ap (λ x. is_some (watch_of x n)) (sym e)
-        | false ↦ λ t. alone (eqb n number) (is_noted a.index n q)
+            λ t. ap (λ x. cond (eqb n number && true) (watch_of w number) x) (here n q t)
+            ∙ both (eqb n number) (watch_of w number) (watch_of i.watches n)
+            ∙ ap (λ x. cond (eqb n number) (watch_of x number) (watch_of i.watches n)) e
+            ∙ sym (watched-added i.watches number mask n) ∙ ap (λ x. watch_of x n) (sym e)
+        | false ↦ λ t. alone (eqb n number) (watch_of w number) (watch_noted a.index n q)
       ] refl
-    where
-      both : (b c : Bool) → ((b && true) || c) ≡ (b || c)
-      both true c = refl
-      both false c = refl
-
-      alone : (b c : Bool) → ((b && false) || c) ≡ c
-      alone true c = refl
-      alone false c = refl
 
   -- a file was to be watched
   pub noted-after : (number mask : ℕ) (w : Watching) (index : Index) (r : Result ℤ Refusal)
-      → OnOk r (w ≡ added i.watches number mask) → OnOk r ((n q : ℕ) → is_noted index n q ≡ ((eqb n number && eqb q id) || is_noted a.index n q))
-      → OnErr r (w ≡ i.watches) → OnErr r ((n q : ℕ) → is_noted index n q ≡ is_noted a.index n q)
-      → (n q : ℕ) → is_noted index n q ≡ cond (eqb q id) (is_some (watch_of w n)) (is_noted a.index n q)
+      → OnOk r (w ≡ added i.watches number mask)
+      → OnOk r ((n q : ℕ) → watch_noted index n q ≡ cond (eqb n number && eqb q id) (watch_of w number) (watch_noted a.index n q))
+      → OnErr r (w ≡ i.watches) → OnErr r ((n q : ℕ) → watch_noted index n q ≡ watch_noted a.index n q)
+      → (n q : ℕ) → watch_noted index n q ≡ cond (eqb q id) (watch_of w n) (watch_noted a.index n q)
   noted-after number mask w index (Ok wd) e put f same = noted-added number mask w e index put
   noted-after number mask w index (Err r) e put f same = noted-same w f index same
 
@@ -226,19 +236,19 @@ module _ (a b : Inside) (whole : NotesEveryWatch a) (rising : IsStrictlySortedBy
   module _ (id : ℕ) (i j : Instance) (was : instance_of (instances_of a) id ≡ Some i)
       (put : instances_of b ≡ map.insert (instances_of a) id j) (events : AreEvents j.queue.waiting) where
     -- its watches have changed as the index has
-    pub IsIndexed-changed : ((n q : ℕ) → is_noted b.index n q ≡ cond (eqb q id) (is_some (watch_of j.watches n)) (is_noted a.index n q)) → NotesEveryWatch b
+    pub IsIndexed-changed : ((n q : ℕ) → watch_noted b.index n q ≡ cond (eqb q id) (watch_of j.watches n) (watch_noted a.index n q)) → NotesEveryWatch b
     IsIndexed-changed noted = record {
       rows = rows;
       rising = rising;
       noted = λ n q.
-          noted n q ∙ ap (cond (eqb q id) (is_some (watch_of j.watches n))) (whole.noted n q)
-          ∙ sym (ap (λ x. watches_file n (instance_of x q)) put ∙ watched-put (instances_of a) id j n q);
+          noted n q ∙ ap (cond (eqb q id) (watch_of j.watches n)) (whole.noted n q)
+          ∙ sym (ap (λ x. watch_at n (instance_of x q)) put ∙ watched-put (instances_of a) id j n q);
       records = subst WaitingAreEvents (sym put) (waiting-put (instances_of a) id j whole.records events);
     }
 
     -- it watches the same files
     pub IsIndexed-kept : b.index ≡ a.index → j.watches ≡ i.watches → NotesEveryWatch b
-    IsIndexed-kept index same = IsIndexed-changed (noted-same a whole id i was j.watches same b.index (λ n q. ap (λ x. is_noted x n q) index))
+    IsIndexed-kept index same = IsIndexed-changed (noted-same a whole id i was j.watches same b.index (λ n q. ap (λ x. watch_noted x n q) index))
 
   -- a new instance, which watches nothing
   pub IsIndexed-new : (id : ℕ) (i : Instance) → instances_of b ≡ map.insert (instances_of a) id i → instance_of (instances_of a) id ≡ None
@@ -247,11 +257,11 @@ module _ (a b : Inside) (whole : NotesEveryWatch a) (rising : IsStrictlySortedBy
     rows = rows;
     rising = rising;
     noted = λ n q.
-        ap (λ x. is_noted x n q) index ∙ whole.noted n q
-        ∙ sym (ap (λ x. watches_file n (instance_of x q)) put ∙ watched-put (instances_of a) id i n q
+        ap (λ x. watch_noted x n q) index ∙ whole.noted n q
+        ∙ sym (ap (λ x. watch_at n (instance_of x q)) put ∙ watched-put (instances_of a) id i n q
         ∙ elim (eqb q id) as (λ t. eqb q id ≡ t
-        → cond t (is_some (watch_of i.watches n)) (watches_file n (instance_of (instances_of a) q)) ≡ watches_file n (instance_of (instances_of a) q)) [
-          | true ↦ λ t. ap is_some (none n) ∙ ap (watches_file n) (sym free) ∙ ap (λ x. watches_file n (instance_of (instances_of a) x)) (sym (is-same q id t))
+        → cond t (watch_of i.watches n) (watch_at n (instance_of (instances_of a) q)) ≡ watch_at n (instance_of (instances_of a) q)) [
+          | true ↦ λ t. none n ∙ ap (watch_at n) (sym free) ∙ ap (λ x. watch_at n (instance_of (instances_of a) x)) (sym (is-same q id t))
           | false ↦ λ t. refl
         ] refl);
     records = subst WaitingAreEvents (sym put) (waiting-put (instances_of a) id i whole.records events);
@@ -259,33 +269,29 @@ module _ (a b : Inside) (whole : NotesEveryWatch a) (rising : IsStrictlySortedBy
 
   -- an instance less, which the index forgets
   pub IsIndexed-closed : (id : ℕ) (i : Instance) → instances_of b ≡ map.remove (instances_of a) id → instance_of (instances_of a) id ≡ Some i
-      → ((n q : ℕ) → is_noted b.index n q ≡ (not (is_some (watch_of i.watches n) && eqb q id) && is_noted a.index n q)) → NotesEveryWatch b
+      → ((n q : ℕ) → watch_noted b.index n q ≡ cond (is_some (watch_of i.watches n) && eqb q id) None (watch_noted a.index n q)) → NotesEveryWatch b
   IsIndexed-closed id i cut was forgotten = record {
     rows = rows;
     rising = rising;
     noted = λ n q.
         forgotten n q
-        ∙ ap (λ b. not (is_some (watch_of i.watches n) && eqb q id) && b) (whole.noted n q)
+        ∙ ap (cond (is_some (watch_of i.watches n) && eqb q id) None) (whole.noted n q)
         ∙ elim (eqb q id) as (λ t. eqb q id ≡ t
-        → (not (is_some (watch_of i.watches n) && t) && watches_file n (instance_of (instances_of a) q))
-        ≡ cond t false (watches_file n (instance_of (instances_of a) q))) [
+        → cond (is_some (watch_of i.watches n) && t) None (watch_at n (instance_of (instances_of a) q))
+        ≡ cond t None (watch_at n (instance_of (instances_of a) q))) [
           | true ↦ λ t.
-              let here : watches_file n (instance_of (instances_of a) q) ≡ is_some (watch_of i.watches n) =
-              ap (λ x. watches_file n (instance_of (instances_of a) x)) (is-same q id t) ∙ ap (watches_file n) was in
-              ap (λ b. not (is_some (watch_of i.watches n) && true) && b) here ∙ off (is_some (watch_of i.watches n))
-          | false ↦ λ t. on (is_some (watch_of i.watches n)) (watches_file n (instance_of (instances_of a) q))
+              let here : watch_at n (instance_of (instances_of a) q) ≡ watch_of i.watches n =
+              ap (λ x. watch_at n (instance_of (instances_of a) x)) (is-same q id t) ∙ ap (watch_at n) was in
+              ap (λ x. cond (is_some (watch_of i.watches n) && true) None x) here ∙ off (watch_of i.watches n)
+          | false ↦ λ t. alone (is_some (watch_of i.watches n)) None (watch_at n (instance_of (instances_of a) q))
         ] refl
-        ∙ sym (ap (λ x. watches_file n (instance_of x q)) cut ∙ watched-cut (instances_of a) id n q);
+        ∙ sym (ap (λ x. watch_at n (instance_of x q)) cut ∙ watched-cut (instances_of a) id n q);
     records = subst WaitingAreEvents (sym cut) (waiting-cut (instances_of a) id whole.records);
   }
     where
-      off : (b : Bool) → (not (b && true) && b) ≡ false
-      off true = refl
-      off false = refl
-
-      on : (b c : Bool) → (not (b && false) && c) ≡ c
-      on true c = refl
-      on false c = refl
+      off : (o : Option Watch) → cond (is_some o && true) None o ≡ None
+      off None = refl
+      off (Some x) = refl
 
 -- ---- the entries of the map are the rows
 
@@ -344,7 +350,7 @@ module _ (a : Inside) (whole : NotesEveryWatch a) (id : ℕ) (seen : List Opened
 
         -- its watches change as the index does
         pub NotesEveryWatch-changed : (index : Index)
-            → ((n q : ℕ) → is_noted index n q ≡ cond (eqb q id) (is_some (watch_of j.watches n)) (is_noted a.index n q))
+            → ((n q : ℕ) → watch_noted index n q ≡ cond (eqb q id) (watch_of j.watches n) (watch_noted a.index n q))
             → HasNoEmptyRow index → j.queue ≡ row.instance.queue
             → NotesEveryWatch (record with_instance { index = index })
         NotesEveryWatch-changed index noted rows queue =
@@ -375,7 +381,7 @@ module _ (a : Inside) (whole : NotesEveryWatch a) (id : ℕ) (seen : List Opened
     instances_of-closed m view = ap by_number cut ∙ rows-cut a.opened.items id place whole.rising (at-rows place at) ∙ ap (λ x. map.remove x id) view
 
     pub NotesEveryWatch-closed : (row : Opened) → row ≡ get_or a.opened.items place row
-        → ((n q : ℕ) → is_noted b.index n q ≡ (not (is_some (watch_of row.instance.watches n) && eqb q id) && is_noted a.index n q))
+        → ((n q : ℕ) → watch_noted b.index n q ≡ cond (is_some (watch_of row.instance.watches n) && eqb q id) None (watch_noted a.index n q))
         → HasNoEmptyRow b.index → NotesEveryWatch b
     NotesEveryWatch-closed row e forgotten rows =
         IsIndexed-closed a b whole
@@ -386,7 +392,7 @@ module _ (a : Inside) (whole : NotesEveryWatch a) (id : ℕ) (seen : List Opened
 -- the same rows
 pub NotesEveryWatch-same : (a b : Inside) → NotesEveryWatch a → b.opened.items ≡ a.opened.items → b.index ≡ a.index → NotesEveryWatch b
 NotesEveryWatch-same a b whole rows index = record {
-  noted = λ n q. ap (λ x. is_noted x n q) index ∙ whole.noted n q ∙ sym (ap (λ os. watches_file n (instance_of (by_number os) q)) rows);
+  noted = λ n q. ap (λ x. watch_noted x n q) index ∙ whole.noted n q ∙ sym (ap (λ os. watch_at n (instance_of (by_number os) q)) rows);
   rows = subst HasNoEmptyRow (sym index) whole.rows;
   records = subst (λ os. WaitingAreEvents (by_number os)) (sym rows) whole.records;
   rising = subst (λ os. IsStrictlySortedBy nat_cmp (ids_of os)) (sym rows) whole.rising;

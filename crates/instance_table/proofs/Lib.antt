@@ -4,7 +4,9 @@ mod Noted
 mod Rising
 mod Staged
 mod Waiting
-mod Watchers
+mod WhoWatches
 mod Readied
 mod Copied
 mod Cut
+mod Zipped
+mod Kept

@@ -353,10 +353,13 @@ find-marked (k ∷ ks) q =
 abbrev pub mark : Bool → Option (Unit {0})
 mark b = cond b (Some tt) None
 
+pub get-set : (ks : List ℕ) (q : ℕ) → finmap.get (set_of ks) q ≡ mark (list_any (eq_by_cmp nat_cmp q) ks)
+get-set ks q = get-from_entries nat_cmp_total (marked ks) q ∙ find-marked ks q
+
 -- sets where each number is in both or in none
 pub same-set : (ks : List ℕ) (m : IdSet) → ((q : ℕ) → mark (list_any (eq_by_cmp nat_cmp q) ks) ≡ finmap.get m q) → set_of ks ≡ m
 same-set ks m same =
-    same_map nat_cmp_total nat_cmp-IsAntisymmetric (set_of ks) m (λ q. get-from_entries nat_cmp_total (marked ks) q ∙ find-marked ks q ∙ same q)
+    same_map nat_cmp_total nat_cmp-IsAntisymmetric (set_of ks) m (λ q. get-set ks q ∙ same q)
 
 as-rows : (ks : List ℕ) → IsStrictlySortedBy nat_cmp ks → IsStrictlySortedBy nat_cmp (map (λ (k : ℕ). k) ks)
 as-rows ks h = subst (IsStrictlySortedBy nat_cmp) (sym (map-id ks)) h
@@ -375,13 +378,6 @@ items-rising ks h = ap (map (λ (e : ℕ × Unit {0}). e.0)) (entries-rising (λ
 pub set-put : (ks : List ℕ) (i x : ℕ) → IsPlace ks x (Err i) → set_of (take i ks ++ x ∷ drop i ks) ≡ finmap.insert (set_of ks) x tt
 set-put ks i x place = map-put (λ (k : ℕ). k) (λ _. tt) ks i x (place-of-row ks x (Err i) place)
 
-pub set-cut : (ks : List ℕ) (i x : ℕ) → IsStrictlySortedBy nat_cmp ks → IsPlace ks x (Ok i)
-    → set_of (take i ks ++ drop (suc i) ks) ≡ finmap.remove (set_of ks) x
-set-cut ks i x h place = let at = place-of-row ks x (Ok i) place in map-cut (λ (k : ℕ). k) (λ _. tt) ks i x (as-rows ks h) at.0 at.1
-
 pub set-there : (ks : List ℕ) (i x : ℕ) → IsStrictlySortedBy nat_cmp ks → IsPlace ks x (Ok i) → set_of ks ≡ finmap.insert (set_of ks) x tt
 set-there ks i x h place =
     let at = place-of-row ks x (Ok i) place in sym (put-there (set_of ks) x tt (get-at (λ (k : ℕ). k) (λ _. tt) ks i x 0 (as-rows ks h) at.0 at.1))
-
-pub set-absent : (ks : List ℕ) (i x : ℕ) → IsPlace ks x (Err i) → set_of ks ≡ finmap.remove (set_of ks) x
-set-absent ks i x place = sym (cut-absent (set_of ks) x (get-absent (λ (k : ℕ). k) (λ _. tt) ks i x (place-of-row ks x (Err i) place)))

@@ -1,6 +1,6 @@
 -- What is staged: who is a recipient, and who is not.
 use Rattle.std.proofs.Common.{◌≡◌, ℕ, zero, suc, Bool, true, false, cond, ◌||◌, ◌<◌, ◌≤◌, List, [], ◌∷◌, ◌++◌, length}
-use Rattle.std.proofs.Common.{eqb, is_some, Option, Some, None, take, map, refl, sym, ap, ◌∙◌, get_or, arith}
+use Rattle.std.proofs.Common.{eqb, is_some, Option, Some, None, take, map, refl, sym, ap, ◌∙◌, get_or, append_assoc, arith}
 use Rattle.std.specs.Prelude.{ℤ, fold, All}
 use Rattle.std.specs.FinMap as finmap
 use Rattle.std.specs.FinMap.{contains_key-keys}
@@ -17,7 +17,7 @@ use Rattle.watch_table.specs.Watching.{Watching, removed, watch_of}
 use Rattle.instance_table.specs.declared.instance.Instance.{Instance}
 use Rattle.instance_table.specs.Ids.{IdSet}
 use Rattle.instance_table.specs.Instances.{Instances, instance_of, watches_file}
-use Rattle.instance_table.proofs.Watchers.{same-tests}
+use Rattle.instance_table.proofs.WhoWatches.{same-tests}
 
 -- each number of the list of a set is in the set
 pub number-in : (ids : IdSet) (items : List ℕ) (k : ℕ) → items ≡ finmap.keys ids → k < length items → is_some (finmap.get ids (get_or items k 0)) ≡ true
@@ -50,6 +50,10 @@ unwatched w (n ∷ ns) h zero d p =
     none-of (watch_of w (told_number n)) (left (is_some (watch_of w (told_number n))) (list_any (λ (n : Notice). is_some (watch_of w (told_number n))) ns) h)
 unwatched w (n ∷ ns) h (suc k) d p =
     unwatched w ns (right (is_some (watch_of w (told_number n))) (list_any (λ (n : Notice). is_some (watch_of w (told_number n))) ns) h) k d (omega arith)
+
+pub or-true : (b t : Bool) (P : Type 0) → (b || t) ≡ true → (b ≡ true → P) → (t ≡ true → P) → P
+or-true true t P h left right = left refl
+or-true false t P h left right = right h
 
 -- ---- what is for one of several
 
@@ -99,18 +103,29 @@ module _ {X Y : Type 0} (id_of : X → ℕ) (what : X → Y) (label : ℕ → Y 
         | false ↦ λ h. h
       ] (labelled q id ys)
 
-  -- all of it for one more
-  pub step : (q id : ℕ) (xs : List X) (ys all : List Y) (b : Bool) → to q xs ≡ cond b all []
-      → (eqb q id ≡ true → (b ≡ false) × (ys ≡ all)) → to q (xs ++ map (label id) ys) ≡ cond (b || eqb q id) all []
-  step q id xs ys all b was new =
-      to-append q xs (map (label id) ys) ∙ (λ k. was k ++ labelled q id ys k)
-      ∙ elim (eqb q id) as (λ t. eqb q id ≡ t → (cond b all [] ++ cond t ys []) ≡ cond (b || t) all []) [
+  -- those before an element, and those of it
+  merged : (q id : ℕ) (ys all : List Y) (b : Bool) → (eqb q id ≡ true → (b ≡ false) × (ys ≡ all))
+      → cond b all [] ++ cond (eqb q id) ys [] ≡ cond (b || eqb q id) all []
+  merged q id ys all b new =
+      elim (eqb q id) as (λ t. eqb q id ≡ t → (cond b all [] ++ cond t ys []) ≡ cond (b || t) all []) [
         | true ↦ λ t. let is = new t in (λ k. cond (is.0 k) all [] ++ is.1 k) ∙ sym (ap (λ x. cond (x || true) all []) is.0)
         | false ↦ λ t. elim b as (λ x. (cond x all [] ++ []) ≡ cond (x || false) all []) [
           | true ↦ append-nil all
           | false ↦ refl
         ]
       ] refl
+
+  -- all of it for one more
+  pub step : (q id : ℕ) (xs : List X) (ys all : List Y) (b : Bool) → to q xs ≡ cond b all []
+      → (eqb q id ≡ true → (b ≡ false) × (ys ≡ all)) → to q (xs ++ map (label id) ys) ≡ cond (b || eqb q id) all []
+  step q id xs ys all b was new = to-append q xs (map (label id) ys) ∙ (λ k. was k ++ labelled q id ys k) ∙ merged q id ys all b new
+
+  -- and behind others
+  pub step-behind : (q id : ℕ) (xs : List X) (ys all front : List Y) (b : Bool) → to q xs ≡ front ++ cond b all []
+      → (eqb q id ≡ true → (b ≡ false) × (ys ≡ all)) → to q (xs ++ map (label id) ys) ≡ front ++ cond (b || eqb q id) all []
+  step-behind q id xs ys all front b was new =
+      to-append q xs (map (label id) ys) ∙ (λ k. was k ++ labelled q id ys k) ∙ append_assoc front (cond b all []) (cond (eqb q id) ys [])
+      ∙ ap (λ zs. front ++ zs) (merged q id ys all b new)
 
 -- ---- all of them
 

@@ -1,20 +1,21 @@
 -- What an index of watchers notes. No public clause cites this module.
-use Rattle.std.specs.Prelude.{◌≡◌, ◌≢◌, ℕ, Bool, Some, is_some}
-use Rattle.std.specs.Option.{unwrap_or}
+use Rattle.std.specs.Prelude.{◌≡◌, ◌≢◌, ℕ, Option, Some}
 use Rattle.std.specs.BTreeMap as tree
 use Rattle.std.specs.FinMap as map
 use Rattle.std.specs.Ordering.{nat_cmp}
+use Rattle.watch_table.specs.Watching.{Watch}
 use Rattle.instance_table.specs.declared.index.Index.{Index}
-use Rattle.instance_table.specs.Ids.{IdSet}
+use Rattle.instance_table.specs.Watchers.{WatchMap, row_or_none}
 
--- the instances that are noted for a file
-abbrev pub ids_under : Index → ℕ → IdSet
-ids_under index number = unwrap_or (tree.get nat_cmp index.watchers number) map.empty
+-- the instances that are noted for a file, with their watches
+abbrev pub row_under : Index → ℕ → WatchMap
+row_under index number = row_or_none (tree.get nat_cmp index.watchers number)
 
--- whether an instance is noted for a file
-abbrev pub is_noted : Index → ℕ → ℕ → Bool
-is_noted index number id = is_some (map.get (ids_under index number) id)
+-- the watch that is noted for a file and an instance
+abbrev pub watch_noted : Index → ℕ → ℕ → Option Watch
+watch_noted index number id = map.get (row_under index number) id
 
 -- each file that has a row is watched: none of the rows is empty
 abbrev pub HasNoEmptyRow : Index → Type 0
-HasNoEmptyRow index = (number : ℕ) (ids : IdSet) → tree.get nat_cmp index.watchers number ≡ Some ids → ids ≢ map.empty
+HasNoEmptyRow index =
+    (number : ℕ) (row : WatchMap) → tree.get nat_cmp index.watchers number ≡ Some row → row ≢ map.empty

@@ -1,4 +1,5 @@
 pub mod Ids
+pub mod Watchers
 pub mod Index
 pub mod Instances
 pub mod Opened
@@ -8,3 +9,4 @@ pub mod Staging
 pub mod Heard
 pub mod Rows
 pub mod Ready
+pub mod Recent

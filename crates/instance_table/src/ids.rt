@@ -8,7 +8,7 @@ ghost use Rattle.instance_table.specs.Ids.{IsPlace};
 use std::alloc::{AllocError, Global};
 use std::marker::Model;
 
-/// The numbers of the instances that watch a file, each once, rising.
+/// Numbers of instances, each once, rising.
 pub struct Ids {
     ids: Vec<u32>,
 }
@@ -33,16 +33,6 @@ impl Model for Ids {
     ghost view = { λ a. set_of a.ids.items };
 
     ghost invariant = { λ a. IsStrictlySortedBy nat_cmp a.ids.items };
-}
-
-impl Clone for Ids {
-    ghost is_clone = { λ ids copy. copy ≡ ids };
-
-    fn clone(&self) -> Result<Ids, AllocError> {
-        Ok(Ids {
-            ids: self.ids.clone()?,
-        })
-    }
 }
 
 impl Ids {
@@ -83,15 +73,6 @@ impl Ids {
         Ok(())
     }
 
-    /// Takes out a number, if it is there. It takes no memory.
-    pub fn remove(&mut self, id: u32)
-        ensures { self.new ≡ map.remove self.old id }
-    {
-        if let Ok(place) = self.ids.binary_search(&id) {
-            self.ids.remove(place);
-        }
-    }
-
     /// The numbers, rising.
     pub fn as_slice(&self) -> &[u32]
         ensures { result.now ≡ map.keys self.now }
@@ -109,7 +90,7 @@ impl Ids {
 
 /// Where a number is among rising ones, or else where it is put in. The last one is looked at first, as numbers mostly
 /// come rising.
-fn place_of(ids: &[u32], id: u32) -> Result<usize, usize>
+pub(crate) fn place_of(ids: &[u32], id: u32) -> Result<usize, usize>
     requires { IsStrictlySortedBy nat_cmp ids.now }
     ensures { IsPlace ids.now id result }
 {

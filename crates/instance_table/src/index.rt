@@ -1,16 +1,20 @@
-//! Who watches each file.
-ghost use Rattle.std.specs.Prelude.{◌≡◌, ◌↔◌, IsTrue, ℕ, ◌==◌, ◌&&◌, ◌||◌, false, not, IfOk, OnOk, OnErr};
+//! Who watches each file, and how.
+ghost use Rattle.std.specs.Prelude.{◌≡◌, ◌↔◌, IsTrue, IsSome, ℕ, ◌==◌, ◌&&◌, Some, None, if◌then◌else◌};
+ghost use Rattle.std.specs.Prelude.{IfOk, OnOk, OnErr};
 ghost use Rattle.std.specs.FinMap as map;
-ghost use Rattle.instance_table.specs.Index.{HasNoEmptyRow, ids_under, is_noted};
+ghost use Rattle.std.specs.BTreeMap as tree;
+ghost use Rattle.std.specs.Option.{option_copied};
+ghost use Rattle.std.specs.Ordering.{nat_cmp};
+ghost use Rattle.instance_table.specs.Index.{HasNoEmptyRow, watch_noted, row_under};
 
-use crate::ids::Ids;
+use crate::watchers::Watchers;
 use std::alloc::{AllocError, Global};
 use std::collections::BTreeMap;
 
-/// The numbers of the instances that watch each file, by the number of the file.
+/// The instances that watch each file and their watches, by the number of the file.
 pub struct Index {
     alloc: Global,
-    watchers: BTreeMap<u32, Ids>,
+    watchers: BTreeMap<u32, Watchers>,
 }
 
 impl Drop for Index {
@@ -25,7 +29,7 @@ impl Drop for Index {
 impl Index {
     /// No file is watched. It takes no memory.
     pub fn new(alloc: Global) -> Index
-        ensures noted { (number id : ℕ) → is_noted result number id ≡ false }
+        ensures noted { (number id : ℕ) → watch_noted result number id ≡ None }
         ensures rows { HasNoEmptyRow result }
     {
         Index {
@@ -36,7 +40,7 @@ impl Index {
 
     /// The same index once more. `Err` is out of memory.
     pub fn copy(&self) -> Result<Index, AllocError>
-        ensures noted { IfOk result (λ index. (n q : ℕ) → is_noted index n q ≡ is_noted self.now n q) }
+        ensures noted { IfOk result (λ index. (n q : ℕ) → watch_noted index n q ≡ watch_noted self.now n q) }
         ensures rows { IfOk result (λ index. HasNoEmptyRow self.now → HasNoEmptyRow index) }
     {
         Ok(Index {
@@ -45,49 +49,70 @@ impl Index {
         })
     }
 
-    /// Notes that an instance watches a file. `Err` is out of memory.
-    pub fn add(&mut self, number: u32, id: u32) -> Result<(), AllocError>
+    /// Notes the watch of an instance for a file, in place of the one that is noted. `Err` is out of memory.
+    pub fn put(&mut self, number: u32, id: u32, watch: (i32, u32)) -> Result<(), AllocError>
         ensures ok { OnOk result ((n q : ℕ)
-            → is_noted self.new n q ≡ ((n == number && q == id) || is_noted self.old n q)) }
-        ensures err { OnErr result ((n q : ℕ) → is_noted self.new n q ≡ is_noted self.old n q) }
+            → watch_noted self.new n q ≡ (if n == number && q == id then Some watch else watch_noted self.old n q)) }
+        ensures err { OnErr result ((n q : ℕ) → watch_noted self.new n q ≡ watch_noted self.old n q) }
         ensures rows { HasNoEmptyRow self.old → HasNoEmptyRow self.new }
     {
-        if let Some(ids) = self.watchers.get_mut(&number) {
-            return ids.add(id);
+        if let Some(row) = self.watchers.get_mut(&number) {
+            return row.put(id, watch);
         }
-        let mut ids = Ids::new(self.alloc);
-        ids.add(id)?;
-        self.watchers.insert(number, ids)?;
+        let mut row = Watchers::new(self.alloc);
+        row.put(id, watch)?;
+        self.watchers.insert(number, row)?;
         Ok(())
+    }
+
+    /// Notes another watch of an instance that watches a file. It takes no memory.
+    pub fn set(&mut self, number: u32, id: u32, watch: (i32, u32))
+        requires { IsSome (watch_noted self.old number id) }
+        ensures noted { (n q : ℕ)
+            → watch_noted self.new n q ≡ (if n == number && q == id then Some watch else watch_noted self.old n q) }
+        ensures rows { HasNoEmptyRow self.old → HasNoEmptyRow self.new }
+    {
+        let Some(row) = self.watchers.get_mut(&number) else {
+            unreachable!()
+        };
+        row.set(id, watch);
     }
 
     /// Notes that an instance does not watch a file any more. An unwatched file has no row. It takes no memory.
     pub fn remove(&mut self, number: u32, id: u32)
-        ensures noted { (n q : ℕ) → is_noted self.new n q ≡ (not (n == number && q == id) && is_noted self.old n q) }
+        ensures noted { (n q : ℕ)
+            → watch_noted self.new n q ≡ (if n == number && q == id then None else watch_noted self.old n q) }
         ensures rows { HasNoEmptyRow self.old → HasNoEmptyRow self.new }
     {
-        let Some(ids) = self.watchers.get_mut(&number) else {
+        let Some(row) = self.watchers.get_mut(&number) else {
             return;
         };
-        ids.remove(id);
-        if ids.is_empty() {
+        row.remove(id);
+        if row.is_empty() {
             self.watchers.remove(&number);
         }
     }
 
+    /// The instances that watch a file. It takes no memory.
+    pub fn row(&self, number: u32) -> Option<&Watchers>
+        ensures { option_copied result ≡ tree.get nat_cmp self.now.watchers number }
+    {
+        self.watchers.get(&number)
+    }
+
     /// The numbers of the instances that watch a file, rising. It takes no memory.
     pub fn of(&self, number: u32) -> &[u32]
-        ensures { result.now ≡ map.keys (ids_under self.now number) }
+        ensures { result.now ≡ map.keys (row_under self.now number) }
     {
         match self.watchers.get(&number) {
-            Some(ids) => ids.as_slice(),
+            Some(row) => row.ids(),
             None => &[],
         }
     }
 
     /// Whether no file is watched.
     pub fn is_empty(&self) -> bool
-        ensures { HasNoEmptyRow self.now → IsTrue result ↔ ((n q : ℕ) → is_noted self.now n q ≡ false) }
+        ensures { HasNoEmptyRow self.now → IsTrue result ↔ ((n q : ℕ) → watch_noted self.now n q ≡ None) }
     {
         self.watchers.is_empty()
     }

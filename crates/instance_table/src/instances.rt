@@ -1,7 +1,7 @@
 //! The open instances.
-ghost use Rattle.std.specs.Prelude.{◌≡◌, ◌↔◌, ◌≤◌, ◌+◌, ◌++◌, ◌∷◌, ◌⊎◌, ◌&&◌, ◌||◌, ◌==◌, ℕ, not, is_some, drop, false};
+ghost use Rattle.std.specs.Prelude.{◌≡◌, ◌↔◌, ◌≤◌, ◌+◌, ◌++◌, ◌∷◌, ◌⊎◌, ◌&&◌, ◌==◌, ℕ, is_some, drop, false};
 ghost use Rattle.std.specs.Prelude.{take, vec_len, vec_capacity, Some, None, Ok, Err, IfOk, IfErr, OnOk, OnErr, IsSome};
-ghost use Rattle.std.specs.Prelude.{IfSome, map};
+ghost use Rattle.std.specs.Prelude.{IfSome, if◌then◌else◌, map};
 ghost use Rattle.std.specs.Option.{option_copied};
 ghost use Rattle.std.specs.VecDeque.{deque_len};
 ghost use Rattle.std.specs.FinMap as finmap;
@@ -10,10 +10,11 @@ ghost use Rattle.tree_paths.specs.declared.refusal.Refusal.TheVariants.{Enomem};
 ghost use Rattle.event_queue.specs.Backlogs.{IsLimit, after_offer};
 ghost use Rattle.watch_table.specs.Masks.{mask_fault};
 ghost use Rattle.watch_table.specs.Watching.{add_refusal, added, removed, watch_of, wd_added};
-ghost use Rattle.instance_table.specs.Index.{HasNoEmptyRow, is_noted};
+ghost use Rattle.instance_table.specs.Index.{HasNoEmptyRow, watch_noted};
 ghost use Rattle.instance_table.specs.Rows.{instance_row};
 ghost use Rattle.instance_table.specs.Heard.{delivered_all};
 ghost use Rattle.instance_table.specs.Instances.{NobodyWatches, WaitingAreEvents, after_read, changed, instance_of};
+ghost use Rattle.instance_table.specs.Watchers.{IsRowOf, row_or_none};
 ghost use Rattle.instance_table.specs.Instances.{new_instance, unwatching, waiting_of, watchers_of, watching};
 
 use crate::index::Index;
@@ -21,6 +22,7 @@ use crate::instance::Instance;
 use crate::opened::{Opened, place_of};
 use crate::rows::{InstanceRow, instance_row};
 use crate::staging::{offer_one, offer_run};
+use crate::watchers::Watchers;
 use event_queue::Queue;
 use event_rules::{StagedEvent, ignored};
 use record_codec::Event;
@@ -115,6 +117,13 @@ impl Instances {
         ensures { result.now ≡ watchers_of self.now number }
     {
         self.index.of(number)
+    }
+
+    /// The instances that watch a file, with their watches. It takes no memory.
+    pub(crate) fn row(&self, number: u32) -> Option<&Watchers>
+        ensures { IsRowOf self.now number (row_or_none (option_copied result)) }
+    {
+        self.index.row(number)
     }
 
     /// Whether any instance watches a file. It takes no memory.
@@ -310,24 +319,31 @@ fn add_noted(
     is_directory: bool,
 ) -> Result<i32, Refusal>
     requires mask { mask_fault mask.0 ≡ None }
-    requires noted { is_noted index.old number id ≡ is_some (watch_of watches.old number) }
+    requires noted { watch_noted index.old number id ≡ watch_of watches.old number }
     ensures wd { IfOk result (λ wd. wd ≡ wd_added watches.old number) }
     ensures watches { OnOk result (watches.new ≡ added watches.old number mask.0) }
     ensures noted { OnOk result ((n q : ℕ)
-        → is_noted index.new n q ≡ ((n == number && q == id) || is_noted index.old n q)) }
+        → watch_noted index.new n q
+        ≡ (if n == number && q == id then watch_of watches.new number else watch_noted index.old n q)) }
     ensures accepted { OnOk result (add_refusal watches.old number mask.0 is_directory ≡ None) }
     ensures refusals { IfErr result (λ r. (add_refusal watches.old number mask.0 is_directory ≡ Some r)
         ⊎ (r ≡ Enomem)) }
     ensures err { OnErr result (watches.new ≡ watches.old) }
     ensures rows { HasNoEmptyRow index.old → HasNoEmptyRow index.new }
-    ensures err_noted { OnErr result ((n q : ℕ) → is_noted index.new n q ≡ is_noted index.old n q) }
+    ensures err_noted { OnErr result ((n q : ℕ) → watch_noted index.new n q ≡ watch_noted index.old n q) }
 {
-    let is_new = watches.of(number).is_none();
-    index.add(number, id)?;
+    let before = watches.of(number);
+    index.put(number, id, before.unwrap_or((0, 0)))?;
     match watches.add(number, mask, is_directory) {
-        Ok(wd) => Ok(wd),
+        Ok(wd) => {
+            let Some(watch) = watches.of(number) else {
+                unreachable!()
+            };
+            index.set(number, id, watch);
+            Ok(wd)
+        }
         Err(refusal) => {
-            if is_new {
+            if before.is_none() {
                 index.remove(number, id);
             }
             Err(refusal)
@@ -339,7 +355,8 @@ fn add_noted(
 fn forget(index: &mut Index, watches: &Watches, id: u32)
     ensures rows { HasNoEmptyRow index.old → HasNoEmptyRow index.new }
     ensures noted { (n q : ℕ)
-        → is_noted index.new n q ≡ (not (is_some (watch_of watches.now n) && q == id) && is_noted index.old n q) }
+        → watch_noted index.new n q
+        ≡ (if is_some (watch_of watches.now n) && q == id then None else watch_noted index.old n q) }
 {
     for number in watches.numbers() {
         index.remove(*number, id);

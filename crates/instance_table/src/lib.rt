@@ -7,8 +7,10 @@ mod instance;
 mod instances;
 mod laws;
 mod opened;
+mod recent;
 mod rows;
 mod staging;
+mod watchers;
 
 pub use instance::Instance;
 pub use instances::Instances;

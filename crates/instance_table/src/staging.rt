@@ -1,23 +1,27 @@
 //! What notices raise for all instances.
-ghost use Rattle.std.specs.Prelude.{◌≡◌, IsTrue, ℕ, ◌==◌, ◌||◌, ◌≤◌, List, ◌∷◌, ◌++◌, Some, is_some, true, fold, map};
-ghost use Rattle.std.specs.Prelude.{IfErr, IfOk, OnOk, false, length};
+ghost use Rattle.std.specs.Prelude.{◌≡◌, IsTrue, ℕ, ◌==◌, ◌||◌, ◌≤◌, List, [], ◌∷◌, ◌++◌, Some, is_some};
+ghost use Rattle.std.specs.Prelude.{true, fold, map, IfErr, IfOk, OnOk, false, length};
 ghost use Rattle.std.specs.FinMap as finmap;
+ghost use Rattle.std.specs.Option.{option_copied};
 ghost use Rattle.std.specs.VecDeque.{deque_len};
 ghost use Rattle.std.specs.List.{list_any};
 ghost use Rattle.tree_paths.specs.declared.refusal.Refusal.TheVariants.{Enomem};
 ghost use Rattle.record_codec.specs.Records.{AreEvents, IsEvent};
 ghost use Rattle.watch_table.specs.Watching.{removed};
 ghost use Rattle.event_queue.specs.Backlogs.{after_offer};
-ghost use Rattle.event_rules.specs.Raised.{events_of, told_number, watches_after};
+ghost use Rattle.event_rules.specs.Raised.{events_of, raised_at, told_number, watches_after};
 ghost use Rattle.event_rules.specs.Staging.{staged_event};
 ghost use Rattle.record_codec.specs.declared.event.Event.{Event};
 ghost use Rattle.instance_table.specs.declared.instance.Instance.{Instance};
 ghost use Rattle.instance_table.specs.Instances.{all_changed, instance_of, told, watches_file};
 ghost use Rattle.instance_table.specs.Heard.{AreUnwatched, ended_all, delivered_all};
+ghost use Rattle.instance_table.specs.Watchers.{ends_at, row_or_none};
 ghost use Rattle.instance_table.specs.Staging.{IsStaged, events_to, wds_to};
 
 use crate::ids::Ids;
 use crate::instances::Instances;
+use crate::recent::RecentRows;
+use crate::watchers::Watchers;
 use event_queue::Queue;
 use event_rules::{Notice, Staged, StagedEnd, StagedEvent, stage, unwatched_files_raise_nothing};
 use record_codec::Event;
@@ -52,8 +56,36 @@ impl Instances {
         ensures staged { OnOk result (IsStaged self.now notices.now staging.new) }
         ensures memory { IfErr result (λ refusal. refusal ≡ Enomem) }
     {
+        staging.staged.clear();
+        if self.stage_kept(notices, &mut staging.staged)? {
+            return Ok(());
+        }
         let end = self.recipients(notices, &mut staging.recipients)?;
         self.stage_each(&notices[..end], &staging.recipients, &mut staging.staged)
+    }
+
+    /// Stages what notices raise for the instances, where they end no watch. The answer is whether they end none; else
+    /// a part may be staged.
+    fn stage_kept(&self, notices: &[Notice], staged: &mut Staged) -> Result<bool, Refusal>
+        requires { staged.old.events.items ≡ [] }
+        ensures events { IfOk result (λ kept. kept ≡ true → (q : ℕ) (i : Instance) → instance_of self.now q ≡ Some i
+            → events_to q staged.new.events.items ≡ events_of i.watches notices.now) }
+        ensures kept { IfOk result (λ kept. kept ≡ true → (q : ℕ) (i : Instance) → instance_of self.now q ≡ Some i
+            → watches_after i.watches notices.now ≡ i.watches) }
+        ensures drops { staged.new.drops.items ≡ staged.old.drops.items }
+        ensures memory { IfErr result (λ refusal. refusal ≡ Enomem) }
+    {
+        let Some(first) = notices.first() else {
+            return Ok(true);
+        };
+        let mut recent = RecentRows::of(self, first.number());
+        for notice in notices {
+            let row = recent.row_of(self, notice.number());
+            if !stage_row(row, notice, staged)? {
+                return Ok(false);
+            }
+        }
+        Ok(true)
     }
 
     /// Delivers what was staged: each instance receives its events, and its watches end. It takes no memory.
@@ -166,6 +198,24 @@ fn is_recent(notices: &[Notice], number: u32) -> bool
     notices[late..]
         .iter()
         .any(|notice| notice.number() == number)
+}
+
+/// Stages what a notice raises for the instances that watch its file, as long as it ends none of their watches. The
+/// answer is whether all watches stay.
+#[inline(always)]
+fn stage_row(row: Option<&Watchers>, notice: &Notice, staged: &mut Staged) -> Result<bool, Refusal>
+    ensures events { IfOk result (λ stays. stays ≡ true → (q : ℕ) → events_to q staged.new.events.items
+        ≡ events_to q staged.old.events.items
+        ++ raised_at notice.now (finmap.get (row_or_none (option_copied row.entry)) q)) }
+    ensures kept { IfOk result (λ stays. stays ≡ true
+        → (q : ℕ) → ends_at notice.now (finmap.get (row_or_none (option_copied row.entry)) q) ≡ false) }
+    ensures drops { staged.new.drops.items ≡ staged.old.drops.items }
+    ensures memory { IfErr result (λ refusal. refusal ≡ Enomem) }
+{
+    match row {
+        Some(row) => row.stage(notice, staged),
+        None => Ok(true),
+    }
 }
 
 /// Puts numbers in.

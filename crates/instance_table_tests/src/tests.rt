@@ -144,6 +144,22 @@ fn a_watch_for_one_event_ends(rt: HostRuntime) -> Result<(), Fail> {
 }
 
 #[test]
+fn a_watch_gets_another_mask(rt: HostRuntime) -> Result<(), Fail> {
+    let alloc = rt.alloc();
+    let mut instances = three(alloc)?;
+    equal(&rt, watch(&mut instances, 1, FILE, IN_DELETE_SELF)?, 1);
+    tell(alloc, &mut instances, told(IN_CREATE))?;
+    equal(&rt, waiting(&instances, 1), 0);
+    tell(alloc, &mut instances, told(IN_DELETE_SELF))?;
+    holds(
+        &rt,
+        "waits(&instances, 1, 0, 1, IN_DELETE_SELF)",
+        waits(&instances, 1, 0, 1, IN_DELETE_SELF),
+    );
+    Ok(())
+}
+
+#[test]
 fn a_lost_file_ends_its_watches(rt: HostRuntime) -> Result<(), Fail> {
     let alloc = rt.alloc();
     let mut instances = three(alloc)?;

@@ -1,11 +1,11 @@
-use Rattle.std.proofs.Common.{◌≡◌, ℕ, List, [], ◌∷◌, ◌||◌, not, eqb, ◌&&◌, map, sym, ap, ◌∙◌, refl}
+use Rattle.std.proofs.Common.{◌≡◌, ℕ, List, [], ◌∷◌, ◌||◌, None, cond, eqb, ◌&&◌, map, sym, ap, ◌∙◌, refl}
 use Rattle.std.specs.FinMap as finmap
 use Rattle.std.specs.List.{list_any}
 use Rattle.std.specs.Ordering.{nat_cmp, eq_by_cmp}
 use Rattle.std.specs.Cmp.{unsigned_tied}
 use Rattle.std.specs.Map.Iter.{deref}
 use Rattle.std.proofs.lemmas.Map.Iter.{iter_end}
-use Rattle.instance_table.specs.Index.{is_noted}
+use Rattle.instance_table.specs.Index.{watch_noted}
 use Rattle.instance_table.proofs.instances.forget.Goals as goal
 
 same-tests : (n : ℕ) (ks : List ℕ) → list_any (eqb n) ks ≡ list_any (eq_by_cmp nat_cmp n) ks
@@ -19,5 +19,5 @@ returns-clause-noted c n q =
     let ks = finmap.keys c.args.watches.now.watches in
     let all : map deref c.loop-number.yielded ≡ ks = yielded.0 ∙ c.numbers-number-items.ensures.rest in
     c.loop-number.invariant.noted n q
-    ∙ ap (λ b. not (b && eqb q c.args.id) && is_noted c.args.index.now n q)
+    ∙ ap (λ b. cond (b && eqb q c.args.id) None (watch_noted c.args.index.now n q))
     (ap (list_any (eqb n)) all ∙ same-tests n ks ∙ sym (finmap.contains_key-keys c.args.watches.now.watches n))

@@ -10,7 +10,7 @@ use Rattle.std.specs.Ordering.{nat_cmp}
 use Rattle.instance_table.specs.Ids.{IdSet}
 use Rattle.instance_table.specs.Instances.{Instances, instance_of, watchers_of, watches_file}
 use Rattle.instance_table.proofs.Indexed.{is-same}
-use Rattle.instance_table.proofs.Watchers.{any-watchers, watchers-rising, watchers-set}
+use Rattle.instance_table.proofs.WhoWatches.{any-watchers, watchers-rising, watchers-set}
 use Rattle.instance_table.proofs.instances.Instances.add_watchers.Goals as goal
 
 abbrev hears : Option Instance → Notice → Bool

@@ -16,8 +16,8 @@ use Rattle.instance_table.specs.declared.instance.Instance.{Instance}
 use Rattle.instance_table.specs.Instances.{instance_of, watches_file}
 use Rattle.instance_table.specs.Staging.{events_to, wds_to}
 use Rattle.instance_table.proofs.Indexed.{is-same}
-use Rattle.instance_table.proofs.Staged.{all-left, all-staged, nobody-hears, number-in, once, step}
-use Rattle.instance_table.proofs.Watchers.{rising}
+use Rattle.instance_table.proofs.Staged.{all-left, all-staged, nobody-hears, number-in, once, or-true, step}
+use Rattle.instance_table.proofs.WhoWatches.{rising}
 use Rattle.instance_table.proofs.instances.Instances.stage_each.Goals as goal
 
 pub unreachable-requires : goal.unreachable-requires
@@ -39,10 +39,6 @@ loop-id-init c = record {
 
 same-some : (i j : Instance) → Some i ≡ Some j → i ≡ j
 same-some i j e = ap (λ o. Rattle.std.specs.Option.unwrap_or o i) e
-
-or-true : (b t : Bool) (P : Type 0) → (b || t) ≡ true → (b ≡ true → P) → (t ≡ true → P) → P
-or-true true t P h left right = left refl
-or-true false t P h left right = right h
 
 pub loop-id-preserved : goal.loop-id-preserved
 loop-id-preserved c =

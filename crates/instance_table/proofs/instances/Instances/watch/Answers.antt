@@ -6,7 +6,8 @@ use Rattle.std.proofs.lemmas.Bool.{false≢true}
 use Rattle.tree_paths.specs.declared.refusal.Refusal.TheVariants.{Enomem}
 use Rattle.watch_table.specs.Watching.{add_refusal, wd_added}
 use Rattle.instance_table.specs.declared.instance.Instance.{Instance}
-use Rattle.instance_table.specs.Instances.{instance_of, watches_file, watching}
+use Rattle.instance_table.specs.Instances.{instance_of, watching}
+use Rattle.instance_table.specs.Watchers.{watch_at}
 use Rattle.instance_table.specs.Views.{instances_of}
 use Rattle.instance_table.proofs.Indexed.{NotesEveryWatch-changed, absent, instances_of-changed, noted-after, put, put-same, there}
 use Rattle.instance_table.proofs.instances.Instances.watch.Goals as goal
@@ -21,7 +22,7 @@ unreachable-requires c =
 pub add_noted-requires-clause-noted : goal.add_noted-requires-clause-noted
 add_noted-requires-clause-noted c =
     c.self.invariant.noted c.args.number c.args.id
-    ∙ ap (watches_file c.args.number)
+    ∙ ap (watch_at c.args.number)
     (there c.self.inside c.self.invariant c.args.id c.deref.result.now c.deref.ensures.value c.in-Ok.found c.in-Ok.ensures
     c.index_mut.result.now c.index_mut.ensures.value)
 

@@ -1,6 +1,6 @@
 use Rattle.std.proofs.Common.{ap, ◌∙◌}
 use Rattle.instance_table.specs.Instances.{watchers_of}
-use Rattle.instance_table.proofs.Watchers.{watchers-noted}
+use Rattle.instance_table.proofs.WhoWatches.{watchers-noted}
 use Rattle.instance_table.proofs.instances.Instances.watchers.Goals as goal
 
 pub returns : goal.returns

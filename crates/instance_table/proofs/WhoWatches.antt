@@ -13,10 +13,11 @@ use Rattle.std.proofs.lemmas.List.Kept.{IsStrictlySortedBy-filter}
 use Rattle.instance_table.specs.declared.instance.Instance.{Instance}
 use Rattle.instance_table.specs.declared.instances.Instances.TheInside.{Inside}
 use Rattle.instance_table.specs.Ids.{IdSet, set_of}
-use Rattle.instance_table.specs.Index.{ids_under}
+use Rattle.instance_table.specs.Index.{row_under}
 use Rattle.instance_table.specs.Instances.{Instances, instance_of, watchers_of, watches_file}
 use Rattle.instance_table.specs.Views.{instances_of, NotesEveryWatch}
-use Rattle.instance_table.proofs.Rising.{mark, same-set, items-rising, is-same}
+use Rattle.instance_table.specs.Watchers.{watch_at}
+use Rattle.instance_table.proofs.Rising.{get-set, mark, same-set, items-rising, is-same}
 
 first : (a b : Bool) → T (a && b) → T a
 first true b p = tt
@@ -70,22 +71,25 @@ watches-there : (n : ℕ) (o : Option Instance) → (is_some o && watches_file n
 watches-there n None = refl
 watches-there n (Some i) = refl
 
-marks : (o : Option (Unit {0})) → mark (is_some o) ≡ o
-marks None = refl
-marks (Some u) = refl
+has-watch : (n : ℕ) (o : Option Instance) → is_some (watch_at n o) ≡ watches_file n o
+has-watch n None = refl
+has-watch n (Some i) = refl
 
-pub watchers-noted : (a : Inside) (whole : NotesEveryWatch a) (number : ℕ) → finmap.keys (ids_under a.index number) ≡ watchers_of (instances_of a) number
+pub watchers-noted : (a : Inside) (whole : NotesEveryWatch a) (number : ℕ) → finmap.keys (row_under a.index number) ≡ watchers_of (instances_of a) number
 unfolding watchers_of
 watchers-noted a whole number =
     let m = instances_of a in
+    let row = row_under a.index number in
+    let noted : List ℕ = finmap.keys row in
     let p : ℕ → Bool = λ id. watches_file number (instance_of m id) in
     let ks = filter p (finmap.keys m) in
     let sorted : IsStrictlySortedBy nat_cmp ks = IsStrictlySortedBy-filter nat_cmp p (finmap.keys m) (rising (entries m) (entries_sorted m)) in
-    let same : set_of ks ≡ ids_under a.index number = same-set ks (ids_under a.index number) (λ q.
+    let same : set_of ks ≡ set_of noted = same-set ks (set_of noted) (λ q.
     ap mark (any-filter p q (finmap.keys m) ∙ ap (λ b. b && p q) (sym (contains_key-keys m q))
-    ∙ watches-there number (instance_of m q) ∙ sym (whole.noted number q))
-    ∙ marks (finmap.get (ids_under a.index number) q)) in
-    ap (λ (s : IdSet). finmap.keys s) (sym same) ∙ items-rising ks sorted
+    ∙ watches-there number (instance_of m q) ∙ sym (has-watch number (instance_of m q)) ∙ ap is_some (sym (whole.noted number q))
+    ∙ contains_key-keys row q)
+    ∙ sym (get-set noted q)) in
+    sym (items-rising noted (rising (entries row) (entries_sorted row))) ∙ ap (λ (s : IdSet). finmap.keys s) (sym same) ∙ items-rising ks sorted
 
 pub same-tests : (q : ℕ) (ks : List ℕ) → list_any (λ id. eqb q id) ks ≡ list_any (eq_by_cmp nat_cmp q) ks
 same-tests q [] = refl

@@ -1,0 +1,44 @@
+-- The instances that watch a file, each with its watch. No public clause cites this module.
+use Rattle.std.specs.Prelude.{◌≡◌, ℕ, Bool, false, List, Option, Some, None, length}
+use Rattle.std.specs.Option.{unwrap_or}
+use Rattle.std.specs.FinMap as map
+use Rattle.std.specs.FinMap.{FinMap, from_entries}
+use Rattle.std.specs.List.{zip}
+use Rattle.std.specs.List.Sorted.{IsStrictlySortedBy}
+use Rattle.std.specs.Ordering.{nat_cmp}
+use Rattle.watch_table.specs.Watching.{Watch, watch_of}
+use Rattle.event_rules.specs.declared.notice.Notice.{Notice}
+use Rattle.event_rules.specs.Raised.{ends_watch}
+use Rattle.instance_table.specs.declared.instance.Instance.{Instance}
+use Rattle.instance_table.specs.Instances.{Instances, instance_of}
+
+-- watches by the numbers of the instances
+abbrev pub WatchMap : Type 0
+WatchMap = FinMap nat_cmp Watch
+
+-- each number with the watch at its index
+abbrev pub watchers_map : List ℕ → List Watch → WatchMap
+watchers_map ids watches = from_entries (zip ids watches)
+
+-- those of a file that may have no row
+abbrev pub row_or_none : Option WatchMap → WatchMap
+row_or_none row = unwrap_or row map.empty
+
+-- the numbers rise, and each has a watch
+pub record AreWatchers (ids : List ℕ) (watches : List Watch) : Type 0 where
+  pub rising : IsStrictlySortedBy nat_cmp ids
+  pub same : length watches ≡ length ids
+
+-- whether a notice ends a watch that may be there
+abbrev pub ends_at : Notice → Option Watch → Bool
+ends_at n None = false
+ends_at n (Some watch) = ends_watch n watch
+
+-- the watch that an instance has for a file
+abbrev pub watch_at : ℕ → Option Instance → Option Watch
+watch_at number None = None
+watch_at number (Some i) = watch_of i.watches number
+
+-- the instances that watch a file, with their watches
+abbrev pub IsRowOf : Instances → ℕ → WatchMap → Type 0
+IsRowOf m number row = (id : ℕ) → map.get row id ≡ watch_at number (instance_of m id)

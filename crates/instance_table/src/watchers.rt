@@ -1,0 +1,156 @@
+//! The instances that watch a file, each with its watch.
+ghost use Rattle.std.specs.Prelude.{◌≡◌, ◌↔◌, ◌++◌, ℕ, IsTrue, IsSome, IfErr, IfOk, OnErr, OnOk, Some};
+ghost use Rattle.std.specs.Prelude.{false, length, true};
+ghost use Rattle.std.specs.FinMap as map;
+ghost use Rattle.std.specs.List.Sorted.{IsStrictlySortedBy};
+ghost use Rattle.std.specs.Ordering.{nat_cmp};
+ghost use Rattle.tree_paths.specs.declared.refusal.Refusal.TheVariants.{Enomem};
+ghost use Rattle.event_rules.specs.Raised.{raised_at};
+ghost use Rattle.instance_table.specs.Staging.{events_to};
+ghost use Rattle.instance_table.specs.Watchers.{ends_at, watchers_map};
+
+use crate::ids::place_of;
+use event_rules::{Notice, Staged, stage_kept};
+use std::alloc::{AllocError, Global};
+use std::marker::Model;
+use tree_paths::Refusal;
+
+/// The numbers of the instances that watch a file, each once, rising; and the descriptor and the bits of the watch of
+/// each.
+pub struct Watchers {
+    ids: Vec<u32>,
+    watches: Vec<(i32, u32)>,
+}
+
+impl Drop for Watchers {
+    fn drop(self) {
+        let Watchers { ids: _, watches: _ } = self;
+    }
+}
+
+impl Model for Watchers {
+    ghost use Rattle.std.specs.Coded.{coded×, coded_ℕ, coded_ℤ};
+    ghost use Rattle.std.specs.FinMap as finmap;
+    ghost use Rattle.instance_table.specs.Watchers.{AreWatchers, WatchMap, watchers_map};
+
+    ghost Value = { WatchMap };
+
+    ghost coded = { finmap.code coded_ℕ (coded× coded_ℤ coded_ℕ) };
+
+    ghost view = { λ a. watchers_map a.ids.items a.watches.items };
+
+    ghost invariant = { λ a. AreWatchers a.ids.items a.watches.items };
+}
+
+impl Clone for Watchers {
+    ghost is_clone = { λ watchers copy. copy ≡ watchers };
+
+    fn clone(&self) -> Result<Watchers, AllocError> {
+        Ok(Watchers {
+            ids: self.ids.clone()?,
+            watches: self.watches.clone()?,
+        })
+    }
+}
+
+impl Watchers {
+    /// No instances. It takes no memory.
+    pub fn new(alloc: Global) -> Watchers
+        ensures { result ≡ map.empty }
+    {
+        Watchers {
+            ids: Vec::new(alloc),
+            watches: Vec::new(alloc),
+        }
+    }
+
+    /// Puts in an instance with its watch, in place of the one that it has. `Err` is out of memory.
+    pub fn put(&mut self, id: u32, watch: (i32, u32)) -> Result<(), AllocError>
+        ensures ok { OnOk result (self.new ≡ map.insert self.old id watch) }
+        ensures err { OnErr result (self.new ≡ self.old) }
+    {
+        match place_of(self.ids.as_slice(), id) {
+            Ok(place) => self.watches[place] = watch,
+            Err(place) => {
+                self.watches.reserve(1)?;
+                self.ids.insert(place, id)?;
+                let Ok(()) = self.watches.insert(place, watch) else {
+                    unreachable!()
+                };
+            }
+        }
+        Ok(())
+    }
+
+    /// Gives an instance that is there another watch. It takes no memory.
+    pub fn set(&mut self, id: u32, watch: (i32, u32))
+        requires { IsSome (map.get self.old id) }
+        ensures { self.new ≡ map.insert self.old id watch }
+    {
+        let Ok(place) = place_of(self.ids.as_slice(), id) else {
+            unreachable!()
+        };
+        self.watches[place] = watch;
+    }
+
+    /// Takes out an instance, if it is there. It takes no memory.
+    pub fn remove(&mut self, id: u32)
+        ensures { self.new ≡ map.remove self.old id }
+    {
+        if let Ok(place) = place_of(self.ids.as_slice(), id) {
+            self.ids.remove(place);
+            self.watches.remove(place);
+        }
+    }
+
+    /// The numbers of the instances, rising.
+    pub fn ids(&self) -> &[u32]
+        ensures { result.now ≡ map.keys self.now }
+    {
+        self.ids.as_slice()
+    }
+
+    /// Whether there is no instance.
+    pub fn is_empty(&self) -> bool
+        ensures { IsTrue result ↔ (self.now ≡ map.empty) }
+    {
+        self.ids.is_empty()
+    }
+
+    /// Stages what a notice raises for each watch, behind what was staged, as long as it ends none. The answer is
+    /// whether all watches stay.
+    #[inline(always)]
+    pub fn stage(&self, notice: &Notice, staged: &mut Staged) -> Result<bool, Refusal>
+        ensures events { IfOk result (λ stays. stays ≡ true → (q : ℕ) → events_to q staged.new.events.items
+            ≡ events_to q staged.old.events.items ++ raised_at notice.now (map.get self.now q)) }
+        ensures kept { IfOk result (λ stays. stays ≡ true → (q : ℕ) → ends_at notice.now (map.get self.now q) ≡ false) }
+        ensures drops { staged.new.drops.items ≡ staged.old.drops.items }
+        ensures memory { IfErr result (λ refusal. refusal ≡ Enomem) }
+    {
+        stage_each(self.ids.as_slice(), self.watches.as_slice(), notice, staged)
+    }
+}
+
+/// Stages what a notice raises for the watch of each instance, as long as it ends none.
+fn stage_each(
+    ids: &[u32],
+    watches: &[(i32, u32)],
+    notice: &Notice,
+    staged: &mut Staged,
+) -> Result<bool, Refusal>
+    requires rising { IsStrictlySortedBy nat_cmp ids.now }
+    requires same { length watches.now ≡ length ids.now }
+    ensures events { IfOk result (λ stays. stays ≡ true → (q : ℕ) → events_to q staged.new.events.items
+        ≡ events_to q staged.old.events.items ++ raised_at notice.now (map.get (watchers_map ids.now watches.now) q)) }
+    ensures kept { IfOk result (λ stays. stays ≡ true
+        → (q : ℕ) → ends_at notice.now (map.get (watchers_map ids.now watches.now) q) ≡ false) }
+    ensures drops { staged.new.drops.items ≡ staged.old.drops.items }
+    ensures memory { IfErr result (λ refusal. refusal ≡ Enomem) }
+{
+    for index in 0..ids.len() {
+        if !stage_kept(ids[index], watches[index], notice, staged)? {
+            return Ok(false);
+        }
+    }
+    Ok(true)
+}
