@@ -1,6 +1,8 @@
 //! Replies as text.
 
-ghost use Rattle.std.specs.Prelude.{◌≡◌, ◌++◌, List, [], OnOk, codes, decimal, length};
+ghost use Rattle.std.specs.Prelude.{◌≡◌, ◌++◌, ◌<◌, ◌≤◌, List, [], OnOk, codes, decimal, length, false, map};
+ghost use Rattle.std.specs.Fmt.{digit_glyph};
+ghost use Rattle.std.specs.Simd.Lanes.{Each1};
 ghost use Rattle.std.specs.List.{flat_map};
 ghost use Rattle.watchtree_script.specs.Replies.{ok_line, done_line, hexadecimal, name_line, event_line, kind_letter};
 ghost use Rattle.watchtree_script.specs.Replies.{mode_text, octal_digit, refusal_text, answer_text, AreEventsIn};
@@ -15,9 +17,13 @@ use inode_table::Kind;
 use itoa::{Buffer, Integer};
 use record_codec::{Name, RecordView, append_name, append_view_line, next_record};
 use std::alloc::AllocError;
+use std::simd::prelude::*;
 use tree_core::Reply;
 use tree_ops::Answer;
 use tree_paths::Refusal;
+
+/// How many bytes are made digits at once.
+const BLOCK: usize = 16;
 
 /// Adds a reply to an empty text, as its command shows it.
 pub(crate) fn push_reply(
@@ -200,19 +206,49 @@ fn push_read(text: &mut Vec<u8>, format: OutputFormat, bytes: &[u8]) -> Result<(
 pub(crate) fn push_digits(text: &mut Vec<u8>, bytes: &[u8]) -> Result<(), AllocError>
     ensures { OnOk result (text.new.items ≡ text.old.items ++ encode_lower bytes.now) }
 {
-    let len = text.len();
-    let Some(end) = bytes
-        .len()
-        .checked_mul(2)
-        .and_then(|digits| len.checked_add(digits))
-    else {
-        return Err(AllocError);
-    };
     // A line feed comes behind the digits, and takes no allocation of its own.
-    text.reserve((end - len).saturating_add(1))?;
-    text.resize(end, 0)?;
-    hex::encode_to_slice(bytes, &mut text[len..]).unwrap();
-    Ok(())
+    text.reserve(2 * bytes.len() + 1)?;
+    let mut rest = bytes;
+    while let Some((block, others)) = rest.split_first_chunk::<BLOCK>() {
+        let (front, back) = block_digits(block);
+        text.extend_from_slice(front.as_array())?;
+        text.extend_from_slice(back.as_array())?;
+        rest = others;
+    }
+    push_few_digits(text, rest)
+}
+
+/// Adds bytes that are no whole block as hexadecimal digits.
+fn push_few_digits(text: &mut Vec<u8>, bytes: &[u8]) -> Result<(), AllocError>
+    requires { length bytes.now ≤ BLOCK }
+    ensures { OnOk result (text.new.items ≡ text.old.items ++ encode_lower bytes.now) }
+{
+    let mut digits = [0; 2 * BLOCK];
+    let digits = &mut digits[..2 * bytes.len()];
+    hex::encode_to_slice(bytes, digits).unwrap();
+    text.extend_from_slice(digits)
+}
+
+/// The hexadecimal digits of a block, in two halves.
+#[inline(always)]
+fn block_digits(block: &[u8; BLOCK]) -> (u8x16, u8x16)
+    ensures { encode_lower block.now ≡ result.0 ++ result.1 }
+{
+    let bytes = u8x16::from_array(*block);
+    let high = digits_of(bytes >> u8x16::splat(4));
+    let low = digits_of(bytes & u8x16::splat(15));
+    high.interleave(low)
+}
+
+/// The hexadecimal digit of each value.
+#[inline(always)]
+fn digits_of(values: u8x16) -> u8x16
+    requires len { length values ≡ 16 }
+    requires below { Each1 (λ x. x < 16) values }
+    ensures { result ≡ map (digit_glyph false) values }
+{
+    let letters = values.simd_gt(u8x16::splat(9));
+    values + letters.select(u8x16::splat(b'a' - 10), u8x16::splat(b'0'))
 }
 
 /// A line for each record.
