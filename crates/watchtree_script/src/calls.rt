@@ -22,6 +22,12 @@ const PATH_MAX: usize = 4096;
 /// The first mode that has more octal digits than a line may have.
 const MODE_END: u32 = 0o1_000_000;
 
+/// How many bytes the buffer of an entry has at the start, which most entries do not outgrow.
+const ENTRY_ROOM: usize = 256;
+
+/// How many bytes the buffer of a reply has at the start.
+const REPLY_ROOM: usize = 64;
+
 const OCTAL: u32 = 8;
 
 const HEXADECIMAL: u32 = 16;
@@ -53,8 +59,8 @@ pub fn append_entry(entry: &Entry, text: &mut Vec<u8>) -> Result<(), AllocError>
         × (text.new.items ≡ text.old.items ++ added)) }
     ensures err { OnErr result (text.new.items ≡ text.old.items) }
 {
-    let mut lines = Vec::new(*text.allocator());
-    let mut reply = Vec::new(*text.allocator());
+    let mut lines = Vec::with_capacity(*text.allocator(), ENTRY_ROOM)?;
+    let mut reply = Vec::with_capacity(*text.allocator(), REPLY_ROOM)?;
     push_call_line(&mut lines, &entry.call)?;
     push_reply(&mut reply, OutputFormat::Records, &entry.reply)?;
     push_comments(&mut lines, reply.as_slice())?;
