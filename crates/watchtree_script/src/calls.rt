@@ -1,14 +1,17 @@
 //! Calls as the lines of a script that make them, and entries of a journal with their replies as comments.
 
-ghost use Rattle.std.specs.Prelude.{◌≡◌, ◌∷◌, ◌++◌, ◌≤◌, List, ℕ, [], OnOk, OnErr, codes, decimal, false};
+ghost use Rattle.std.specs.Prelude.{◌≡◌, ◌∷◌, ◌++◌, ◌≤◌, List, ℕ, [], OnOk, OnErr, codes, decimal, false, length};
 ghost use Rattle.std.specs.Fmt.{digits, digit_glyph};
 ghost use Rattle.tree_core.specs.Calls.{IsSpelled};
 ghost use Rattle.watchtree_script.specs.CallLines.{call_line, call_text, has_line, file_has_line, is_short, is_mode};
 ghost use Rattle.watchtree_script.specs.CallLines.{path_text, mode_digits_of, mask_text, commented, IsEntryText};
 ghost use Rattle.watchtree_script.specs.Replies.{hexadecimal};
+ghost use Rattle.record_codec.specs.Lines.{printed_name};
+ghost use Rattle.tree_paths.specs.Paths.{slashed};
 
 use crate::line::OutputFormat;
 use crate::pieces::Words;
+use crate::plain::are_plain;
 use crate::print::{push_digits, push_field, push_reply};
 use record_codec::append_name;
 use std::alloc::AllocError;
@@ -71,10 +74,12 @@ pub fn append_entry(entry: &Entry, text: &mut Vec<u8>) -> Result<(), AllocError>
 fn push_call_line(text: &mut Vec<u8>, call: &Call) -> Result<(), AllocError>
     ensures { OnOk result (text.new.items ≡ text.old.items ++ call_line call.now) }
 {
-    if has_line(call) {
-        push_call(text, call)?;
+    let start = text.len();
+    push_call(text, call)?;
+    if has_line(call, text.len() - start) {
         return text.extend_from_slice(b"\n");
     }
+    text.truncate(start);
     text.extend_from_slice(b"# ")?;
     push_call(text, call)?;
     text.extend_from_slice(b" (no line of a script makes this call)\n")
@@ -93,41 +98,56 @@ fn push_comments(text: &mut Vec<u8>, said: &[u8]) -> Result<(), AllocError>
     Ok(())
 }
 
-/// Whether a line of a script makes the call.
-fn has_line(call: &Call) -> bool
+/// Whether a line of a script makes the call, whose words take so many bytes.
+#[tactic(auto, using(crate::proofs::CallLemmas::third_within), unfolding(crate::specs::CallLines::call_text))]
+fn has_line(call: &Call, len: usize) -> bool
+    requires { length (call_text call.now) ≤ len }
     ensures { result ≡ has_line call.now }
 {
     match call {
-        Call::File(call) => file_has_line(call),
+        Call::File(call) => file_has_line(call, len),
         Call::Init { piped, .. } => !*piped,
-        Call::AddWatch { path, .. } => is_short(path),
+        Call::AddWatch { path, .. } => is_short(path, len),
         Call::Pump { .. } => false,
         Call::RmWatch { .. } | Call::Read { .. } | Call::Close { .. } => true,
     }
 }
 
-fn file_has_line(call: &FileCall) -> bool
+#[tactic(auto, using(crate::proofs::CallLemmas::second_within, crate::proofs::CallLemmas::third_within), unfolding(crate::specs::CallLines::call_text))]
+fn file_has_line(call: &FileCall, len: usize) -> bool
+    requires { length (call_text (Call.File call.now)) ≤ len }
     ensures { result ≡ file_has_line call.now }
 {
     match call {
         FileCall::Create { path, mode }
         | FileCall::Mkdir { path, mode }
-        | FileCall::Chmod { path, mode } => is_short(path) && *mode < MODE_END,
+        | FileCall::Chmod { path, mode } => is_short(path, len) && *mode < MODE_END,
         FileCall::Link { old, new }
         | FileCall::Rename { old, new }
-        | FileCall::Rename2 { old, new, .. } => is_short(old) && is_short(new),
+        | FileCall::Rename2 { old, new, .. } => is_short(old, len) && is_short(new, len),
         FileCall::Write { path, .. }
         | FileCall::ReadFile { path, .. }
         | FileCall::Truncate { path, .. }
         | FileCall::Unlink { path }
         | FileCall::Rmdir { path }
         | FileCall::Stat { path }
-        | FileCall::List { path } => is_short(path),
+        | FileCall::List { path } => is_short(path, len),
     }
 }
 
-/// Whether a path is not too long for a line.
-fn is_short(path: &Path) -> bool
+/// Whether a path is not too long for a line. Its text has at most so many bytes.
+#[tactic(auto, using(crate::proofs::CallLemmas::short_path))]
+#[inline(always)]
+fn is_short(path: &Path, len: usize) -> bool
+    requires { length (path_text path.now) ≤ len }
+    ensures { result ≡ is_short path.now }
+{
+    len < PATH_MAX || has_short_name(path)
+}
+
+/// The same where the text is longer than a path may be.
+#[cold]
+fn has_short_name(path: &Path) -> bool
     ensures { result ≡ is_short path.now }
 {
     let mut names = path.names();
@@ -282,9 +302,35 @@ fn push_path(text: &mut Vec<u8>, path: &Path) -> Result<(), AllocError>
         return text.extend_from_slice(b" /");
     }
     text.extend_from_slice(b" ")?;
+    let front = text.len();
+    push_pathname(text, path)?;
+    if are_plain(&text[front..]) {
+        return Ok(());
+    }
+    text.truncate(front);
+    push_printed(text, path)
+}
+
+/// The pathname of a path that is not the root's, with its bytes as they are.
+fn push_pathname(text: &mut Vec<u8>, path: &Path) -> Result<(), AllocError>
+    ensures { OnOk result (text.new.items ≡ text.old.items ++ slashed path.now) }
+{
     let mut names = path.names();
     while let Some(name) = names.next() {
         text.extend_from_slice(b"/")?;
+        text.extend_from_slice(name.as_name().bytes())?;
+    }
+    Ok(())
+}
+
+/// The pathname of a path that is not the root's, with each byte printed as one of a name.
+#[cold]
+fn push_printed(text: &mut Vec<u8>, path: &Path) -> Result<(), AllocError>
+    ensures { OnOk result (text.new.items ≡ text.old.items ++ printed_name (slashed path.now)) }
+{
+    let mut names = path.names();
+    while let Some(name) = names.next() {
+        text.push(b'/')?;
         append_name(name.as_name(), text)?;
     }
     Ok(())

@@ -11,6 +11,7 @@ mod lines;
 mod numbers;
 mod page;
 mod pieces;
+mod plain;
 mod print;
 mod rows;
 mod run;

@@ -1,6 +1,6 @@
 use Rattle.std.proofs.Common.{◌≡◌, ◌+◌, ◌<◌, length}
 use Rattle.tree_paths.specs.Paths.{slashed}
-use Rattle.watchtree_script.proofs.calls.is_short.Given as goal
+use Rattle.watchtree_script.proofs.calls.has_short_name.Given as goal
 
 abbrev pub invariant-loop-name : goal.invariant-loop-name
 invariant-loop-name l = record {
