@@ -1,6 +1,6 @@
 //! Calls as the lines of a script that make them, and entries of a journal with their replies as comments.
 
-ghost use Rattle.std.specs.Prelude.{◌≡◌, ◌∷◌, ◌++◌, ◌≤◌, List, ℕ, [], OnOk, OnErr, codes, decimal, false, length};
+ghost use Rattle.std.specs.Prelude.{◌≡◌, ◌∷◌, ◌++◌, ◌≤◌, List, ℕ, [], OnOk, OnErr, codes, decimal, false, length, vec_len, vec_capacity, ◌+◌};
 ghost use Rattle.std.specs.Fmt.{digits, digit_glyph};
 ghost use Rattle.tree_core.specs.Calls.{IsSpelled};
 ghost use Rattle.watchtree_script.specs.CallLines.{call_line, call_text, has_line, file_has_line, is_short, is_mode};
@@ -28,8 +28,8 @@ const MODE_END: u32 = 0o1_000_000;
 /// How many bytes the buffer of an entry has at the start, which most entries do not outgrow.
 const ENTRY_ROOM: usize = 256;
 
-/// How many bytes the buffer of a reply has at the start.
-const REPLY_ROOM: usize = 64;
+/// How many bytes a comment has beside what it says.
+const COMMENT_LEN: usize = 3;
 
 const OCTAL: u32 = 8;
 
@@ -62,12 +62,42 @@ pub fn append_entry(entry: &Entry, text: &mut Vec<u8>) -> Result<(), AllocError>
         × (text.new.items ≡ text.old.items ++ added)) }
     ensures err { OnErr result (text.new.items ≡ text.old.items) }
 {
+    let mut entry_text = Vec::with_capacity(*text.allocator(), ENTRY_ROOM)?;
+    push_reply(&mut entry_text, OutputFormat::Records, &entry.reply)?;
+    let len = entry_text.len();
+    push_call_line(&mut entry_text, &entry.call)?;
+    let (reply, line) = entry_text.split_at(len);
+    append_lines(line, reply, text)
+}
+
+/// Adds the line of a call and the lines of its reply as comments. Most replies have one line.
+fn append_lines(line: &[u8], reply: &[u8], text: &mut Vec<u8>) -> Result<(), AllocError>
+    ensures ok { OnOk result (text.new.items ≡ text.old.items ++ line.now ++ commented reply.now) }
+    ensures err { OnErr result (text.new.items ≡ text.old.items) }
+{
+    if let Some(said) = Words::new(b'\n', reply).one() {
+        let len = line.len().saturating_add(said.len());
+        text.reserve(len.saturating_add(COMMENT_LEN))?;
+        add(text, line);
+        add(text, b"# ");
+        add(text, said);
+        add(text, b"\n");
+        return Ok(());
+    }
     let mut lines = Vec::with_capacity(*text.allocator(), ENTRY_ROOM)?;
-    let mut reply = Vec::with_capacity(*text.allocator(), REPLY_ROOM)?;
-    push_call_line(&mut lines, &entry.call)?;
-    push_reply(&mut reply, OutputFormat::Records, &entry.reply)?;
-    push_comments(&mut lines, reply.as_slice())?;
+    lines.extend_from_slice(line)?;
+    push_comments(&mut lines, reply)?;
     text.extend_from_slice(lines.as_slice())
+}
+
+/// Adds bytes for which there is enough capacity.
+fn add(text: &mut Vec<u8>, bytes: &[u8])
+    requires { vec_len text.old + length bytes.now ≤ vec_capacity text.old }
+    ensures items { text.new.items ≡ text.old.items ++ bytes.now }
+    ensures len { vec_len text.new ≡ vec_len text.old + length bytes.now }
+    ensures room { vec_capacity text.old ≤ vec_capacity text.new }
+{
+    text.extend_from_slice(bytes).unwrap();
 }
 
 #[tactic(auto, unfolding(crate::specs::CallLines::call_line))]
