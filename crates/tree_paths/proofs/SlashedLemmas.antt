@@ -15,7 +15,7 @@ use Rattle.std.specs.Str.{bytes_eq}
 use Rattle.record_codec.specs.Names.{is_name, is_name_byte}
 use Rattle.tree_paths.specs.PathText.{IsSlashed, IsSplit, IsLastStart, is_in_place, is_other, shape_of}
 use Rattle.tree_paths.specs.declared.parse.Shape.{Shape}
-use Rattle.tree_paths.specs.Paths.{names_of, parsed, is_below, IsBelow, slashed}
+use Rattle.tree_paths.specs.Paths.{names_of, parsed, is_below, IsBelow, IsParentText, slashed}
 use Rattle.tree_paths.specs.Pieces.{pieces, is_nonempty}
 use Rattle.tree_paths.proofs.BelowLemmas.{same-test}
 use Rattle.tree_paths.proofs.PathLemmas.{names_eq-Decides}
@@ -212,6 +212,52 @@ last-by (n ∷ ns) text start named fits is at =
 
 pub last-is : (text : List ℕ) (start : ℕ) → IsSlashed text → IsLastStart text start → IsLast text (take (length text - start) (drop start text))
 last-is text start s at = subst (IsLast text) (sym (rest-is text start)) (last-by s.names text start s.named s.in_place s.is at)
+
+-- the text before the last slash
+front-split : (a b x y : List ℕ) → list_all is_other x ≡ true → list_all is_other y ≡ true → a ++ 47 ∷ x ≡ b ++ 47 ∷ y → a ≡ b
+front-split [] [] x y hx hy e = refl
+front-split [] (c ∷ b) x y hx hy e =
+    let r : x ≡ b ++ 47 ∷ y = cc in
+    let off : list_all is_other x ≡ false = ap (list_all is_other) r ∙ has-slash b y in
+    absurd cc
+front-split (c ∷ a) [] x y hx hy e =
+    let r : y ≡ a ++ 47 ∷ x = cc in
+    let off : list_all is_other y ≡ false = ap (list_all is_other) r ∙ has-slash a x in
+    absurd cc
+front-split (c ∷ a) (d ∷ b) x y hx hy e =
+    let t : a ≡ b = front-split a b x y hx hy (cc) in
+    let h : c ≡ d = cc in
+    cc
+
+parent-by : (names : List (List ℕ)) (text : List ℕ) (start : ℕ) → list_all is_name names ≡ true → text ≡ slashed names → IsLastStart text start
+    → IsParentText (names_of text) (take (start - 1) text)
+parent-by [] text start named is at = let e : length text ≡ 0 = ap (λ (t : List ℕ). length t) is in absurd (omega (arith, e, at.some, at.within))
+parent-by (n ∷ ns) text start named is at =
+    let r = snoc n ns in
+    let all : (list_all is_name r.front && list_all is_name (r.last ∷ [])) ≡ true =
+    sym (ap (list_all is_name) r.is ∙ list_all-append is_name r.front (r.last ∷ [])) ∙ named in
+    let both = and_parts (list_all is_name r.front) (list_all is_name (r.last ∷ [])) all in
+    let good : is_name r.last ≡ true = (and_parts (is_name r.last) true both.1).0 in
+    let left : text ≡ slashed r.front ++ 47 ∷ r.last = is ∙ ap slashed r.is ∙ slashed-more r.front r.last in
+    let before : start - 1 < length text = omega (arith, at.some, at.within) in
+    let behind : start - 1 + 1 ≡ start = omega (arith, at.some) in
+    let right : text ≡ take (start - 1) text ++ 47 ∷ drop start text =
+    sym (take-append-drop (start - 1) text)
+    ∙ ap (λ (t : List ℕ). take (start - 1) text ++ t) (drop_more text (start - 1) 0 before ∙ (λ i. at.at_slash i ∷ drop (behind i) text)) in
+    let same : slashed r.front ≡ take (start - 1) text =
+    front-split (slashed r.front) (take (start - 1) text) r.last (drop start text)
+    (others r.last (name_is r.last good).bytes) at.none (sym left ∙ right) in
+    let whole : names_of text ≡ r.front ++ r.last ∷ [] = ap names_of is ∙ names-slashed (n ∷ ns) named ∙ r.is in
+    let parent : r.front ≡ take (length (names_of text) - 1) (names_of text) =
+    snoc-take r.front r.last ∙ ap (λ (t : List (List ℕ)). take (length t - 1) t) (sym whole) in
+    record {
+      some = let len = length-append r.front (r.last ∷ []) in let e = ap (λ (t : List (List ℕ)). length t) whole in omega (arith, len, e);
+      is = sym same ∙ ap slashed parent;
+      front = ap names_of (sym same) ∙ names-slashed r.front both.0 ∙ parent;
+    }
+
+pub parent-is : (text : List ℕ) (start : ℕ) → IsSlashed text → IsLastStart text start → IsParentText (names_of text) (take (start - 1) text)
+parent-is text start s at = parent-by s.names text start s.named s.is at
 
 -- such a text begins with a slash
 begins : (names : List (List ℕ)) (text : List ℕ) → text ≡ slashed names → 0 < length text → get_or text 0 0 ≡ 47

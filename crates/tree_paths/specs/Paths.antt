@@ -1,5 +1,6 @@
 -- What a pathname's text stands for, and how paths lie to one another.
-use Rattle.std.specs.Prelude.{◌≡◌, ℕ, ◌-◌, Bool, true, false, not, ◌&&◌, ◌||◌, ◌==◌, nat_lt, nat_le, cond, List, []}
+use Rattle.std.specs.Prelude.{◌≡◌, ℕ, ◌-◌, ◌<◌, take, Bool, true, false, not, ◌&&◌, ◌||◌, ◌==◌}
+use Rattle.std.specs.Prelude.{nat_lt, nat_le, cond, List, []}
 use Rattle.std.specs.Prelude.{◌∷◌, ◌++◌, length, slice_index, codes, Option, Some, None, Result, Ok, Err, if◌then◌else◌}
 use Rattle.std.specs.BTreeMap.{is_at}
 use Rattle.std.specs.Cmp.Lexicographic.{slice_cmp}
@@ -54,6 +55,13 @@ slashed names = flat_map (λ n. slash ∷ n) names
 abbrev pub pathname_of : List (List ℕ) → List ℕ
 pathname_of [] = slash ∷ []
 pathname_of (name ∷ names) = slashed (name ∷ names)
+
+-- the text of the names before the last one: the path of the directory that has the last name, with a slash before each
+-- name, so that the root's is empty
+pub record IsParentText (names : List (List ℕ)) (text : List ℕ) : Type 0 where
+  pub some : 0 < length names
+  pub is : text ≡ slashed (take (length names - 1) names)
+  pub front : names_of text ≡ take (length names - 1) names
 
 -- above is a proper prefix of path
 abbrev pub IsBelow : List (List ℕ) → List (List ℕ) → Type 0

@@ -1,13 +1,14 @@
 //! Paths from the root.
 
-ghost use Rattle.std.specs.Prelude.{◌≡◌, ◌⊎◌, ◌∷◌, ◌++◌, [], MatchOption, IsSome, IfOk, IfErr, IsTrue, ◌-◌, ◌<◌, ◌↔◌};
+ghost use Rattle.std.specs.Prelude.{◌≡◌, ◌⊎◌, ◌∷◌, ◌++◌, [], MatchOption, IsSome, IfOk, IfErr, IsTrue, IfSome};
+ghost use Rattle.std.specs.Prelude.{◌-◌, ◌<◌, ◌↔◌};
 ghost use Rattle.std.specs.Prelude.{take, length};
 ghost use Rattle.std.specs.Prelude.{nat_eq};
 ghost use Rattle.std.proofs.Common.{rules};
 ghost use Rattle.std.specs.Cmp.Rules.{comparing};
 ghost use Rattle.std.specs.Cmp.Lexicographic.{pointwise};
 ghost use Rattle.tree_paths.specs.PathText.{IsSlashed};
-ghost use Rattle.tree_paths.specs.Paths.{is_below, names_of};
+ghost use Rattle.tree_paths.specs.Paths.{is_below, names_of, slashed, IsParentText};
 
 use crate::Refusal;
 use crate::left::PathNames;
@@ -106,6 +107,28 @@ impl Path {
         self.kept.last()
     }
 
+    /// The text of the path: a slash before each name, so that the root's is empty.
+    ///
+    /// `None` for a path that is kept as a list of names, as one is that has a name of more than
+    /// [`record_codec::NAME_IN_PLACE`] bytes.
+    pub fn text(&self) -> Option<&[u8]>
+        ensures { IfSome result (λ text. text.now ≡ slashed self.now) }
+    {
+        let whole = self.kept.text()?;
+        Some(whole)
+    }
+
+    /// The text of the directory of the last name: a slash before each of its names, so that the root's is empty.
+    ///
+    /// `None` for the root's path, and for a path that is kept as a list of names, as one is that has a name of more
+    /// than [`record_codec::NAME_IN_PLACE`] bytes.
+    #[inline(always)]
+    pub fn parent_text(&self) -> Option<&[u8]>
+        ensures { IfSome result (λ text. IsParentText self.now text.now) }
+    {
+        self.kept.parent_text()
+    }
+
     /// The last name. `None` for the root.
     #[inline(always)]
     pub fn last_name(&self) -> Option<PathName<'_>>
@@ -120,7 +143,10 @@ impl Path {
     pub fn is_root(&self) -> bool
         ensures { IsTrue result ↔ (self.now ≡ []) }
     {
-        self.names().is_empty()
+        match self.kept.text() {
+            Some(text) => text.is_empty(),
+            None => self.names().is_empty(),
+        }
     }
 
     /// Whether the other path is a proper prefix of this one.

@@ -7,7 +7,7 @@ ghost use Rattle.record_codec.specs.Names.{is_name};
 ghost use Rattle.tree_paths.specs.PathText.{kept_names, left_names, shape_of, IsKept, IsLeft, IsSlashed, IsLastStart};
 ghost use Rattle.tree_paths.specs.PathText.{slashes_in};
 ghost use Rattle.tree_paths.specs.declared.stops.TheConstants.{BLOCK};
-ghost use Rattle.tree_paths.specs.Paths.{names_of, parsed, slashed};
+ghost use Rattle.tree_paths.specs.Paths.{names_of, parsed, slashed, IsParentText};
 
 use crate::left::{Left, PathNames};
 use crate::parse::{SEPARATOR, Shape, names_in, put_name, squeeze};
@@ -154,6 +154,19 @@ impl PathText {
         }
     }
 
+    /// The text of the names before the last one. `None` if there is no name, or no text.
+    #[inline(always)]
+    pub(crate) fn parent_text(&self) -> Option<&[u8]>
+        requires { IsKept self.now }
+        ensures { IfSome result (λ text. IsParentText (kept_names self.now) text.now) }
+    {
+        match self {
+            PathText::Short { len, text } => parent_in(&text[..*len as usize]),
+            PathText::Text(text) => parent_in(text),
+            PathText::Names(_) => None,
+        }
+    }
+
     /// The names, and one more.
     pub(crate) fn child(&self, alloc: Global, name: &Name) -> Result<PathText, AllocError>
         requires { IsKept self.now }
@@ -222,6 +235,18 @@ fn last_in(text: &[u8]) -> Option<NamePlace<'_>>
         return None;
     }
     Some(NamePlace::in_text(&text[last_start(text)..]))
+}
+
+/// The text before the last name's slash, if there is a name.
+#[inline(always)]
+fn parent_in(text: &[u8]) -> Option<&[u8]>
+    requires { IsSlashed text.now }
+    ensures { IfSome result (λ parent. IsParentText (names_of text.now) parent.now) }
+{
+    if text.is_empty() {
+        return None;
+    }
+    Some(&text[..last_start(text) - 1])
 }
 
 /// Where the last name of a text begins.
