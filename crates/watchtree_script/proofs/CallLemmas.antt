@@ -204,3 +204,6 @@ pub third_within : (u v w : List ℕ) (ws : List (List ℕ)) → length w ≤ le
 third_within u v w ws =
     let rest : List ℕ = join_with_byte 32 (v ∷ w ∷ ws) in
     omega (arith, length-append u (32 ∷ rest), second_within v w ws)
+
+-- a word of a line is no longer than the line
+pub ruleset within = (second_within, third_within)

@@ -151,7 +151,8 @@ pub block-pushed : (old mid new block rest behind front back first second all : 
     → mid ≡ old ++ first → new ≡ mid ++ second → new ++ encode_lower behind ≡ all
 block-pushed old mid new block rest behind front back first second all known b d digits one two p q =
     let left : List ℕ = encode_lower behind in
-    let split : rest ≡ block ++ behind = sym (take-append-drop 16 rest) ∙ ap (λ (l : List ℕ). l ++ drop 16 rest) (sym b) ∙ ap (λ (l : List ℕ). block ++ l) (sym d) in
+    let split : rest ≡ block ++ behind =
+    sym (take-append-drop 16 rest) ∙ ap (λ (l : List ℕ). l ++ drop 16 rest) (sym b) ∙ ap (λ (l : List ℕ). block ++ l) (sym d) in
     let pair : first ++ second ≡ encode_lower block = ap (λ (l : List ℕ). l ++ second) one ∙ ap (λ (l : List ℕ). front ++ l) two ∙ sym digits in
     let whole : new ≡ old ++ encode_lower block =
     q ∙ ap (λ (l : List ℕ). l ++ second) p ∙ append_assoc old first second ∙ ap (λ (l : List ℕ). old ++ l) pair in

@@ -1,6 +1,7 @@
 //! Calls as the lines of a script that make them, and entries of a journal with their replies as comments.
 
-ghost use Rattle.std.specs.Prelude.{◌≡◌, ◌∷◌, ◌++◌, ◌≤◌, List, ℕ, [], OnOk, OnErr, codes, decimal, false, length, vec_len, vec_capacity, ◌+◌};
+ghost use Rattle.std.specs.Prelude.{◌≡◌, ◌∷◌, ◌++◌, ◌≤◌, List, ℕ, [], OnOk, OnErr, codes, decimal};
+ghost use Rattle.std.specs.Prelude.{false, length, vec_len, vec_capacity, ◌+◌};
 ghost use Rattle.std.specs.Fmt.{digits, digit_glyph};
 ghost use Rattle.tree_core.specs.Calls.{IsSpelled};
 ghost use Rattle.watchtree_script.specs.CallLines.{call_line, call_text, has_line, file_has_line, is_short, is_mode};
@@ -128,7 +129,7 @@ fn push_comments(text: &mut Vec<u8>, said: &[u8]) -> Result<(), AllocError>
     Ok(())
 }
 
-/// Whether a line of a script makes the call, whose words take so many bytes.
+/// Whether a line of a script makes the call, whose words take at most `len` bytes.
 #[tactic(auto, using(crate::proofs::CallLemmas::third_within), unfolding(crate::specs::CallLines::call_text))]
 fn has_line(call: &Call, len: usize) -> bool
     requires { length (call_text call.now) ≤ len }
@@ -143,7 +144,7 @@ fn has_line(call: &Call, len: usize) -> bool
     }
 }
 
-#[tactic(auto, using(crate::proofs::CallLemmas::second_within, crate::proofs::CallLemmas::third_within), unfolding(crate::specs::CallLines::call_text))]
+#[tactic(auto, using(crate::proofs::CallLemmas::within), unfolding(crate::specs::CallLines::call_text))]
 fn file_has_line(call: &FileCall, len: usize) -> bool
     requires { length (call_text (Call.File call.now)) ≤ len }
     ensures { result ≡ file_has_line call.now }
@@ -165,7 +166,7 @@ fn file_has_line(call: &FileCall, len: usize) -> bool
     }
 }
 
-/// Whether a path is not too long for a line. Its text has at most so many bytes.
+/// Whether a path is not too long for a line. Its text has at most `len` bytes.
 #[tactic(auto, using(crate::proofs::CallLemmas::short_path))]
 #[inline(always)]
 fn is_short(path: &Path, len: usize) -> bool
@@ -175,7 +176,7 @@ fn is_short(path: &Path, len: usize) -> bool
     len < PATH_MAX || has_short_name(path)
 }
 
-/// The same where the text is longer than a path may be.
+/// Whether a path is not too long for a line, by its names.
 #[cold]
 fn has_short_name(path: &Path) -> bool
     ensures { result ≡ is_short path.now }
@@ -343,6 +344,17 @@ fn push_path(text: &mut Vec<u8>, path: &Path) -> Result<(), AllocError>
 
 /// The pathname of a path that is not the root's, with its bytes as they are.
 fn push_pathname(text: &mut Vec<u8>, path: &Path) -> Result<(), AllocError>
+    ensures { OnOk result (text.new.items ≡ text.old.items ++ slashed path.now) }
+{
+    match path.text() {
+        Some(whole) => text.extend_from_slice(whole),
+        None => push_names(text, path),
+    }
+}
+
+/// The same of a path that has a long name.
+#[cold]
+fn push_names(text: &mut Vec<u8>, path: &Path) -> Result<(), AllocError>
     ensures { OnOk result (text.new.items ≡ text.old.items ++ slashed path.now) }
 {
     let mut names = path.names();

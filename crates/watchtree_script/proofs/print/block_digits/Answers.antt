@@ -15,4 +15,5 @@ digits_of-low-requires-clause-below c = lows_below c.args.block.now
 
 pub returns : goal.returns
 returns c =
-    block-digits c.args.block.now c.digits_of-high.result c.digits_of-low.result c.told-block (bytes-below c.args.block.now c.fits-block) c.digits_of-high.ensures c.digits_of-low.ensures
+    block-digits c.args.block.now c.digits_of-high.result c.digits_of-low.result c.told-block (bytes-below c.args.block.now c.fits-block)
+    c.digits_of-high.ensures c.digits_of-low.ensures

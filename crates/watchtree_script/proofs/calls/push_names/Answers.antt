@@ -1,6 +1,6 @@
 use Rattle.std.proofs.Common.{◌++◌, ap, ◌∙◌}
 use Rattle.watchtree_script.proofs.CallLemmas.{raw-name}
-use Rattle.watchtree_script.proofs.calls.push_pathname.Goals as goal
+use Rattle.watchtree_script.proofs.calls.push_names.Goals as goal
 
 pub loop-name-preserved : goal.loop-name-preserved
 loop-name-preserved c =
