@@ -187,6 +187,21 @@ pub(crate) fn remove_node(nodes: &mut Slab<Node>, key: usize)
     nodes.remove(key);
 }
 
+/// Whether a directory is at a key.
+pub(crate) fn is_directory(nodes: &Slab<Node>, key: usize) -> bool
+    ensures { result ≡ is_directory (rows_of nodes.now) key }
+{
+    match nodes.get(key) {
+        Some(
+            Node {
+                content: Content::Directory(_),
+                ..
+            },
+        ) => true,
+        _ => false,
+    }
+}
+
 /// The key under the name in the directory, if there is one.
 pub(crate) fn child(nodes: &Slab<Node>, directory: usize, name: &NamePlace) -> Option<usize>
     ensures { result ≡ child (rows_of nodes.now) directory name.now }

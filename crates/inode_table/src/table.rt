@@ -12,6 +12,7 @@ use crate::content::Content;
 use crate::found::Found;
 use crate::key::Key;
 use crate::node::{Node, child};
+use crate::recent::Recent;
 use record_codec::Name;
 use slab::Slab;
 use std::alloc::Global;
@@ -41,25 +42,31 @@ const ROOT_MODE: u32 = 0o755;
 pub struct Table {
     nodes: Slab<Node>,
     alloc: Global,
+    recent: Recent,
 }
 
 impl Drop for Table {
     fn drop(self) {
-        let Table { nodes: _, alloc: _ } = self;
+        let Table {
+            nodes: _,
+            alloc: _,
+            recent: _,
+        } = self;
     }
 }
 
 impl Model for Table {
     ghost use Rattle.std.specs.Prelude.{◌-◌};
     ghost use Rattle.slab.specs.Slab.{slab_len};
-    ghost use Rattle.inode_table.specs.Kept.{rows_of, IsTable};
+    ghost use Rattle.inode_table.specs.Kept.{rows_of};
+    ghost use Rattle.inode_table.specs.Recent.{Keeps};
     ghost use Rattle.inode_table.specs.Tree.{TableValue};
 
     ghost Value = { TableValue };
 
     ghost view = { λ a. record { rows = rows_of a.nodes; room = a.nodes.capacity - slab_len a.nodes } };
 
-    ghost invariant = { λ a. IsTable (rows_of a.nodes) };
+    ghost invariant = { λ a. Keeps (rows_of a.nodes) a.recent };
 }
 
 impl Table {
@@ -76,6 +83,7 @@ impl Table {
         ensures world { IfOk result (λ table. world_of table ≡ opening_world) }
         ensures memory { IfErr result (λ refusal. refusal ≡ Refusal.Enomem) }
     {
+        let recent = Recent::new(alloc)?;
         let mut nodes = Slab::new(alloc);
         nodes.reserve(1)?;
         nodes.insert_reserved(Node {
@@ -84,7 +92,11 @@ impl Table {
             links: 1,
             content: Content::Directory(BTreeMap::new(alloc)),
         });
-        Ok(Table { nodes, alloc })
+        Ok(Table {
+            nodes,
+            alloc,
+            recent,
+        })
     }
 
     /// Reserves capacity for one node.

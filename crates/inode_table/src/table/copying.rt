@@ -6,6 +6,7 @@ ghost use Rattle.inode_table.specs.Copies.{IsContentCopy, IsNodeCopy};
 use super::Table;
 use crate::content::Content;
 use crate::node::Node;
+use crate::recent::Recent;
 use std::alloc::AllocError;
 use tree_paths::Refusal;
 
@@ -20,10 +21,12 @@ impl Table {
         ensures world { IfOk result (λ table. world_of table ≡ world_of self.now) }
         ensures memory { IfErr result (λ refusal. refusal ≡ Refusal.Enomem) }
     {
+        let recent = Recent::new(self.alloc)?;
         // Each node keeps its slot, so the keys in the directories are right in the copy too.
         Ok(Table {
             nodes: self.nodes.clone()?,
             alloc: self.alloc,
+            recent,
         })
     }
 }

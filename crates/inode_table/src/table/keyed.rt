@@ -11,6 +11,7 @@ use crate::node::{
     Node, lose_any_link, point_child, remove_node, reserve_bytes, set_bytes, set_child, set_len,
     set_links, set_mode, unset_child, write_bytes,
 };
+use crate::recent::{forget_any_directory, forget_directory};
 use record_codec::Name;
 use std::alloc::AllocError;
 
@@ -76,6 +77,7 @@ impl Table {
             → Stands self.new (without_path w (p ++ name.now ∷ [])) }
         ensures room { self.new.room ≡ self.old.room }
     {
+        forget_directory(&mut self.recent, &self.nodes, key);
         unset_child(&mut self.nodes, directory, name);
         lose_any_link(&mut self.nodes, Some(key));
     }
@@ -123,6 +125,8 @@ impl Table {
         ensures room { OnOk result (self.new.room ≡ self.old.room) }
         ensures err { OnErr result (self.new ≡ self.old) }
     {
+        forget_directory(&mut self.recent, &self.nodes, key);
+        forget_any_directory(&mut self.recent, &self.nodes, replaced);
         set_child(&mut self.nodes, other_directory, other_name, key)?;
         unset_child(&mut self.nodes, directory, name);
         lose_any_link(&mut self.nodes, replaced);
@@ -155,6 +159,8 @@ impl Table {
             → Stands self.new (with_swap w (p ++ name.now ∷ []) (q ++ other_name.now ∷ [])) }
         ensures room { self.new.room ≡ self.old.room }
     {
+        forget_directory(&mut self.recent, &self.nodes, key);
+        forget_directory(&mut self.recent, &self.nodes, other_key);
         point_child(&mut self.nodes, directory, name, other_key);
         point_child(&mut self.nodes, other_directory, other_name, key);
     }

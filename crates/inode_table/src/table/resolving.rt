@@ -1,15 +1,16 @@
 //! The resolution of a path: one walk for all that a call wants to know of it (POSIX.1-2017, 4.13).
 
-ghost use Rattle.std.specs.Prelude.{◌≡◌, ◌∷◌, ◌++◌, List, [], Some, None, IsSome, IfOk, IfErr};
+ghost use Rattle.std.specs.Prelude.{◌≡◌, ◌∷◌, ◌++◌, ◌≢◌, List, [], Some, None, IsSome, IfOk, IfErr};
 ghost use Rattle.std.specs.FinMap as finmap;
 ghost use Rattle.inode_table.specs.Rows.{Label};
 ghost use Rattle.inode_table.specs.Tree.{at, what_at};
 ghost use Rattle.inode_table.specs.Found.{found_of};
+ghost use Rattle.tree_paths.specs.Paths.{IsParentText, names_of};
 
 use super::{ROOT, Table, missing_at};
 use crate::found::Found;
 use crate::key::Key;
-use crate::node::child;
+use crate::node::{child, is_directory};
 use crate::resolved::Resolved;
 use crate::seen::Seen;
 use tree_paths::{NamePlace, Path, PathNames, Refusal};
@@ -68,6 +69,71 @@ impl Table {
             Found::at(Key::of(directory)),
             self.resolve_in(directory, &name),
         )
+    }
+
+    /// The same as [`Table::resolve`]. The directory of the last name is remembered, and no walk leads to one that is:
+    /// the next path in the same directory takes a comparison of texts.
+    ///
+    /// A table remembers up to 64 directories whose paths have up to 104 bytes, in 8 KB that it allocates when it is
+    /// made, until a directory is moved or removed. A path with a name of more than 31 bytes is walked each time. It
+    /// takes no memory.
+    #[inline(always)]
+    pub fn resolve_recent<'a>(&mut self, path: &'a Path) -> Resolved<'a>
+        ensures same { self.new ≡ self.old }
+        ensures names { result.names ≡ path.now }
+        ensures resolved { IsResolved self.old result }
+    {
+        let Some(text) = path.parent_text() else {
+            return self.resolve(path);
+        };
+        match self.recent.find(text) {
+            Some(directory) => self.resolve_last(directory, path),
+            None => self.resolve_anew(path, text),
+        }
+    }
+
+    /// What is found at a path by the directory of its last name.
+    #[inline(always)]
+    fn resolve_last<'a>(&self, directory: usize, path: &'a Path) -> Resolved<'a>
+        requires some { path.now ≢ [] }
+        requires there { at self.now (parent_of path.now) ≡ Some directory }
+        ensures names { result.names ≡ path.now }
+        ensures resolved { IsResolved self.now result }
+    {
+        self.rows_law();
+        let Some(name) = path.last_place() else {
+            unreachable!()
+        };
+        Resolved {
+            path,
+            directory: Found::at(Key::of(directory)),
+            here: self.resolve_in(directory, &name),
+        }
+    }
+
+    /// Resolves a path by a walk, and remembers the directory of its last name, which has the text.
+    #[inline(never)]
+    fn resolve_anew<'a>(&mut self, path: &'a Path, text: &[u8]) -> Resolved<'a>
+        requires { IsParentText path.now text.now }
+        ensures same { self.new ≡ self.old }
+        ensures names { result.names ≡ path.now }
+        ensures resolved { IsResolved self.old result }
+    {
+        let resolved = self.resolve(path);
+        if let Ok(key) = resolved.directory.get() {
+            self.remember(text, key.slot());
+        }
+        resolved
+    }
+
+    /// Remembers a directory, if one is at the key.
+    fn remember(&mut self, text: &[u8], key: usize)
+        requires { at self.old (names_of text.now) ≡ Some key }
+        ensures { self.new ≡ self.old }
+    {
+        if is_directory(&self.nodes, key) {
+            self.recent.keep(text, key);
+        }
     }
 
     /// What stands at a resolved path, or why nothing does: `ENOENT` below a directory, `ENOTDIR` below a file.

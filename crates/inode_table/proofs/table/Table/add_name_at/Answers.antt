@@ -6,6 +6,8 @@ use Rattle.inode_table.specs.Changes.{SetsChild}
 use Rattle.inode_table.proofs.RowsLemmas.{row-rows_of}
 use Rattle.inode_table.proofs.ChangeLemmas.{LinksRow, IsTable-link, link-AddsPath, one_more_link, SetsEdge-child, SetsEdge-same, live-what}
 use Rattle.inode_table.proofs.StandsLemmas.{SameFiles-more, Stands-with_path}
+use Rattle.inode_table.specs.Recent.{Remembers}
+use Rattle.inode_table.proofs.RecentLemmas.{Remembers-link}
 use Rattle.inode_table.proofs.table.Table.add_name_at.Goals as goal
 use Rattle.inode_table.proofs.table.Table.add_name_at.Goals.{After-set_links}
 
@@ -20,7 +22,7 @@ linked c =
     ap (λ rs. what rs c.args.key) (sym same)
     ∙ ap (option_map shown) (row-rows_of c.self.inside.nodes c.args.key ∙ ap (option_map row_of) (sym c.in-Some.ensures)) in
     record {
-      table = subst IsTable same c.self.invariant;
+      table = subst IsTable same c.self.invariant.table;
       directory = c.requires.directory.kind;
       regular = c.requires.regular;
       there = live-what old c.args.key ∙ c.requires.there;
@@ -32,7 +34,13 @@ linked c =
     }
 
 pub invariant_of-self-2 : goal.invariant_of-self-2
-invariant_of-self-2 c = IsTable-link (linked c) c.requires.directory.path c.requires.directory.there
+invariant_of-self-2 c =
+    record {
+      table = IsTable-link (linked c) c.requires.directory.path c.requires.directory.there;
+      recent =
+          Remembers-link (linked c) c.requires.directory.path c.requires.directory.there
+          (subst (λ rs. Remembers rs c.self.inside.recent) (ap (λ t. t.rows) c.self.view_is) c.self.invariant.recent);
+    }
 
 pub returns-clause-path : goal.returns-clause-path
 returns-clause-path c = link-AddsPath (linked c)

@@ -7,6 +7,8 @@ use Rattle.inode_table.specs.Tree.{what_at}
 use Rattle.inode_table.proofs.RowsLemmas.{SetsRow-at, row-rows_of}
 use Rattle.inode_table.proofs.ChangeLemmas.{AddsRow, IsTable-add, add-AddsPath, add-what_here, add-what_others}
 use Rattle.inode_table.proofs.StandsLemmas.{Stands-with_file}
+use Rattle.inode_table.specs.Recent.{Remembers}
+use Rattle.inode_table.proofs.RecentLemmas.{Remembers-add}
 use Rattle.inode_table.proofs.table.Table.add_node_at.Goals as goal
 use Rattle.inode_table.proofs.table.Table.add_node_at.Goals.{After-insert_reserved}
 
@@ -18,7 +20,7 @@ added c =
     let key : c.insert_reserved.result ≡ c.vacant_key-key.result =
     c.insert_reserved.ensures.key ∙ c.set_child.ensures.vacant_key ∙ sym c.vacant_key-key.ensures.value in
     record {
-      table = subst IsTable same c.self.invariant;
+      table = subst IsTable same c.self.invariant.table;
       directory = c.requires.directory.kind;
       vacant =
           ap (λ rs. row_under rs c.vacant_key-key.result) (sym same) ∙ row-rows_of c.self.inside.nodes c.vacant_key-key.result
@@ -34,7 +36,13 @@ added c =
     }
 
 pub invariant_of-self-2 : goal.invariant_of-self-2
-invariant_of-self-2 c = IsTable-add (added c) c.requires.directory.path c.requires.directory.there refl c.requires.unused
+invariant_of-self-2 c =
+    record {
+      table = IsTable-add (added c) c.requires.directory.path c.requires.directory.there refl c.requires.unused;
+      recent =
+          Remembers-add (added c) c.requires.directory.path c.requires.directory.there
+          (subst (λ rs. Remembers rs c.self.inside.recent) (ap (λ t. t.rows) c.self.view_is) c.self.invariant.recent);
+    }
 
 pub returns-clause-path : goal.returns-clause-path
 returns-clause-path c = add-AddsPath (added c)

@@ -5,6 +5,8 @@ use Rattle.inode_table.specs.Rows.{shown}
 use Rattle.inode_table.proofs.RowsLemmas.{SetsRow, SetsRow-from_updates}
 use Rattle.inode_table.proofs.ChangeLemmas.{RemovesRow, IsTable-remove, remove-paths, remove-others}
 use Rattle.inode_table.proofs.StandsLemmas.{Stands-without_file}
+use Rattle.inode_table.specs.Recent.{Remembers}
+use Rattle.inode_table.proofs.RecentLemmas.{Remembers-remove}
 use Rattle.inode_table.proofs.table.Table.drop_node_at.Goals as goal
 use Rattle.inode_table.proofs.table.Table.drop_node_at.Goals.{After-remove_node}
 
@@ -12,7 +14,7 @@ removed : (c : After-remove_node) → RemovesRow c.args.self.now.rows (rows_of c
 removed c =
     let same : rows_of c.self.inside.nodes ≡ c.args.self.now.rows = ap (λ t. t.rows) c.self.view_is in
     record {
-      table = subst IsTable same c.self.invariant;
+      table = subst IsTable same c.self.invariant.table;
       lost = c.requires.lost;
       gone =
           subst (λ rs. SetsRow rs (rows_of c.remove_node.new.nodes) c.args.key None) same
@@ -20,7 +22,13 @@ removed c =
     }
 
 pub invariant_of-self : goal.invariant_of-self
-invariant_of-self c = IsTable-remove (removed c)
+invariant_of-self c =
+    record {
+      table = IsTable-remove (removed c);
+      recent =
+          Remembers-remove (removed c)
+          (subst (λ rs. Remembers rs c.self.inside.recent) (ap (λ t. t.rows) c.self.view_is) c.self.invariant.recent);
+    }
 
 pub returns-clause-paths : goal.returns-clause-paths
 returns-clause-paths c = remove-paths (removed c)

@@ -1,9 +1,11 @@
 use Rattle.std.proofs.Common.{◌≡◌, Some, sym, ap, subst, ◌∙◌}
-use Rattle.inode_table.specs.Kept.{rows_of, IsTable}
+use Rattle.inode_table.specs.Kept.{rows_of, is_directory, IsTable}
 use Rattle.inode_table.specs.Rows.{child}
 use Rattle.inode_table.specs.Changes.{SetsChild}
 use Rattle.inode_table.proofs.ChangeLemmas.{MovesRow, MovesRow-from, IsTable-move, move-empty, move-MovesPath, positive_target}
 use Rattle.inode_table.proofs.StandsLemmas.{SameFiles-loses, Stands-with_move}
+use Rattle.inode_table.specs.Recent.{Keeps, Remembers}
+use Rattle.inode_table.proofs.RecentLemmas.{Remembers-fewer, Remembers-move}
 use Rattle.inode_table.proofs.table.Table.replace_name_at.Goals as goal
 use Rattle.inode_table.proofs.table.Table.replace_name_at.Goals.{After-lose_any_link}
 
@@ -18,7 +20,7 @@ moved c =
     let to = c.requires.other_directory in
     MovesRow-from old first (rows_of c.unset_child.new.nodes) _ c.args.directory c.args.name.now c.args.other_directory
     c.args.other_name c.args.key c.args.replaced
-    (subst IsTable same c.self.invariant) from.kind to.kind from.path to.path from.there to.there
+    (subst IsTable same c.self.invariant.table) from.kind to.kind from.path to.path from.there to.there
     (c.requires.apart from.path to.path from.there to.there)
     c.requires.there
     c.requires.empty
@@ -30,15 +32,39 @@ moved c =
 
 pub lose_any_link-requires-clause-positive : goal.lose_any_link-requires-clause-positive
 lose_any_link-requires-clause-positive c k is =
-    positive_target (rows_of c.self.inside.nodes) (rows_of c.unset_child.new.nodes) c.self.invariant
+    positive_target (rows_of c.self.inside.nodes) (rows_of c.unset_child.new.nodes) c.self.invariant.table
     (λ j. c.unset_child.ensures.names.what j ∙ c.in_ok-set_child.ensures.ok.what j)
     c.args.other_directory c.args.other_name k (ap (λ t. child t.rows c.args.other_directory c.args.other_name) c.self.view_is ∙ c.requires.replaced ∙ is)
+
+-- what failed left the rows, and fewer directories remembered
+pub invariant_of-self : goal.invariant_of-self
+invariant_of-self c =
+    let rows = rows_of c.self.inside.nodes in
+    let known = c.forget_any_directory.new.recent in
+    let fewer : Remembers rows known =
+    Remembers-fewer rows c.self.inside.recent known
+    (λ p k at. (c.forget_directory.ensures p k (c.forget_any_directory.ensures p k at).0).0) c.self.invariant.recent in
+    subst (λ rs. Keeps rs known) (sym c.in_err-set_child.ensures.err) (record { table = c.self.invariant.table; recent = fewer })
 
 pub invariant_of-self-2 : goal.invariant_of-self-2
 invariant_of-self-2 c =
     let from = c.requires.directory in
     let to = c.requires.other_directory in
-    IsTable-move (moved c) from.path to.path from.there to.there (c.requires.apart from.path to.path from.there to.there)
+    let apart = c.requires.apart from.path to.path from.there to.there in
+    let same : c.args.self.now.rows ≡ rows_of c.self.inside.nodes = ap (λ t. t.rows) (sym c.self.view_is) in
+    record {
+      table = IsTable-move (moved c) from.path to.path from.there to.there apart;
+      recent =
+          Remembers-move (moved c) from.path to.path from.there to.there apart
+          (λ p k at.
+          let h = c.forget_any_directory.ensures p k at in
+          let g = c.forget_directory.ensures p k h.0 in (
+            g.0,
+            ap (λ rs. is_directory rs c.args.key) same ∙ g.1,
+            λ j e. ap (λ rs. is_directory rs j) same ∙ h.1 j (sym c.requires.replaced ∙ e),
+          ))
+          (subst (λ rs. Remembers rs c.self.inside.recent) (ap (λ t. t.rows) c.self.view_is) c.self.invariant.recent);
+    }
 
 pub returns-clause-paths : goal.returns-clause-paths
 returns-clause-paths c p q to_p to_q = move-MovesPath (moved c) p q to_p to_q (c.requires.apart p q to_p to_q)

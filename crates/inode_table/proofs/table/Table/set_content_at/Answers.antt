@@ -5,18 +5,22 @@ use Rattle.inode_table.specs.Changes.{with_bytes, ChangesWhat}
 use Rattle.std.specs.Option.{option_map}
 use Rattle.inode_table.specs.Walk.{walk}
 use Rattle.inode_table.proofs.StandsLemmas.{Stands-with_content}
-use Rattle.inode_table.proofs.ChangeLemmas.{IsTable-change, regular-what}
+use Rattle.inode_table.proofs.ChangeLemmas.{IsTable-change, KeepsKind, changes-directory, regular-what}
+use Rattle.inode_table.proofs.RecentLemmas.{Remembers-edges}
 use Rattle.inode_table.proofs.table.Table.set_content_at.Goals as goal
 
 pub invariant_of-self : goal.invariant_of-self
 invariant_of-self c =
-    IsTable-change c.set_bytes.ensures.what
-    (record {
+    let keeps : KeepsKind (rows_of c.self.inside.nodes) c.args.key (with_bytes c.args.bytes.items) =
+    record {
       number = λ w. refl;
       kind = λ w e. sym (regular-what (rows_of c.self.inside.nodes) c.args.key w e
           (ap (λ t. is_directory t.rows c.args.key) c.self.view_is ∙ c.requires.regular));
-    })
-    c.self.invariant c.set_bytes.ensures.child (λ w. refl)
+    } in
+    record {
+      table = IsTable-change c.set_bytes.ensures.what keeps c.self.invariant.table c.set_bytes.ensures.child (λ w. refl);
+      recent = Remembers-edges c.set_bytes.ensures.child (changes-directory c.set_bytes.ensures.what keeps) c.self.invariant.recent;
+    }
 
 pub returns-clause-world : goal.returns-clause-world
 returns-clause-world c w v stands was =
@@ -32,6 +36,6 @@ returns-clause-world c w v stands was =
       kind = λ w e. sym (regular-what (rows_of c.self.inside.nodes) c.args.key w e
           (ap (λ t. is_directory t.rows c.args.key) c.self.view_is ∙ c.requires.regular));
     })
-    c.self.invariant c.set_bytes.ensures.child (λ w. refl))
+    c.self.invariant.table c.set_bytes.ensures.child (λ w. refl))
     c.args.key v (with_bytes c.args.bytes.items v) was (changes.here ∙ ap (option_map (with_bytes c.args.bytes.items)) was)
     refl changes.others (λ p i. walk (λ k l. children k l i) 0 p)

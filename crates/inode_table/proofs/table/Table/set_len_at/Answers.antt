@@ -5,13 +5,18 @@ use Rattle.inode_table.specs.Changes.{with_len, ChangesWhat}
 use Rattle.std.specs.Option.{option_map}
 use Rattle.inode_table.specs.Walk.{walk}
 use Rattle.inode_table.proofs.StandsLemmas.{Stands-with_content}
-use Rattle.inode_table.proofs.ChangeLemmas.{IsTable-change, none-map}
+use Rattle.inode_table.proofs.ChangeLemmas.{IsTable-change, KeepsKind, changes-directory, none-map}
+use Rattle.inode_table.proofs.RecentLemmas.{Remembers-edges}
 use Rattle.inode_table.proofs.table.Table.set_len_at.Goals as goal
 
 pub invariant_of-self : goal.invariant_of-self
 invariant_of-self c =
-    IsTable-change c.set_len.ensures.what (record { number = λ w. refl; kind = λ w e. none-map _ w.bytes }) c.self.invariant
-    c.set_len.ensures.child (λ w. refl)
+    let keeps : KeepsKind (rows_of c.self.inside.nodes) c.args.key (with_len c.args.len) =
+    record { number = λ w. refl; kind = λ w e. none-map _ w.bytes } in
+    record {
+      table = IsTable-change c.set_len.ensures.what keeps c.self.invariant.table c.set_len.ensures.child (λ w. refl);
+      recent = Remembers-edges c.set_len.ensures.child (changes-directory c.set_len.ensures.what keeps) c.self.invariant.recent;
+    }
 
 pub returns-clause-world : goal.returns-clause-world
 returns-clause-world c w v stands was =
@@ -21,6 +26,6 @@ returns-clause-world c w v stands was =
     let children : (k : ℕ) (l : Label) → child (rows_of c.set_len.new.nodes) k l ≡ child c.args.self.now.rows k l =
     subst (λ rs. (k : ℕ) (l : Label) → child (rows_of c.set_len.new.nodes) k l ≡ child rs k l) same c.set_len.ensures.child in
     let table = IsTable-change c.set_len.ensures.what (record { number = λ u. refl; kind = λ u e. none-map _ u.bytes })
-    c.self.invariant c.set_len.ensures.child (λ u. refl) in
+    c.self.invariant.table c.set_len.ensures.child (λ u. refl) in
     Stands-with_content stands table c.args.key v (with_len c.args.len v) was
     (changes.here ∙ ap (option_map (with_len c.args.len)) was) refl changes.others (λ p i. walk (λ k l. children k l i) 0 p)

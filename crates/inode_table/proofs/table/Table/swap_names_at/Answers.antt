@@ -1,11 +1,13 @@
-use Rattle.std.proofs.Common.{◌≡◌, Some, ap, subst}
-use Rattle.inode_table.specs.Kept.{rows_of, IsTable}
+use Rattle.std.proofs.Common.{◌≡◌, Some, sym, ap, subst, ◌∙◌}
+use Rattle.inode_table.specs.Kept.{rows_of, is_directory, IsTable}
 use Rattle.inode_table.specs.Changes.{SetsChild}
 use Rattle.inode_table.proofs.ChangeLemmas.{SwapsRow, SwapsRow-from, IsTable-swap, swap-SwapsPaths}
 use Rattle.std.specs.Option.{option_map}
 use Rattle.inode_table.proofs.TreeLemmas.{apart_below}
 use Rattle.inode_table.proofs.StandsLemmas.{named}
 use Rattle.inode_table.proofs.SwapLemmas.{Stands-with_swap}
+use Rattle.inode_table.specs.Recent.{Remembers}
+use Rattle.inode_table.proofs.RecentLemmas.{Remembers-swap}
 use Rattle.inode_table.proofs.table.Table.swap_names_at.Goals as goal
 use Rattle.inode_table.proofs.table.Table.swap_names_at.Goals.{After-point_child-2}
 
@@ -19,7 +21,7 @@ swapped c =
     let from = c.requires.directory in
     let to = c.requires.other_directory in
     SwapsRow-from old first _ c.args.directory c.args.name.now c.args.other_directory c.args.other_name.now c.args.key c.args.other_key
-    (subst IsTable same c.self.invariant) from.kind to.kind from.path to.path from.there to.there
+    (subst IsTable same c.self.invariant.table) from.kind to.kind from.path to.path from.there to.there
     (c.requires.below from.path to.path from.there to.there)
     c.requires.there
     c.requires.other_there
@@ -30,8 +32,19 @@ pub invariant_of-self : goal.invariant_of-self
 invariant_of-self c =
     let from = c.requires.directory in
     let to = c.requires.other_directory in
-    IsTable-swap (swapped c) from.path to.path from.there to.there (c.requires.below from.path to.path from.there to.there)
-    (c.requires.above from.path to.path from.there to.there)
+    let below = c.requires.below from.path to.path from.there to.there in
+    let above = c.requires.above from.path to.path from.there to.there in
+    let same : c.args.self.now.rows ≡ rows_of c.self.inside.nodes = ap (λ t. t.rows) (sym c.self.view_is) in
+    record {
+      table = IsTable-swap (swapped c) from.path to.path from.there to.there below above;
+      recent =
+          Remembers-swap (swapped c) from.path to.path from.there to.there below above
+          (λ p k at.
+          let h = c.forget_directory-2.ensures p k at in
+          let g = c.forget_directory.ensures p k h.0 in
+          (g.0, ap (λ rs. is_directory rs c.args.key) same ∙ g.1, ap (λ rs. is_directory rs c.args.other_key) same ∙ h.1))
+          (subst (λ rs. Remembers rs c.self.inside.recent) (ap (λ t. t.rows) c.self.view_is) c.self.invariant.recent);
+    }
 
 pub returns-clause-paths : goal.returns-clause-paths
 returns-clause-paths c p q to_p to_q = swap-SwapsPaths (swapped c) p q to_p to_q (c.requires.below p q to_p to_q) (c.requires.above p q to_p to_q)
