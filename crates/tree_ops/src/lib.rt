@@ -24,6 +24,6 @@ pub use laws::{files_get_numbers, worlds_stay_worlds};
 pub use lookup::Lookup;
 pub use moves::Moves;
 pub use opening::opening_table;
-pub use paths::Paths;
+pub use paths::{CallPaths, Paths};
 pub use peeking::{peek_bytes, peek_names, peek_stat};
 pub use plan::{Plan, Ready};

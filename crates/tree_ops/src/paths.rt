@@ -11,7 +11,39 @@ use crate::plan::Plan;
 use inode_table::{Resolved, Table};
 use std::marker::Model;
 
-/// The paths of a call on the table that each is resolved on, by one walk. [`crate::check`] takes them.
+/// The paths of a call, resolved. They borrow the call and no table.
+#[derive(Drop)]
+pub struct CallPaths<'a> {
+    path: Resolved<'a>,
+    /// The new path of a call that has two, and else the path once more.
+    other_path: Resolved<'a>,
+}
+
+impl<'a> Model for CallPaths<'a> {
+    ghost use Rattle.tree_ops.specs.CallPaths.{ResolvedPaths};
+
+    ghost Value = { ResolvedPaths };
+
+    ghost view = { λ p. record { path = p.path; other_path = p.other_path } };
+}
+
+impl<'a> CallPaths<'a> {
+    /// Resolves the paths of a call on a table, which remembers their directories ([`Table::resolve_recent`]).
+    #[inline(always)]
+    pub fn resolve(table: &mut Table, call: &'a FileCall) -> CallPaths<'a>
+        ensures same { table.new ≡ table.old }
+        ensures paths { ArePathsOf table.old call.now result }
+    {
+        let path = table.resolve_recent(call.path());
+        let other_path = match call.other_path() {
+            Some(other_path) => table.resolve_recent(other_path),
+            None => path.copied(),
+        };
+        CallPaths { path, other_path }
+    }
+}
+
+/// The paths of a call on the table that each is resolved on. [`crate::check`] takes them.
 #[derive(Drop)]
 pub struct Paths<'t, 'a> {
     table: &'t Table,
@@ -47,6 +79,22 @@ impl<'t, 'a> Paths<'t, 'a> {
             Some(other_path) => table.resolve(other_path),
             None => path.copied(),
         };
+        Paths {
+            table,
+            call,
+            path,
+            other_path,
+        }
+    }
+
+    /// The paths of a call that are resolved on this table.
+    #[inline(always)]
+    pub fn on(table: &'t Table, call: &'a FileCall, paths: CallPaths<'a>) -> Paths<'t, 'a>
+        requires { ArePathsOf table.now call.now paths }
+        ensures tree { result.tree ≡ table.now }
+        ensures call { result.call ≡ call.now }
+    {
+        let CallPaths { path, other_path } = paths;
         Paths {
             table,
             call,
