@@ -24,7 +24,7 @@ use inode_table::{Kind, Table};
 use instance_table::{Instance, Instances, Staging, unwatched_instances_stay};
 use record_codec::{Bytes, Events, append};
 use std::alloc::{AllocError, Global};
-use tree_ops::{Counts, FileCall, Paths, Ready, carry_out, check};
+use tree_ops::{CallPaths, Counts, FileCall, Paths, Ready, carry_out, check};
 use tree_paths::{Limits, Path, Refusal};
 use watch_table::Mask;
 
@@ -246,7 +246,8 @@ impl FileSystem {
         ensures { Attempts self.old (Call.File call.now) result self.new }
     {
         let counts = self.counts();
-        let paths = Paths::resolve(&self.table, call);
+        let found = CallPaths::resolve(&mut self.table, call);
+        let paths = Paths::on(&self.table, call, found);
         let ready = check(&paths, &counts, &self.limits)?;
         let is_staged = stage_notices(
             &self.instances,
