@@ -1,6 +1,7 @@
 //! Names and records as text.
 
 ghost use Rattle.std.specs.Prelude.{◌≡◌, ◌≤◌, ◌+◌, ◌*◌, ◌++◌, decimal, length, vec_len, vec_capacity, OnOk, OnErr};
+ghost use Rattle.std.specs.Prelude.{IsTrue};
 ghost use Rattle.std.specs.Fmt.{signed_decimal};
 ghost use Rattle.std.specs.List.{list_all};
 ghost use Rattle.record_codec.specs.Lines.{is_plain, printed_byte, printed_name, printed_numbers, record_line};
@@ -35,9 +36,19 @@ pub fn append_name(name: &Name, out: &mut Vec<u8>) -> Result<(), AllocError>
     ensures ok { OnOk result (out.new.items ≡ out.old.items ++ printed_name name.now) }
     ensures err { OnErr result (out.new.items ≡ out.old.items) }
 {
-    let name = name.bytes();
-    out.reserve(PRINTED_BYTE_LEN * name.len())?;
-    add_name(name, out);
+    append_printed(name.bytes(), out)
+}
+
+/// Adds bytes at the end, printed as `append_name` prints those of a name.
+///
+/// # Errors
+/// `AllocError` if the capacity of `out` is too small and allocating more fails. Its bytes are then as they were.
+pub fn append_printed(bytes: &[u8], out: &mut Vec<u8>) -> Result<(), AllocError>
+    ensures ok { OnOk result (out.new.items ≡ out.old.items ++ printed_name bytes.now) }
+    ensures err { OnErr result (out.new.items ≡ out.old.items) }
+{
+    out.reserve(bytes.len().saturating_mul(PRINTED_BYTE_LEN))?;
+    add_name(bytes, out);
     Ok(())
 }
 
@@ -127,12 +138,29 @@ fn add_name(name: &[u8], out: &mut Vec<u8>)
     requires { vec_len out.old + PRINTED_BYTE_LEN * length name.now ≤ vec_capacity out.old }
     ensures { out.new.items ≡ out.old.items ++ printed_name name.now }
 {
-    if SHORT_NAME_LEN < name.len() && are_plain(name) {
+    if is_copied(name) {
         return add(out, name);
     }
-    for byte in name {
+    add_each(name, out);
+}
+
+/// Adds the bytes one by one, each as it is printed.
+#[inline(always)]
+fn add_each(bytes: &[u8], out: &mut Vec<u8>)
+    requires { vec_len out.old + PRINTED_BYTE_LEN * length bytes.now ≤ vec_capacity out.old }
+    ensures { out.new.items ≡ out.old.items ++ printed_name bytes.now }
+{
+    for byte in bytes {
         add_byte(*byte, out);
     }
+}
+
+/// Whether the bytes are copied: more than `SHORT_NAME_LEN`, none of which needs an escape.
+#[inline(always)]
+fn is_copied(bytes: &[u8]) -> bool
+    ensures { IsTrue result → printed_name bytes.now ≡ bytes.now }
+{
+    SHORT_NAME_LEN < bytes.len() && are_plain(bytes)
 }
 
 /// Whether the bytes are printed as they are. Eight of them are tested at a time.
