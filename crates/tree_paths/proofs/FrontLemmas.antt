@@ -13,8 +13,8 @@ use Rattle.record_codec.specs.Names.{is_name, is_name_byte}
 use Rattle.tree_paths.specs.declared.refusal.Refusal.{Refusal}
 use Rattle.tree_paths.specs.declared.refusal.Refusal.TheVariants.{Einval, Enametoolong}
 use Rattle.tree_paths.specs.declared.parse.Shape.{Shape}
-use Rattle.tree_paths.specs.PathText.{is_in_place, shape_of}
-use Rattle.tree_paths.specs.Paths.{parsed, names_of, is_null, is_dots, is_long, slashed}
+use Rattle.tree_paths.specs.PathText.{shape_of}
+use Rattle.tree_paths.specs.Paths.{parsed, names_of, is_null, is_dots, is_in_place, is_long, slashed}
 use Rattle.tree_paths.specs.Pieces.{pieces, is_nonempty}
 use Rattle.tree_paths.proofs.PathnameLemmas.{no_null, no_slashes}
 use Rattle.tree_paths.proofs.PieceLemmas.{nonempty-cons, accepted, names_read}

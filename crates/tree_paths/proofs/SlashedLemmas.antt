@@ -1,5 +1,5 @@
 -- Names as a text with a slash before each.
-use Rattle.std.proofs.Common.{◌≡◌, ◌≢◌, ℕ, zero, suc, ◌+◌, ◌-◌, ◌<◌, ◌≤◌, Bool, true, false, not, ◌&&◌, cond, eqb, List}
+use Rattle.std.proofs.Common.{◌≡◌, ◌≢◌, ℕ, zero, suc, ◌+◌, ◌-◌, ◌<◌, ◌≤◌, Bool, true, false, not, cond, eqb, List}
 use Rattle.std.proofs.Common.{[], ◌∷◌, ◌++◌, length, take, drop, get_or, Ok, refl, sym, ap, subst, ◌∙◌, arith, IsTrue}
 use Rattle.std.proofs.Common.{nat_eq, length-append, take_all}
 use Rattle.std.specs.Prelude.{filter}
@@ -13,9 +13,9 @@ use Rattle.std.proofs.lemmas.Bool.Decides.{Decides-eqb}
 use Rattle.std.specs.Cmp.Lexicographic.{pointwise}
 use Rattle.std.specs.Str.{bytes_eq}
 use Rattle.record_codec.specs.Names.{is_name, is_name_byte}
-use Rattle.tree_paths.specs.PathText.{IsSlashed, IsSplit, IsLastStart, is_in_place, is_other, shape_of}
+use Rattle.tree_paths.specs.PathText.{IsSlashed, IsSplit, IsLastStart, is_other, shape_of}
 use Rattle.tree_paths.specs.declared.parse.Shape.{Shape}
-use Rattle.tree_paths.specs.Paths.{names_of, parsed, is_below, IsBelow, IsParentText, slashed}
+use Rattle.tree_paths.specs.Paths.{names_of, parsed, is_below, is_in_place, IsBelow, IsParentText, slashed}
 use Rattle.tree_paths.specs.Pieces.{pieces, is_nonempty}
 use Rattle.tree_paths.proofs.BelowLemmas.{same-test}
 use Rattle.tree_paths.proofs.PathLemmas.{names_eq-Decides}
@@ -41,6 +41,9 @@ names-are text s = ap names_of s.is ∙ names-slashed s.names s.named
 -- such a text has a slash before its names
 pub text-is : (text : List ℕ) → IsSlashed text → text ≡ slashed (names_of text)
 text-is text s = s.is ∙ ap slashed (sym (names-are text s))
+
+pub text-in-place : (text : List ℕ) → IsSlashed text → list_all is_in_place (names_of text) ≡ true
+text-in-place text s = ap (list_all is_in_place) (names-are text s) ∙ s.in_place
 
 -- it has no name where it has no byte
 pub none-if-empty : (text : List ℕ) → length text ≡ 0 → names_of text ≡ []
@@ -157,8 +160,9 @@ has-slash : (b y : List ℕ) → list_all is_other (b ++ 47 ∷ y) ≡ false
 has-slash [] y = refl
 has-slash (c ∷ b) y = and_right (is_other c) (list_all is_other (b ++ 47 ∷ y)) (has-slash b y)
 
-last-split : (a b x y : List ℕ) → list_all is_other x ≡ true → list_all is_other y ≡ true → a ++ 47 ∷ x ≡ b ++ 47 ∷ y → x ≡ y
-last-split [] [] x y hx hy e = cc
+-- what stands on both sides of the last slash
+last-split : (a b x y : List ℕ) → list_all is_other x ≡ true → list_all is_other y ≡ true → a ++ 47 ∷ x ≡ b ++ 47 ∷ y → (a ≡ b) × (x ≡ y)
+last-split [] [] x y hx hy e = (refl, cc)
 last-split [] (c ∷ b) x y hx hy e =
     let r : x ≡ b ++ 47 ∷ y = cc in
     let off : list_all is_other x ≡ false = ap (list_all is_other) r ∙ has-slash b y in
@@ -167,7 +171,10 @@ last-split (c ∷ a) [] x y hx hy e =
     let r : y ≡ a ++ 47 ∷ x = cc in
     let off : list_all is_other y ≡ false = ap (list_all is_other) r ∙ has-slash a x in
     absurd cc
-last-split (c ∷ a) (d ∷ b) x y hx hy e = last-split a b x y hx hy (cc)
+last-split (c ∷ a) (d ∷ b) x y hx hy e =
+    let same : c ≡ d = cc in
+    let r = last-split a b x y hx hy (cc) in
+    ((λ i. same i ∷ r.0 i), r.1)
 
 others : (x : List ℕ) → list_all is_name_byte x ≡ true → list_all is_other x ≡ true
 others [] h = refl
@@ -175,89 +182,78 @@ others (b ∷ bs) h =
     let both = and_parts (is_name_byte b) (list_all is_name_byte bs) h in
     rw ((and_parts (not (eqb b 0)) (not (eqb b 47)) both.0).1, others bs both.1) refl
 
+all-parts : (p : List ℕ → Bool) (front : List (List ℕ)) (last : List ℕ) → list_all p (front ++ last ∷ []) ≡ true → (list_all p front ≡ true) × (p last ≡ true)
+all-parts p front last h =
+    let both = and_parts (list_all p front) (list_all p (last ∷ [])) (sym (list_all-append p front (last ∷ [])) ∙ h) in
+    (both.0, (and_parts (p last) true both.1).0)
+
+-- the names of a text, whose last name begins at an index
+record Ends (text : List ℕ) (start : ℕ) : Type 0 where
+  front : List (List ℕ)
+  last : List ℕ
+  is : names_of text ≡ front ++ last ∷ []
+  front_named : list_all is_name front ≡ true
+  last_named : is_name last ≡ true
+  last_short : length last ≤ 31
+  before : slashed front ≡ take (start - 1) text
+  behind : last ≡ take (length text - start) (drop start text)
+  parent : front ≡ take (length (names_of text) - 1) (names_of text)
+
+ends-by : (names : List (List ℕ)) (text : List ℕ) (start : ℕ) → list_all is_name names ≡ true → list_all is_in_place names ≡ true
+    → text ≡ slashed names → IsLastStart text start → Ends text start
+ends-by [] text start named fits is at = let e : length text ≡ 0 = ap (λ (t : List ℕ). length t) is in absurd (omega (arith, e, at.some, at.within))
+ends-by (n ∷ ns) text start named fits is at =
+    let r = snoc n ns in
+    let names = all-parts is_name r.front r.last (sym (ap (list_all is_name) r.is) ∙ named) in
+    let short = all-parts is_in_place r.front r.last (sym (ap (list_all is_in_place) r.is) ∙ fits) in
+    let left : text ≡ slashed r.front ++ 47 ∷ r.last = is ∙ ap slashed r.is ∙ slashed-more r.front r.last in
+    let before : start - 1 < length text = omega (arith, at.some, at.within) in
+    let behind : start - 1 + 1 ≡ start = omega (arith, at.some) in
+    let right : text ≡ take (start - 1) text ++ 47 ∷ drop start text =
+    sym (take-append-drop (start - 1) text)
+    ∙ ap (λ (t : List ℕ). take (start - 1) text ++ t) (drop_more text (start - 1) 0 before ∙ (λ i. at.at_slash i ∷ drop (behind i) text)) in
+    let same =
+    last-split (slashed r.front) (take (start - 1) text) r.last (drop start text)
+    (others r.last (name_is r.last names.1).bytes) at.none (sym left ∙ right) in
+    let whole : names_of text ≡ r.front ++ r.last ∷ [] = ap names_of is ∙ names-slashed (n ∷ ns) named ∙ r.is in
+    record {
+      front = r.front;
+      last = r.last;
+      is = whole;
+      front_named = names.0;
+      last_named = names.1;
+      last_short = leb-true (length r.last) 31 short.1;
+      before = same.0;
+      behind = same.1 ∙ sym (rest-is text start);
+      parent = snoc-take r.front r.last ∙ ap (λ (t : List (List ℕ)). take (length t - 1) t) (sym whole);
+    }
+
+ends : (text : List ℕ) (start : ℕ) → IsSlashed text → IsLastStart text start → Ends text start
+ends text start s at = ends-by s.names text start s.named s.in_place s.is at
+
 pub record IsLast (text name : List ℕ) : Type 0 where
   pub named : IsTrue (is_name name)
   pub short : length name ≤ 31
   pub last : names_of text ≡ take (length (names_of text) - 1) (names_of text) ++ name ∷ []
 
-last-by : (names : List (List ℕ)) (text : List ℕ) (start : ℕ) → list_all is_name names ≡ true → list_all is_in_place names ≡ true
-    → text ≡ slashed names → IsLastStart text start → IsLast text (drop start text)
-last-by [] text start named fits is at = let e : length text ≡ 0 = ap (λ (t : List ℕ). length t) is in absurd (omega (arith, e, at.some, at.within))
-last-by (n ∷ ns) text start named fits is at =
-    let r = snoc n ns in
-    let all : (list_all is_name r.front && list_all is_name (r.last ∷ [])) ≡ true =
-    sym (ap (list_all is_name) r.is ∙ list_all-append is_name r.front (r.last ∷ [])) ∙ named in
-    let small : (list_all is_in_place r.front && list_all is_in_place (r.last ∷ [])) ≡ true =
-    sym (ap (list_all is_in_place) r.is ∙ list_all-append is_in_place r.front (r.last ∷ [])) ∙ fits in
-    let good : is_name r.last ≡ true = (and_parts (is_name r.last) true (and_parts (list_all is_name r.front) (list_all is_name (r.last ∷ [])) all).1).0 in
-    let fit : is_in_place r.last ≡ true =
-    (and_parts (is_in_place r.last) true (and_parts (list_all is_in_place r.front) (list_all is_in_place (r.last ∷ [])) small).1).0 in
-    let left : text ≡ slashed r.front ++ 47 ∷ r.last = is ∙ ap slashed r.is ∙ slashed-more r.front r.last in
-    let before : start - 1 < length text = omega (arith, at.some, at.within) in
-    let behind : start - 1 + 1 ≡ start = omega (arith, at.some) in
-    let right : text ≡ take (start - 1) text ++ 47 ∷ drop start text =
-    sym (take-append-drop (start - 1) text)
-    ∙ ap (λ (t : List ℕ). take (start - 1) text ++ t) (drop_more text (start - 1) 0 before ∙ (λ i. at.at_slash i ∷ drop (behind i) text)) in
-    let same : r.last ≡ drop start text =
-    last-split (slashed r.front) (take (start - 1) text) r.last (drop start text)
-    (others r.last (name_is r.last good).bytes) at.none (sym left ∙ right) in
-    let whole : names_of text ≡ r.front ++ r.last ∷ [] = ap names_of is ∙ names-slashed (n ∷ ns) named ∙ r.is in
-    let parent : r.front ≡ take (length (names_of text) - 1) (names_of text) =
-    snoc-take r.front r.last ∙ ap (λ (t : List (List ℕ)). take (length t - 1) t) (sym whole) in
-    record {
-      named = subst (λ (y : List ℕ). IsTrue (is_name y)) same good;
-      short = subst (λ (y : List ℕ). length y ≤ 31) same (leb-true (length r.last) 31 fit);
-      last = whole ∙ (λ i. parent i ++ same i ∷ []);
-    }
-
 pub last-is : (text : List ℕ) (start : ℕ) → IsSlashed text → IsLastStart text start → IsLast text (take (length text - start) (drop start text))
-last-is text start s at = subst (IsLast text) (sym (rest-is text start)) (last-by s.names text start s.named s.in_place s.is at)
+last-is text start s at =
+    let e = ends text start s at in
+    record {
+      named = subst (λ (y : List ℕ). IsTrue (is_name y)) e.behind e.last_named;
+      short = subst (λ (y : List ℕ). length y ≤ 31) e.behind e.last_short;
+      last = e.is ∙ (λ i. e.parent i ++ e.behind i ∷ []);
+    }
 
 -- the text before the last slash
-front-split : (a b x y : List ℕ) → list_all is_other x ≡ true → list_all is_other y ≡ true → a ++ 47 ∷ x ≡ b ++ 47 ∷ y → a ≡ b
-front-split [] [] x y hx hy e = refl
-front-split [] (c ∷ b) x y hx hy e =
-    let r : x ≡ b ++ 47 ∷ y = cc in
-    let off : list_all is_other x ≡ false = ap (list_all is_other) r ∙ has-slash b y in
-    absurd cc
-front-split (c ∷ a) [] x y hx hy e =
-    let r : y ≡ a ++ 47 ∷ x = cc in
-    let off : list_all is_other y ≡ false = ap (list_all is_other) r ∙ has-slash a x in
-    absurd cc
-front-split (c ∷ a) (d ∷ b) x y hx hy e =
-    let t : a ≡ b = front-split a b x y hx hy (cc) in
-    let h : c ≡ d = cc in
-    cc
-
-parent-by : (names : List (List ℕ)) (text : List ℕ) (start : ℕ) → list_all is_name names ≡ true → text ≡ slashed names → IsLastStart text start
-    → IsParentText (names_of text) (take (start - 1) text)
-parent-by [] text start named is at = let e : length text ≡ 0 = ap (λ (t : List ℕ). length t) is in absurd (omega (arith, e, at.some, at.within))
-parent-by (n ∷ ns) text start named is at =
-    let r = snoc n ns in
-    let all : (list_all is_name r.front && list_all is_name (r.last ∷ [])) ≡ true =
-    sym (ap (list_all is_name) r.is ∙ list_all-append is_name r.front (r.last ∷ [])) ∙ named in
-    let both = and_parts (list_all is_name r.front) (list_all is_name (r.last ∷ [])) all in
-    let good : is_name r.last ≡ true = (and_parts (is_name r.last) true both.1).0 in
-    let left : text ≡ slashed r.front ++ 47 ∷ r.last = is ∙ ap slashed r.is ∙ slashed-more r.front r.last in
-    let before : start - 1 < length text = omega (arith, at.some, at.within) in
-    let behind : start - 1 + 1 ≡ start = omega (arith, at.some) in
-    let right : text ≡ take (start - 1) text ++ 47 ∷ drop start text =
-    sym (take-append-drop (start - 1) text)
-    ∙ ap (λ (t : List ℕ). take (start - 1) text ++ t) (drop_more text (start - 1) 0 before ∙ (λ i. at.at_slash i ∷ drop (behind i) text)) in
-    let same : slashed r.front ≡ take (start - 1) text =
-    front-split (slashed r.front) (take (start - 1) text) r.last (drop start text)
-    (others r.last (name_is r.last good).bytes) at.none (sym left ∙ right) in
-    let whole : names_of text ≡ r.front ++ r.last ∷ [] = ap names_of is ∙ names-slashed (n ∷ ns) named ∙ r.is in
-    let parent : r.front ≡ take (length (names_of text) - 1) (names_of text) =
-    snoc-take r.front r.last ∙ ap (λ (t : List (List ℕ)). take (length t - 1) t) (sym whole) in
-    record {
-      some = let len = length-append r.front (r.last ∷ []) in let e = ap (λ (t : List (List ℕ)). length t) whole in omega (arith, len, e);
-      is = sym same ∙ ap slashed parent;
-      front = ap names_of (sym same) ∙ names-slashed r.front both.0 ∙ parent;
-    }
-
 pub parent-is : (text : List ℕ) (start : ℕ) → IsSlashed text → IsLastStart text start → IsParentText (names_of text) (take (start - 1) text)
-parent-is text start s at = parent-by s.names text start s.named s.is at
+parent-is text start s at =
+    let e = ends text start s at in
+    record {
+      some = let len = length-append e.front (e.last ∷ []) in let whole = ap (λ (t : List (List ℕ)). length t) e.is in omega (arith, len, whole);
+      is = sym e.before ∙ ap slashed e.parent;
+      front = ap names_of (sym e.before) ∙ names-slashed e.front e.front_named ∙ e.parent;
+    }
 
 -- such a text begins with a slash
 begins : (names : List (List ℕ)) (text : List ℕ) → text ≡ slashed names → 0 < length text → get_or text 0 0 ≡ 47

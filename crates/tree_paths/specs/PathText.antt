@@ -1,5 +1,5 @@
 -- Where a path keeps its names. No public clause cites this module.
-use Rattle.std.specs.Prelude.{◌≡◌, ℕ, ◌<◌, ◌≤◌, ◌-◌, ◌==◌, Bool, true, not, nat_le, List, ◌∷◌, length, take, drop}
+use Rattle.std.specs.Prelude.{◌≡◌, ℕ, ◌<◌, ◌≤◌, ◌-◌, ◌==◌, Bool, true, false, not, List, ◌∷◌, length, take, drop}
 use Rattle.std.specs.Prelude.{[], ◌++◌, ◌+◌, map, slice_index, IsTrue}
 use Rattle.std.specs.List.{list_all}
 use Rattle.record_codec.specs.declared.name.TheConstants.{NAME_IN_PLACE}
@@ -15,11 +15,7 @@ use Rattle.tree_paths.specs.declared.path_name.Found.{Found}
 use Rattle.tree_paths.specs.declared.path_name.Found.TheVariants.{InPlace, Lent}
 use Rattle.tree_paths.specs.declared.path_name.Place.{Place}
 use Rattle.tree_paths.specs.declared.path_name.Place.TheVariants as place
-use Rattle.tree_paths.specs.Paths.{names_of, slash, slashed}
-
--- a name that needs no allocation
-abbrev pub is_in_place : List ℕ → Bool
-is_in_place name = nat_le (length name) NAME_IN_PLACE
+use Rattle.tree_paths.specs.Paths.{names_of, is_in_place, slash, slashed}
 
 -- how many names there are, how long their text is, and whether none needs an allocation
 unfoldable pub shape_of : List (List ℕ) → Shape
@@ -44,11 +40,11 @@ kept_names (Short len text) = names_of (take len text)
 kept_names (Text text) = names_of text.items
 kept_names (Names names) = names.items
 
--- what every Path keeps
+-- what every Path keeps: a list of names only where one of them needs an allocation
 abbrev pub IsKept : PathText → Type 0
 IsKept (Short len text) = (len ≤ SHORT_MAX) × IsSlashed (take len text)
 IsKept (Text text) = IsSlashed text.items
-IsKept (Names names) = Unit {0}
+IsKept (Names names) = list_all is_in_place names.items ≡ false
 
 -- a slash or a zero byte: no name goes on there
 abbrev pub is_stop : ℕ → Bool

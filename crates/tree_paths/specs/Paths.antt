@@ -7,7 +7,7 @@ use Rattle.std.specs.Cmp.Lexicographic.{slice_cmp}
 use Rattle.std.specs.List.{list_any, flat_map}
 use Rattle.std.specs.Ordering.{nat_cmp}
 use Rattle.std.specs.Str.{bytes_eq}
-use Rattle.record_codec.specs.declared.name.TheConstants.{NAME_MAX}
+use Rattle.record_codec.specs.declared.name.TheConstants.{NAME_IN_PLACE, NAME_MAX}
 use Rattle.tree_paths.specs.declared.refusal.Refusal.{Refusal}
 use Rattle.tree_paths.specs.declared.refusal.Refusal.TheVariants.{Enoent, Einval, Enametoolong}
 use Rattle.tree_paths.specs.Pieces.{runs}
@@ -34,6 +34,10 @@ is_dots name = bytes_eq name (codes ".") || bytes_eq name (codes "..")
 
 abbrev pub is_long : List ℕ → Bool
 is_long name = nat_lt NAME_MAX (length name)
+
+-- a name of at most NAME_IN_PLACE bytes, which needs no allocation
+abbrev pub is_in_place : List ℕ → Bool
+is_in_place name = nat_le (length name) NAME_IN_PLACE
 
 -- the names of an absolute pathname's text, or why it is refused: the first row that holds
 unfoldable pub parsed : List ℕ → Result (List (List ℕ)) Refusal

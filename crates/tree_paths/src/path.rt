@@ -1,14 +1,15 @@
 //! Paths from the root.
 
-ghost use Rattle.std.specs.Prelude.{◌≡◌, ◌⊎◌, ◌∷◌, ◌++◌, [], MatchOption, IsSome, IfOk, IfErr, IsTrue, IfSome};
+ghost use Rattle.std.specs.Prelude.{◌≡◌, ◌⊎◌, ◌∷◌, ◌++◌, [], MatchOption, IsSome, IfOk, IfErr, IsTrue};
 ghost use Rattle.std.specs.Prelude.{◌-◌, ◌<◌, ◌↔◌};
-ghost use Rattle.std.specs.Prelude.{take, length};
+ghost use Rattle.std.specs.Prelude.{false, take, length};
 ghost use Rattle.std.specs.Prelude.{nat_eq};
+ghost use Rattle.std.specs.List.{list_all};
 ghost use Rattle.std.proofs.Common.{rules};
 ghost use Rattle.std.specs.Cmp.Rules.{comparing};
 ghost use Rattle.std.specs.Cmp.Lexicographic.{pointwise};
 ghost use Rattle.tree_paths.specs.PathText.{IsSlashed};
-ghost use Rattle.tree_paths.specs.Paths.{is_below, names_of, slashed, IsParentText};
+ghost use Rattle.tree_paths.specs.Paths.{is_below, is_in_place, names_of, slashed, IsParentText};
 
 use crate::Refusal;
 use crate::left::PathNames;
@@ -109,10 +110,11 @@ impl Path {
 
     /// The text of the path: a slash before each name, so that the root's is empty.
     ///
-    /// `None` for a path that is kept as a list of names, as one is that has a name of more than
-    /// [`record_codec::NAME_IN_PLACE`] bytes.
+    /// `None` exactly for a path with a name of more than [`record_codec::NAME_IN_PLACE`] bytes.
     pub fn text(&self) -> Option<&[u8]>
-        ensures { IfSome result (λ text. text.now ≡ slashed self.now) }
+        ensures text { MatchOption result (list_all is_in_place self.now ≡ false)
+            (λ text. text.now ≡ slashed self.now) }
+        ensures some { IsSome result ↔ IsTrue (list_all is_in_place self.now) }
     {
         let whole = self.kept.text()?;
         Some(whole)
@@ -120,11 +122,12 @@ impl Path {
 
     /// The text of the directory of the last name: a slash before each of its names, so that the root's is empty.
     ///
-    /// `None` for the root's path, and for a path that is kept as a list of names, as one is that has a name of more
-    /// than [`record_codec::NAME_IN_PLACE`] bytes.
+    /// `None` only for the root's path, and for a path with a name of more than [`record_codec::NAME_IN_PLACE`]
+    /// bytes.
     #[inline(always)]
     pub fn parent_text(&self) -> Option<&[u8]>
-        ensures { IfSome result (λ text. IsParentText self.now text.now) }
+        ensures { MatchOption result ((self.now ≡ []) ⊎ (list_all is_in_place self.now ≡ false))
+            (λ text. IsParentText self.now text.now) }
     {
         self.kept.parent_text()
     }

@@ -1,13 +1,14 @@
 //! Where a path keeps its names.
 
 ghost use Rattle.std.specs.Prelude.{◌≡◌, ◌++◌, ◌∷◌, [], IfOk, IfSome, IsTrue, MatchOption, ◌≤◌, ◌<◌, ◌-◌, length, take};
-ghost use Rattle.std.specs.Prelude.{Ok, drop};
+ghost use Rattle.std.specs.Prelude.{◌⊎◌, Ok, drop, false, is_some};
+ghost use Rattle.std.specs.List.{list_all};
 ghost use Rattle.record_codec.specs.declared.name.TheConstants.{NAME_IN_PLACE};
 ghost use Rattle.record_codec.specs.Names.{is_name};
 ghost use Rattle.tree_paths.specs.PathText.{kept_names, left_names, shape_of, IsKept, IsLeft, IsSlashed, IsLastStart};
 ghost use Rattle.tree_paths.specs.PathText.{slashes_in};
 ghost use Rattle.tree_paths.specs.declared.stops.TheConstants.{BLOCK};
-ghost use Rattle.tree_paths.specs.Paths.{names_of, parsed, slashed, IsParentText};
+ghost use Rattle.tree_paths.specs.Paths.{is_in_place, names_of, parsed, slashed, IsParentText};
 
 use crate::left::{Left, PathNames};
 use crate::parse::{SEPARATOR, Shape, names_in, put_name, squeeze};
@@ -28,7 +29,7 @@ pub(crate) enum PathText {
     Short { len: u8, text: [u8; SHORT_MAX] },
     /// A longer text.
     Text(Vec<u8>),
-    /// Any names.
+    /// Names, at least one of which needs an allocation.
     Names(Vec<Name>),
 }
 
@@ -111,11 +112,12 @@ impl PathText {
         })
     }
 
-    /// The text, where there is one.
+    /// The text. `None` exactly if a name needs an allocation.
     pub(crate) fn text(&self) -> Option<&[u8]>
         requires { IsKept self.now }
         ensures names { IfSome result (λ text. names_of text.now ≡ kept_names self.now) }
         ensures sound { IfSome result (λ text. IsSlashed text.now) }
+        ensures some { is_some result ≡ list_all is_in_place (kept_names self.now) }
     {
         match self {
             PathText::Short { len, text } => Some(&text[..*len as usize]),
@@ -154,11 +156,12 @@ impl PathText {
         }
     }
 
-    /// The text of the names before the last one. `None` if there is no name, or no text.
+    /// The text of the names before the last one. `None` only if there is no name, or one that needs an allocation.
     #[inline(always)]
     pub(crate) fn parent_text(&self) -> Option<&[u8]>
         requires { IsKept self.now }
-        ensures { IfSome result (λ text. IsParentText (kept_names self.now) text.now) }
+        ensures { MatchOption result ((kept_names self.now ≡ []) ⊎ (list_all is_in_place (kept_names self.now) ≡ false))
+            (λ text. IsParentText (kept_names self.now) text.now) }
     {
         match self {
             PathText::Short { len, text } => parent_in(&text[..*len as usize]),
@@ -241,7 +244,7 @@ fn last_in(text: &[u8]) -> Option<NamePlace<'_>>
 #[inline(always)]
 fn parent_in(text: &[u8]) -> Option<&[u8]>
     requires { IsSlashed text.now }
-    ensures { IfSome result (λ parent. IsParentText (names_of text.now) parent.now) }
+    ensures { MatchOption result (names_of text.now ≡ []) (λ parent. IsParentText (names_of text.now) parent.now) }
 {
     if text.is_empty() {
         return None;

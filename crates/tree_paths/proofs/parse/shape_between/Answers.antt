@@ -1,7 +1,7 @@
 use Rattle.std.proofs.Common.{◌≡◌, ◌<◌, ◌+◌, true, false, ◌&&◌, leb, List, ℕ, Ok, ap, subst, length, refl, sym, ◌∙◌, arith}
 use Rattle.std.specs.List.{list_any, list_all}
-use Rattle.tree_paths.specs.PathText.{is_in_place, IsMarked}
-use Rattle.tree_paths.specs.Paths.{names_of, is_null, is_dots, is_long, slashed}
+use Rattle.tree_paths.specs.PathText.{IsMarked}
+use Rattle.tree_paths.specs.Paths.{names_of, is_null, is_dots, is_in_place, is_long, slashed}
 use Rattle.tree_paths.proofs.FrontLemmas.{IsCut, behind_is, IsWhole, null_step, dots_step, long_step, count_step, len_step}
 use Rattle.tree_paths.proofs.FrontLemmas.{fits_step, one_most, shape_by, null_end, dots_end, long_end, count_end}
 use Rattle.tree_paths.proofs.FrontLemmas.{len_end, fits_end}

@@ -1,7 +1,7 @@
 use Rattle.std.proofs.Common.{◌≡◌, ◌≤◌, ◌+◌, ◌&&◌, ◌||◌, length}
 use Rattle.std.specs.List.{list_any, list_all}
-use Rattle.tree_paths.specs.PathText.{is_in_place, IsMarked}
-use Rattle.tree_paths.specs.Paths.{names_of, is_null, is_dots, is_long, slashed}
+use Rattle.tree_paths.specs.PathText.{IsMarked}
+use Rattle.tree_paths.specs.Paths.{names_of, is_null, is_dots, is_in_place, is_long, slashed}
 use Rattle.tree_paths.proofs.parse.shape_between.Given as goal
 
 abbrev pub invariant-loop-rest : goal.invariant-loop-rest
