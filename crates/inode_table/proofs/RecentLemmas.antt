@@ -1,26 +1,20 @@
 -- What a table remembers stays right under each change.
-use Rattle.std.proofs.Common.{◌≡◌, ◌≢◌, ◌⊎◌, ◌==◌, ◌≤◌, ◌<◌, ℕ, true, false, cond, List, [], ◌∷◌, ◌++◌, Option, Some, None, length, map, take}
-use Rattle.std.proofs.Common.{refl, sym, ap, subst, ◌∙◌, inl, inr, get_or, arith, set, replicate}
-use Rattle.std.proofs.lemmas.Bool.{cases_eq}
-use Rattle.std.specs.Option.{option_map, option_and_then, option_map_or}
+use Rattle.std.proofs.Common.{◌≡◌, ◌≢◌, ◌⊎◌, ℕ, true, false, List, [], ◌∷◌, ◌++◌, Option, Some, None}
+use Rattle.std.proofs.Common.{refl, sym, ap, ◌∙◌, inl, inr}
+use Rattle.std.specs.Option.{option_and_then, option_map_or}
 use Rattle.inode_table.specs.Walk.{walk}
-use Rattle.inode_table.specs.Kept.{is_directory, is_directory_row, is_live, IsTable}
-use Rattle.inode_table.specs.Changes.{Avoids, ChangesWhat, DropsPath, AddsPath, MovesPath, SwapsPaths, one_link_more}
-use Rattle.inode_table.specs.Rows.{Label, Row, Rows, What, child, row_under, what}
+use Rattle.inode_table.specs.Kept.{is_directory, is_directory_row, IsTable}
+use Rattle.inode_table.specs.Changes.{Avoids, one_link_more}
+use Rattle.inode_table.specs.Rows.{Label, Row, Rows, child}
 use Rattle.inode_table.specs.Recent.{Known, IsKnown, Remembers}
 use Rattle.inode_table.proofs.TreeLemmas.{some_none, same_some, walk_past}
 use Rattle.inode_table.proofs.ChangeLemmas.{DropsRow, drop-DropsPath, loses-directory, RemovesRow, remove-paths, remove-others, walk_end}
-use Rattle.inode_table.proofs.ChangeLemmas.{MovesRow, move-MovesPath, move-empty, SwapsRow, swap-SwapsPaths, directory-same}
+use Rattle.inode_table.proofs.ChangeLemmas.{MovesRow, move-MovesPath, SwapsRow, swap-SwapsPaths, directory-same}
 use Rattle.inode_table.proofs.ChangeLemmas.{LinksRow, link-AddsPath, AddsRow, add-AddsPath, add-what_others, changes-directory, KeepsKind}
 
 -- nothing is remembered yet
 pub Remembers-none : (rs : Rows) (known : List (Option Known)) → ((p : List Label) (k : ℕ) → IsKnown known p k → ⊥) → Remembers rs known
 Remembers-none rs known none = record { there = λ p k at. absurd (none p k at); kind = λ p k at. absurd (none p k at) }
-
--- fewer directories are remembered
-pub Remembers-fewer : (rs : Rows) (before after : List (Option Known)) → ((p : List Label) (k : ℕ) → IsKnown after p k → IsKnown before p k)
-    → Remembers rs before → Remembers rs after
-Remembers-fewer rs before after fewer is = record { there = λ p k at. is.there p k (fewer p k at); kind = λ p k at. is.kind p k (fewer p k at) }
 
 -- no path and no directory is another one
 pub Remembers-same : {old new : Rows} {known : List (Option Known)} → ((p : List Label) → walk (child new) 0 p ≡ walk (child old) 0 p)

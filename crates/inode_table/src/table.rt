@@ -11,7 +11,7 @@ ghost use Rattle.inode_table.specs.Found.{found_of};
 use crate::content::Content;
 use crate::found::Found;
 use crate::key::Key;
-use crate::node::{Node, child};
+use crate::node::{Node, is_directory};
 use crate::recent::Recent;
 use record_codec::Name;
 use slab::Slab;
@@ -148,13 +148,5 @@ fn missing_at(nodes: &Slab<Node>, key: usize) -> Found
     ensures { found_of result
         ≡ Err (if is_directory (rows_of nodes.now) key then Refusal.Enoent else Refusal.Enotdir) }
 {
-    match nodes.get(key) {
-        Some(
-            Node {
-                content: Content::Directory(_),
-                ..
-            },
-        ) => Found::missing(true),
-        _ => Found::missing(false),
-    }
+    Found::missing(is_directory(nodes, key))
 }

@@ -125,9 +125,9 @@ impl Table {
         ensures room { OnOk result (self.new.room ≡ self.old.room) }
         ensures err { OnErr result (self.new ≡ self.old) }
     {
+        set_child(&mut self.nodes, other_directory, other_name, key)?;
         forget_directory(&mut self.recent, &self.nodes, key);
         forget_any_directory(&mut self.recent, &self.nodes, replaced);
-        set_child(&mut self.nodes, other_directory, other_name, key)?;
         unset_child(&mut self.nodes, directory, name);
         lose_any_link(&mut self.nodes, replaced);
         Ok(())

@@ -1,4 +1,4 @@
-use Rattle.std.proofs.Common.{◌≡◌, ◌<◌, ℕ, length, List, Option, Some, subst, arith}
+use Rattle.std.proofs.Common.{◌<◌, length, List, Option, subst, arith}
 use Rattle.tree_paths.specs.Paths.{names_of}
 use Rattle.inode_table.specs.Recent.{Known, IsKnown}
 use Rattle.inode_table.proofs.SlotLemmas.{find-known}

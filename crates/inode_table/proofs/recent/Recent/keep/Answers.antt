@@ -1,4 +1,4 @@
-use Rattle.std.proofs.Common.{◌⊎◌, inl, inr, ap, subst, length, ◌∙◌}
+use Rattle.std.proofs.Common.{inl, inr, ap, subst, length, ◌∙◌}
 use Rattle.tree_paths.specs.Paths.{names_of}
 use Rattle.inode_table.specs.declared.recent.Slot.{Slot}
 use Rattle.inode_table.specs.Recent.{IsKnown, known_of}

@@ -1,7 +1,6 @@
-use Rattle.std.proofs.Common.{◌≡◌, ℕ, Some, true, sym, ap, subst, ◌∙◌}
+use Rattle.std.proofs.Common.{◌≡◌, Some, sym, ap, ◌∙◌}
 use Rattle.tree_paths.specs.Paths.{names_of}
-use Rattle.inode_table.specs.Kept.{rows_of, is_directory}
-use Rattle.inode_table.specs.Recent.{IsKnown, Remembers}
+use Rattle.inode_table.specs.Kept.{rows_of}
 use Rattle.inode_table.specs.Rows.{child}
 use Rattle.inode_table.specs.Walk.{walk}
 use Rattle.inode_table.proofs.RecentLemmas.{Remembers-keep}

@@ -1,11 +1,11 @@
-use Rattle.std.proofs.Common.{◌≡◌, Some, sym, ap, subst, ◌∙◌}
+use Rattle.std.proofs.Common.{◌≡◌, ℕ, Some, sym, ap, subst, ◌∙◌}
 use Rattle.inode_table.specs.Kept.{rows_of, is_directory, IsTable}
-use Rattle.inode_table.specs.Rows.{child}
+use Rattle.inode_table.specs.Rows.{child, what}
 use Rattle.inode_table.specs.Changes.{SetsChild}
-use Rattle.inode_table.proofs.ChangeLemmas.{MovesRow, MovesRow-from, IsTable-move, move-empty, move-MovesPath, positive_target}
+use Rattle.inode_table.proofs.ChangeLemmas.{MovesRow, MovesRow-from, IsTable-move, directory-same, move-empty, move-MovesPath, positive_target}
 use Rattle.inode_table.proofs.StandsLemmas.{SameFiles-loses, Stands-with_move}
-use Rattle.inode_table.specs.Recent.{Keeps, Remembers}
-use Rattle.inode_table.proofs.RecentLemmas.{Remembers-fewer, Remembers-move}
+use Rattle.inode_table.specs.Recent.{Remembers}
+use Rattle.inode_table.proofs.RecentLemmas.{Remembers-move}
 use Rattle.inode_table.proofs.table.Table.replace_name_at.Goals as goal
 use Rattle.inode_table.proofs.table.Table.replace_name_at.Goals.{After-lose_any_link}
 
@@ -36,22 +36,14 @@ lose_any_link-requires-clause-positive c k is =
     (λ j. c.unset_child.ensures.names.what j ∙ c.in_ok-set_child.ensures.ok.what j)
     c.args.other_directory c.args.other_name k (ap (λ t. child t.rows c.args.other_directory c.args.other_name) c.self.view_is ∙ c.requires.replaced ∙ is)
 
--- what failed left the rows, and fewer directories remembered
-pub invariant_of-self : goal.invariant_of-self
-invariant_of-self c =
-    let rows = rows_of c.self.inside.nodes in
-    let known = c.forget_any_directory.new.recent in
-    let fewer : Remembers rows known =
-    Remembers-fewer rows c.self.inside.recent known
-    (λ p k at. (c.forget_directory.ensures p k (c.forget_any_directory.ensures p k at).0).0) c.self.invariant.recent in
-    subst (λ rs. Keeps rs known) (sym c.in_err-set_child.ensures.err) (record { table = c.self.invariant.table; recent = fewer })
-
 pub invariant_of-self-2 : goal.invariant_of-self-2
 invariant_of-self-2 c =
     let from = c.requires.directory in
     let to = c.requires.other_directory in
     let apart = c.requires.apart from.path to.path from.there to.there in
-    let same : c.args.self.now.rows ≡ rows_of c.self.inside.nodes = ap (λ t. t.rows) (sym c.self.view_is) in
+    let first = rows_of c.set_child.new.nodes in
+    let same : (j : ℕ) → is_directory c.args.self.now.rows j ≡ is_directory first j =
+    λ j. sym (directory-same c.args.self.now.rows first j (c.in_ok-set_child.ensures.ok.what j ∙ ap (λ t. what t.rows j) c.self.view_is)) in
     record {
       table = IsTable-move (moved c) from.path to.path from.there to.there apart;
       recent =
@@ -60,8 +52,8 @@ invariant_of-self-2 c =
           let h = c.forget_any_directory.ensures p k at in
           let g = c.forget_directory.ensures p k h.0 in (
             g.0,
-            ap (λ rs. is_directory rs c.args.key) same ∙ g.1,
-            λ j e. ap (λ rs. is_directory rs j) same ∙ h.1 j (sym c.requires.replaced ∙ e),
+            same c.args.key ∙ g.1,
+            λ j e. same j ∙ h.1 j (sym c.requires.replaced ∙ e),
           ))
           (subst (λ rs. Remembers rs c.self.inside.recent) (ap (λ t. t.rows) c.self.view_is) c.self.invariant.recent);
     }

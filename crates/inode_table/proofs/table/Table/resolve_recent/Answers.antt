@@ -1,4 +1,4 @@
-use Rattle.std.proofs.Common.{◌≡◌, Some, ap, subst, ◌∙◌, sym}
+use Rattle.std.proofs.Common.{ap, ◌∙◌, sym}
 use Rattle.tree_paths.specs.Paths.{names_of}
 use Rattle.inode_table.specs.Kept.{rows_of}
 use Rattle.inode_table.specs.Refusals.{parent_of}
