@@ -48,9 +48,7 @@ impl<'a> CallPaths<'a> {
 pub struct Paths<'t, 'a> {
     table: &'t Table,
     call: &'a FileCall,
-    path: Resolved<'a>,
-    /// The new path of a call that has two, and else the path once more.
-    other_path: Resolved<'a>,
+    paths: CallPaths<'a>,
 }
 
 impl<'t, 'a> Model for Paths<'t, 'a> {
@@ -58,14 +56,9 @@ impl<'t, 'a> Model for Paths<'t, 'a> {
 
     ghost Value = { PathsValue };
 
-    ghost view = { λ p. record {
-      tree = p.table.now;
-      call = p.call.now;
-      paths = record { path = p.path; other_path = p.other_path };
-    } };
+    ghost view = { λ p. record { tree = p.table.now; call = p.call.now; paths = p.paths } };
 
-    ghost invariant = { λ p. ArePathsOf p.table.now p.call.now
-        (record { path = p.path; other_path = p.other_path }) };
+    ghost invariant = { λ p. ArePathsOf p.table.now p.call.now p.paths };
 }
 
 impl<'t, 'a> Paths<'t, 'a> {
@@ -79,12 +72,7 @@ impl<'t, 'a> Paths<'t, 'a> {
             Some(other_path) => table.resolve(other_path),
             None => path.copied(),
         };
-        Paths {
-            table,
-            call,
-            path,
-            other_path,
-        }
+        Paths::on(table, call, CallPaths { path, other_path })
     }
 
     /// The paths of a call that are resolved on this table.
@@ -94,13 +82,7 @@ impl<'t, 'a> Paths<'t, 'a> {
         ensures tree { result.tree ≡ table.now }
         ensures call { result.call ≡ call.now }
     {
-        let CallPaths { path, other_path } = paths;
-        Paths {
-            table,
-            call,
-            path,
-            other_path,
-        }
+        Paths { table, call, paths }
     }
 
     /// What is true of the paths of every call, for a caller's proof.
@@ -126,7 +108,7 @@ impl<'t, 'a> Paths<'t, 'a> {
         ensures path { result.path ≡ self.now.paths.path }
         ensures names { result.path.names ≡ path_of self.now.call }
     {
-        Lookup::new(self.table, &self.path)
+        Lookup::new(self.table, &self.paths.path)
     }
 
     /// The new path of the call, and its path where it has but one.
@@ -136,7 +118,7 @@ impl<'t, 'a> Paths<'t, 'a> {
         ensures path { result.path ≡ self.now.paths.other_path }
         ensures names { result.path.names ≡ other_path_of self.now.call }
     {
-        Lookup::new(self.table, &self.other_path)
+        Lookup::new(self.table, &self.paths.other_path)
     }
 
     /// The plan of the call, which borrows no table.
@@ -148,8 +130,8 @@ impl<'t, 'a> Paths<'t, 'a> {
         Plan {
             call: self.call,
             counts,
-            path: self.path.copied(),
-            other_path: self.other_path.copied(),
+            path: self.paths.path.copied(),
+            other_path: self.paths.other_path.copied(),
             moves,
         }
     }
