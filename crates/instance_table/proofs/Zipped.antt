@@ -125,10 +125,16 @@ module _ (ids : List ℕ) (ws : List Watch) (are : AreWatchers ids ws) where
       same = length-put ws i w ∙ ap suc are.same ∙ sym (length-put ids i x);
     }
 
-  pub watchers-absent : (i x : ℕ) → IsPlace ids x (Err i) → finmap.get (watchers_map ids ws) x ≡ None
+  watchers-absent : (i x : ℕ) → IsPlace ids x (Err i) → finmap.get (watchers_map ids ws) x ≡ None
   watchers-absent i x place =
       ap (λ (m : WatchMap). finmap.get m x) (sym is-map)
       ∙ get-absent number watch (zip ids ws) i x (subst (λ ks. IsPlace ks x (Err i)) (sym numbers) place)
+
+  -- the same of a slice of the numbers, and of the map that contracts see
+  pub watchers-absent_in : {slice : List ℕ} {m : WatchMap} → slice ≡ ids → watchers_map ids ws ≡ m → (i x : ℕ) → IsPlace slice x (Err i)
+      → finmap.get m x ≡ None
+  watchers-absent_in same view i x place =
+      ap (λ (n : WatchMap). finmap.get n x) (sym view) ∙ watchers-absent i x (subst (λ ks. IsPlace ks x (Err i)) same place)
 
   module _ (i x : ℕ) (place : IsPlace ids x (Ok i)) where
     within : i < length (map number (zip ids ws))

@@ -1,10 +1,10 @@
-use Rattle.std.proofs.Common.{◌≡◌, ap, sym, subst, suc, ◌∙◌, ◌++◌, take, drop, None}
-use Rattle.std.specs.Prelude.{Ok, Err}
+use Rattle.std.proofs.Common.{ap, sym, subst, suc, ◌∙◌, ◌++◌, take, drop}
+use Rattle.std.specs.Prelude.{Ok}
 use Rattle.std.specs.FinMap as finmap
 use Rattle.instance_table.specs.Ids.{IsPlace}
 use Rattle.instance_table.specs.Watchers.{AreWatchers, WatchMap, watchers_map}
 use Rattle.instance_table.proofs.Rising.{cut-absent}
-use Rattle.instance_table.proofs.Zipped.{are-cut, watchers-absent, watchers-cut}
+use Rattle.instance_table.proofs.Zipped.{are-cut, watchers-absent_in, watchers-cut}
 use Rattle.instance_table.proofs.watchers.Watchers.remove.Goals as goal
 
 pub invariant_of-self : goal.invariant_of-self
@@ -28,10 +28,6 @@ returns-in-Ok c =
 
 pub returns-in_default : goal.returns-in_default
 returns-in_default c =
-    let ids = c.self.inside.ids.items in
-    let ws = c.self.inside.watches.items in
-    let i = c.in_default.field-0 in
-    let place : IsPlace ids c.args.id (Err i) = subst (λ xs. IsPlace xs c.args.id (Err i)) c.as_slice.ensures.value c.in_default.ensures in
-    let none : finmap.get c.args.self.now c.args.id ≡ None =
-    ap (λ (m : WatchMap). finmap.get m c.args.id) (sym c.self.view_is) ∙ watchers-absent ids ws c.self.invariant i c.args.id place in
-    sym (cut-absent c.args.self.now c.args.id none)
+    sym (cut-absent c.args.self.now c.args.id
+    (watchers-absent_in c.self.inside.ids.items c.self.inside.watches.items c.self.invariant c.as_slice.ensures.value c.self.view_is
+    c.in_default.field-0 c.args.id c.in_default.ensures))

@@ -1,20 +1,16 @@
-use Rattle.std.proofs.Common.{◌≡◌, ap, sym, subst, ◌∙◌, IsSome, None}
-use Rattle.std.specs.Prelude.{Ok, Err}
+use Rattle.std.proofs.Common.{ap, subst, ◌∙◌, IsSome}
+use Rattle.std.specs.Prelude.{Ok}
 use Rattle.std.specs.FinMap as finmap
 use Rattle.std.proofs.lemmas.Bool.{false≢true}
 use Rattle.instance_table.specs.Ids.{IsPlace}
 use Rattle.instance_table.specs.Watchers.{WatchMap}
-use Rattle.instance_table.proofs.Zipped.{watchers-absent, watchers-set}
+use Rattle.instance_table.proofs.Zipped.{watchers-absent_in, watchers-set}
 use Rattle.instance_table.proofs.watchers.Watchers.set.Goals as goal
 
 pub unreachable-requires : goal.unreachable-requires
 unreachable-requires c =
-    let ids = c.self.inside.ids.items in
-    let ws = c.self.inside.watches.items in
-    let i = c.in_default.field-0 in
-    let place : IsPlace ids c.args.id (Err i) = subst (λ xs. IsPlace xs c.args.id (Err i)) c.as_slice.ensures.value c.in_default.ensures in
-    let none : finmap.get c.args.self.now c.args.id ≡ None =
-    ap (λ (m : WatchMap). finmap.get m c.args.id) (sym c.self.view_is) ∙ watchers-absent ids ws c.self.invariant i c.args.id place in
+    let none = watchers-absent_in c.self.inside.ids.items c.self.inside.watches.items c.self.invariant c.as_slice.ensures.value c.self.view_is
+    c.in_default.field-0 c.args.id c.in_default.ensures in
     false≢true (subst (λ o. IsSome o) none c.requires)
 
 pub returns : goal.returns
