@@ -4,12 +4,10 @@ use Rattle.std.proofs.Common.{refl, sym, ap, ◌∙◌, arith, append_assoc, len
 use Rattle.std.specs.Fmt.{digits, digits_onto, digit_glyph}
 use Rattle.std.proofs.Math.Nat.{div-lt_iff_lt-mul, div-eq_of_lt, div-le_self, pow-suc, pow-zero, pow-le-pow_left}
 use Rattle.std.proofs.lemmas.Bool.{eq-eqb, ne_eqb}
-use Rattle.std.proofs.Common.{true, take, drop, lt-ltb}
-use Rattle.std.proofs.Math.Seq.{drop-append_seam, take-append_seam}
-use Rattle.std.specs.List.{list_all, join_with_byte}
+use Rattle.std.proofs.Common.{true, lt-ltb}
+use Rattle.std.specs.List.{join_with_byte}
 use Rattle.std.proofs.lemmas.List.{append-nil}
 use Rattle.percent_encoding.specs.Percent.{percent_encode_byte}
-use Rattle.record_codec.proofs.LineLemmas.{plain-name}
 use Rattle.std.proofs.lemmas.Grind.{flat_map-append}
 use Rattle.record_codec.specs.Lines.{is_plain, printed_byte, printed_name}
 use Rattle.tree_paths.specs.Paths.{pathname_of, slashed}
@@ -112,10 +110,6 @@ pub printed-root : printed_name (pathname_of []) ≡ 47 ∷ []
 unfolding printed_name
 printed-root = refl
 
-pub pathname_some : (names : List (List ℕ)) → (names ≡ [] → ⊥) → pathname_of names ≡ slashed names
-pathname_some [] h = absurd (h refl)
-pathname_some (name ∷ names) h = refl
-
 -- the root's slash makes its pathname no longer than is allowed
 pub short-slashed : (names : List (List ℕ)) → is_short names ≡ ltb (length (slashed names)) 4096
 short-slashed [] = refl
@@ -149,29 +143,6 @@ pub printed-names : (path names : List (List ℕ)) (old text : List ℕ) → nam
     → text ++ printed_name (slashed names) ≡ old ++ printed_name (slashed path) → text ≡ old ++ printed_name (slashed path)
 printed-names path names old text none known =
     sym (append-nil text) ∙ ap (λ (t : List ℕ). text ++ t) (sym printed-none ∙ ap (λ (l : List (List ℕ)). printed_name (slashed l)) (sym none)) ∙ known
-
--- ---- paths that are printed as they are
-
-pub plain-path : (path : List (List ℕ)) (old mid text rest : List ℕ) (start : ℕ) → (path ≡ [] → ⊥) → mid ≡ old ++ 32 ∷ [] → start ≡ length mid
-    → text ≡ mid ++ slashed path → rest ≡ drop start text → list_all is_plain rest ≡ true → text ≡ (old ++ 32 ∷ []) ++ path_text path
-plain-path path old mid text rest start some first len p r plain =
-    let tail : rest ≡ slashed path = r ∙ ap (λ (n : ℕ). drop n text) len ∙ ap (λ (t : List ℕ). drop (length mid) t) p ∙ drop-append_seam mid (slashed path) in
-    p ∙ ap (λ (t : List ℕ). t ++ slashed path) first
-    ∙ ap (λ (t : List ℕ). (old ++ 32 ∷ []) ++ t)
-    (sym tail ∙ plain-name rest plain ∙ ap printed_name (tail ∙ sym (pathname_some path some)))
-
-pub printed-path : (path : List (List ℕ)) (old mid full cut text : List ℕ) (start : ℕ) → (path ≡ [] → ⊥) → mid ≡ old ++ 32 ∷ [] → start ≡ length mid
-    → full ≡ mid ++ slashed path → cut ≡ take start full → text ≡ cut ++ printed_name (slashed path) → text ≡ (old ++ 32 ∷ []) ++ path_text path
-printed-path path old mid full cut text start some first len p q r =
-    let front : cut ≡ mid = q ∙ ap (λ (n : ℕ). take n full) len ∙ ap (λ (t : List ℕ). take (length mid) t) p ∙ take-append_seam mid (slashed path) in
-    r ∙ ap (λ (t : List ℕ). t ++ printed_name (slashed path)) (front ∙ first)
-    ∙ ap (λ (t : List ℕ). (old ++ 32 ∷ []) ++ printed_name t) (sym (pathname_some path some))
-
-pub raw-name : (name : List ℕ) (names rest : List (List ℕ)) (text mid new all : List ℕ) → text ++ slashed names ≡ all
-    → names ≡ name ∷ rest → mid ≡ text ++ 47 ∷ [] → new ≡ mid ++ name → new ++ slashed rest ≡ all
-raw-name name names rest text mid new all known is p q =
-    ap (λ (t : List ℕ). t ++ slashed rest) (q ∙ ap (λ (t : List ℕ). t ++ name) p) ∙ append_assoc (text ++ 47 ∷ []) name (slashed rest)
-    ∙ append_assoc text (47 ∷ []) (name ++ slashed rest) ∙ ap (λ (l : List (List ℕ)). text ++ slashed l) (sym is) ∙ known
 
 -- ---- paths in the words of a call
 

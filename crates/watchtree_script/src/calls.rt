@@ -12,9 +12,8 @@ ghost use Rattle.tree_paths.specs.Paths.{slashed};
 
 use crate::line::OutputFormat;
 use crate::pieces::Words;
-use crate::plain::are_plain;
 use crate::print::{push_digits, push_field, push_reply};
-use record_codec::append_name;
+use record_codec::{append_name, append_printed};
 use std::alloc::AllocError;
 use tree_core::{Call, Entry};
 use tree_ops::FileCall;
@@ -333,46 +332,20 @@ fn push_path(text: &mut Vec<u8>, path: &Path) -> Result<(), AllocError>
         return text.extend_from_slice(b" /");
     }
     text.extend_from_slice(b" ")?;
-    let front = text.len();
-    push_pathname(text, path)?;
-    if are_plain(&text[front..]) {
-        return Ok(());
-    }
-    text.truncate(front);
-    push_printed(text, path)
-}
-
-/// The pathname of a path that is not the root's, with its bytes as they are.
-fn push_pathname(text: &mut Vec<u8>, path: &Path) -> Result<(), AllocError>
-    ensures { OnOk result (text.new.items ≡ text.old.items ++ slashed path.now) }
-{
     match path.text() {
-        Some(whole) => text.extend_from_slice(whole),
+        Some(whole) => append_printed(whole, text),
         None => push_names(text, path),
     }
 }
 
-/// The same of a path that has a long name.
+/// The pathname of a path that has a long name, with each byte printed as one of a name.
 #[cold]
 fn push_names(text: &mut Vec<u8>, path: &Path) -> Result<(), AllocError>
-    ensures { OnOk result (text.new.items ≡ text.old.items ++ slashed path.now) }
-{
-    let mut names = path.names();
-    while let Some(name) = names.next() {
-        text.extend_from_slice(b"/")?;
-        text.extend_from_slice(name.as_name().bytes())?;
-    }
-    Ok(())
-}
-
-/// The pathname of a path that is not the root's, with each byte printed as one of a name.
-#[cold]
-fn push_printed(text: &mut Vec<u8>, path: &Path) -> Result<(), AllocError>
     ensures { OnOk result (text.new.items ≡ text.old.items ++ printed_name (slashed path.now)) }
 {
     let mut names = path.names();
     while let Some(name) = names.next() {
-        text.push(b'/')?;
+        text.extend_from_slice(b"/")?;
         append_name(name.as_name(), text)?;
     }
     Ok(())

@@ -11,7 +11,6 @@ mod lines;
 mod numbers;
 mod page;
 mod pieces;
-mod plain;
 mod print;
 mod rows;
 mod run;

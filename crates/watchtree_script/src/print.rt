@@ -109,9 +109,10 @@ fn push_names(text: &mut Vec<u8>, names: &[Name]) -> Result<(), AllocError>
 fn push_name(text: &mut Vec<u8>, name: &Name) -> Result<(), AllocError>
     ensures { OnOk result (text.new.items ≡ text.old.items ++ name_line name.now) }
 {
-    text.extend_from_slice(b"  ")?;
+    push_indent(text)?;
     append_name(name, text)?;
-    text.extend_from_slice(b"\n")
+    text.push(b'\n')?;
+    Ok(())
 }
 
 /// What stands at a path.
@@ -195,7 +196,7 @@ fn push_read(text: &mut Vec<u8>, format: OutputFormat, bytes: &[u8]) -> Result<(
         OutputFormat::Plain => Ok(()),
         OutputFormat::Records => push_records(text, bytes),
         OutputFormat::Hexadecimal => {
-            text.extend_from_slice(b"  ")?;
+            push_indent(text)?;
             push_digits(text, bytes)?;
             text.extend_from_slice(b"\n")
         }
@@ -268,7 +269,19 @@ fn push_records(text: &mut Vec<u8>, bytes: &[u8]) -> Result<(), AllocError>
 fn push_record(text: &mut Vec<u8>, view: &RecordView<'_>) -> Result<(), AllocError>
     ensures { OnOk result (text.new.items ≡ text.old.items ++ event_line (event_seen view.now)) }
 {
-    text.extend_from_slice(b"  ")?;
+    push_indent(text)?;
     append_view_line(view, text)?;
-    text.extend_from_slice(b"\n")
+    text.push(b'\n')?;
+    Ok(())
+}
+
+/// Adds the spaces before a line of a reply that has several.
+#[inline(always)]
+fn push_indent(text: &mut Vec<u8>) -> Result<(), AllocError>
+    ensures { OnOk result (text.new.items ≡ text.old.items ++ codes "  ") }
+{
+    text.reserve(2)?;
+    text.push_reserved(b' ');
+    text.push_reserved(b' ');
+    Ok(())
 }
