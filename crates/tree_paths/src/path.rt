@@ -122,12 +122,13 @@ impl Path {
 
     /// The text of the directory of the last name: a slash before each of its names, so that the root's is empty.
     ///
-    /// `None` only for the root's path, and for a path with a name of more than [`record_codec::NAME_IN_PLACE`]
+    /// `None` exactly for the root's path, and for a path with a name of more than [`record_codec::NAME_IN_PLACE`]
     /// bytes.
     #[inline(always)]
     pub fn parent_text(&self) -> Option<&[u8]>
-        ensures { MatchOption result ((self.now ≡ []) ⊎ (list_all is_in_place self.now ≡ false))
+        ensures text { MatchOption result ((self.now ≡ []) ⊎ (list_all is_in_place self.now ≡ false))
             (λ text. IsParentText self.now text.now) }
+        ensures some { IsSome result ↔ ((0 < length self.now) × IsTrue (list_all is_in_place self.now)) }
     {
         self.kept.parent_text()
     }

@@ -1,7 +1,7 @@
 //! Where a path keeps its names.
 
 ghost use Rattle.std.specs.Prelude.{◌≡◌, ◌++◌, ◌∷◌, [], IfOk, IfSome, IsTrue, MatchOption, ◌≤◌, ◌<◌, ◌-◌, length, take};
-ghost use Rattle.std.specs.Prelude.{◌⊎◌, Ok, drop, false, is_some};
+ghost use Rattle.std.specs.Prelude.{◌⊎◌, Ok, drop, false, is_some, IsSome};
 ghost use Rattle.std.specs.List.{list_all};
 ghost use Rattle.record_codec.specs.declared.name.TheConstants.{NAME_IN_PLACE};
 ghost use Rattle.record_codec.specs.Names.{is_name};
@@ -156,12 +156,14 @@ impl PathText {
         }
     }
 
-    /// The text of the names before the last one. `None` only if there is no name, or one that needs an allocation.
+    /// The text of the names before the last one. `None` exactly if there is no name, or one that needs an allocation.
     #[inline(always)]
     pub(crate) fn parent_text(&self) -> Option<&[u8]>
         requires { IsKept self.now }
-        ensures { MatchOption result ((kept_names self.now ≡ []) ⊎ (list_all is_in_place (kept_names self.now) ≡ false))
+        ensures text { MatchOption result
+            ((kept_names self.now ≡ []) ⊎ (list_all is_in_place (kept_names self.now) ≡ false))
             (λ text. IsParentText (kept_names self.now) text.now) }
+        ensures in_place { IsSome result → IsTrue (list_all is_in_place (kept_names self.now)) }
     {
         match self {
             PathText::Short { len, text } => parent_in(&text[..*len as usize]),

@@ -11,5 +11,5 @@ resolve_last-requires-clause-there c =
     let directory = c.in-Some-find.directory in
     let known = c.find.ensures directory c.in-Some-find.is in
     ap (λ t. walk (child t.rows) 0 (parent_of c.args.path.now)) (sym c.self.view_is)
-    ∙ ap (walk (child (rows_of c.self.inside.nodes)) 0) (sym c.in-Some.ensures.front)
+    ∙ ap (walk (child (rows_of c.self.inside.nodes)) 0) (sym c.in-Some.ensures.text.front)
     ∙ c.self.invariant.recent.there (names_of c.in-Some.text.now) directory known

@@ -1,0 +1,15 @@
+use Rattle.std.proofs.Common.{take, ap, subst, ◌∙◌}
+use Rattle.std.specs.List.{list_all}
+use Rattle.tree_paths.specs.PathText.{kept_names, IsKept}
+use Rattle.tree_paths.specs.Paths.{is_in_place}
+use Rattle.tree_paths.proofs.SlashedLemmas.{text-in-place}
+use Rattle.tree_paths.proofs.path_text.PathText.parent_text.Goals as goal
+
+pub returns-in-Short-clause-in_place : goal.returns-in-Short-clause-in_place
+returns-in-Short-clause-in_place c some =
+    let kept = subst IsKept c.in-Short.is c.requires in
+    ap (λ k. list_all is_in_place (kept_names k)) c.in-Short.is ∙ text-in-place (take c.in-Short.len c.in-Short.text) kept.1
+
+pub returns-in-Text-clause-in_place : goal.returns-in-Text-clause-in_place
+returns-in-Text-clause-in_place c some =
+    ap (λ k. list_all is_in_place (kept_names k)) c.in-Text.is ∙ text-in-place c.in-Text.text.items (subst IsKept c.in-Text.is c.requires)
