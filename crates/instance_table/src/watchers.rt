@@ -1,5 +1,5 @@
 //! The instances that watch a file, each with its watch.
-ghost use Rattle.std.specs.Prelude.{◌≡◌, ◌↔◌, ◌++◌, ℕ, IsTrue, IsSome, IfErr, IfOk, OnErr, OnOk, Some};
+ghost use Rattle.std.specs.Prelude.{◌≡◌, ◌↔◌, ◌++◌, ℕ, IsTrue, IsSome, IfErr, IfOk, OnErr, OnOk};
 ghost use Rattle.std.specs.Prelude.{false, length, true};
 ghost use Rattle.std.specs.FinMap as map;
 ghost use Rattle.std.specs.List.Sorted.{IsStrictlySortedBy};

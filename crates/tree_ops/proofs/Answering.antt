@@ -1,6 +1,5 @@
 -- What calls that only read answer, by their rows.
 use Rattle.std.proofs.Common.{◌≡◌, ℕ, List, [], ◌∷◌, Option, Some, None, refl, ap, ◌∙◌}
-use Rattle.std.specs.Prelude.{Result, Ok, Err}
 use Rattle.tree_paths.specs.Rows.{first_row}
 use Rattle.tree_paths.specs.declared.limits.Limits.{Limits}
 use Rattle.tree_paths.specs.declared.refusal.Refusal.{Refusal}

@@ -1,5 +1,5 @@
 -- What a plan's moves say of its call.
-use Rattle.std.proofs.Common.{◌≡◌, ◌==◌, ℕ, List, Bool, true, false, None, refl, sym, ap, ◌∙◌, if◌then◌else◌}
+use Rattle.std.proofs.Common.{◌≡◌, ◌==◌, ℕ, List, Bool, true, false, None, refl, ap, ◌∙◌, if◌then◌else◌}
 use Rattle.std.specs.FinMap as finmap
 use Rattle.tree_paths.specs.Rows.{first_row}
 use Rattle.tree_paths.specs.declared.limits.Limits.{Limits}
@@ -9,7 +9,6 @@ use Rattle.tree_ops.specs.declared.call.TheConstants.{RENAME_EXCHANGE}
 use Rattle.tree_ops.specs.declared.call.Counts.{Counts}
 use Rattle.tree_ops.specs.declared.call.FileCall.{FileCall}
 use Rattle.tree_ops.specs.declared.call.FileCall.TheVariants.{Rename, Rename2}
-use Rattle.tree_ops.specs.declared.moves.Moves.{Moves}
 use Rattle.tree_ops.specs.declared.moves.Moves.TheVariants.{Nothing, Move, Exchange}
 use Rattle.tree_ops.specs.CallPaths.{path_of, other_path_of}
 use Rattle.tree_ops.specs.Moves.{moves_seen, moves_of}

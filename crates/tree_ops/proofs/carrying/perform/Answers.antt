@@ -1,8 +1,8 @@
-use Rattle.std.proofs.Common.{◌≡◌, ◌≢◌, ◌==◌, if◌then◌else◌, Bool, ℕ, ◌+◌, ◌<◌, ◌^◌, Option, Some, None, IsSome, IfSome}
+use Rattle.std.proofs.Common.{◌≡◌, ℕ, ◌+◌, ◌<◌, ◌^◌, Option, Some, None, IsSome, IfSome}
 use Rattle.std.proofs.Common.{take, drop, true, false, nat_lt, length, ◌&&◌, ◌≤◌, List, refl, sym, ap, subst, ◌∙◌, inl}
 use Rattle.std.proofs.Common.{inr, arith}
 use Rattle.std.proofs.lemmas.Result.{on_ok_weaker}
-use borrow.Author.Tests.{ltb-true, ltb-false, eq-eqb, ne_eqb}
+use borrow.Author.Tests.{ltb-true, ltb-false}
 use Rattle.inode_table.specs.declared.seen.Seen.{Seen}
 use Rattle.std.specs.FinMap as finmap
 use Rattle.tree_paths.specs.Rows.{first_row}
@@ -13,7 +13,6 @@ use Rattle.inode_table.specs.Tree.{TableValue}
 use Rattle.inode_table.specs.Resolution.{IsResolved, ResolvedPath}
 use Rattle.tree_ops.proofs.Changed.{empty-seen}
 use Rattle.tree_ops.proofs.Numbers.{next-free}
-use Rattle.tree_ops.specs.declared.call.TheConstants.{RENAME_EXCHANGE}
 use Rattle.tree_ops.specs.declared.call.FileCall.{FileCall}
 use Rattle.tree_ops.specs.declared.call.FileCall.TheVariants.{Create, Write, ReadFile, Truncate, Chmod, Mkdir, Link}
 use Rattle.tree_ops.specs.declared.call.FileCall.TheVariants.{Unlink, Rmdir, Rename, Rename2, Stat, List as Listed}

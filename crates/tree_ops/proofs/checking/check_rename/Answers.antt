@@ -1,4 +1,4 @@
-use Rattle.std.proofs.Common.{◌≡◌, [], if◌then◌else◌, sym}
+use Rattle.std.proofs.Common.{[], if◌then◌else◌, sym}
 use Rattle.std.proofs.lemmas.Result.{err_from_is_err_and}
 use Rattle.inode_table.specs.TableWorld.{world_of}
 use Rattle.inode_table.specs.World.{look}

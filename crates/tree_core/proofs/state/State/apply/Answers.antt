@@ -1,4 +1,4 @@
-use Rattle.std.proofs.Common.{refl, ◌≡◌, [], ◌∷◌, ◌++◌, Ok, sym, ap, subst, ◌∙◌, rules}
+use Rattle.std.proofs.Common.{refl, ◌≡◌, [], ◌∷◌, ◌++◌, sym, ap, subst, ◌∙◌, rules}
 use Rattle.tree_core.specs.declared.reply.Entry.{Entry}
 use Rattle.tree_core.specs.Journal.{now, with_entry}
 use Rattle.tree_core.specs.Kept.{tree_of}
