@@ -1,7 +1,7 @@
 //! Calls as the lines of a script that make them, and entries of a journal with their replies as comments.
 
 ghost use Rattle.std.specs.Prelude.{◌≡◌, ◌∷◌, ◌++◌, ◌≤◌, List, ℕ, [], OnOk, OnErr, codes, decimal};
-ghost use Rattle.std.specs.Prelude.{false, length, vec_len, vec_capacity, ◌+◌};
+ghost use Rattle.std.specs.Prelude.{false, length};
 ghost use Rattle.std.specs.Fmt.{digits, digit_glyph};
 ghost use Rattle.tree_core.specs.Calls.{IsSpelled};
 ghost use Rattle.watchtree_script.specs.CallLines.{call_line, call_text, has_line, file_has_line, is_short, is_mode};
@@ -78,26 +78,16 @@ fn append_lines(line: &[u8], reply: &[u8], text: &mut Vec<u8>) -> Result<(), All
     if let Some(said) = Words::new(b'\n', reply).one() {
         let len = line.len().saturating_add(said.len());
         text.reserve(len.saturating_add(COMMENT_LEN))?;
-        add(text, line);
-        add(text, b"# ");
-        add(text, said);
-        add(text, b"\n");
+        text.extend_from_slice(line).unwrap();
+        text.extend_from_slice(b"# ").unwrap();
+        text.extend_from_slice(said).unwrap();
+        text.push_reserved(b'\n');
         return Ok(());
     }
     let mut lines = Vec::with_capacity(*text.allocator(), ENTRY_ROOM)?;
     lines.extend_from_slice(line)?;
     push_comments(&mut lines, reply)?;
     text.extend_from_slice(lines.as_slice())
-}
-
-/// Adds bytes for which there is enough capacity.
-fn add(text: &mut Vec<u8>, bytes: &[u8])
-    requires { vec_len text.old + length bytes.now ≤ vec_capacity text.old }
-    ensures items { text.new.items ≡ text.old.items ++ bytes.now }
-    ensures len { vec_len text.new ≡ vec_len text.old + length bytes.now }
-    ensures room { vec_capacity text.old ≤ vec_capacity text.new }
-{
-    text.extend_from_slice(bytes).unwrap();
 }
 
 #[tactic(auto, unfolding(crate::specs::CallLines::call_line))]
@@ -334,13 +324,13 @@ fn push_path(text: &mut Vec<u8>, path: &Path) -> Result<(), AllocError>
     text.extend_from_slice(b" ")?;
     match path.text() {
         Some(whole) => append_printed(whole, text),
-        None => push_names(text, path),
+        None => push_long_names(text, path),
     }
 }
 
 /// The pathname of a path that has a long name, with each byte printed as one of a name.
 #[cold]
-fn push_names(text: &mut Vec<u8>, path: &Path) -> Result<(), AllocError>
+fn push_long_names(text: &mut Vec<u8>, path: &Path) -> Result<(), AllocError>
     ensures { OnOk result (text.new.items ≡ text.old.items ++ printed_name (slashed path.now)) }
 {
     let mut names = path.names();

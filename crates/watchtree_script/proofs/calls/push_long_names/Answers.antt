@@ -1,5 +1,5 @@
 use Rattle.watchtree_script.proofs.CallLemmas.{push-name, printed-names}
-use Rattle.watchtree_script.proofs.calls.push_names.Goals as goal
+use Rattle.watchtree_script.proofs.calls.push_long_names.Goals as goal
 
 pub loop-name-preserved : goal.loop-name-preserved
 loop-name-preserved c =
