@@ -254,7 +254,9 @@ impl Queue {
         if is_mark(&event) {
             self.marks += 1;
         }
-        self.records.push_back(event);
+        let Ok(()) = self.records.try_push_back(event) else {
+            unreachable!()
+        };
     }
 }
 
