@@ -1,5 +1,5 @@
 -- The order of names, which the numbers of their first bytes decide where these differ.
-use Rattle.std.proofs.Common.{◌≡◌, ◌≢◌, ℕ, zero, suc, ◌<◌, ◌≤◌, ◌+◌, ◌*◌, ◌^◌, true, List, [], ◌∷◌, length, take, drop, IsTrue}
+use Rattle.std.proofs.Common.{◌≡◌, ◌≢◌, ℕ, zero, suc, ◌<◌, ◌≤◌, ◌+◌, ◌*◌, ◌^◌, ◌%◌, true, List, [], ◌∷◌, length, take, drop, IsTrue}
 use Rattle.std.proofs.Common.{refl, sym, ap, ◌∙◌, arith, inl, inr}
 use Rattle.std.specs.Prelude.{slice_index, slice_range}
 use Rattle.std.specs.List.{list_all}
@@ -210,6 +210,37 @@ fronts_decide xs ys vs ws f g same also nx ny front other differ =
     (λ k. nat_cmp (front k) (other k))
     ∙ parted 8 xs ys (named xs nx) (named ys ny) (λ e. differ (front ∙ e ∙ sym other))
     ∙ (λ k. slice_cmp nat_cmp (same k) (also k))
+
+by-last : (x p n : ℕ) → p ≡ 256 * n → x * p ≡ 256 * (x * n)
+by-last x p n e = ap (λ (q : ℕ). x * q) e ∙ regrouped
+  where
+    regrouped : x * (256 * n) ≡ 256 * (x * n)
+    regrouped = omega arith
+
+-- a number of bytes whose last byte is zero is that of fewer bytes
+last-zero : (n : ℕ) (xs : List ℕ) → AreNamed xs → big_from 0 (suc n) xs % 256 ≡ 0 → length xs ≤ n
+last-zero n [] h e = omega arith
+last-zero zero (x ∷ xs) h e =
+    let front = big_from-cons 0 0 x xs in
+    let small = h.bytes 0 in
+    let some = named-byte x (and_both _ _ h.named).0 in
+    absurd (omega (arith, e, front, small, some))
+last-zero (suc n) (x ∷ xs) h e =
+    let first : big_from 0 (suc (suc n)) (x ∷ xs) ≡ x * 256 ^ suc n + big_from 1 (suc n) (x ∷ xs) = refl in
+    let front = big_from-cons 0 (suc n) x xs in
+    let times : x * 256 ^ suc n ≡ 256 * (x * 256 ^ n) = by-last x (256 ^ suc n) (256 ^ n) (omega arith) in
+    let rest = last-zero n xs (dropped 1 (x ∷ xs) h) (omega (arith, e, first, front, times)) in
+    omega (arith, rest)
+
+-- names of fewer than eight bytes whose first bytes have one number are one name
+pub fronts_agree : (xs ys vs ws : List ℕ) (f g : ℕ) → xs ≡ vs → ys ≡ ws → IsName xs → IsName ys → f ≡ big_from 0 8 xs
+    → g ≡ big_from 0 8 ys → f ≡ g → f % 256 ≡ 0 → Equal ≡ slice_cmp nat_cmp vs ws
+fronts_agree xs ys vs ws f g also too nx ny front other same ends =
+    let mine = last-zero 7 xs (named xs nx) (ap (λ (n : ℕ). n % 256) (sym front) ∙ ends) in
+    let theirs = last-zero 7 ys (named ys ny) (ap (λ (n : ℕ). n % 256) (sym other ∙ sym same) ∙ ends) in
+    sym (alike 8 xs ys nx.bytes ny.bytes (named xs nx).named (named ys ny).named (omega (arith, mine)) (omega (arith, theirs))
+    (sym front ∙ same ∙ other))
+    ∙ (λ k. slice_cmp nat_cmp (also k) (too k))
 
 -- bytes behind a short name are zero, so those from one byte on have one number with and without them
 kept-number : (n i m len : ℕ) (kept : List ℕ) → n ≤ m → ((k : ℕ) → len ≤ k → slice_index kept k ≡ 0)
