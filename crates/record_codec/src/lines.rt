@@ -1,6 +1,7 @@
 //! Names and records as text.
 
 ghost use Rattle.std.specs.Prelude.{◌≡◌, ◌≤◌, ◌+◌, ◌*◌, ◌++◌, decimal, length, vec_len, vec_capacity, OnOk, OnErr};
+ghost use Rattle.std.specs.Prelude.{IsTrue};
 ghost use Rattle.std.specs.Fmt.{signed_decimal};
 ghost use Rattle.std.specs.List.{list_all};
 ghost use Rattle.record_codec.specs.Lines.{is_plain, printed_byte, printed_name, printed_numbers, record_line};
@@ -72,21 +73,22 @@ pub fn append_view_line(view: &RecordView<'_>, out: &mut Vec<u8>) -> Result<(), 
     ensures ok { OnOk result (out.new.items ≡ out.old.items ++ record_line (event_seen view.now)) }
     ensures err { OnErr result (out.new.items ≡ out.old.items) }
 {
-    let name_len = match view.name {
-        None => 0,
-        Some(name) => 1 + PRINTED_BYTE_LEN * name.len(),
-    };
-    out.reserve(NUMBERS_LEN + name_len)?;
-    add_numbers(view, out);
-    if let Some(name) = view.name {
-        out.push_reserved(b' ');
-        add_name(name, out);
+    match view.name {
+        None => {
+            out.reserve(NUMBERS_LEN)?;
+            add_numbers(view, out);
+        }
+        Some(name) => {
+            out.reserve(NUMBERS_LEN + 1 + PRINTED_BYTE_LEN * name.len())?;
+            add_numbers(view, out);
+            out.push_reserved(b' ');
+            add_name(name, out);
+        }
     }
     Ok(())
 }
 
 /// Adds the numbers of a record line.
-#[inline(always)]
 fn add_numbers(view: &RecordView<'_>, out: &mut Vec<u8>)
     requires { vec_len out.old + NUMBERS_LEN ≤ vec_capacity out.old }
     ensures items { out.new.items ≡ out.old.items ++ printed_numbers (event_seen view.now) }
@@ -132,17 +134,33 @@ fn add_number(number: u32, out: &mut Vec<u8>)
 }
 
 /// Adds the printed name of these bytes.
-#[inline(always)]
 fn add_name(name: &[u8], out: &mut Vec<u8>)
     requires { vec_len out.old + PRINTED_BYTE_LEN * length name.now ≤ vec_capacity out.old }
     ensures { out.new.items ≡ out.old.items ++ printed_name name.now }
 {
-    if SHORT_NAME_LEN < name.len() && are_plain(name) {
+    if is_copied(name) {
         return add(out, name);
     }
-    for byte in name {
+    add_each(name, out);
+}
+
+/// Adds the bytes one by one, each as it is printed.
+#[inline(always)]
+fn add_each(bytes: &[u8], out: &mut Vec<u8>)
+    requires { vec_len out.old + PRINTED_BYTE_LEN * length bytes.now ≤ vec_capacity out.old }
+    ensures { out.new.items ≡ out.old.items ++ printed_name bytes.now }
+{
+    for byte in bytes {
         add_byte(*byte, out);
     }
+}
+
+/// Whether the bytes are copied: more than `SHORT_NAME_LEN`, none of which needs an escape.
+#[inline(always)]
+fn is_copied(bytes: &[u8]) -> bool
+    ensures { IsTrue result → printed_name bytes.now ≡ bytes.now }
+{
+    SHORT_NAME_LEN < bytes.len() && are_plain(bytes)
 }
 
 /// Whether the bytes are printed as they are. Eight of them are tested at a time.
