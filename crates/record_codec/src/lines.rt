@@ -21,8 +21,8 @@ const PRINTED_BYTE_LEN: usize = 3;
 /// The most bytes that the three numbers of a record line take, with the spaces between them.
 const NUMBERS_LEN: usize = 11 + 1 + 8 + 1 + 10;
 
-/// The most bytes of a name that are printed one by one, which takes fewer instructions than a test of all and a copy.
-const SHORT_NAME_LEN: usize = 8;
+/// The most bytes of a name that are printed one by one: fewer than are tested at a time.
+const SHORT_NAME_LEN: usize = CHUNK_LEN - 1;
 
 /// How many bytes of a name are tested at a time.
 const CHUNK_LEN: usize = 8;
