@@ -169,6 +169,28 @@ fn names_of_each_kind_of_length(rt: HostRuntime) {
     }
 }
 
+/// A name is neither before nor behind its copy.
+fn is_level(rt: &impl Abort, alloc: Global, bytes: &[u8]) {
+    let name = name(rt, alloc, bytes);
+    let copied = copied(rt, &name);
+    holds(rt, "one place in order", name.cmp(&copied).is_eq());
+}
+
+#[test]
+fn names_that_differ_in_the_last_byte(rt: HostRuntime) {
+    let mut low = [b'm'; 40];
+    low[39] = b'a';
+    let mut high = [b'm'; 40];
+    high[39] = b'q';
+    for start in [39, 33, 32, 31, 17, 16, 15, 10, 9, 8, 0] {
+        is_level(&rt, rt.alloc(), &high[start..]);
+        is_lower(&rt, rt.alloc(), &low[start..], &high[start..]);
+    }
+    for len in [2, 7, 8, 9, 24, 25, 30, 31, 32, 39] {
+        is_lower(&rt, rt.alloc(), &high[1..len], &high[..len]);
+    }
+}
+
 #[test]
 fn sizes(rt: HostRuntime) {
     equal(&rt, size_of::<Name>(), 32);
@@ -233,6 +255,32 @@ fn prints(rt: HostRuntime) {
         "|2 40000080 4294967295 %20!%25~%7F%0A%FF",
     );
     is_printed(&rt, alloc, name, "|%20!%25~%7F%0A%FF");
+}
+
+/// The bytes are appended so.
+fn are_printed(rt: &impl Abort, alloc: Global, bytes: &[u8], printed: &str) {
+    let mut text = vec![in alloc; b'|'].expect(rt, "memory");
+    append_printed(bytes, &mut text).expect(rt, "memory");
+    equal(rt, text.as_slice(), printed.as_bytes());
+}
+
+#[test]
+fn prints_bytes(rt: HostRuntime) {
+    for (bytes, printed) in [
+        (b"".as_slice(), "|"),
+        (b"/a/b", "|/a/b"),
+        (b"%\0 \x7f\x80\xff", "|%25%00%20%7F%80%FF"),
+        (b"!\"#$&'~", "|!\"#$&'~"),
+        (b"/8_bytes", "|/8_bytes"),
+        (b"/8 bytes", "|/8%20bytes"),
+        (b"/9_bytes!", "|/9_bytes!"),
+        (b"/more/than/16/bytes", "|/more/than/16/bytes"),
+        (b"%more/than/16/bytes", "|%25more/than/16/bytes"),
+        (b"/more/than\0/16/bytes", "|/more/than%00/16/bytes"),
+        (b"/more/than/16/byte\xff", "|/more/than/16/byte%FF"),
+    ] {
+        are_printed(&rt, rt.alloc(), bytes, printed);
+    }
 }
 
 /// The records of the events, as bytes that are records.

@@ -12,7 +12,7 @@ const MOST: u32 = 50;
 const LONG: [u8; NAME_IN_PLACE + 1] = [b'n'; NAME_IN_PLACE + 1];
 
 /// How many calls there are.
-const CALLS: u32 = 9;
+const CALLS: u32 = 10;
 
 /// Makes a call on the first event of `SPELLED`. Whether what it gives, or appends behind the word `before`, is right.
 fn is_right(
@@ -32,15 +32,17 @@ fn is_right(
         7 => return Ok(
             Bytes::from_vec(SPELLED.to_vec(alloc)?).copy()?.as_slice() == SPELLED.as_slice(),
         ),
-        _ => match &event.name {
+        8 => match &event.name {
             Some(name) => append_name(name, text)?,
             None => return Ok(false),
         },
+        _ => append_printed(b"/a b%", text)?,
     }
     let wanted = match which {
         0 => &SPELLED[..32],
         1 => b"1 00000100 0 f".as_slice(),
-        _ => b"f".as_slice(),
+        8 => b"f".as_slice(),
+        _ => b"/a%20b%25".as_slice(),
     };
     Ok(text.get(6..) == Some(wanted))
 }
