@@ -147,10 +147,7 @@ impl Path {
     pub fn is_root(&self) -> bool
         ensures { IsTrue result ↔ (self.now ≡ []) }
     {
-        match self.kept.text() {
-            Some(text) => text.is_empty(),
-            None => self.names().is_empty(),
-        }
+        self.names().is_empty()
     }
 
     /// Whether the other path is a proper prefix of this one.
