@@ -25,8 +25,8 @@ pub(crate) fn block_stops<const N: usize>(text: &[u8], at: usize) -> u64
     (bytes.simd_eq(Simd::splat(SEPARATOR)) | bytes.simd_eq(Simd::splat(0))).to_bitmask()
 }
 
-/// The stops of a text of at least `N` bytes and of a slash behind it, for as many bytes as whole blocks have in 64, or
-/// for all. The last block then overlaps the one before it.
+/// The stops of a text of at least `N` bytes. Of a text of fewer than 64 bytes they are all, with a slash behind it: the
+/// last block then overlaps the one before it. Of a longer one they are those of the first 64 - `N` bytes.
 #[inline(always)]
 fn stops_by<const N: usize>(text: &[u8]) -> u64
     requires some { 0 < N }
@@ -48,7 +48,7 @@ fn stops_by<const N: usize>(text: &[u8]) -> u64
     stops + (last << seen) + (1 << len)
 }
 
-/// The stops of a text and of a slash behind it, for as many bytes as the bits of a number are used for.
+/// The stops of a text: all, with a slash behind it, if it has fewer than 64 bytes, else those of its first 48 bytes.
 #[inline(always)]
 pub(crate) fn stops_of(text: &[u8]) -> u64
     ensures { IsMarked text.now result }
