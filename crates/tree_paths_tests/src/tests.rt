@@ -263,6 +263,68 @@ fn name(rt: &impl Abort, alloc: Global, bytes: &[u8]) -> Name {
     name.expect(rt, "a name")
 }
 
+/// A path has this text, and the directory of its last name has that one.
+fn has_texts(rt: &impl Abort, path: &Path, text: Option<&[u8]>, parent: Option<&[u8]>) {
+    equal(rt, path.text(), text);
+    equal(rt, path.parent_text(), parent);
+}
+
+#[test]
+fn texts_of_paths(rt: HostRuntime) {
+    let alloc = rt.alloc();
+    let root = Path::root();
+    has_texts(&rt, &root, Some(b""), None);
+    let made = child(&rt, alloc, &root, &name(&rt, alloc, b"a"));
+    has_texts(&rt, &made, Some(b"/a"), Some(b""));
+    for (text, whole, parent) in [
+        (b"/".as_slice(), b"".as_slice(), None),
+        (b"/a", b"/a", Some(b"".as_slice())),
+        (b"/a/b/c", b"/a/b/c", Some(b"/a/b")),
+        (b"//a///b", b"/a/b", Some(b"/a")),
+    ] {
+        has_texts(&rt, &path(&rt, alloc, text), Some(whole), parent);
+    }
+}
+
+/// The path of names of these lengths has a text, and so has the directory of the last one.
+fn lends_texts(rt: &impl Abort, alloc: Global, lens: &[usize]) {
+    let (_, above) = lens.split_last().expect(rt, "a name");
+    let text = text_of(alloc, lens).expect(rt, "memory");
+    let parent = text_of(alloc, above).expect(rt, "memory");
+    let path = path(rt, alloc, &text);
+    has_texts(rt, &path, Some(&text), Some(&parent));
+}
+
+/// The path of names of these lengths has no text.
+fn lends_no_texts(rt: &impl Abort, alloc: Global, lens: &[usize]) {
+    let text = text_of(alloc, lens).expect(rt, "memory");
+    has_texts(rt, &path(rt, alloc, &text), None, None);
+}
+
+#[test]
+fn texts_of_every_shape(rt: HostRuntime) {
+    let lent: [&[usize]; 11] = [
+        &[29],
+        &[30],
+        &[31],
+        &[14, 14],
+        &[14, 15],
+        &[20, 15],
+        &[20, 16],
+        &[20, 31],
+        &[31, 1, 1],
+        &[3, 31, 2, 1, 8, 5],
+        &[31, 31, 31, 31],
+    ];
+    for lens in lent {
+        lends_texts(&rt, rt.alloc(), lens);
+    }
+    let kept: [&[usize]; 5] = [&[32], &[255], &[1, 32], &[32, 1], &[3, 32, 2, 1, 8, 5]];
+    for lens in kept {
+        lends_no_texts(&rt, rt.alloc(), lens);
+    }
+}
+
 /// The names `a` and `b`.
 fn two_names(rt: &impl Abort, alloc: Global) -> Names {
     let names = vec![in alloc; name(rt, alloc, b"a"), name(rt, alloc, b"b")];

@@ -87,7 +87,12 @@ fn are_told(above: &Path, below: &Path) -> bool {
         Some(name) => name.as_name().bytes() == b"c".as_slice(),
         None => false,
     };
-    is_last && below.is_below(above) && !above.is_below(below) && above != below
+    is_last
+        && below.is_below(above)
+        && !above.is_below(below)
+        && above != below
+        && below.text() == Some(b"/a/b/c".as_slice())
+        && below.parent_text() == above.text()
 }
 
 #[test]
