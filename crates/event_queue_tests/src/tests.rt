@@ -130,3 +130,78 @@ fn greatest_limit(rt: HostRuntime) -> Result<(), Refusal> {
     holds(&rt, "queue.is_empty()", queue.is_empty());
     Ok(())
 }
+
+/// One of four queues of three records: an empty one, a full one, one with the overflow mark behind its records, and one
+/// with the mark between two of them.
+fn queue_of(alloc: Global, which: u32) -> Result<Queue, Refusal> {
+    let mut queue = Queue::with_limit(alloc, 3)?;
+    let offers = match which {
+        0 => 0,
+        1 => 3,
+        _ => 4,
+    };
+    for cookie in 0..offers {
+        queue.offer(touched(cookie));
+    }
+    if which == 3 {
+        queue.take();
+        queue.take();
+        queue.offer(touched(9));
+    }
+    Ok(queue)
+}
+
+/// Whether the same records wait in both, and what is offered then has the same outcome.
+fn are_alike(one: &mut Queue, other: &mut Queue) -> bool {
+    if one.len() != other.len() || one.bytes() != other.bytes() {
+        return false;
+    }
+    for cookie in 20..25 {
+        if one.offer(touched(cookie)) != other.offer(touched(cookie)) {
+            return false;
+        }
+    }
+    for _ in 0..9 {
+        if one.take() != other.take() {
+            return false;
+        }
+    }
+    one.is_empty() && other.is_empty()
+}
+
+/// Whether to drop so many of the oldest records leaves what is left where each is taken.
+fn drops_as_taken(alloc: Global, which: u32, count: usize) -> Result<bool, Refusal> {
+    let mut dropped = queue_of(alloc, which)?;
+    let mut taken = queue_of(alloc, which)?;
+    dropped.drop_oldest(count);
+    for _ in 0..count {
+        taken.take();
+    }
+    Ok(are_alike(&mut dropped, &mut taken))
+}
+
+#[test]
+fn the_oldest_are_dropped(rt: HostRuntime) -> Result<(), Refusal> {
+    let alloc = rt.alloc();
+    for which in 0..4 {
+        for count in 0..7 {
+            holds(
+                &rt,
+                "drops_as_taken(alloc, which, count)",
+                drops_as_taken(alloc, which, count)?,
+            );
+        }
+    }
+    let mut queue = queue_of(alloc, 3)?;
+    queue.drop_oldest(1);
+    equal(&rt, queue.len(), 2);
+    equal(&rt, queue.peek(0), Some(&overflow_mark()));
+    queue.drop_oldest(1);
+    equal(&rt, queue.take(), Some(touched(9)));
+    equal(&rt, queue.take(), None);
+    let mut queue = queue_of(alloc, 1)?;
+    queue.drop_oldest(2);
+    equal(&rt, queue.take(), Some(touched(2)));
+    equal(&rt, queue.take(), None);
+    Ok(())
+}
