@@ -5,6 +5,7 @@ pub mod Moves
 pub mod Raising
 pub mod Removals
 pub mod Stages
+pub mod Earlier
 pub mod Others
 pub mod Followed
 pub mod Lost

@@ -20,7 +20,7 @@ pub watches_after-push : (w : Watching) (ns : List Notice) (n : Notice) → watc
 watches_after-push w [] n = refl
 watches_after-push w (m ∷ ms) n = watches_after-push (left w m) ms n
 
-wds_ended-push : (w : Watching) (ns : List Notice) (n : Notice) → wds_ended w (ns ++ n ∷ []) ≡ wds_ended w ns ++ ended (watches_after w ns) n
+pub wds_ended-push : (w : Watching) (ns : List Notice) (n : Notice) → wds_ended w (ns ++ n ∷ []) ≡ wds_ended w ns ++ ended (watches_after w ns) n
 wds_ended-push w [] n = append-nil (ended w n)
 wds_ended-push w (m ∷ ms) n =
     ap (λ es. ended w m ++ es) (wds_ended-push (left w m) ms n)

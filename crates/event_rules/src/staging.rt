@@ -1,6 +1,6 @@
 //! The events that notices raise for the watches of an instance.
 
-ghost use Rattle.std.specs.Prelude.{◌≡◌, ◌++◌, [], Some, true, false, not, fold, map, IfOk, IfErr, OnOk};
+ghost use Rattle.std.specs.Prelude.{◌≡◌, ◌++◌, [], Some, fold, map, IfOk, IfErr, OnOk};
 ghost use Rattle.watch_table.specs.Masks.{has_any};
 ghost use Rattle.watch_table.specs.Watching.{removed, watch_of};
 ghost use Rattle.event_rules.specs.Staging.{staged_end, staged_event};
@@ -107,30 +107,28 @@ pub fn stage(
     Ok(())
 }
 
-/// Stages for an instance what one notice raises for the watch of its file, behind what was staged, unless the notice
-/// ends the watch. The answer is whether the watch stays. If it does not, nothing is staged.
+/// Stages for an instance what one notice raises for the watch that the instance has for its file, behind what was
+/// staged. A watch that the notice ends gets `IN_IGNORED`, and is among the watches that end.
 ///
 /// # Errors
 /// `ENOMEM` alone.
 #[inline(always)]
-pub fn stage_kept(
+pub fn stage_watch(
     id: u32,
     watch: (i32, u32),
     notice: &Notice,
     staged: &mut Staged,
-) -> Result<bool, Refusal>
-    ensures kept { IfOk result (λ stays. stays ≡ not (ends_watch notice.now watch)) }
-    ensures events { IfOk result (λ stays. stays ≡ true → staged.new.events.items
+) -> Result<(), Refusal>
+    ensures events { OnOk result (staged.new.events.items
         ≡ staged.old.events.items ++ map (staged_event id) (raised_at notice.now (Some watch))) }
-    ensures ended { IfOk result (λ stays. stays ≡ false → staged.new.events.items ≡ staged.old.events.items) }
-    ensures drops { staged.new.drops.items ≡ staged.old.drops.items }
+    ensures drops { OnOk result (staged.new.drops.items
+        ≡ staged.old.drops.items ++ map (staged_end id) (ended_by notice.now (Some watch))) }
     ensures memory { IfErr result (λ refusal. refusal ≡ Refusal.Enomem) }
 {
-    if ends_watch(notice, watch) {
-        return Ok(false);
+    if raise_watch(id, watch, notice, &mut staged.events)? {
+        staged.drops.push(StagedEnd { id, wd: watch.0 })?;
     }
-    raise_told(id, notice, watch, &mut staged.events)?;
-    Ok(true)
+    Ok(())
 }
 
 /// Adds the events that notices raise for an instance, and the descriptors of the watches that they end, where none is
@@ -186,13 +184,31 @@ fn raise_one(
     let Some(watch) = watch else {
         return Ok(());
     };
-    raise_told(id, notice, watch, events)?;
-    if ends_watch(notice, watch) {
-        let event = ignored(watch.0);
-        events.push_back(StagedEvent { id, event })?;
+    if raise_watch(id, watch, notice, events)? {
         wds.push(watch.0)?;
     }
     Ok(())
+}
+
+/// Adds what a notice raises for a watch of its file. The answer is whether it ends the watch.
+#[inline(always)]
+fn raise_watch(
+    id: u32,
+    watch: (i32, u32),
+    notice: &Notice,
+    events: &mut VecDeque<StagedEvent>,
+) -> Result<bool, AllocError>
+    ensures events { OnOk result (events.new.items
+        ≡ events.old.items ++ map (staged_event id) (raised_at notice.now (Some watch))) }
+    ensures ends { IfOk result (λ ends. ends ≡ ends_watch notice.now watch) }
+{
+    raise_told(id, notice, watch, events)?;
+    let ends = ends_watch(notice, watch);
+    if ends {
+        let event = ignored(watch.0);
+        events.push_back(StagedEvent { id, event })?;
+    }
+    Ok(ends)
 }
 
 /// Adds the event of a notice, where the watch asks for it. It is made in the slot that it is kept in.
@@ -256,7 +272,7 @@ fn watch_left(
 }
 
 /// Whether a mask has one of these bits.
-fn has_any(mask: u32, bits: u32) -> bool
+pub(crate) fn has_any(mask: u32, bits: u32) -> bool
     ensures { result ≡ has_any mask bits }
 {
     mask & bits != 0

@@ -7,6 +7,5 @@ mod Waiting
 mod WhoWatches
 mod Readied
 mod Copied
-mod Cut
 mod Zipped
 mod Kept

@@ -1,7 +1,7 @@
--- What is staged: who is a recipient, and who is not.
-use Rattle.std.proofs.Common.{◌≡◌, ℕ, zero, suc, Bool, true, false, cond, ◌||◌, ◌<◌, ◌≤◌, List, [], ◌∷◌, ◌++◌, length}
+-- What is staged for each instance that watches a file.
+use Rattle.std.proofs.Common.{◌≡◌, ℕ, zero, suc, Bool, true, false, cond, ◌||◌, ◌+◌, ◌<◌, ◌≤◌, List, [], ◌∷◌, ◌++◌, length}
 use Rattle.std.proofs.Common.{eqb, is_some, Option, Some, None, take, map, refl, sym, ap, ◌∙◌, get_or, append_assoc, arith}
-use Rattle.std.specs.Prelude.{ℤ, fold, All}
+use Rattle.std.specs.Prelude.{pos}
 use Rattle.std.specs.FinMap as finmap
 use Rattle.std.specs.FinMap.{contains_key-keys}
 use Rattle.std.specs.List.{AllByRecursion, filter, list_any}
@@ -10,50 +10,12 @@ use Rattle.std.specs.Ordering.{nat_cmp, is_eq}
 use Rattle.std.specs.Cmp.{unsigned_tied}
 use Rattle.std.specs.declared.cmp.Ordering.TheVariants.{Less}
 use Rattle.std.proofs.lemmas.List.{append-nil, take_all}
-use Rattle.std.proofs.lemmas.List.Folds.{list_any_at}
-use Rattle.event_rules.specs.declared.notice.Notice.{Notice}
-use Rattle.event_rules.specs.Raised.{told_number, watches_after}
-use Rattle.watch_table.specs.Watching.{Watching, removed, watch_of}
-use Rattle.instance_table.specs.declared.instance.Instance.{Instance}
-use Rattle.instance_table.specs.Ids.{IdSet}
-use Rattle.instance_table.specs.Instances.{Instances, instance_of, watches_file}
+use Rattle.std.proofs.lemmas.List.Folds.{list_any_more}
+use Rattle.watch_table.specs.Watching.{Watch}
+use Rattle.instance_table.specs.Watchers.{AreWatchers, watchers_map}
+use Rattle.instance_table.proofs.Indexed.{is-same}
 use Rattle.instance_table.proofs.WhoWatches.{same-tests}
-
--- each number of the list of a set is in the set
-pub number-in : (ids : IdSet) (items : List ℕ) (k : ℕ) → items ≡ finmap.keys ids → k < length items → is_some (finmap.get ids (get_or items k 0)) ≡ true
-number-in ids items k e h =
-    let id = get_or items k 0 in
-    contains_key-keys ids id ∙ sym (same-tests id (finmap.keys ids)) ∙ ap (list_any (λ x. eqb id x)) (sym e)
-    ∙ list_any_at (λ x. eqb id x) items k 0 h (Rattle.std.proofs.lemmas.Bool.eq-eqb id id refl)
-
--- an instance that is not open is not a recipient
-pub nobody-hears : (ns : List Notice) → list_any (λ (n : Notice). watches_file (told_number n) None) ns ≡ false
-nobody-hears [] = refl
-nobody-hears (n ∷ ns) = nobody-hears ns
-
-none-of : (o : Option (Rattle.std.specs.Prelude.ℤ × ℕ)) → is_some o ≡ false → o ≡ None
-none-of None h = refl
-none-of (Some x) h = absurd (Rattle.std.proofs.lemmas.Bool.false≢true (sym h))
-
-left : (a b : Bool) → (a || b) ≡ false → a ≡ false
-left true b h = h
-left false b h = refl
-
-right : (a b : Bool) → (a || b) ≡ false → b ≡ false
-right true b h = absurd (Rattle.std.proofs.lemmas.Bool.false≢true (sym h))
-right false b h = h
-
-unwatched : (w : Watching) (ns : List Notice) → list_any (λ (n : Notice). is_some (watch_of w (told_number n))) ns ≡ false
-    → All (λ n. watch_of w (told_number n) ≡ None) ns
-unwatched w [] h k d p = absurd (omega arith)
-unwatched w (n ∷ ns) h zero d p =
-    none-of (watch_of w (told_number n)) (left (is_some (watch_of w (told_number n))) (list_any (λ (n : Notice). is_some (watch_of w (told_number n))) ns) h)
-unwatched w (n ∷ ns) h (suc k) d p =
-    unwatched w ns (right (is_some (watch_of w (told_number n))) (list_any (λ (n : Notice). is_some (watch_of w (told_number n))) ns) h) k d (omega arith)
-
-pub or-true : (b t : Bool) (P : Type 0) → (b || t) ≡ true → (b ≡ true → P) → (t ≡ true → P) → P
-or-true true t P h left right = left refl
-or-true false t P h left right = right h
+use Rattle.instance_table.proofs.Zipped.{watchers-at, watchers-keys}
 
 -- ---- what is for one of several
 
@@ -81,7 +43,7 @@ module _ {X Y : Type 0} (id_of : X → ℕ) (what : X → Y) (label : ℕ → Y 
   abbrev pub to : ℕ → List X → List Y
   to q xs = map what (filter (λ x. eqb q (id_of x)) xs)
 
-  to-append : (q : ℕ) (xs ys : List X) → to q (xs ++ ys) ≡ to q xs ++ to q ys
+  pub to-append : (q : ℕ) (xs ys : List X) → to q (xs ++ ys) ≡ to q xs ++ to q ys
   to-append q [] ys = refl
   to-append q (x ∷ xs) ys =
       elim (eqb q (id_of x)) as (λ t. map what (cond t (x ∷ filter (λ x. eqb q (id_of x)) (xs ++ ys)) (filter (λ x. eqb q (id_of x)) (xs ++ ys)))
@@ -115,11 +77,6 @@ module _ {X Y : Type 0} (id_of : X → ℕ) (what : X → Y) (label : ℕ → Y 
         ]
       ] refl
 
-  -- all of it for one more
-  pub step : (q id : ℕ) (xs : List X) (ys all : List Y) (b : Bool) → to q xs ≡ cond b all []
-      → (eqb q id ≡ true → (b ≡ false) × (ys ≡ all)) → to q (xs ++ map (label id) ys) ≡ cond (b || eqb q id) all []
-  step q id xs ys all b was new = to-append q xs (map (label id) ys) ∙ (λ k. was k ++ labelled q id ys k) ∙ merged q id ys all b new
-
   -- and behind others
   pub step-behind : (q id : ℕ) (xs : List X) (ys all front : List Y) (b : Bool) → to q xs ≡ front ++ cond b all []
       → (eqb q id ≡ true → (b ≡ false) × (ys ≡ all)) → to q (xs ++ map (label id) ys) ≡ front ++ cond (b || eqb q id) all []
@@ -127,38 +84,43 @@ module _ {X Y : Type 0} (id_of : X → ℕ) (what : X → Y) (label : ℕ → Y 
       to-append q xs (map (label id) ys) ∙ (λ k. was k ++ labelled q id ys k) ∙ append_assoc front (cond b all []) (cond (eqb q id) ys [])
       ∙ ap (λ zs. front ++ zs) (merged q id ys all b new)
 
--- ---- all of them
+-- ---- what is staged for each of the watchers of a file
 
-module _ (m : Instances) (ns : List Notice) (ids : IdSet)
-    (deliver_to : (q : ℕ) → is_some (finmap.get ids q) ≡ list_any (λ (n : Notice). watches_file (told_number n) (instance_of m q)) ns)
-    (items : List ℕ) (k : ℕ) (is : items ≡ finmap.keys ids) (done : length items ≤ k) where
-  hearing : (q : ℕ) (i : Instance) → instance_of m q ≡ Some i
-      → list_any (λ id. eqb q id) (take k items) ≡ list_any (λ (n : Notice). is_some (watch_of i.watches (told_number n))) ns
-  hearing q i e =
-      ap (list_any (λ id. eqb q id)) (take_all k items done ∙ is) ∙ same-tests q (finmap.keys ids) ∙ sym (contains_key-keys ids q) ∙ deliver_to q
-      ∙ ap (λ o. list_any (λ (n : Notice). watches_file (told_number n) o) ns) e
+-- whether an instance is among the first watchers
+abbrev pub is_among : List ℕ → ℕ → ℕ → Bool
+is_among ids k q = list_any (λ y. eqb q y) (take k ids)
 
-  -- where there is nothing for the others, what is staged for the recipients is all there is
-  pub all-staged : {A : Type 0} (q : ℕ) (i : Instance) (mine all : List A) → instance_of m q ≡ Some i
-      → mine ≡ cond (list_any (λ id. eqb q id) (take k items)) all []
-      → (All (λ n. watch_of i.watches (told_number n) ≡ None) ns → all ≡ []) → mine ≡ all
-  all-staged q i mine all e so none =
-      so ∙ ap (λ b. cond b all []) (hearing q i e)
-      ∙ elim (list_any (λ (n : Notice). is_some (watch_of i.watches (told_number n))) ns)
-      as (λ b. list_any (λ (n : Notice). is_some (watch_of i.watches (told_number n))) ns ≡ b → cond b all [] ≡ all) [
-        | true ↦ λ h. refl
-        | false ↦ λ h. sym (none (unwatched i.watches ns h))
-      ] refl
+module _ {X Y : Type 0} (id_of : X → ℕ) (what : X → Y) (label : ℕ → Y → X) (named : (id : ℕ) (y : Y) → id_of (label id y) ≡ id)
+    (same : (id : ℕ) (y : Y) → what (label id y) ≡ y) (ids : List ℕ) (ws : List Watch) (are : AreWatchers ids ws)
+    (f : Option Watch → List Y) (front : List Y) (k q : ℕ) where
+  -- what an instance gets
+  abbrev pub mine : List Y
+  mine = f (finmap.get (watchers_map ids ws) q)
 
-  -- the watches that are left
-  pub all-left : (q : ℕ) (i : Instance) (wds ended : List ℤ) → instance_of m q ≡ Some i → wds ≡ cond (list_any (λ id. eqb q id) (take k items)) ended []
-      → (list_any (λ id. eqb q id) (take k items) ≡ true → fold removed i.watches ended ≡ watches_after i.watches ns)
-      → (All (λ n. watch_of i.watches (told_number n) ≡ None) ns → watches_after i.watches ns ≡ i.watches)
-      → fold removed i.watches wds ≡ watches_after i.watches ns
-  all-left q i wds ended e so left none =
-      ap (fold removed i.watches) so
-      ∙ elim (list_any (λ id. eqb q id) (take k items)) as (λ b.
-      list_any (λ id. eqb q id) (take k items) ≡ b → fold removed i.watches (cond b ended []) ≡ watches_after i.watches ns) [
-        | true ↦ left
-        | false ↦ λ h. sym (none (unwatched i.watches ns (sym (hearing q i e) ∙ h)))
-      ] refl
+  -- what one more of them gets
+  pub row-more : (xs new : List X) → k < length ids → to id_of what label named same q xs ≡ front ++ cond (is_among ids k q) mine []
+      → new ≡ xs ++ map (label (get_or ids k 0)) (f (Some (get_or ws k (pos 0, 0))))
+      → to id_of what label named same q new ≡ front ++ cond (is_among ids (k + 1) q) mine []
+  row-more xs new within so_far is =
+      let id = get_or ids k 0 in
+      let w : Watch = get_or ws k (pos 0, 0) in
+      let at : finmap.get (watchers_map ids ws) id ≡ Some w = watchers-at ids ws are k id (within, refl) (pos 0, 0) in
+      ap (to id_of what label named same q) is
+      ∙ step-behind id_of what label named same q id xs (f (Some w)) mine front (is_among ids k q) so_far
+      (λ t. (ap (is_among ids k) (is-same q id t) ∙ once ids k are.rising within, ap f (sym (ap (finmap.get (watchers_map ids ws)) (is-same q id t) ∙ at))))
+      ∙ ap (λ b. front ++ cond b mine []) (sym (list_any_more (λ y. eqb q y) ids k 0 within))
+
+  all-done : length ids ≤ k → is_among ids k q ≡ is_some (finmap.get (watchers_map ids ws) q)
+  all-done done =
+      ap (list_any (λ y. eqb q y)) (take_all k ids done ∙ sym (watchers-keys ids ws are))
+      ∙ same-tests q (finmap.keys (watchers_map ids ws)) ∙ sym (contains_key-keys (watchers_map ids ws) q)
+
+  -- an instance that is not among them gets nothing
+  pub row-done : (xs : List X) → length ids ≤ k → f None ≡ [] → to id_of what label named same q xs ≡ front ++ cond (is_among ids k q) mine []
+      → to id_of what label named same q xs ≡ front ++ mine
+  row-done xs done none so_far =
+      so_far ∙ ap (λ b. front ++ cond b mine []) (all-done done) ∙ ap (λ ys. front ++ ys) (by (finmap.get (watchers_map ids ws) q))
+    where
+      by : (o : Option Watch) → cond (is_some o) (f o) [] ≡ f o
+      by None = sym none
+      by (Some w) = refl

@@ -14,7 +14,7 @@ use Rattle.instance_table.specs.declared.instance.Instance.{Instance}
 use Rattle.instance_table.specs.declared.instances.Instances.TheInside.{Inside}
 use Rattle.instance_table.specs.Ids.{IdSet, set_of}
 use Rattle.instance_table.specs.Index.{row_under}
-use Rattle.instance_table.specs.Instances.{Instances, instance_of, watchers_of, watches_file}
+use Rattle.instance_table.specs.Instances.{instance_of, watchers_of, watches_file}
 use Rattle.instance_table.specs.Views.{instances_of, NotesEveryWatch}
 use Rattle.instance_table.specs.Watchers.{watch_at}
 use Rattle.instance_table.proofs.Rising.{get-set, mark, same-set, items-rising, is-same}
@@ -94,22 +94,3 @@ watchers-noted a whole number =
 pub same-tests : (q : ℕ) (ks : List ℕ) → list_any (λ id. eqb q id) ks ≡ list_any (eq_by_cmp nat_cmp q) ks
 same-tests q [] = refl
 same-tests q (k ∷ ks) = ap (λ b. b || list_any (λ id. eqb q id) ks) (sym (unsigned_tied q k)) ∙ ap (λ b. eq_by_cmp nat_cmp q k || b) (same-tests q ks)
-
--- an instance is among the watchers of a file where it watches it
-pub any-watchers : (m : Instances) (number q : ℕ) → list_any (λ id. eqb q id) (watchers_of m number) ≡ watches_file number (instance_of m q)
-unfolding watchers_of
-any-watchers m number q =
-    same-tests q (watchers_of m number) ∙ any-filter (λ id. watches_file number (instance_of m id)) q (finmap.keys m)
-    ∙ ap (λ b. b && watches_file number (instance_of m q)) (sym (contains_key-keys m q)) ∙ watches-there number (instance_of m q)
-
--- the watchers of a file rise
-pub watchers-rising : (m : Instances) (number : ℕ) → IsStrictlySortedBy nat_cmp (watchers_of m number)
-unfolding watchers_of
-watchers-rising m number =
-    IsStrictlySortedBy-filter nat_cmp (λ id. watches_file number (instance_of m id)) (finmap.keys m) (rising (entries m) (entries_sorted m))
-
--- a set of the watchers of a file has those that watch it
-pub watchers-set : (m : Instances) (number : ℕ) (ids : IdSet) (q : ℕ) → finmap.keys ids ≡ watchers_of m number
-    → is_some (finmap.get ids q) ≡ watches_file number (instance_of m q)
-watchers-set m number ids q e =
-    contains_key-keys ids q ∙ sym (same-tests q (finmap.keys ids)) ∙ ap (list_any (λ id. eqb q id)) e ∙ any-watchers m number q

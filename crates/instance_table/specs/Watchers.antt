@@ -1,5 +1,5 @@
 -- The instances that watch a file, each with its watch. No public clause cites this module.
-use Rattle.std.specs.Prelude.{◌≡◌, ℕ, Bool, false, List, Option, Some, None, length}
+use Rattle.std.specs.Prelude.{◌≡◌, ℕ, List, Option, Some, None, length, if◌then◌else◌}
 use Rattle.std.specs.Option.{unwrap_or}
 use Rattle.std.specs.FinMap as map
 use Rattle.std.specs.FinMap.{FinMap, from_entries}
@@ -7,8 +7,8 @@ use Rattle.std.specs.List.{zip}
 use Rattle.std.specs.List.Sorted.{IsStrictlySortedBy}
 use Rattle.std.specs.Ordering.{nat_cmp}
 use Rattle.watch_table.specs.Watching.{Watch, watch_of}
-use Rattle.event_rules.specs.declared.notice.Notice.{Notice}
-use Rattle.event_rules.specs.Raised.{ends_watch}
+use Rattle.event_rules.specs.declared.ended.EndedWatches.{EndedWatches}
+use Rattle.event_rules.specs.Staging.{is_ended}
 use Rattle.instance_table.specs.declared.instance.Instance.{Instance}
 use Rattle.instance_table.specs.Instances.{Instances, instance_of}
 
@@ -29,10 +29,10 @@ pub record AreWatchers (ids : List ℕ) (watches : List Watch) : Type 0 where
   pub rising : IsStrictlySortedBy nat_cmp ids
   pub same : length watches ≡ length ids
 
--- whether a notice ends a watch that may be there
-abbrev pub ends_at : Notice → Option Watch → Bool
-ends_at n None = false
-ends_at n (Some watch) = ends_watch n watch
+-- a watch that may be there, if it has not ended
+abbrev pub unless_ended : EndedWatches → Option Watch → Option Watch
+unless_ended ended None = None
+unless_ended ended (Some watch) = if is_ended ended watch then None else Some watch
 
 -- the watch that an instance has for a file
 abbrev pub watch_at : ℕ → Option Instance → Option Watch

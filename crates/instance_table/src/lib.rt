@@ -8,6 +8,7 @@ mod instances;
 mod laws;
 mod opened;
 mod recent;
+mod row;
 mod rows;
 mod staging;
 mod watchers;

@@ -1,19 +1,11 @@
 //! The instances that watch a file, each with its watch.
-ghost use Rattle.std.specs.Prelude.{◌≡◌, ◌↔◌, ◌++◌, ℕ, IsTrue, IsSome, IfErr, IfOk, OnErr, OnOk};
-ghost use Rattle.std.specs.Prelude.{false, length, true};
+ghost use Rattle.std.specs.Prelude.{◌≡◌, ◌↔◌, IsTrue, IsSome, OnErr, OnOk};
 ghost use Rattle.std.specs.FinMap as map;
-ghost use Rattle.std.specs.List.Sorted.{IsStrictlySortedBy};
-ghost use Rattle.std.specs.Ordering.{nat_cmp};
-ghost use Rattle.tree_paths.specs.declared.refusal.Refusal.TheVariants.{Enomem};
-ghost use Rattle.event_rules.specs.Raised.{raised_at};
-ghost use Rattle.instance_table.specs.Staging.{events_to};
-ghost use Rattle.instance_table.specs.Watchers.{ends_at, watchers_map};
+ghost use Rattle.instance_table.specs.Watchers.{AreWatchers, watchers_map};
 
 use crate::ids::place_of;
-use event_rules::{Notice, Staged, stage_kept};
 use std::alloc::{AllocError, Global};
 use std::marker::Model;
-use tree_paths::Refusal;
 
 /// The numbers of the instances that watch a file, each once, rising; and the descriptor and the bits of the watch of
 /// each.
@@ -117,40 +109,12 @@ impl Watchers {
         self.ids.is_empty()
     }
 
-    /// Stages what a notice raises for each watch, behind what was staged, as long as it ends none. The answer is
-    /// whether all watches stay.
+    /// The numbers of the instances, rising, and the watch of each.
     #[inline(always)]
-    pub fn stage(&self, notice: &Notice, staged: &mut Staged) -> Result<bool, Refusal>
-        ensures events { IfOk result (λ stays. stays ≡ true → (q : ℕ) → events_to q staged.new.events.items
-            ≡ events_to q staged.old.events.items ++ raised_at notice.now (map.get self.now q)) }
-        ensures kept { IfOk result (λ stays. stays ≡ true → (q : ℕ) → ends_at notice.now (map.get self.now q) ≡ false) }
-        ensures drops { staged.new.drops.items ≡ staged.old.drops.items }
-        ensures memory { IfErr result (λ refusal. refusal ≡ Enomem) }
+    pub fn as_slices(&self) -> (&[u32], &[(i32, u32)])
+        ensures watchers { AreWatchers result.0.now result.1.now }
+        ensures map { watchers_map result.0.now result.1.now ≡ self.now }
     {
-        stage_each(self.ids.as_slice(), self.watches.as_slice(), notice, staged)
+        (self.ids.as_slice(), self.watches.as_slice())
     }
-}
-
-/// Stages what a notice raises for the watch of each instance, as long as it ends none.
-fn stage_each(
-    ids: &[u32],
-    watches: &[(i32, u32)],
-    notice: &Notice,
-    staged: &mut Staged,
-) -> Result<bool, Refusal>
-    requires rising { IsStrictlySortedBy nat_cmp ids.now }
-    requires same { length watches.now ≡ length ids.now }
-    ensures events { IfOk result (λ stays. stays ≡ true → (q : ℕ) → events_to q staged.new.events.items
-        ≡ events_to q staged.old.events.items ++ raised_at notice.now (map.get (watchers_map ids.now watches.now) q)) }
-    ensures kept { IfOk result (λ stays. stays ≡ true
-        → (q : ℕ) → ends_at notice.now (map.get (watchers_map ids.now watches.now) q) ≡ false) }
-    ensures drops { staged.new.drops.items ≡ staged.old.drops.items }
-    ensures memory { IfErr result (λ refusal. refusal ≡ Enomem) }
-{
-    for index in 0..ids.len() {
-        if !stage_kept(ids[index], watches[index], notice, staged)? {
-            return Ok(false);
-        }
-    }
-    Ok(true)
 }

@@ -1,6 +1,7 @@
 //! The instances from outside: who receives what, when watches end, and who watches a file.
 
 mod refused;
+mod staging;
 
 use event_rules::Notice;
 use instance_table::{Instances, Staging};

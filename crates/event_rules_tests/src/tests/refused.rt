@@ -161,3 +161,60 @@ fn each_growth_of_each_call(rt: HostRuntime) -> Result<(), Fail> {
     }
     Ok(())
 }
+
+/// Stages notice by notice what [`stage`] stages for the watches: by the watch of each file, unless a notice before it
+/// ended that.
+fn stage_each_watch(
+    watches: &Watches,
+    notices: &[Notice],
+    staged: &mut Staged,
+) -> Result<(), Refusal> {
+    for (place, notice) in notices.iter().enumerate() {
+        let ended = EndedWatches::of(&notices[..place], notice.number());
+        if let Some(watch) = watches.of(notice.number())
+            && !ended.has_ended(watch)
+        {
+            stage_watch(ID, watch, notice, staged)?;
+        }
+    }
+    Ok(())
+}
+
+/// How many allocations it takes to stage the events of a call notice by notice. Each was made to fail. `None` if a
+/// result was not that of [`stage`].
+fn watches_refused(
+    alloc: Global,
+    watches: &Watches,
+    notices: &[Notice],
+) -> Result<Option<u32>, Refusal> {
+    let mut wanted = Staged::new(alloc);
+    stage(ID, watches, notices, &mut wanted)?;
+    for k in 1..MOST {
+        let mut staged = Staged::new(alloc);
+        let _ = refuse(alloc, k);
+        let told = stage_each_watch(watches, notices, &mut staged);
+        match (told, was_refused(alloc)) {
+            (Err(Refusal::Enomem), true) => {}
+            (Ok(()), false) => return Ok(are_same(&staged, &wanted).then_some(k - 1)),
+            _ => return Ok(None),
+        }
+    }
+    Ok(None)
+}
+
+#[test]
+fn each_growth_of_each_watch(rt: HostRuntime) -> Result<(), Fail> {
+    let alloc = rt.alloc();
+    let has_refuser = refuse(alloc, MOST);
+    let _ = was_refused(alloc);
+    let calls = prepared(alloc)?;
+    let watches = watching(alloc)?;
+    for which in 0..CALLS {
+        let call = call_of(&calls, which)?;
+        let raised = watches_refused(alloc, &watches, noticed(&calls, &call)?.as_slice())?;
+        let grows = has_refuser && which < 11;
+        let is_well = matches!(raised, Some(count) if (count > 0) == grows);
+        assert!(rt; is_well, "call {which}: {raised:?}");
+    }
+    Ok(())
+}

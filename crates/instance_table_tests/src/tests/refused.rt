@@ -269,3 +269,48 @@ fn each_growth_of_a_copy(rt: HostRuntime) -> Result<(), Fail> {
     holds(&rt, "as they were", are_alike(&instances, &control));
     Ok(())
 }
+
+/// Many instances that watch a file, every second of them for one event.
+fn crowd_for_one_event(alloc: Global) -> Result<Instances, Refusal> {
+    let mut instances = Instances::new(alloc);
+    for id in 1..=CROWD {
+        open(&mut instances, id)?;
+        let oneshot = if id % 2 == 0 { IN_ONESHOT } else { 0 };
+        watch(&mut instances, id, FILE, IN_ALL_EVENTS | oneshot)?;
+    }
+    Ok(instances)
+}
+
+/// How many allocations staging makes, if nothing changes when each fails in turn. None if not.
+fn stage_each_refused(alloc: Global, instances: &Instances, notices: &[Notice]) -> Option<u32> {
+    for k in 1..MOST {
+        let mut staging = Staging::new(alloc);
+        let _ = refuse(alloc, k);
+        let told = instances.stage(notices, &mut staging);
+        match (told, was_refused(alloc)) {
+            (Err(Refusal::Enomem), true) => {}
+            (Ok(()), false) => return Some(k - 1),
+            _ => return None,
+        }
+    }
+    None
+}
+
+/// The allocations that stage two events for each of a crowd, and a third that says that its watch has ended: two
+/// buffers that grow, one of up to 512 events, and one of up to 128 watches that end.
+const ENDS: u32 = 14;
+
+#[test]
+fn watches_that_end_take_two_buffers(rt: HostRuntime) -> Result<(), Fail> {
+    let alloc = rt.alloc();
+    let has_refuser = has_refuser(alloc);
+    let instances = crowd_for_one_event(alloc)?;
+    let mut notices = Vec::new(alloc);
+    notices.push(told(IN_CREATE))?;
+    notices.push(told(IN_DELETE_SELF))?;
+    notices.push(Notice::Gone { number: FILE })?;
+    let count = stage_each_refused(alloc, &instances, &notices);
+    let is_well = matches!(count, Some(count) if (count > 0) == has_refuser && count <= ENDS);
+    assert!(rt; is_well, "{count:?}");
+    Ok(())
+}

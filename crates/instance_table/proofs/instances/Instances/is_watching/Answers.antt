@@ -1,4 +1,6 @@
 use Rattle.std.proofs.Common.{◌≡◌, ℕ, Bool, true, false, not, Option, Some, None, is_some, subst, sym, ap, ◌∙◌, refl}
+use Rattle.std.proofs.lemmas.Bool.{false≢true}
+use Rattle.watch_table.specs.Watching.{Watch, watch_of}
 use Rattle.instance_table.specs.declared.instance.Instance.{Instance}
 use Rattle.instance_table.specs.Instances.{NobodyWatches, watches_file}
 use Rattle.instance_table.specs.Watchers.{watch_at}
@@ -10,7 +12,11 @@ unwatched n (Some i) h = ap is_some h
 
 no-watch : (n : ℕ) (o : Option Instance) → watches_file n o ≡ false → watch_at n o ≡ None
 no-watch n None h = refl
-no-watch n (Some i) h = Rattle.instance_table.proofs.Cut.none-of _ h
+no-watch n (Some i) h = none-of (watch_of i.watches n) h
+  where
+    none-of : (o : Option Watch) → is_some o ≡ false → o ≡ None
+    none-of None h = refl
+    none-of (Some x) h = absurd (false≢true (sym h))
 
 is-true : (b : Bool) → not b ≡ false → b ≡ true
 is-true true h = refl
