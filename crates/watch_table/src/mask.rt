@@ -1,6 +1,7 @@
 //! Masks of watch calls.
 ghost use Rattle.std.specs.Prelude.{⊤, ◌≡◌};
 ghost use Rattle.watch_table.specs.Masks.{flag_rows, known, stored, mask_fault};
+ghost use Rattle.watch_table.specs.Watching.{next_bits};
 
 use bitflags::{Flag, Flags, bitflag_items};
 use record_codec::bits;
@@ -90,6 +91,17 @@ impl Mask {
         ensures { result ≡ stored self.0 }
     {
         self.0 & (bits::IN_ALL_EVENTS | bits::IN_ONESHOT)
+    }
+
+    /// The bits that a watch which has these keeps after another call for its file.
+    pub fn next_bits(self, bits: u32) -> u32
+        ensures { result ≡ next_bits self.0 bits }
+    {
+        if self.intersects(Mask::MASK_ADD) {
+            bits | self.stored()
+        } else {
+            self.stored()
+        }
     }
 
     /// Why no watch call takes this mask. `EINVAL` where it has both MASK_CREATE and MASK_ADD, and where it has no

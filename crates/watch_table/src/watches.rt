@@ -9,7 +9,7 @@ ghost use Rattle.watch_table.specs.Masks.{mask_fault};
 ghost use Rattle.watch_table.specs.Index.{bits_in};
 ghost use Rattle.watch_table.specs.Rows.{watch_rows};
 ghost use Rattle.watch_table.specs.Watching.{IsSound, added, add_refusal, dropped, is_barred, is_full, is_taken};
-ghost use Rattle.watch_table.specs.Watching.{next_bits, no_watches, watched_by, removed, watch_of, wd_added, wd_of};
+ghost use Rattle.watch_table.specs.Watching.{no_watches, watched_by, removed, watch_of, wd_added, wd_of};
 ghost use Rattle.watch_table.specs.Watching.{with_new_watch};
 
 use crate::{Mask, WatchRows};
@@ -202,7 +202,7 @@ impl Watches {
         ensures none { IfNone result (self.new ≡ self.old) }
     {
         let watch = self.by_number.get_mut(&number)?;
-        watch.1 = next_bits(mask, watch.1);
+        watch.1 = mask.next_bits(watch.1);
         Some(watch.0)
     }
 
@@ -262,15 +262,4 @@ fn is_barred(mask: Mask, is_directory: bool) -> bool
     ensures { result ≡ is_barred mask.0 is_directory }
 {
     mask.intersects(Mask::ONLYDIR) && !is_directory
-}
-
-/// The bits that a watch keeps after another call for its file.
-fn next_bits(mask: Mask, bits: u32) -> u32
-    ensures { result ≡ next_bits mask.0 bits }
-{
-    if mask.intersects(Mask::MASK_ADD) {
-        bits | mask.stored()
-    } else {
-        mask.stored()
-    }
 }

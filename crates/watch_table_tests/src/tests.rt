@@ -58,6 +58,8 @@ fn masks(rt: HostRuntime) {
         "Mask::from_name('ONESHOT') == Some(Mask::ONESHOT)",
         Mask::from_name("ONESHOT") == Some(Mask::ONESHOT),
     );
+    equal(&rt, Mask::of(0x0100_0001).next_bits(0x300), 0x1);
+    equal(&rt, Mask::of(0xa000_0001).next_bits(0x300), 0x8000_0301);
 }
 
 /// Each bit by its name and its value: inotify(7), and inotify_add_watch(2).
