@@ -1,6 +1,6 @@
 -- The open instances and the index of watchers, changed together.
 use Rattle.std.proofs.Common.{◌≡◌, ℕ, Bool, true, false, cond, ◌&&◌, ◌++◌, ◌∷◌, [], suc, List, take, drop}
-use Rattle.std.proofs.Common.{set, get_or, eqb, Option, Some, None, is_some, refl, sym, ap, ◌∙◌, subst, arith}
+use Rattle.std.proofs.Common.{set, get_or, eqb, Option, Some, None, is_some, is_none, refl, sym, ap, ◌∙◌, subst, arith, ◌<◌, ◌^◌, ◌||◌, nat_le, nat_lt}
 use Rattle.std.specs.Prelude.{pos, ℤ, Result, Ok, Err, OnOk, OnErr}
 use Rattle.record_codec.specs.Records.{AreEvents}
 use Rattle.tree_paths.specs.declared.refusal.Refusal.{Refusal}
@@ -10,7 +10,9 @@ use Rattle.std.specs.FinMap.{get-insert, get-remove, same_map, nat_cmp-IsAntisym
 use Rattle.std.specs.Ordering.{nat_cmp}
 use Rattle.std.specs.Cmp.{nat_cmp_total, unsigned_tied}
 use Rattle.event_queue.specs.Backlogs.{Backlog}
-use Rattle.watch_table.specs.Watching.{Watch, Watching, watch_of, added, dropped}
+use Rattle.watch_table.specs.Watching.{Watch, Watching, IsSound, watch_of, added, dropped, add_refusal, is_barred, is_taken, is_full}
+use Rattle.tree_paths.specs.Rows.{row, first_row}
+use Rattle.tree_paths.specs.declared.refusal.Refusal.TheVariants.{Enotdir, Eexist, Enospc}
 use Rattle.instance_table.specs.declared.index.Index.{Index}
 use Rattle.instance_table.specs.declared.instance.Instance.{Instance}
 use Rattle.instance_table.specs.declared.instances.Instances.TheInside.{Inside}
@@ -24,7 +26,7 @@ use Rattle.instance_table.specs.Watchers.{watch_at}
 use Rattle.instance_table.proofs.Rising.{entries-rising, get-absent, get-at, length-keys, cut-absent, map-cut, map-put}
 use Rattle.instance_table.proofs.Rising.{map-set, rises-cut, rises-put, rises-set}
 use Rattle.std.proofs.lemmas.List.{get_or-map}
-use Rattle.std.proofs.lemmas.Bool.{false≢true}
+use Rattle.std.proofs.lemmas.Bool.{false≢true, ltb-false}
 use Rattle.std.specs.List.Sorted.{IsStrictlySortedBy}
 
 -- ---- one instance changes
@@ -95,19 +97,45 @@ watched-added w number mask n = by (watch_of w number)
     by None = watched-inserted w.watches number n (pos w.next_wd, Rattle.watch_table.specs.Masks.stored mask)
     by (Some watch) = watched-inserted w.watches number n (watch.0, Rattle.watch_table.specs.Watching.next_bits mask watch.1)
 
--- the file has a watch then
-pub watched-there : (w : Watching) (number mask : ℕ) → is_some (watch_of (added w number mask) number) ≡ true
+-- what a file gets which has no watch
+pub first-watch : (w : Watching) (number mask : ℕ) → watch_of w number ≡ None
+    → watch_of (added w number mask) number ≡ Some (pos w.next_wd, Rattle.watch_table.specs.Masks.stored mask)
 unfolding added
-watched-there w number mask = by (watch_of w number)
-  where
-    put : (x : Watch) → is_some (map.get (map.insert w.watches number x) number) ≡ true
-    put x =
-        ap is_some (get-insert nat_cmp_total w.watches number x number
-        ∙ ap (λ t. cond t (Some x) (map.get w.watches number)) (unsigned_tied number number ∙ Rattle.std.proofs.lemmas.Bool.eq-eqb number number refl))
+first-watch w number mask none =
+    ap (λ o. watch_of (Rattle.watch_table.specs.Watching.added_to w number mask o) number) none
+    ∙ get-insert nat_cmp_total w.watches number (pos w.next_wd, Rattle.watch_table.specs.Masks.stored mask) number
+    ∙ ap (λ t. cond t (Some (pos w.next_wd, Rattle.watch_table.specs.Masks.stored mask)) (watch_of w number))
+    (unsigned_tied number number ∙ Rattle.std.proofs.lemmas.Bool.eq-eqb number number refl)
 
-    by : (o : Option Watch) → is_some (watch_of (Rattle.watch_table.specs.Watching.added_to w number mask o) number) ≡ true
-    by None = put (pos w.next_wd, Rattle.watch_table.specs.Masks.stored mask)
-    by (Some watch) = put (watch.0, Rattle.watch_table.specs.Watching.next_bits mask watch.1)
+-- what a file gets which has one
+pub next-watch : (w : Watching) (number mask : ℕ) (watch : Watch) → watch_of w number ≡ Some watch
+    → watch_of (added w number mask) number ≡ Some (watch.0, Rattle.watch_table.specs.Watching.next_bits mask watch.1)
+unfolding added
+next-watch w number mask watch there =
+    ap (λ o. watch_of (Rattle.watch_table.specs.Watching.added_to w number mask o) number) there
+    ∙ get-insert nat_cmp_total w.watches number (watch.0, Rattle.watch_table.specs.Watching.next_bits mask watch.1) number
+    ∙ ap (λ t. cond t (Some (watch.0, Rattle.watch_table.specs.Watching.next_bits mask watch.1)) (watch_of w number))
+    (unsigned_tied number number ∙ Rattle.std.proofs.lemmas.Bool.eq-eqb number number refl)
+
+-- where it is accepted, a descriptor is left for it
+pub wd-left : (w : Watching) (number mask : ℕ) (is_directory : Bool) → IsSound w → watch_of w number ≡ None
+    → add_refusal w number mask is_directory ≡ None → w.next_wd < 2 ^ 31
+unfolding add_refusal
+wd-left w number mask is_directory sound none accepted =
+    let left = by (is_barred mask is_directory) (is_taken mask None) (nat_le w.most_watches (map.len w.watches)) (nat_lt w.last_wd w.next_wd)
+    (subst (λ o. first_row (row (is_barred mask is_directory) Enotdir
+    ∷ row (is_taken mask o) Eexist ∷ row (is_none o && is_full w) Enospc ∷ []) ≡ None) none accepted) in
+    let within = ltb-false w.last_wd w.next_wd left in
+    let last = sound.small in
+    omega (arith, within, last)
+  where
+    by : (barred taken many past : Bool)
+        → first_row (row barred Enotdir ∷ row taken Eexist ∷ row (true && (many || past)) Enospc ∷ []) ≡ None → past ≡ false
+    by true taken many past e = absurd (false≢true (sym (ap is_some e)))
+    by false true many past e = absurd (false≢true (sym (ap is_some e)))
+    by false false true past e = absurd (false≢true (sym (ap is_some e)))
+    by false false false true e = absurd (false≢true (sym (ap is_some e)))
+    by false false false false e = refl
 
 -- ---- what waits
 

@@ -8,4 +8,5 @@ mod WhoWatches
 mod Readied
 mod Copied
 mod Zipped
+mod Alone
 mod Kept

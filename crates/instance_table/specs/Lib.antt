@@ -1,5 +1,6 @@
 pub mod Ids
 pub mod Watchers
+pub mod WatcherRow
 pub mod Index
 pub mod Instances
 pub mod Opened

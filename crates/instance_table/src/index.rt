@@ -56,12 +56,11 @@ impl Index {
         ensures err { OnErr result ((n q : ℕ) → watch_noted self.new n q ≡ watch_noted self.old n q) }
         ensures rows { HasNoEmptyRow self.old → HasNoEmptyRow self.new }
     {
+        let alloc = self.alloc;
         if let Some(row) = self.watchers.get_mut(&number) {
-            return row.put(id, watch);
+            return row.put(alloc, id, watch);
         }
-        let mut row = Watchers::new(self.alloc);
-        row.put(id, watch)?;
-        self.watchers.insert(number, row)?;
+        self.watchers.insert(number, Watchers::one(id, watch))?;
         Ok(())
     }
 
@@ -87,8 +86,7 @@ impl Index {
         let Some(row) = self.watchers.get_mut(&number) else {
             return;
         };
-        row.remove(id);
-        if row.is_empty() {
+        if row.remove(id) {
             self.watchers.remove(&number);
         }
     }

@@ -1,15 +1,15 @@
 //! The open instances.
 ghost use Rattle.std.specs.Prelude.{◌≡◌, ◌↔◌, ◌≤◌, ◌+◌, ◌++◌, ◌∷◌, ◌⊎◌, ◌&&◌, ◌==◌, ℕ, is_some, drop, false};
 ghost use Rattle.std.specs.Prelude.{take, vec_len, vec_capacity, Some, None, Ok, Err, IfOk, IfErr, OnOk, OnErr, IsSome};
-ghost use Rattle.std.specs.Prelude.{IfSome, if◌then◌else◌, map};
+ghost use Rattle.std.specs.Prelude.{IfSome, if◌then◌else◌, map, pos, ◌<◌, ◌^◌};
 ghost use Rattle.std.specs.Option.{option_copied};
 ghost use Rattle.std.specs.VecDeque.{deque_len};
 ghost use Rattle.std.specs.FinMap as finmap;
 ghost use Rattle.tree_paths.specs.declared.refusal.Refusal.{Refusal};
 ghost use Rattle.tree_paths.specs.declared.refusal.Refusal.TheVariants.{Enomem};
 ghost use Rattle.event_queue.specs.Backlogs.{IsLimit, after_offer};
-ghost use Rattle.watch_table.specs.Masks.{mask_fault};
-ghost use Rattle.watch_table.specs.Watching.{add_refusal, added, removed, watch_of, wd_added};
+ghost use Rattle.watch_table.specs.Masks.{mask_fault, stored};
+ghost use Rattle.watch_table.specs.Watching.{IsSound, add_refusal, added, removed, watch_of, wd_added};
 ghost use Rattle.instance_table.specs.Index.{HasNoEmptyRow, watch_noted};
 ghost use Rattle.instance_table.specs.Rows.{instance_row};
 ghost use Rattle.instance_table.specs.Heard.{delivered_all};
@@ -332,23 +332,61 @@ fn add_noted(
     ensures rows { HasNoEmptyRow index.old → HasNoEmptyRow index.new }
     ensures err_noted { OnErr result ((n q : ℕ) → watch_noted index.new n q ≡ watch_noted index.old n q) }
 {
-    let before = watches.of(number);
-    index.put(number, id, before.unwrap_or((0, 0)))?;
-    match watches.add(number, mask, is_directory) {
-        Ok(wd) => {
-            let Some(watch) = watches.of(number) else {
-                unreachable!()
-            };
-            index.set(number, id, watch);
+    match watches.of(number) {
+        Some(before) => {
+            let wd = watches.add(number, mask, is_directory)?;
+            index.set(number, id, (before.0, mask.next_bits(before.1)));
             Ok(wd)
         }
+        None => add_first(index, watches, id, number, mask, is_directory),
+    }
+}
+
+/// The same of a file that the instance does not watch.
+fn add_first(
+    index: &mut Index,
+    watches: &mut Watches,
+    id: u32,
+    number: u32,
+    mask: Mask,
+    is_directory: bool,
+) -> Result<i32, Refusal>
+    requires mask { mask_fault mask.0 ≡ None }
+    requires unwatched { watch_of watches.old number ≡ None }
+    requires noted { watch_noted index.old number id ≡ None }
+    ensures wd { IfOk result (λ wd. wd ≡ wd_added watches.old number) }
+    ensures watches { OnOk result (watches.new ≡ added watches.old number mask.0) }
+    ensures noted { OnOk result ((n q : ℕ)
+        → watch_noted index.new n q
+        ≡ (if n == number && q == id then watch_of watches.new number else watch_noted index.old n q)) }
+    ensures accepted { OnOk result (add_refusal watches.old number mask.0 is_directory ≡ None) }
+    ensures refusals { IfErr result (λ r. (add_refusal watches.old number mask.0 is_directory ≡ Some r)
+        ⊎ (r ≡ Enomem)) }
+    ensures err { OnErr result (watches.new ≡ watches.old) }
+    ensures rows { HasNoEmptyRow index.old → HasNoEmptyRow index.new }
+    ensures err_noted { OnErr result ((n q : ℕ) → watch_noted index.new n q ≡ watch_noted index.old n q) }
+{
+    index.put(number, id, first_watch(watches, mask))?;
+    match watches.add(number, mask, is_directory) {
+        Ok(wd) => Ok(wd),
         Err(refusal) => {
-            if before.is_none() {
-                index.remove(number, id);
-            }
+            index.remove(number, id);
             Err(refusal)
         }
     }
+}
+
+/// The next new watch. Where all descriptors were given there is none, and any will do.
+#[inline(always)]
+fn first_watch(watches: &Watches, mask: Mask) -> (i32, u32)
+    ensures watch { watches.now.next_wd < 2 ^ 31 → result ≡ (pos watches.now.next_wd, stored mask.0) }
+    ensures sound { IsSound watches.now }
+{
+    let wd = watches.next_wd();
+    if wd > i32::MAX as u32 {
+        return (0, 0);
+    }
+    (wd as i32, mask.stored())
 }
 
 /// Takes the watches of an instance out of the index.

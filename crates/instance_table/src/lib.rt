@@ -10,6 +10,7 @@ mod opened;
 mod recent;
 mod row;
 mod rows;
+mod several;
 mod staging;
 mod watchers;
 

@@ -3,75 +3,87 @@ ghost use Rattle.std.specs.Prelude.{◌≡◌, ◌↔◌, IsTrue, IsSome, OnErr,
 ghost use Rattle.std.specs.FinMap as map;
 ghost use Rattle.instance_table.specs.Watchers.{AreWatchers, watchers_map};
 
-use crate::ids::place_of;
+use crate::several::Several;
 use std::alloc::{AllocError, Global};
 use std::marker::Model;
+use std::mem::size_of;
+use std::slice;
 
-/// The numbers of the instances that watch a file, each once, rising; and the descriptor and the bits of the watch of
-/// each.
+/// The instances that watch a file, by their numbers; and the descriptor and the bits of the watch of each. One at
+/// least: a file that nobody watches has none of these. The first is in place, and takes no memory of its own.
 pub struct Watchers {
-    ids: Vec<u32>,
-    watches: Vec<(i32, u32)>,
+    row: Row,
 }
+
+/// One instance and its watch, or several. Those stay several where but one is left.
+#[derive(Drop)]
+enum Row {
+    One(u32, (i32, u32)),
+    Several(Box<Several>),
+}
+
+// So many bytes has each place of the index, whether its file is watched or not.
+const _: () = prove!(size_of::<Row>() == 16);
 
 impl Drop for Watchers {
     fn drop(self) {
-        let Watchers { ids: _, watches: _ } = self;
+        let Watchers { row: _ } = self;
     }
 }
 
 impl Model for Watchers {
     ghost use Rattle.std.specs.Coded.{coded×, coded_ℕ, coded_ℤ};
     ghost use Rattle.std.specs.FinMap as finmap;
-    ghost use Rattle.instance_table.specs.Watchers.{AreWatchers, WatchMap, watchers_map};
+    ghost use Rattle.instance_table.specs.Watchers.{WatchMap};
 
     ghost Value = { WatchMap };
 
     ghost coded = { finmap.code coded_ℕ (coded× coded_ℤ coded_ℕ) };
 
-    ghost view = { λ a. watchers_map a.ids.items a.watches.items };
+    ghost use Rattle.instance_table.specs.WatcherRow.{row_map};
 
-    ghost invariant = { λ a. AreWatchers a.ids.items a.watches.items };
+    ghost view = { λ a. row_map a.row };
 }
 
 impl Clone for Watchers {
     ghost is_clone = { λ watchers copy. copy ≡ watchers };
 
     fn clone(&self) -> Result<Watchers, AllocError> {
-        Ok(Watchers {
-            ids: self.ids.clone()?,
-            watches: self.watches.clone()?,
-        })
+        let row = match &self.row {
+            Row::One(id, watch) => Row::One(*id, *watch),
+            Row::Several(several) => Row::Several(several.clone()?),
+        };
+        Ok(Watchers { row })
     }
 }
 
 impl Watchers {
-    /// No instances. It takes no memory.
-    pub fn new(alloc: Global) -> Watchers
-        ensures { result ≡ map.empty }
+    /// One instance with its watch. It takes no memory.
+    pub fn one(id: u32, watch: (i32, u32)) -> Watchers
+        ensures { result ≡ map.insert map.empty id watch }
     {
         Watchers {
-            ids: Vec::new(alloc),
-            watches: Vec::new(alloc),
+            row: Row::One(id, watch),
         }
     }
 
     /// Puts in an instance with its watch, in place of the one that it has. `Err` is out of memory.
-    pub fn put(&mut self, id: u32, watch: (i32, u32)) -> Result<(), AllocError>
+    pub fn put(&mut self, alloc: Global, id: u32, watch: (i32, u32)) -> Result<(), AllocError>
         ensures ok { OnOk result (self.new ≡ map.insert self.old id watch) }
         ensures err { OnErr result (self.new ≡ self.old) }
     {
-        match place_of(self.ids.as_slice(), id) {
-            Ok(place) => self.watches[place] = watch,
-            Err(place) => {
-                self.watches.reserve(1)?;
-                self.ids.insert(place, id)?;
-                let Ok(()) = self.watches.insert(place, watch) else {
-                    unreachable!()
-                };
+        match &mut self.row {
+            Row::One(first, its) => {
+                if *first == id {
+                    *its = watch;
+                    return Ok(());
+                }
+                let several = Several::two(alloc, (*first, *its), (id, watch))?;
+                self.row = Row::Several(Box::new(alloc, several)?);
+                Ok(())
             }
+            Row::Several(several) => several.put(id, watch),
         }
-        Ok(())
     }
 
     /// Gives an instance that is there another watch. It takes no memory.
@@ -79,34 +91,25 @@ impl Watchers {
         requires { IsSome (map.get self.old id) }
         ensures { self.new ≡ map.insert self.old id watch }
     {
-        let Ok(place) = place_of(self.ids.as_slice(), id) else {
-            unreachable!()
-        };
-        self.watches[place] = watch;
-    }
-
-    /// Takes out an instance, if it is there. It takes no memory.
-    pub fn remove(&mut self, id: u32)
-        ensures { self.new ≡ map.remove self.old id }
-    {
-        if let Ok(place) = place_of(self.ids.as_slice(), id) {
-            self.ids.remove(place);
-            self.watches.remove(place);
+        match &mut self.row {
+            Row::One(_, its) => *its = watch,
+            Row::Several(several) => several.set(id, watch),
         }
     }
 
-    /// The numbers of the instances, rising.
-    pub fn ids(&self) -> &[u32]
-        ensures { result.now ≡ map.keys self.now }
+    /// Takes out an instance, if it is there. The answer is whether none is left: these watchers are then to be thrown
+    /// away. It takes no memory.
+    pub fn remove(&mut self, id: u32) -> bool
+        ensures none { IsTrue result ↔ (map.remove self.old id ≡ map.empty) }
+        ensures rest { result ≡ false → self.new ≡ map.remove self.old id }
     {
-        self.ids.as_slice()
-    }
-
-    /// Whether there is no instance.
-    pub fn is_empty(&self) -> bool
-        ensures { IsTrue result ↔ (self.now ≡ map.empty) }
-    {
-        self.ids.is_empty()
+        match &mut self.row {
+            Row::One(first, _) => *first == id,
+            Row::Several(several) => {
+                several.remove(id);
+                several.is_empty()
+            }
+        }
     }
 
     /// The numbers of the instances, rising, and the watch of each.
@@ -115,6 +118,17 @@ impl Watchers {
         ensures watchers { AreWatchers result.0.now result.1.now }
         ensures map { watchers_map result.0.now result.1.now ≡ self.now }
     {
-        (self.ids.as_slice(), self.watches.as_slice())
+        match &self.row {
+            Row::One(id, watch) => (slice::from_ref(id), slice::from_ref(watch)),
+            Row::Several(several) => several.as_slices(),
+        }
+    }
+
+    /// The numbers of the instances, rising.
+    pub fn ids(&self) -> &[u32]
+        ensures { result.now ≡ map.keys self.now }
+    {
+        let (ids, _) = self.as_slices();
+        ids
     }
 }

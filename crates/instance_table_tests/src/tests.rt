@@ -2,6 +2,7 @@
 
 mod refused;
 mod staging;
+mod watched;
 
 use event_rules::Notice;
 use instance_table::{Instances, Staging};

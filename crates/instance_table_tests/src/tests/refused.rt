@@ -314,3 +314,57 @@ fn watches_that_end_take_two_buffers(rt: HostRuntime) -> Result<(), Fail> {
     assert!(rt; is_well, "{count:?}");
     Ok(())
 }
+
+/// Some open instances, which watch nothing.
+fn some_open(alloc: Global) -> Result<Instances, Refusal> {
+    let mut instances = Instances::new(alloc);
+    for id in 1..9 {
+        open(&mut instances, id)?;
+    }
+    Ok(instances)
+}
+
+/// Watches the file for an instance of both: on the first each allocation fails in turn. How many there were; none if
+/// one did not go well.
+fn watch_refused(
+    alloc: Global,
+    instances: &mut Instances,
+    control: &mut Instances,
+    id: u32,
+) -> Result<Option<u32>, Refusal> {
+    for k in 1..MOST {
+        let _ = refuse(alloc, k);
+        let told = watch(instances, id, FILE, IN_ALL_EVENTS);
+        match (told, was_refused(alloc)) {
+            (Err(Refusal::Enomem), true) if are_alike(instances, control) => {}
+            (Ok(_), false) => {
+                watch(control, id, FILE, IN_ALL_EVENTS)?;
+                return Ok(are_alike(instances, control).then_some(k - 1));
+            }
+            _ => return Ok(None),
+        }
+    }
+    Ok(None)
+}
+
+/// The most requests for memory of the first watch of a file: one for each of three maps.
+const FIRST: u32 = 3;
+
+#[test]
+fn each_growth_of_a_row_of_watchers(rt: HostRuntime) -> Result<(), Fail> {
+    let alloc = rt.alloc();
+    let mut instances = some_open(alloc)?;
+    let mut control = some_open(alloc)?;
+    let first = watch_refused(alloc, &mut instances, &mut control, 4)?;
+    holds(
+        &rt,
+        "the first",
+        matches!(first, Some(count) if count <= FIRST),
+    );
+    for step in 0..8 {
+        let id = (step * 3 + 4) % 8 + 1;
+        let count = watch_refused(alloc, &mut instances, &mut control, id)?;
+        assert!(rt; count.is_some(), "instance {id}");
+    }
+    Ok(())
+}

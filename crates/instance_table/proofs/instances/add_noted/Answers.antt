@@ -1,10 +1,15 @@
-use Rattle.std.proofs.Common.{is_some, ap, ◌∙◌}
-use Rattle.std.proofs.lemmas.Bool.{false≢true}
-use Rattle.watch_table.specs.Watching.{Watching, watch_of}
-use Rattle.instance_table.proofs.Indexed.{watched-there}
+use Rattle.std.proofs.Common.{◌≡◌, Option, Some, sym, ap, ◌∙◌, cond, ◌&&◌, eqb}
+use Rattle.watch_table.specs.Watching.{Watch, Watching, next_bits, watch_of}
+use Rattle.instance_table.specs.Index.{watch_noted}
+use Rattle.instance_table.proofs.Indexed.{next-watch}
 use Rattle.instance_table.proofs.instances.add_noted.Goals as goal
 
-pub unreachable-requires : goal.unreachable-requires
-unreachable-requires c =
-    false≢true (ap is_some (c.in_default.ensures ∙ ap (λ (w : Watching). watch_of w c.args.number) c.in-Ok.ensures.watches)
-    ∙ watched-there c.args.watches.now c.args.number c.args.mask.0)
+pub returns-in_ok-wd-in-Some-clause-noted : goal.returns-in_ok-wd-in-Some-clause-noted
+returns-in_ok-wd-in-Some-clause-noted c n q =
+    let w = c.args.watches.now in
+    let before = c.in-Some.before in
+    let there : watch_of c.add.new.self c.args.number ≡ Some (before.0, c.next_bits.result) =
+    ap (λ (x : Watching). watch_of x c.args.number) c.in_ok-wd-in-Some.ensures.watches
+    ∙ next-watch w c.args.number c.args.mask.0 before (sym c.in-Some.ensures) ∙ ap (λ bits. Some (before.0, bits)) (sym c.next_bits.ensures) in
+    c.set.ensures.noted n q
+    ∙ ap (λ (o : Option Watch). cond (eqb n c.args.number && eqb q c.args.id) o (watch_noted c.args.index.now n q)) (sym there)

@@ -19,11 +19,11 @@ pub returns-clause-ok : goal.returns-clause-ok
 returns-clause-ok c =
     let a = c.args.self.now in
     let none : tree.get nat_cmp a.watchers c.args.number ≡ None = sym c.in_default.ensures.value in
-    noted-put a (record a { watchers = c.insert.new.self }) c.args.number (Some c.put-2.new.self)
+    noted-put a (record a { watchers = c.insert.new.self }) c.args.number (Some c.one.result)
     (λ n. c.in_ok-insert.ensures.updates.0 n
-    ∙ ap (λ m. cond (eq_by_cmp nat_cmp c.args.number n) (Some c.put-2.new.self) (tree.get nat_cmp m n)) c.get_mut.follows.holds-at-none)
+    ∙ ap (λ m. cond (eq_by_cmp nat_cmp c.args.number n) (Some c.one.result) (tree.get nat_cmp m n)) c.get_mut.follows.holds-at-none)
     c.args.id c.args.watch
-    (c.in_ok-put.ensures.ok ∙ ap (λ r. map.insert r c.args.id c.args.watch) (c.new-row.ensures ∙ sym (row-none a c.args.number none)))
+    (c.one.ensures ∙ ap (λ r. map.insert r c.args.id c.args.watch) (sym (row-none a c.args.number none)))
 
 pub returns-in-Some-clause-rows : goal.returns-in-Some-clause-rows
 returns-in-Some-clause-rows c rows =
@@ -38,8 +38,7 @@ returns-in-Some-clause-rows c rows =
 pub returns-clause-rows : goal.returns-clause-rows
 returns-clause-rows c rows =
     let a = c.args.self.now in
-    let new : c.put-2.new.self ≡ map.insert c.new-row.result c.args.id c.args.watch = c.in_ok-put.ensures.ok in
-    rows-kept a (record a { watchers = c.insert.new.self }) c.args.number (Some c.put-2.new.self)
+    rows-kept a (record a { watchers = c.insert.new.self }) c.args.number (Some c.one.result)
     (λ n. c.in_ok-insert.ensures.updates.0 n
-    ∙ ap (λ m. cond (eq_by_cmp nat_cmp c.args.number n) (Some c.put-2.new.self) (tree.get nat_cmp m n)) c.get_mut.follows.holds-at-none)
-    (row-is c.put-2.new.self (λ none. put-not-empty c.new-row.result c.args.id c.args.watch (sym new ∙ none))) rows
+    ∙ ap (λ m. cond (eq_by_cmp nat_cmp c.args.number n) (Some c.one.result) (tree.get nat_cmp m n)) c.get_mut.follows.holds-at-none)
+    (row-is c.one.result (λ none. put-not-empty map.empty c.args.id c.args.watch (sym c.one.ensures ∙ none))) rows

@@ -17,46 +17,46 @@ returns-in_default-clause-noted c =
     noted-off c.args.self.now (record c.args.self.now { watchers = c.get_mut.follows.lender-at-none }) c.args.number c.args.id
     (sym c.in_default.ensures.value) (λ n q. ap (λ m. watch_noted (record c.args.self.now { watchers = m }) n q) c.get_mut.follows.holds-at-none)
 
-pub returns-else-is_empty-clause-noted : goal.returns-else-is_empty-clause-noted
-returns-else-is_empty-clause-noted c =
+pub returns-else-remove-clause-noted : goal.returns-else-remove-clause-noted
+returns-else-remove-clause-noted c =
     let a = c.args.self.now in
     let there : tree.get nat_cmp a.watchers c.args.number ≡ Some c.in-Some.row.now = sym c.in-Some.ensures.value in
     let put = (c.get_mut.follows.holds c.remove.new.self).3 (subst (λ o. IsSome o) (sym there) refl) in
     noted-cut a (record a { watchers = c.get_mut.follows.lender c.remove.new.self }) c.args.number (Some c.remove.new.self) put.0 c.args.id
-    (c.remove.ensures ∙ ap (λ r. map.remove r c.args.id) (sym (row-some a c.args.number c.in-Some.row.now there)))
+    (c.remove.ensures.rest c.if-remove.false ∙ ap (λ r. map.remove r c.args.id) (sym (row-some a c.args.number c.in-Some.row.now there)))
 
-pub returns-then-is_empty-clause-noted : goal.returns-then-is_empty-clause-noted
-returns-then-is_empty-clause-noted c =
+pub returns-then-remove-clause-noted : goal.returns-then-remove-clause-noted
+returns-then-remove-clause-noted c =
     let a = c.args.self.now in
     let number = c.args.number in
     let there : tree.get nat_cmp a.watchers number ≡ Some c.in-Some.row.now = sym c.in-Some.ensures.value in
     let put = (c.get_mut.follows.holds c.remove.new.self).3 (subst (λ o. IsSome o) (sym there) refl) in
-    let dropped = c.remove-then-is_empty.ensures.updates in
-    noted-cut a (record a { watchers = c.remove-then-is_empty.new.self }) number None
+    let dropped = c.remove-then-remove.ensures.updates in
+    noted-cut a (record a { watchers = c.remove-then-remove.new.self }) number None
     (λ n. dropped.0 n ∙ ap (cond (eq_by_cmp nat_cmp number n) None) (put.0 n)
     ∙ twice (eq_by_cmp nat_cmp number n) (Some c.remove.new.self) (tree.get nat_cmp a.watchers n))
     c.args.id
-    (sym (c.is_empty.ensures.0 c.if-is_empty.true) ∙ c.remove.ensures ∙ ap (λ r. map.remove r c.args.id) (sym (row-some a number c.in-Some.row.now there)))
+    (sym (c.remove.ensures.none.0 c.if-remove.true) ∙ ap (λ r. map.remove r c.args.id) (sym (row-some a number c.in-Some.row.now there)))
 
 pub returns-in_default-clause-rows : goal.returns-in_default-clause-rows
 returns-in_default-clause-rows c rows = subst (λ m. HasNoEmptyRow (record c.args.self.now { watchers = m })) (sym c.get_mut.follows.holds-at-none) rows
 
-pub returns-else-is_empty-clause-rows : goal.returns-else-is_empty-clause-rows
-returns-else-is_empty-clause-rows c rows =
+pub returns-else-remove-clause-rows : goal.returns-else-remove-clause-rows
+returns-else-remove-clause-rows c rows =
     let a = c.args.self.now in
     let there : tree.get nat_cmp a.watchers c.args.number ≡ Some c.in-Some.row.now = sym c.in-Some.ensures.value in
     let put = (c.get_mut.follows.holds c.remove.new.self).3 (subst (λ o. IsSome o) (sym there) refl) in
     rows-kept a (record a { watchers = c.get_mut.follows.lender c.remove.new.self }) c.args.number (Some c.remove.new.self) put.0
-    (row-is c.remove.new.self (λ none. false≢true (sym c.if-is_empty.false ∙ c.is_empty.ensures.1 none))) rows
+    (row-is c.remove.new.self (λ none. false≢true (sym c.if-remove.false ∙ c.remove.ensures.none.1 (sym (c.remove.ensures.rest c.if-remove.false) ∙ none)))) rows
 
-pub returns-then-is_empty-clause-rows : goal.returns-then-is_empty-clause-rows
-returns-then-is_empty-clause-rows c rows =
+pub returns-then-remove-clause-rows : goal.returns-then-remove-clause-rows
+returns-then-remove-clause-rows c rows =
     let a = c.args.self.now in
     let number = c.args.number in
     let there : tree.get nat_cmp a.watchers number ≡ Some c.in-Some.row.now = sym c.in-Some.ensures.value in
     let put = (c.get_mut.follows.holds c.remove.new.self).3 (subst (λ o. IsSome o) (sym there) refl) in
-    let dropped = c.remove-then-is_empty.ensures.updates in
-    rows-kept a (record a { watchers = c.remove-then-is_empty.new.self }) number None
+    let dropped = c.remove-then-remove.ensures.updates in
+    rows-kept a (record a { watchers = c.remove-then-remove.new.self }) number None
     (λ n. dropped.0 n ∙ ap (cond (eq_by_cmp nat_cmp number n) None) (put.0 n)
     ∙ twice (eq_by_cmp nat_cmp number n) (Some c.remove.new.self) (tree.get nat_cmp a.watchers n))
     no-row rows

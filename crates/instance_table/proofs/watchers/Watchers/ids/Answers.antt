@@ -6,5 +6,5 @@ use Rattle.instance_table.proofs.watchers.Watchers.ids.Goals as goal
 
 pub returns : goal.returns
 returns c =
-    let a = c.self.inside in
-    c.as_slice.ensures.value ∙ sym (watchers-keys a.ids.items a.watches.items c.self.invariant) ∙ ap (λ (m : WatchMap). finmap.keys m) c.self.view_is
+    let lent = c.as_slices in
+    sym (watchers-keys lent.result.0.now lent.result.1.now lent.ensures.watchers) ∙ ap (λ (m : WatchMap). finmap.keys m) lent.ensures.map

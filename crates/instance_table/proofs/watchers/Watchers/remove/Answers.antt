@@ -1,33 +1,44 @@
-use Rattle.std.proofs.Common.{ap, sym, subst, suc, ◌∙◌, ◌++◌, take, drop}
-use Rattle.std.specs.Prelude.{Ok}
+use Rattle.std.proofs.Common.{◌≡◌, ℕ, Bool, true, ap, sym, ◌∙◌, subst}
 use Rattle.std.specs.FinMap as finmap
-use Rattle.instance_table.specs.Ids.{IsPlace}
-use Rattle.instance_table.specs.Watchers.{AreWatchers, WatchMap, watchers_map}
-use Rattle.instance_table.proofs.Rising.{cut-absent}
-use Rattle.instance_table.proofs.Zipped.{are-cut, watchers-absent_in, watchers-cut}
+use Rattle.instance_table.specs.declared.watchers.Watchers.TheInside.{Inside}
+use Rattle.instance_table.specs.WatcherRow.{row_map}
+use Rattle.instance_table.specs.Watchers.{WatchMap}
+use Rattle.instance_table.proofs.Alone.{one-kept, one-left}
 use Rattle.instance_table.proofs.watchers.Watchers.remove.Goals as goal
+use Rattle.instance_table.proofs.watchers.Watchers.remove.Goals.{in-One, in-Several}
 
-pub invariant_of-self : goal.invariant_of-self
-invariant_of-self c =
-    let ids = c.self.inside.ids.items in
-    let ws = c.self.inside.watches.items in
-    let i = c.in-Ok.place in
-    let place : IsPlace ids c.args.id (Ok i) = subst (λ xs. IsPlace xs c.args.id (Ok i)) c.as_slice.ensures.value c.in-Ok.ensures in
-    subst (λ xs. AreWatchers xs c.remove-in-Ok.new.self.items) (sym c.remove.ensures.items)
-    (subst (AreWatchers (take i ids ++ drop (suc i) ids)) (sym c.remove-in-Ok.ensures.items) (are-cut ids ws c.self.invariant i c.args.id place))
+-- an answer that tells whether none is left in a row tells it of a map that the row stands for
+none-left : (row m : WatchMap) (id : ℕ) (is : Bool) → row ≡ m
+    → ((is ≡ true → finmap.remove row id ≡ finmap.empty) × (finmap.remove row id ≡ finmap.empty → is ≡ true))
+    → ((is ≡ true → finmap.remove m id ≡ finmap.empty) × (finmap.remove m id ≡ finmap.empty → is ≡ true))
+none-left row m id is same =
+    subst (λ (n : WatchMap). (is ≡ true → finmap.remove n id ≡ finmap.empty) × (finmap.remove n id ≡ finmap.empty → is ≡ true)) same
 
-pub returns-in-Ok : goal.returns-in-Ok
-returns-in-Ok c =
-    let ids = c.self.inside.ids.items in
-    let ws = c.self.inside.watches.items in
-    let i = c.in-Ok.place in
-    let place : IsPlace ids c.args.id (Ok i) = subst (λ xs. IsPlace xs c.args.id (Ok i)) c.as_slice.ensures.value c.in-Ok.ensures in
-    (λ k. watchers_map (c.remove.ensures.items k) (c.remove-in-Ok.ensures.items k))
-    ∙ watchers-cut ids ws c.self.invariant i c.args.id place
-    ∙ ap (λ (m : WatchMap). finmap.remove m c.args.id) c.self.view_is
+pub returns-clause-none : goal.returns-clause-none
+returns-clause-none c =
+    elim c.match-self.branch [
+      | in-One w ↦
+          let was : finmap.insert finmap.empty w.in-One.first w.in-One.field-1 ≡ c.args.self.now = sym (ap row_map w.in-One.is) ∙ c.self.view_is in
+          none-left (finmap.insert finmap.empty w.in-One.first w.in-One.field-1) c.args.self.now c.args.id c.match-self.result was
+          (one-left w.in-One.first c.args.id w.in-One.field-1 c.match-self.result (sym w.result-is))
+      | in-Several w ↦
+          let was : w.deref_mut.result.now ≡ c.args.self.now = w.deref_mut.ensures.value ∙ sym (ap row_map w.in-Several.is) ∙ c.self.view_is in
+          let left : w.deref.result.now ≡ finmap.remove c.args.self.now c.args.id =
+          w.deref.ensures ∙ w.remove.ensures ∙ ap (λ (m : WatchMap). finmap.remove m c.args.id) was in (
+            (λ h. sym left ∙ w.is_empty.ensures.0 (sym w.result-is ∙ h)),
+            (λ h. w.result-is ∙ w.is_empty.ensures.1 (left ∙ h)),
+          )
+    ]
 
-pub returns-in_default : goal.returns-in_default
-returns-in_default c =
-    sym (cut-absent c.args.self.now c.args.id
-    (watchers-absent_in c.self.inside.ids.items c.self.inside.watches.items c.self.invariant c.as_slice.ensures.value c.self.view_is
-    c.in_default.field-0 c.args.id c.in_default.ensures))
+pub returns-clause-rest : goal.returns-clause-rest
+returns-clause-rest c =
+    elim c.match-self.branch [
+      | in-One w ↦ λ other.
+          let was : finmap.insert finmap.empty w.in-One.first w.in-One.field-1 ≡ c.args.self.now = sym (ap row_map w.in-One.is) ∙ c.self.view_is in
+          ap (λ (a : Inside). row_map a.row) w.self-inside-is
+          ∙ sym (one-kept w.in-One.first c.args.id w.in-One.field-1 (sym w.result-is ∙ other))
+          ∙ ap (λ (m : WatchMap). finmap.remove m c.args.id) was
+      | in-Several w ↦ λ other.
+          let was : w.deref_mut.result.now ≡ c.args.self.now = w.deref_mut.ensures.value ∙ sym (ap row_map w.in-Several.is) ∙ c.self.view_is in
+          ap (λ (a : Inside). row_map a.row) w.self-inside-is ∙ w.remove.ensures ∙ ap (λ (m : WatchMap). finmap.remove m c.args.id) was
+    ]

@@ -1,22 +1,22 @@
-use Rattle.std.proofs.Common.{ap, subst, ◌∙◌, IsSome}
-use Rattle.std.specs.Prelude.{Ok}
+use Rattle.std.proofs.Common.{◌≡◌, ap, sym, ◌∙◌, subst, IsSome}
 use Rattle.std.specs.FinMap as finmap
-use Rattle.std.proofs.lemmas.Bool.{false≢true}
-use Rattle.instance_table.specs.Ids.{IsPlace}
+use Rattle.instance_table.specs.declared.watchers.Watchers.TheInside.{Inside}
+use Rattle.instance_table.specs.WatcherRow.{row_map}
 use Rattle.instance_table.specs.Watchers.{WatchMap}
-use Rattle.instance_table.proofs.Zipped.{watchers-absent_in, watchers-set}
+use Rattle.instance_table.proofs.Alone.{is-one, one-again}
 use Rattle.instance_table.proofs.watchers.Watchers.set.Goals as goal
-
-pub unreachable-requires : goal.unreachable-requires
-unreachable-requires c =
-    let none = watchers-absent_in c.self.inside.ids.items c.self.inside.watches.items c.self.invariant c.as_slice.ensures.value c.self.view_is
-    c.in_default.field-0 c.args.id c.in_default.ensures in
-    false≢true (subst (λ o. IsSome o) none c.requires)
+use Rattle.instance_table.proofs.watchers.Watchers.set.Goals.{in-One, in-Several}
 
 pub returns : goal.returns
 returns c =
-    let ids = c.self.inside.ids.items in
-    let ws = c.self.inside.watches.items in
-    let i = c.in-Ok.place in
-    let place : IsPlace ids c.args.id (Ok i) = subst (λ xs. IsPlace xs c.args.id (Ok i)) c.as_slice.ensures.value c.in-Ok.ensures in
-    watchers-set ids ws c.self.invariant i c.args.id place c.args.watch ∙ ap (λ (m : WatchMap). finmap.insert m c.args.id c.args.watch) c.self.view_is
+    elim c.match-self.branch [
+      | in-One w ↦
+          let was : finmap.insert finmap.empty w.in-One.field-0 w.in-One.its ≡ c.args.self.now = sym (ap row_map w.in-One.is) ∙ c.self.view_is in
+          let same = is-one w.in-One.field-0 c.args.id w.in-One.its (subst (λ (m : WatchMap). IsSome (finmap.get m c.args.id)) (sym was) c.requires) in
+          ap (λ (a : Inside). row_map a.row) w.self-inside-is ∙ sym (one-again w.in-One.field-0 w.in-One.its c.args.watch)
+          ∙ ap (λ q. finmap.insert (finmap.insert finmap.empty w.in-One.field-0 w.in-One.its) q c.args.watch) (sym same)
+          ∙ ap (λ (m : WatchMap). finmap.insert m c.args.id c.args.watch) was
+      | in-Several w ↦
+          let was : w.deref_mut.result.now ≡ c.args.self.now = w.deref_mut.ensures.value ∙ sym (ap row_map w.in-Several.is) ∙ c.self.view_is in
+          ap (λ (a : Inside). row_map a.row) w.self-inside-is ∙ w.set.ensures ∙ ap (λ (m : WatchMap). finmap.insert m c.args.id c.args.watch) was
+    ]

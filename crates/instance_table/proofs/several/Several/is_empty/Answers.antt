@@ -3,7 +3,7 @@ use Rattle.std.proofs.lemmas.List.{nil_from_length}
 use Rattle.std.specs.FinMap as finmap
 use Rattle.instance_table.specs.Watchers.{WatchMap, watchers_map}
 use Rattle.instance_table.proofs.Zipped.{none-watch, watchers-keys}
-use Rattle.instance_table.proofs.watchers.Watchers.is_empty.Goals as goal
+use Rattle.instance_table.proofs.several.Several.is_empty.Goals as goal
 
 pub returns : goal.returns
 returns c =

@@ -1,0 +1,127 @@
+//! Several instances that watch a file, each with its watch.
+ghost use Rattle.std.specs.Prelude.{◌≡◌, ◌↔◌, IsTrue, IsSome, IfOk, OnErr, OnOk};
+ghost use Rattle.std.specs.FinMap as map;
+ghost use Rattle.instance_table.specs.Watchers.{AreWatchers, watchers_map};
+
+use crate::ids::place_of;
+use std::alloc::{AllocError, Global};
+use std::marker::Model;
+
+/// The numbers of the instances that watch a file, each once, rising; and the descriptor and the bits of the watch of
+/// each.
+pub struct Several {
+    ids: Vec<u32>,
+    watches: Vec<(i32, u32)>,
+}
+
+impl Drop for Several {
+    fn drop(self) {
+        let Several { ids: _, watches: _ } = self;
+    }
+}
+
+impl Model for Several {
+    ghost use Rattle.std.specs.Coded.{coded×, coded_ℕ, coded_ℤ};
+    ghost use Rattle.std.specs.FinMap as finmap;
+    ghost use Rattle.instance_table.specs.Watchers.{AreWatchers, WatchMap, watchers_map};
+
+    ghost Value = { WatchMap };
+
+    ghost coded = { finmap.code coded_ℕ (coded× coded_ℤ coded_ℕ) };
+
+    ghost view = { λ a. watchers_map a.ids.items a.watches.items };
+
+    ghost invariant = { λ a. AreWatchers a.ids.items a.watches.items };
+}
+
+impl Clone for Several {
+    ghost is_clone = { λ several copy. copy ≡ several };
+
+    fn clone(&self) -> Result<Several, AllocError> {
+        Ok(Several {
+            ids: self.ids.clone()?,
+            watches: self.watches.clone()?,
+        })
+    }
+}
+
+impl Several {
+    /// Two instances, each with its watch. `Err` is out of memory.
+    pub fn two(
+        alloc: Global,
+        first: (u32, (i32, u32)),
+        second: (u32, (i32, u32)),
+    ) -> Result<Several, AllocError>
+        ensures { IfOk result (λ several.
+            several ≡ map.insert (map.insert map.empty first.0 first.1) second.0 second.1) }
+    {
+        let mut several = Several::with_room(alloc, 2)?;
+        several.put(first.0, first.1)?;
+        several.put(second.0, second.1)?;
+        Ok(several)
+    }
+
+    /// No instances, with room for as many as that. `Err` is out of memory.
+    fn with_room(alloc: Global, count: usize) -> Result<Several, AllocError>
+        ensures { IfOk result (λ several. several ≡ map.empty) }
+    {
+        Ok(Several {
+            ids: Vec::with_capacity(alloc, count)?,
+            watches: Vec::with_capacity(alloc, count)?,
+        })
+    }
+
+    /// Puts in an instance with its watch, in place of the one that it has. `Err` is out of memory.
+    pub fn put(&mut self, id: u32, watch: (i32, u32)) -> Result<(), AllocError>
+        ensures ok { OnOk result (self.new ≡ map.insert self.old id watch) }
+        ensures err { OnErr result (self.new ≡ self.old) }
+    {
+        match place_of(self.ids.as_slice(), id) {
+            Ok(place) => self.watches[place] = watch,
+            Err(place) => {
+                self.watches.reserve(1)?;
+                self.ids.insert(place, id)?;
+                let Ok(()) = self.watches.insert(place, watch) else {
+                    unreachable!()
+                };
+            }
+        }
+        Ok(())
+    }
+
+    /// Gives an instance that is there another watch. It takes no memory.
+    pub fn set(&mut self, id: u32, watch: (i32, u32))
+        requires { IsSome (map.get self.old id) }
+        ensures { self.new ≡ map.insert self.old id watch }
+    {
+        let Ok(place) = place_of(self.ids.as_slice(), id) else {
+            unreachable!()
+        };
+        self.watches[place] = watch;
+    }
+
+    /// Takes out an instance, if it is there. It takes no memory.
+    pub fn remove(&mut self, id: u32)
+        ensures { self.new ≡ map.remove self.old id }
+    {
+        if let Ok(place) = place_of(self.ids.as_slice(), id) {
+            self.ids.remove(place);
+            self.watches.remove(place);
+        }
+    }
+
+    /// The numbers of the instances, rising, and the watch of each.
+    pub fn as_slices(&self) -> (&[u32], &[(i32, u32)])
+        ensures watchers { AreWatchers result.0.now result.1.now }
+        ensures map { watchers_map result.0.now result.1.now ≡ self.now }
+    {
+        (self.ids.as_slice(), self.watches.as_slice())
+    }
+
+    /// Whether there is no instance.
+    pub fn is_empty(&self) -> bool
+        ensures { IsTrue result ↔ (self.now ≡ map.empty) }
+    {
+        self.ids.is_empty()
+    }
+}
