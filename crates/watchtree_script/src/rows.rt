@@ -40,9 +40,7 @@ impl<'a> Parser<'a> {
     }
 
     /// What a command asks for with the words behind it, as the table of commands says.
-    ///
-    /// Each row is a function of its own. In line they would all move their call through one block, in pieces.
-    #[inline(always)]
+    #[inline(never)]
     pub fn line_asked(&self, command: Command) -> Result<Line, LineError>
         ensures { GivesLine result (line_asked self.now.queue command self.now.words) }
     {
@@ -70,7 +68,6 @@ impl<'a> Parser<'a> {
         }
     }
 
-    #[inline(never)]
     fn mkdir(&self) -> Result<Line, LineError>
         ensures { GivesLine result (line_asked self.now.queue Command.Mkdir self.now.words) }
     {
@@ -78,7 +75,6 @@ impl<'a> Parser<'a> {
         Ok(plain(Call::File(FileCall::Mkdir { path, mode })))
     }
 
-    #[inline(never)]
     fn create(&self) -> Result<Line, LineError>
         ensures { GivesLine result (line_asked self.now.queue Command.Create self.now.words) }
     {
@@ -87,7 +83,6 @@ impl<'a> Parser<'a> {
     }
 
     #[tactic(auto, unfolding(crate::specs::Commands::write_call))]
-    #[inline(never)]
     fn write(&self) -> Result<Line, LineError>
         ensures { GivesLine result (line_asked self.now.queue Command.Write self.now.words) }
     {
@@ -104,7 +99,6 @@ impl<'a> Parser<'a> {
     }
 
     #[tactic(auto, unfolding(crate::specs::Commands::cat_call))]
-    #[inline(never)]
     fn cat(&self) -> Result<Line, LineError>
         ensures { GivesLine result (line_asked self.now.queue Command.Cat self.now.words) }
     {
@@ -121,7 +115,6 @@ impl<'a> Parser<'a> {
     }
 
     #[tactic(auto, unfolding(crate::specs::Commands::truncate_call))]
-    #[inline(never)]
     fn truncate(&self) -> Result<Line, LineError>
         ensures { GivesLine result (line_asked self.now.queue Command.Truncate self.now.words) }
     {
@@ -132,7 +125,6 @@ impl<'a> Parser<'a> {
         Ok(plain(Call::File(FileCall::Truncate { path, len })))
     }
 
-    #[inline(never)]
     fn chmod(&self) -> Result<Line, LineError>
         ensures { GivesLine result (line_asked self.now.queue Command.Chmod self.now.words) }
     {
@@ -140,7 +132,6 @@ impl<'a> Parser<'a> {
         Ok(plain(Call::File(FileCall::Chmod { path, mode })))
     }
 
-    #[inline(never)]
     fn link(&self) -> Result<Line, LineError>
         ensures { GivesLine result (line_asked self.now.queue Command.Link self.now.words) }
     {
@@ -148,7 +139,6 @@ impl<'a> Parser<'a> {
         Ok(plain(Call::File(FileCall::Link { old, new })))
     }
 
-    #[inline(never)]
     fn unlink(&self) -> Result<Line, LineError>
         ensures { GivesLine result (line_asked self.now.queue Command.Unlink self.now.words) }
     {
@@ -156,7 +146,6 @@ impl<'a> Parser<'a> {
         Ok(plain(Call::File(FileCall::Unlink { path })))
     }
 
-    #[inline(never)]
     fn rmdir(&self) -> Result<Line, LineError>
         ensures { GivesLine result (line_asked self.now.queue Command.Rmdir self.now.words) }
     {
@@ -164,7 +153,6 @@ impl<'a> Parser<'a> {
         Ok(plain(Call::File(FileCall::Rmdir { path })))
     }
 
-    #[inline(never)]
     fn rename(&self) -> Result<Line, LineError>
         ensures { GivesLine result (line_asked self.now.queue Command.Rename self.now.words) }
     {
@@ -173,7 +161,6 @@ impl<'a> Parser<'a> {
     }
 
     #[tactic(auto, unfolding(crate::specs::Commands::rename2_call))]
-    #[inline(never)]
     fn rename2(&self) -> Result<Line, LineError>
         ensures { GivesLine result (line_asked self.now.queue Command.Rename2 self.now.words) }
     {
@@ -185,7 +172,6 @@ impl<'a> Parser<'a> {
         Ok(plain(Call::File(FileCall::Rename2 { old, new, flags })))
     }
 
-    #[inline(never)]
     fn stat(&self) -> Result<Line, LineError>
         ensures { GivesLine result (line_asked self.now.queue Command.Stat self.now.words) }
     {
@@ -193,7 +179,6 @@ impl<'a> Parser<'a> {
         Ok(plain(Call::File(FileCall::Stat { path })))
     }
 
-    #[inline(never)]
     fn list(&self) -> Result<Line, LineError>
         ensures { GivesLine result (line_asked self.now.queue Command.List self.now.words) }
     {
@@ -201,7 +186,6 @@ impl<'a> Parser<'a> {
         Ok(plain(Call::File(FileCall::List { path })))
     }
 
-    #[inline(never)]
     fn init(&self) -> Result<Line, LineError>
         ensures { GivesLine result (line_asked self.now.queue Command.Init self.now.words) }
     {
@@ -217,7 +201,6 @@ impl<'a> Parser<'a> {
     }
 
     #[tactic(auto, unfolding(crate::specs::Commands::watch_call))]
-    #[inline(never)]
     fn watch(&self) -> Result<Line, LineError>
         ensures { GivesLine result (line_asked self.now.queue Command.Watch self.now.words) }
     {
@@ -234,7 +217,6 @@ impl<'a> Parser<'a> {
     }
 
     #[tactic(auto, unfolding(crate::specs::Commands::unwatch_call))]
-    #[inline(never)]
     fn unwatch(&self) -> Result<Line, LineError>
         ensures { GivesLine result (line_asked self.now.queue Command.Unwatch self.now.words) }
     {
@@ -246,7 +228,6 @@ impl<'a> Parser<'a> {
 
     /// `read` and `hex`, which show the records so.
     #[tactic(auto, unfolding(crate::specs::Commands::id_and_bytes))]
-    #[inline(never)]
     fn read(&self, format: OutputFormat) -> Result<Line, LineError>
         ensures { GivesLine result (asking format (λ w. call.Read w.0 w.1) (two self.now.words id_and_bytes)) }
     {
@@ -259,7 +240,6 @@ impl<'a> Parser<'a> {
         })
     }
 
-    #[inline(never)]
     fn close(&self) -> Result<Line, LineError>
         ensures { GivesLine result (line_asked self.now.queue Command.Close self.now.words) }
     {
@@ -267,7 +247,6 @@ impl<'a> Parser<'a> {
         Ok(plain(Call::Close { instance }))
     }
 
-    #[inline(never)]
     fn cut(&self) -> Result<Line, LineError>
         ensures { GivesLine result (line_asked self.now.queue Command.Cut self.now.words) }
     {
@@ -320,7 +299,6 @@ impl<'a> Parser<'a> {
     }
 
     /// The only word.
-    #[inline(always)]
     fn one(&self) -> Result<&'a [u8], LineError>
         ensures { MatchResult result (λ word. self.now.words ≡ word.now ∷ [])
             (λ error. (error ≡ LineError.Fault ScriptFault.WrongNumber) × ((length self.now.words == 1) ≡ false)) }
@@ -332,7 +310,6 @@ impl<'a> Parser<'a> {
     }
 
     /// The only two words.
-    #[inline(always)]
     fn two(&self) -> Result<(&'a [u8], &'a [u8]), LineError>
         ensures { MatchResult result (λ words. self.now.words ≡ words.0.now ∷ words.1.now ∷ [])
             (λ error. (error ≡ LineError.Fault ScriptFault.WrongNumber) × ((length self.now.words == 2) ≡ false)) }
@@ -344,7 +321,6 @@ impl<'a> Parser<'a> {
     }
 
     /// The only three words.
-    #[inline(always)]
     fn three(&self) -> Result<(&'a [u8], &'a [u8], &'a [u8]), LineError>
         ensures { MatchResult result (λ words. self.now.words ≡ words.0.now ∷ words.1.now ∷ words.2.now ∷ [])
             (λ error. (error ≡ LineError.Fault ScriptFault.WrongNumber) × ((length self.now.words == 3) ≡ false)) }
