@@ -109,10 +109,9 @@ fn push_names(text: &mut Vec<u8>, names: &[Name]) -> Result<(), AllocError>
 fn push_name(text: &mut Vec<u8>, name: &Name) -> Result<(), AllocError>
     ensures { OnOk result (text.new.items ≡ text.old.items ++ name_line name.now) }
 {
-    push_indent(text)?;
+    text.extend_from_slice(b"  ")?;
     append_name(name, text)?;
-    text.push(b'\n')?;
-    Ok(())
+    text.extend_from_slice(b"\n")
 }
 
 /// What stands at a path.
@@ -196,7 +195,7 @@ fn push_read(text: &mut Vec<u8>, format: OutputFormat, bytes: &[u8]) -> Result<(
         OutputFormat::Plain => Ok(()),
         OutputFormat::Records => push_records(text, bytes),
         OutputFormat::Hexadecimal => {
-            push_indent(text)?;
+            text.extend_from_slice(b"  ")?;
             push_digits(text, bytes)?;
             text.extend_from_slice(b"\n")
         }
@@ -269,19 +268,7 @@ fn push_records(text: &mut Vec<u8>, bytes: &[u8]) -> Result<(), AllocError>
 fn push_record(text: &mut Vec<u8>, view: &RecordView<'_>) -> Result<(), AllocError>
     ensures { OnOk result (text.new.items ≡ text.old.items ++ event_line (event_seen view.now)) }
 {
-    push_indent(text)?;
+    text.extend_from_slice(b"  ")?;
     append_view_line(view, text)?;
-    text.push(b'\n')?;
-    Ok(())
-}
-
-/// Adds the spaces before a line of a reply that has several.
-#[inline(always)]
-fn push_indent(text: &mut Vec<u8>) -> Result<(), AllocError>
-    ensures { OnOk result (text.new.items ≡ text.old.items ++ codes "  ") }
-{
-    text.reserve(2)?;
-    text.push_reserved(b' ');
-    text.push_reserved(b' ');
-    Ok(())
+    text.extend_from_slice(b"\n")
 }
