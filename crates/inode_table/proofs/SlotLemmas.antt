@@ -1,6 +1,6 @@
 -- What the slots of remembered directories hold.
 use Rattle.std.proofs.Common.{◌≡◌, ◌⊎◌, ◌<◌, ◌+◌, ◌++◌, ℕ, zero, suc, Bool, true, false, not, cond, eqb, List, [], ◌∷◌, Option, Some, None}
-use Rattle.std.proofs.Common.{length, take}
+use Rattle.std.proofs.Common.{length, take, replicate}
 use Rattle.std.proofs.Common.{refl, sym, ap, subst, ◌∙◌, inl, inr, get_or, arith}
 use Rattle.std.specs.Prelude.{slice_get, slice_set}
 use Rattle.std.specs.Option.{option_map}
@@ -20,11 +20,10 @@ get-set (x ∷ xs) zero (suc j) v y e = inl e
 get-set (x ∷ xs) (suc i) zero v y e = inl e
 get-set (x ∷ xs) (suc i) (suc j) v y e = get-set xs i j v y e
 
-pub get-push : {A : Type 0} (xs : List A) (j : ℕ) (v y : A) → slice_get (xs ++ v ∷ []) j ≡ Some y → (slice_get xs j ≡ Some y) ⊎ (y ≡ v)
-get-push [] zero v y e = inr (sym (same_some _ _ e))
-get-push [] (suc j) v y e = absurd (some_none refl e)
-get-push (x ∷ xs) zero v y e = inl e
-get-push (x ∷ xs) (suc j) v y e = get-push xs j v y e
+pub get-replicate : {A : Type 0} (n i : ℕ) (x y : A) → slice_get (replicate n x) i ≡ Some y → y ≡ x
+get-replicate zero i x y e = absurd (some_none refl e)
+get-replicate (suc n) zero x y e = sym (same_some _ _ e)
+get-replicate (suc n) (suc i) x y e = get-replicate n i x y e
 
 -- the slot of a directory that is remembered
 pub record IsSlotOf (time : ℕ) (slots : List Slot) (i : ℕ) (p : List Label) (k : ℕ) : Type 0 where
@@ -90,21 +89,27 @@ later-none time slots recent p k at =
 pub IsRecent-later : (time : ℕ) (slots : List Slot) → IsRecent time slots → IsRecent (time + 1) slots
 IsRecent-later time slots recent =
     record {
+      begun = let le = recent.begun in omega (arith, le);
       earlier = λ i s e. let le = recent.earlier i s e in omega (arith, le);
     }
 
--- a slot is added
-pub push-known : (time : ℕ) (slots : List Slot) (new : Slot) (p : List Label) (k : ℕ) → IsKnown (known_of time (slots ++ new ∷ [])) p k
-    → IsKnown (known_of time slots) p k ⊎ ((p ≡ names_of (take new.len new.text)) × (k ≡ new.key))
-push-known time slots new p k at =
-    let s = slot-of time (slots ++ new ∷ []) at.0 p k at.1 in
-    elim (get-push slots at.0 new s.slot s.there) [
-      | inl old ↦
-          let known = known-slot time slots at.0 s.slot old s.time_is in
-          inl (subst (λ (q : Known). IsKnown (known_of time slots) q.0 q.1) (λ j. (sym s.path j, sym s.key j)) known)
-      | inr is ↦
-          inr (s.path ∙ ap (λ (q : Slot). names_of (take q.len q.text)) is, s.key ∙ ap (λ (q : Slot). q.key) is)
-    ]
+-- nothing is remembered in slots of a time before the first
+pub blank-none : (n : ℕ) (blank : Slot) (slots : List Slot) → slots ≡ replicate n blank → blank.time ≡ 0 → (p : List Label) (k : ℕ)
+    → IsKnown (known_of 1 slots) p k → ⊥
+blank-none n blank slots are before p k at =
+    let s = slot-of 1 slots at.0 p k at.1 in
+    let is : s.slot ≡ blank = get-replicate n at.0 blank s.slot (sym (ap (λ l. slice_get l at.0) are) ∙ s.there) in
+    let zero_is_one : 0 ≡ 1 = sym before ∙ sym (ap (λ (q : Slot). q.time) is) ∙ s.time_is in
+    omega (arith, zero_is_one)
+
+pub IsRecent-blank : (n : ℕ) (blank : Slot) (slots : List Slot) → slots ≡ replicate n blank → blank.time ≡ 0 → IsRecent 1 slots
+IsRecent-blank n blank slots are before =
+    record {
+      begun = omega arith;
+      earlier = λ i s e.
+          let is : s ≡ blank = get-replicate n i blank s (sym (ap (λ l. slice_get l i) are) ∙ e) in
+          let time_is : s.time ≡ 0 = ap (λ (q : Slot). q.time) is ∙ before in omega (arith, time_is);
+    }
 
 -- a slot is written
 pub put-known : (time : ℕ) (slots : List Slot) (i : ℕ) (new : Slot) (p : List Label) (k : ℕ) → IsKnown (known_of time (slice_set slots i new)) p k

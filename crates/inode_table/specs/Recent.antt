@@ -18,8 +18,9 @@ known_in time slot = if slot.time == time then Some (names_of (take slot.len slo
 abbrev pub known_of : ℕ → List Slot → List (Option Known)
 known_of time slots = map (known_in time) slots
 
--- no slot is of a later time than the last
+-- the time has begun, and no slot is of a later one
 pub record IsRecent (time : ℕ) (slots : List Slot) : Type 0 where
+  pub begun : 1 ≤ time
   pub earlier : (i : ℕ) (slot : Slot) → slice_get slots i ≡ Some slot → slot.time ≤ time
 
 -- the directory is remembered

@@ -1,57 +1,74 @@
 //! The directories of the paths that were resolved last.
 //!
 //! Neighbouring calls are mostly in one directory, or in a few. A directory that is remembered is found by the text of
-//! its path, without a walk from the root. The cache is direct-mapped: a text has one bucket, by its hash.
+//! its path, without a walk from the root. The cache is direct-mapped: a text has one slot, by its hash. The number of
+//! slots follows the number of nodes of the table, and a small table has none.
 
-ghost use Rattle.std.specs.Prelude.{◌≡◌, ◌⊎◌, ◌≤◌, ◌<◌, ℕ, List, Some, IfOk, false, take, length};
+ghost use Rattle.std.specs.Prelude.{◌≡◌, ◌⊎◌, ◌≤◌, ◌*◌, ℕ, List, Some, IfOk, IfSome, false, take, length};
 ghost use Rattle.tree_paths.specs.Paths.{names_of};
 ghost use Rattle.inode_table.specs.Rows.{Label};
 ghost use Rattle.inode_table.specs.Kept.{rows_of, is_directory};
 ghost use Rattle.inode_table.specs.Recent.{IsKnown};
 
 use crate::node::{Node, is_directory};
-use byteorder::{ByteOrder, LittleEndian};
 use slab::Slab;
 use std::alloc::{AllocError, Global};
 use std::marker::Model;
 
-/// How many directories are remembered at most.
-const SLOTS: usize = 64;
-
 /// The most bytes of a text that is remembered.
-const TEXT_MAX: usize = 104;
+pub(crate) const TEXT_MAX: usize = 80;
+
+/// How many nodes a table has at least for each slot.
+const NODES_OF_A_SLOT: usize = 32;
 
 /// What a word is multiplied by: 2^64 by the golden ratio. The top bits of the product depend on all bits of the word
 /// (Knuth, "The Art of Computer Programming", 6.4, multiplicative hashing).
 const MULTIPLIER: u64 = 0x9e37_79b9_7f4a_7c15;
 
-/// A directory that was remembered at a time.
+/// A directory that was remembered at a time: its key, and the text of its path.
 #[derive(Clone, Copy)]
-pub(crate) struct Slot {
+struct Slot {
     time: u64,
-    key: usize,
-    len: usize,
+    key: u32,
+    len: u32,
     text: [u8; TEXT_MAX],
 }
 
-/// The index of no slot.
-const NO_SLOT: u8 = u8::MAX;
+/// A slot of a time before the first.
+const BLANK: Slot = Slot {
+    time: 0,
+    key: 0,
+    len: 0,
+    text: [0; TEXT_MAX],
+};
+
+impl Slot {
+    /// Writes a directory into the slot.
+    fn set(&mut self, time: u64, key: u32, text: &[u8])
+        requires { length text.now ≤ TEXT_MAX }
+        ensures time { self.new.time ≡ time }
+        ensures key { self.new.key ≡ key }
+        ensures len { self.new.len ≡ length text.now }
+        ensures text { take (length text.now) self.new.text ≡ text.now }
+    {
+        self.time = time;
+        self.key = key;
+        self.len = text.len() as u32;
+        self.text[..text.len()].copy_from_slice(text);
+    }
+}
 
 /// Directories by the texts of their paths. Those of an earlier time are forgotten.
 pub(crate) struct Recent {
+    /// The time now, which begins with 1.
     time: u64,
-    /// The index of the slot of each bucket, or [`NO_SLOT`].
-    buckets: [u8; SLOTS],
+    /// As many as a power of two, or none.
     slots: Vec<Slot>,
 }
 
 impl Drop for Recent {
     fn drop(self) {
-        let Recent {
-            time: _,
-            buckets: _,
-            slots: _,
-        } = self;
+        let Recent { time: _, slots: _ } = self;
     }
 }
 
@@ -67,65 +84,75 @@ impl Model for Recent {
 }
 
 impl Recent {
-    /// Nothing is remembered.
+    /// Nothing is remembered, and there are no slots. It takes no memory.
+    pub(crate) fn new(alloc: Global) -> Recent
+        ensures { (p : List Label) (k : ℕ) → IsKnown result p k → ⊥ }
+    {
+        Recent {
+            time: 1,
+            slots: Vec::new(alloc),
+        }
+    }
+
+    /// Nothing is remembered, in the slots of a table of so many nodes, if these are more than the slots here.
     ///
     /// # Errors
     /// `AllocError`, if there is no memory for the slots.
-    pub(crate) fn new(alloc: Global) -> Result<Recent, AllocError>
-        ensures { IfOk result (λ recent. (p : List Label) (k : ℕ) → IsKnown recent p k → ⊥) }
+    pub(crate) fn grown(&self, alloc: Global, nodes: usize) -> Result<Option<Recent>, AllocError>
+        ensures { IfOk result (λ recent. IfSome recent (λ r. (p : List Label) (k : ℕ) → IsKnown r p k → ⊥)) }
     {
-        Ok(Recent {
-            time: 0,
-            buckets: [NO_SLOT; SLOTS],
-            slots: Vec::with_capacity(alloc, SLOTS)?,
-        })
+        let len = slots_for(nodes);
+        if len <= self.slots.len() {
+            return Ok(None);
+        }
+        Ok(Some(Recent {
+            time: 1,
+            slots: vec![in alloc; BLANK; len]?,
+        }))
     }
 
-    /// The key of the directory whose path has this text, if it is remembered.
+    /// Whether there are no slots.
     #[inline(always)]
-    pub(crate) fn find(&self, text: &[u8]) -> Option<usize>
+    pub(crate) fn is_empty(&self) -> bool {
+        self.slots.is_empty()
+    }
+
+    /// The index of the slot of a text, by all its bytes. There must be slots.
+    #[inline(always)]
+    pub(crate) fn index_of(&self, text: &[u8]) -> usize {
+        hash_of(text) & self.slots.len().wrapping_sub(1)
+    }
+
+    /// The key of the directory whose path has this text, if it is remembered in the slot.
+    #[inline(always)]
+    pub(crate) fn find(&self, at: usize, text: &[u8]) -> Option<usize>
+        requires { length text.now ≤ TEXT_MAX }
         ensures { (k : ℕ) → result ≡ Some k → IsKnown self.now (names_of text.now) k }
     {
-        let at = usize::from(self.buckets[bucket_of(text)]);
-        if at >= self.slots.len() || TEXT_MAX < text.len() {
+        if at >= self.slots.len() {
             return None;
         }
         let slot = &self.slots[at];
-        if slot.time != self.time || slot.len != text.len() {
+        if slot.time != self.time || slot.len as usize != text.len() {
             return None;
         }
         if &slot.text[..text.len()] != text {
             return None;
         }
-        Some(slot.key)
+        Some(slot.key as usize)
     }
 
-    /// Remembers a directory in place of the one in its bucket, unless its text is long. It takes no memory.
-    pub(crate) fn keep(&mut self, text: &[u8], key: usize)
+    /// Remembers a directory in place of the one in the slot, if its key has 32 bits. It takes no memory.
+    pub(crate) fn keep(&mut self, at: usize, text: &[u8], key: usize)
+        requires { length text.now ≤ TEXT_MAX }
         ensures { (p : List Label) (k : ℕ) → IsKnown self.new p k
             → IsKnown self.old p k ⊎ ((p ≡ names_of text.now) × (k ≡ key)) }
     {
-        if TEXT_MAX < text.len() {
+        let Ok(short_key) = u32::try_from(key) else {
             return;
-        }
-        let slot = Slot {
-            time: self.time,
-            key,
-            len: text.len(),
-            text: filled_up(text),
         };
-        let bucket = bucket_of(text);
-        let at = usize::from(self.buckets[bucket]);
         if at < self.slots.len() {
-            self.slots[at] = slot;
-            return;
-        }
-        let Ok(next) = u8::try_from(self.slots.len()) else {
-            return;
-        };
-        if self.slots.len() < self.slots.capacity() {
-            self.buckets[bucket] = next;
-            self.slots.push_reserved(slot);
+            self.slots[at].set(self.time, short_key, text);
         }
     }
 
@@ -141,37 +168,56 @@ impl Recent {
     }
 }
 
-/// A text that is not long, and zero bytes behind it.
-fn filled_up(text: &[u8]) -> [u8; TEXT_MAX]
-    requires { length text.now ≤ TEXT_MAX }
-    ensures { take (length text.now) result ≡ text.now }
+/// How many slots a table of so many nodes has: the largest power of two that is at most their 32nd part, and at least
+/// 4 and at most 64, or none.
+fn slots_for(nodes: usize) -> usize
+    ensures { result * NODES_OF_A_SLOT ≤ nodes }
 {
-    let mut filled = [0; TEXT_MAX];
-    filled[..text.len()].copy_from_slice(text);
-    filled
-}
-
-/// The bucket of a text: a hash of its last 16 bytes, or of the last byte and the length of a short text.
-#[inline(always)]
-fn bucket_of(text: &[u8]) -> usize
-    ensures { result < SLOTS }
-{
-    let len = text.len();
-    if len < 16 {
-        let last = match text.last() {
-            Some(byte) => u64::from(*byte),
-            None => 0,
-        };
-        return top_bits(last.wrapping_add(len as u64)) % SLOTS;
+    match nodes {
+        0..=127 => 0,
+        128..=255 => 4,
+        256..=511 => 8,
+        512..=1023 => 16,
+        1024..=2047 => 32,
+        _ => 64,
     }
-    let back = LittleEndian::read_u64(&text[len - 8..]);
-    let front = LittleEndian::read_u64(&text[len - 16..]);
-    top_bits(back.wrapping_mul(MULTIPLIER) ^ front) % SLOTS
 }
 
-/// The top six bits of the product of a word, for 64 buckets.
-fn top_bits(word: u64) -> usize {
-    (word.wrapping_mul(MULTIPLIER) >> 58) as usize
+/// Six bits of a hash of all bytes of a text, and of its length: of each eight bytes from the front, and of the last
+/// eight. The bytes of a shorter text are one word. The last byte of a word is its lowest, as names differ most at
+/// their ends.
+#[inline(always)]
+fn hash_of(text: &[u8]) -> usize {
+    let mut hash = text.len() as u64;
+    let mut rest = text;
+    while let Some((word, behind)) = rest.split_first_chunk::<8>() {
+        hash = mixed(hash, u64::from_be_bytes(*word));
+        rest = behind;
+    }
+    let last = match text.last_chunk::<8>() {
+        Some(word) => u64::from_be_bytes(*word),
+        None => word_of(text),
+    };
+    (mixed(hash, last) >> 58) as usize
+}
+
+/// A hash, and one word more.
+#[inline(always)]
+fn mixed(hash: u64, word: u64) -> u64 {
+    (hash.rotate_left(25) ^ word).wrapping_mul(MULTIPLIER)
+}
+
+/// The bytes of a text that is shorter than a word, as a word: the first four and the last four of at least four.
+#[inline(always)]
+fn word_of(text: &[u8]) -> u64 {
+    if let (Some(front), Some(back)) = (text.first_chunk::<4>(), text.last_chunk::<4>()) {
+        return (u64::from(u32::from_be_bytes(*front)) << 32) | u64::from(u32::from_be_bytes(*back));
+    }
+    let mut word = 0;
+    for byte in text {
+        word = (word << 8) | u64::from(*byte);
+    }
+    word
 }
 
 /// Forgets all directories if the node at a key is one.

@@ -1,7 +1,7 @@
 //! The table of nodes.
 
 ghost use Rattle.std.specs.Prelude.{◌≡◌, ◌↔◌, ◌≤◌, ℕ, List, None, Some, IfOk, IfErr, OnOk, OnErr, IsSome};
-ghost use Rattle.std.specs.Prelude.{if◌then◌else◌, Err};
+ghost use Rattle.std.specs.Prelude.{if◌then◌else◌, Err, IfSome};
 ghost use Rattle.std.specs.FinMap as finmap;
 ghost use Rattle.inode_table.specs.Rows.{Label, row_under};
 ghost use Rattle.inode_table.specs.Kept.{rows_of, is_directory, row_of};
@@ -15,7 +15,7 @@ use crate::node::{Node, is_directory};
 use crate::recent::Recent;
 use record_codec::Name;
 use slab::Slab;
-use std::alloc::Global;
+use std::alloc::{AllocError, Global};
 use std::collections::BTreeMap;
 use std::marker::Model;
 use tree_paths::Refusal;
@@ -77,13 +77,14 @@ impl Table {
     ghost use Rattle.inode_table.specs.Stands.{Stands, look_in};
     ghost use Rattle.inode_table.specs.TableWorld.{IsNodeOf, number_of, world_of};
     ghost use Rattle.inode_table.specs.Kept.{IsTable};
+    ghost use Rattle.inode_table.specs.Recent.{IsKnown};
 
     /// The root alone: number 1, mode 0755.
     pub fn new(alloc: Global) -> Result<Self, Refusal>
         ensures world { IfOk result (λ table. world_of table ≡ opening_world) }
         ensures memory { IfErr result (λ refusal. refusal ≡ Refusal.Enomem) }
     {
-        let recent = Recent::new(alloc)?;
+        let recent = Recent::new(alloc);
         let mut nodes = Slab::new(alloc);
         nodes.reserve(1)?;
         nodes.insert_reserved(Node {
@@ -99,7 +100,8 @@ impl Table {
         })
     }
 
-    /// Reserves capacity for one node.
+    /// Reserves capacity for one node. Where the nodes grow, there is memory taken for directories to be remembered too
+    /// ([`Table::resolve_recent`]).
     pub fn reserve_node(&mut self) -> Result<(), Refusal>
         ensures rows { self.new.rows ≡ self.old.rows }
         ensures resolved { (p : ResolvedPath) → IsResolved self.old p → IsResolved self.new p }
@@ -108,8 +110,23 @@ impl Table {
         ensures err { OnErr result (self.old.room ≡ 0) }
         ensures memory { IfErr result (λ refusal. refusal ≡ Refusal.Enomem) }
     {
+        let grown = self.grown_recent()?;
         self.nodes.reserve(1)?;
+        if let Some(recent) = grown {
+            self.recent = recent;
+        }
         Ok(())
+    }
+
+    /// Where the nodes are to grow: more slots for directories to be remembered, if as many nodes have more than now.
+    fn grown_recent(&self) -> Result<Option<Recent>, AllocError>
+        ensures none { IfOk result (λ recent. IfSome recent (λ r. (p : List Label) (k : ℕ) → IsKnown r p k → ⊥)) }
+        ensures err { OnErr result (self.now.room ≡ 0) }
+    {
+        if self.nodes.len() < self.nodes.capacity() {
+            return Ok(None);
+        }
+        self.recent.grown(self.alloc, self.nodes.len())
     }
 
     /// What is true of the world of every table, for a caller's proof: it is a world of files, its paths are those that

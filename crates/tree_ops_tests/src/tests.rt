@@ -1,3 +1,4 @@
+mod recent;
 mod refused;
 mod steps;
 

@@ -21,12 +21,11 @@ impl Table {
         ensures world { IfOk result (λ table. world_of table ≡ world_of self.now) }
         ensures memory { IfErr result (λ refusal. refusal ≡ Refusal.Enomem) }
     {
-        let recent = Recent::new(self.alloc)?;
         // Each node keeps its slot, so the keys in the directories are right in the copy too.
         Ok(Table {
             nodes: self.nodes.clone()?,
             alloc: self.alloc,
-            recent,
+            recent: Recent::new(self.alloc),
         })
     }
 }

@@ -1,6 +1,7 @@
 //! The resolution of a path: one walk for all that a call wants to know of it (POSIX.1-2017, 4.13).
 
-ghost use Rattle.std.specs.Prelude.{◌≡◌, ◌∷◌, ◌++◌, ◌≢◌, List, [], Some, None, IsSome, IfOk, IfErr};
+ghost use Rattle.std.specs.Prelude.{◌≡◌, ◌∷◌, ◌++◌, ◌≢◌, ◌≤◌, List, [], Some, None, IsSome, IfSome, IfOk, IfErr};
+ghost use Rattle.std.specs.Prelude.{length};
 ghost use Rattle.std.specs.FinMap as finmap;
 ghost use Rattle.inode_table.specs.Rows.{Label};
 ghost use Rattle.inode_table.specs.Tree.{at, what_at};
@@ -11,6 +12,7 @@ use super::{ROOT, Table, missing_at};
 use crate::found::Found;
 use crate::key::Key;
 use crate::node::{child, is_directory};
+use crate::recent::TEXT_MAX;
 use crate::resolved::Resolved;
 use crate::seen::Seen;
 use tree_paths::{NamePlace, Path, PathNames, Refusal};
@@ -72,24 +74,45 @@ impl Table {
     }
 
     /// The same as [`Table::resolve`]. The directory of the last name is remembered, and no walk leads to one that is:
-    /// the next path in the same directory takes a comparison of texts.
+    /// the next path in the same directory takes a comparison of texts. Nor does a walk lead to the root.
     ///
-    /// A table remembers up to 64 directories whose paths have up to 104 bytes, in 8 KB that it allocates when it is
-    /// made, until a directory is moved or removed. A path with a name of more than 31 bytes is walked each time. It
-    /// takes no memory.
+    /// A table of at least 128 nodes remembers directories whose paths have up to 80 bytes, until a directory is moved
+    /// or removed: one for each 32 nodes, as a power of two, and up to 64. The memory, 96 bytes for each, is taken by
+    /// [`Table::reserve_node`], where the table grows: a new table has none, nor has a copy. A smaller table walks each
+    /// time, and so does a path with a name of more than 31 bytes. It takes no memory.
     #[inline(always)]
     pub fn resolve_recent<'a>(&mut self, path: &'a Path) -> Resolved<'a>
         ensures same { self.new ≡ self.old }
         ensures names { result.names ≡ path.now }
         ensures resolved { IsResolved self.old result }
     {
-        let Some(text) = path.parent_text() else {
+        let Some(text) = self.short_parent_text(path) else {
             return self.resolve(path);
         };
-        match self.recent.find(text) {
-            Some(directory) => self.resolve_last(directory, path),
-            None => self.resolve_anew(path, text),
+        if text.is_empty() {
+            return self.resolve_last(ROOT, path);
         }
+        let at = self.recent.index_of(text);
+        match self.recent.find(at, text) {
+            Some(directory) => self.resolve_last(directory, path),
+            None => self.resolve_anew(path, at, text),
+        }
+    }
+
+    /// The text of the path of the directory of the last name, if that may be remembered.
+    #[inline(always)]
+    fn short_parent_text<'a>(&self, path: &'a Path) -> Option<&'a [u8]>
+        ensures text { IfSome result (λ text. IsParentText path.now text.now) }
+        ensures len { IfSome result (λ text. length text.now ≤ TEXT_MAX) }
+    {
+        if self.recent.is_empty() {
+            return None;
+        }
+        let text = path.parent_text()?;
+        if TEXT_MAX < text.len() {
+            return None;
+        }
+        Some(text)
     }
 
     /// What is found at a path by the directory of its last name.
@@ -111,28 +134,30 @@ impl Table {
         }
     }
 
-    /// Resolves a path by a walk, and remembers the directory of its last name, which has the text.
+    /// Resolves a path by a walk, and remembers the directory of its last name, which has the text, in a slot.
     #[inline(never)]
-    fn resolve_anew<'a>(&mut self, path: &'a Path, text: &[u8]) -> Resolved<'a>
-        requires { IsParentText path.now text.now }
+    fn resolve_anew<'a>(&mut self, path: &'a Path, slot: usize, text: &[u8]) -> Resolved<'a>
+        requires text { IsParentText path.now text.now }
+        requires len { length text.now ≤ TEXT_MAX }
         ensures same { self.new ≡ self.old }
         ensures names { result.names ≡ path.now }
         ensures resolved { IsResolved self.old result }
     {
         let resolved = self.resolve(path);
         if let Ok(key) = resolved.directory.get() {
-            self.remember(text, key.slot());
+            self.remember(slot, text, key.slot());
         }
         resolved
     }
 
-    /// Remembers a directory, if one is at the key.
-    fn remember(&mut self, text: &[u8], key: usize)
-        requires { at self.old (names_of text.now) ≡ Some key }
+    /// Remembers a directory in a slot, if one is at the key.
+    fn remember(&mut self, slot: usize, text: &[u8], key: usize)
+        requires there { at self.old (names_of text.now) ≡ Some key }
+        requires len { length text.now ≤ TEXT_MAX }
         ensures { self.new ≡ self.old }
     {
         if is_directory(&self.nodes, key) {
-            self.recent.keep(text, key);
+            self.recent.keep(slot, text, key);
         }
     }
 

@@ -221,6 +221,76 @@ fn each_allocation_of_a_copy(rt: HostRuntime) -> Result<(), Fail> {
     Ok(())
 }
 
+/// A copy of a table with so many nodes, which has no room for one more.
+fn full(alloc: Global, nodes: u32) -> Result<Table, Refusal> {
+    let mut calls = Calls::new(alloc, Limits::full())?;
+    for i in 1..nodes {
+        let text = format!(in alloc; "/{i}")?;
+        calls.create(text.as_str(), 0o644)?;
+    }
+    calls.table.copy()
+}
+
+/// How many allocations room for one more node takes. Each was made to fail, with the table as it was. `None` if a
+/// result was wrong.
+fn room_refused_in_turn(alloc: Global, nodes: u32) -> Result<Option<u32>, Refusal> {
+    let control = full(alloc, nodes)?;
+    let mut table = full(alloc, nodes)?;
+    for k in 1..MOST {
+        let _ = refuse(alloc, k);
+        let told = table.reserve_node();
+        match (told, was_refused(alloc)) {
+            (Err(Refusal::Enomem), true) if are_alike(&table, &control)? => {}
+            (Ok(()), false) if are_alike(&table, &control)? => return Ok(Some(k - 1)),
+            _ => return Ok(None),
+        }
+    }
+    Ok(None)
+}
+
+/// From 128 nodes on there are slots for directories to be remembered, which are taken where the nodes grow.
+#[test]
+fn each_growth_of_the_nodes(rt: HostRuntime) -> Result<(), Fail> {
+    let alloc = rt.alloc();
+    let has_refuser = has_refuser(alloc);
+    for (nodes, wanted) in [(1, 1), (127, 1), (128, 2), (300, 2)] {
+        let count = room_refused_in_turn(alloc, nodes)?;
+        let is_well = count == Some(if has_refuser { wanted } else { 0 });
+        assert!(rt; is_well, "{nodes} nodes: {count:?}");
+    }
+    Ok(())
+}
+
+/// How many allocations a new table takes, or a copy of one. Each was made to fail. `None` if a result was wrong.
+fn new_refused_in_turn(alloc: Global, is_copy: bool) -> Result<Option<u32>, Refusal> {
+    let control = opening_table(alloc)?;
+    for k in 1..MOST {
+        let _ = refuse(alloc, k);
+        let told = if is_copy {
+            control.copy()
+        } else {
+            opening_table(alloc)
+        };
+        match (told, was_refused(alloc)) {
+            (Err(Refusal::Enomem), true) => {}
+            (Ok(table), false) if are_alike(&table, &control)? => return Ok(Some(k - 1)),
+            _ => return Ok(None),
+        }
+    }
+    Ok(None)
+}
+
+#[test]
+fn a_new_table_asks_for_memory_once(rt: HostRuntime) -> Result<(), Fail> {
+    let alloc = rt.alloc();
+    let wanted = if has_refuser(alloc) { 1 } else { 0 };
+    for is_copy in [false, true] {
+        let count = new_refused_in_turn(alloc, is_copy)?;
+        assert!(rt; count == Some(wanted), "{count:?}");
+    }
+    Ok(())
+}
+
 /// Whether the call is let through, or refused as it should be.
 fn is_checked(calls: &Calls, call: &FileCall, wanted: Option<Refusal>) -> bool {
     let paths = Paths::resolve(&calls.table, call);

@@ -9,7 +9,7 @@ pub invariant_of-result : goal.invariant_of-result
 invariant_of-result c =
     record {
       table = IsTable-copy c.self.inside.nodes c.in_ok-clone.field-0 c.in_ok-clone.ensures.cases c.self.invariant.table;
-      recent = Remembers-none (rows_of c.in_ok-clone.field-0) c.in_ok-recent.recent c.in_ok-recent.ensures;
+      recent = Remembers-none (rows_of c.in_ok-clone.field-0) c.new.result c.new.ensures;
     }
 
 pub returns-clause-world : goal.returns-clause-world

@@ -10,7 +10,7 @@ pub invariant_of-self : goal.invariant_of-self
 invariant_of-self c =
     let rows = rows_of c.self.inside.nodes in
     let there : walk (child rows) 0 (names_of c.args.text.now) ≡ Some c.args.key =
-    ap (λ t. walk (child t.rows) 0 (names_of c.args.text.now)) c.self.view_is ∙ c.requires in
+    ap (λ t. walk (child t.rows) 0 (names_of c.args.text.now)) c.self.view_is ∙ c.requires.there in
     record {
       table = c.self.invariant.table;
       recent = Remembers-keep rows (names_of c.args.text.now) c.args.key there (sym c.if-is_directory.ensures) c.keep.ensures c.self.invariant.recent;

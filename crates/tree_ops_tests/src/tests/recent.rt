@@ -1,0 +1,160 @@
+//! Paths that are resolved by the directories which a table remembers, beside walks from the root. The tree has some
+//! 300 directories, for which there are 8 slots.
+
+use super::*;
+use inode_table::Seen;
+
+/// Directories in one another, the last of which has a path of 80 bytes, the most that are remembered.
+const LONG: [&str; 3] = [
+    "/d0/aaaaaaaaaaaaaaaaaaaaaaaaaaaaaa",
+    "/d0/aaaaaaaaaaaaaaaaaaaaaaaaaaaaaa/bbbbbbbbbbbbbbbbbbbbbbbbbbbbbb",
+    "/d0/aaaaaaaaaaaaaaaaaaaaaaaaaaaaaa/bbbbbbbbbbbbbbbbbbbbbbbbbbbbbb/cccccccccccccc",
+];
+
+/// Directories that are made first.
+const TOP: u64 = 20;
+
+/// The directories in each of them, and one number more, under which none is made first.
+const INNER: u64 = 15;
+
+/// Numbers that look as if they were drawn by chance, each made from the one before (Marsaglia, xorshift).
+#[derive(Drop)]
+struct Made {
+    at: u64,
+}
+
+impl Made {
+    fn below(&mut self, end: u64) -> u64
+        requires { 0 < end }
+    {
+        self.at ^= self.at << 13;
+        self.at ^= self.at >> 7;
+        self.at ^= self.at << 17;
+        self.at % end
+    }
+}
+
+fn make(calls: &mut Calls, text: &str) -> Result<Answer, Refusal> {
+    let path = calls.path(text)?;
+    calls.made(&FileCall::Mkdir { path, mode: 0o755 })
+}
+
+fn prepared(alloc: Global) -> Result<Calls, Refusal> {
+    let mut calls = Calls::new(alloc, Limits::full())?;
+    for a in 0..TOP {
+        make(&mut calls, format!(in alloc; "/d{a}")?.as_str())?;
+        for b in 1..INNER {
+            make(&mut calls, format!(in alloc; "/d{a}/e{b}")?.as_str())?;
+        }
+    }
+    for text in LONG {
+        make(&mut calls, text)?;
+    }
+    let [_, _, long] = LONG;
+    make(&mut calls, format!(in alloc; "{long}c")?.as_str())?;
+    Ok(calls)
+}
+
+/// A path of those that were made, or of what was never there.
+fn some_path(calls: &Calls, made: &mut Made) -> Result<Path, Refusal> {
+    let alloc = calls.alloc;
+    let [_, _, long] = LONG;
+    let (a, b, c) = (made.below(TOP), made.below(INNER), made.below(3));
+    let text = match made.below(10) {
+        0 => format!(in alloc; "/d{a}")?,
+        1 => format!(in alloc; "/x{c}")?,
+        2 => format!(in alloc; "/d{a}/x{c}/e{b}")?,
+        3 => format!(in alloc; "{long}/f{c}")?,
+        4 => format!(in alloc; "{long}c/f{c}")?,
+        5 | 6 => format!(in alloc; "/d{a}/e{b}/f{c}")?,
+        _ => format!(in alloc; "/d{a}/e{b}")?,
+    };
+    calls.path(text.as_str())
+}
+
+fn some_call(calls: &Calls, made: &mut Made) -> Result<FileCall, Refusal> {
+    let path = some_path(calls, made)?;
+    let old = some_path(calls, made)?;
+    let new = some_path(calls, made)?;
+    Ok(match made.below(8) {
+        0 => FileCall::Mkdir { path, mode: 0o755 },
+        1 => FileCall::Create { path, mode: 0o644 },
+        2 => FileCall::Rmdir { path },
+        3 => FileCall::Unlink { path },
+        4 => FileCall::Rename { old, new },
+        5 => FileCall::Rename2 {
+            old,
+            new,
+            flags: RENAME_EXCHANGE,
+        },
+        6 => FileCall::List { path },
+        _ => FileCall::Stat { path },
+    })
+}
+
+fn number_in(seen: Result<Seen, Refusal>) -> Result<u32, Refusal> {
+    match seen {
+        Ok(seen) => Ok(seen.number),
+        Err(refusal) => Err(refusal),
+    }
+}
+
+/// Whether a path is resolved as by a walk.
+fn is_as_walked(table: &mut Table, path: &Path) -> bool
+    ensures { table.new ≡ table.old }
+{
+    let recent = table.resolve_recent(path);
+    let walked = table.resolve(path);
+    number_in(table.look(&recent)) == number_in(table.look(&walked))
+        && number_in(table.look_parent(&recent)) == number_in(table.look_parent(&walked))
+}
+
+/// The same call, whose paths are resolved by what is remembered.
+fn made_recent(calls: &mut Calls, call: &FileCall) -> Result<Answer, Refusal> {
+    let paths = CallPaths::resolve(&mut calls.table, call);
+    let paths = Paths::on(&calls.table, call, paths);
+    let ready = check(&paths, &calls.counts, &calls.limits)?;
+    let Some(next_number) = calls.counts.next_number.checked_add(ready.numbers()) else {
+        return Err(Refusal::NumbersSpent);
+    };
+    let next_cookie = calls.counts.next_cookie.checked_add(ready.cookies());
+    let plan = ready.into_plan();
+    let answer = carry_out(calls.alloc, &mut calls.table, &plan)?;
+    calls.counts.next_number = next_number;
+    calls.counts.next_cookie = next_cookie.unwrap_or(0);
+    Ok(answer)
+}
+
+/// Makes calls on a table that remembers, and on one that walks. Returns whether all answers and paths are alike.
+fn are_calls_alike(one: &mut Calls, other: &mut Calls, made: &mut Made) -> Result<bool, Refusal> {
+    for _ in 0..1000 {
+        let call = some_call(one, made)?;
+        if made_recent(one, &call) != other.made(&call) {
+            return Ok(false);
+        }
+        for _ in 0..3 {
+            let path = some_path(one, made)?;
+            if !is_as_walked(&mut one.table, &path) {
+                return Ok(false);
+            }
+        }
+    }
+    Ok(one.table.flat()? == other.table.flat()?)
+}
+
+#[test]
+fn what_is_remembered_is_what_a_walk_finds(rt: HostRuntime) -> Result<(), Fail> {
+    let mut one = prepared(rt.alloc())?;
+    let mut other = prepared(rt.alloc())?;
+    let mut made = Made { at: 20261127 };
+    for _ in 0..3 {
+        let is_alike = are_calls_alike(&mut one, &mut other, &mut made)?;
+        holds(&rt, "tables answer alike", is_alike);
+        // A fork remembers nothing, and what comes to be remembered by one is not by the other.
+        let mut fork = one.fork()?;
+        let mut fork_of_other = other.fork()?;
+        let is_alike = are_calls_alike(&mut fork, &mut fork_of_other, &mut made)?;
+        holds(&rt, "forks answer alike", is_alike);
+    }
+    Ok(())
+}
