@@ -1,5 +1,5 @@
 //! The instances that watch a file, each with its watch.
-ghost use Rattle.std.specs.Prelude.{◌≡◌, ◌↔◌, IsTrue, IsSome, OnErr, OnOk};
+ghost use Rattle.std.specs.Prelude.{◌≡◌, ◌↔◌, IsTrue, IsSome, OnErr, OnOk, false};
 ghost use Rattle.std.specs.FinMap as map;
 ghost use Rattle.instance_table.specs.Watchers.{AreWatchers, watchers_map};
 

@@ -1,5 +1,7 @@
-use Rattle.std.proofs.Common.{◌≡◌, Option, Some, sym, ap, ◌∙◌, cond, ◌&&◌, eqb}
-use Rattle.watch_table.specs.Watching.{Watch, Watching, next_bits, watch_of}
+use Rattle.std.proofs.Common.{◌≡◌, Option, Some, sym, ap, ◌∙◌, cond, ◌&&◌, eqb, w32, rules}
+use Rattle.std.proofs.lemmas.Int.{to_z-of_z}
+use mir.Val.{SFits}
+use Rattle.watch_table.specs.Watching.{Watch, Watching, watch_of}
 use Rattle.instance_table.specs.Index.{watch_noted}
 use Rattle.instance_table.proofs.Indexed.{next-watch}
 use Rattle.instance_table.proofs.instances.add_noted.Goals as goal
@@ -7,9 +9,12 @@ use Rattle.instance_table.proofs.instances.add_noted.Goals as goal
 pub returns-in_ok-wd-in-Some-clause-noted : goal.returns-in_ok-wd-in-Some-clause-noted
 returns-in_ok-wd-in-Some-clause-noted c n q =
     let w = c.args.watches.now in
-    let before = c.in-Some.before in
-    let there : watch_of c.add.new.self c.args.number ≡ Some (before.0, c.next_bits.result) =
+    let before : Watch = c.in-Some.before in
+    let bits = c.next_bits.result in
+    let fits : SFits w32 before.0 = search rules in
+    let there : watch_of c.add.new.self c.args.number ≡ Some (before.0, bits) =
     ap (λ (x : Watching). watch_of x c.args.number) c.in_ok-wd-in-Some.ensures.watches
-    ∙ next-watch w c.args.number c.args.mask.0 before (sym c.in-Some.ensures) ∙ ap (λ bits. Some (before.0, bits)) (sym c.next_bits.ensures) in
+    ∙ next-watch w c.args.number c.args.mask.0 before (sym c.in-Some.ensures) ∙ ap (λ b. Some (before.0, b)) (sym c.next_bits.ensures) in
     c.set.ensures.noted n q
+    ∙ ap (λ z. cond (eqb n c.args.number && eqb q c.args.id) (Some (z, bits)) (watch_noted c.args.index.now n q)) (to_z-of_z w32 before.0 fits)
     ∙ ap (λ (o : Option Watch). cond (eqb n c.args.number && eqb q c.args.id) o (watch_noted c.args.index.now n q)) (sym there)
