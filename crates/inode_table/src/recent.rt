@@ -19,7 +19,7 @@ use std::marker::Model;
 pub(crate) const TEXT_MAX: usize = 80;
 
 /// How many nodes a table has at least for each slot.
-const NODES_OF_A_SLOT: usize = 32;
+const NODES_OF_A_SLOT: usize = 8;
 
 /// What a word is multiplied by: 2^64 by the golden ratio. The top bits of the product depend on all bits of the word
 /// (Knuth, "The Art of Computer Programming", 6.4, multiplicative hashing).
@@ -168,17 +168,17 @@ impl Recent {
     }
 }
 
-/// How many slots a table of so many nodes has: the largest power of two that is at most their 32nd part, and at least
+/// How many slots a table of so many nodes has: the largest power of two that is at most their eighth, and at least
 /// 4 and at most 64, or none.
 fn slots_for(nodes: usize) -> usize
     ensures { result * NODES_OF_A_SLOT ≤ nodes }
 {
     match nodes {
-        0..=127 => 0,
-        128..=255 => 4,
-        256..=511 => 8,
-        512..=1023 => 16,
-        1024..=2047 => 32,
+        0..=31 => 0,
+        32..=63 => 4,
+        64..=127 => 8,
+        128..=255 => 16,
+        256..=511 => 32,
         _ => 64,
     }
 }

@@ -76,8 +76,8 @@ impl Table {
     /// The same as [`Table::resolve`]. The directory of the last name is remembered, and no walk leads to one that is:
     /// the next path in the same directory takes a comparison of texts. Nor does a walk lead to the root.
     ///
-    /// A table of at least 128 nodes remembers directories whose paths have up to 80 bytes, until a directory is moved
-    /// or removed: one for each 32 nodes, as a power of two, and up to 64. The memory, 96 bytes for each, is taken by
+    /// A table of at least 32 nodes remembers directories whose paths have up to 80 bytes, until a directory is moved
+    /// or removed: one for each eight nodes, as a power of two, and up to 64. The memory, 96 bytes for each, is taken by
     /// [`Table::reserve_node`], where the table grows: a new table has none, nor has a copy. A smaller table walks each
     /// time, and so does a path with a name of more than 31 bytes. It takes no memory.
     #[inline(always)]

@@ -1,5 +1,5 @@
 //! Paths that are resolved by the directories which a table remembers, beside walks from the root. The tree has some
-//! 300 directories, for which there are 8 slots.
+//! 300 directories, for which there are 32 slots.
 
 use super::*;
 use inode_table::Seen;

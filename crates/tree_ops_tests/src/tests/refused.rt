@@ -248,12 +248,12 @@ fn room_refused_in_turn(alloc: Global, nodes: u32) -> Result<Option<u32>, Refusa
     Ok(None)
 }
 
-/// From 128 nodes on there are slots for directories to be remembered, which are taken where the nodes grow.
+/// From 32 nodes on there are slots for directories to be remembered, which are taken where the nodes grow.
 #[test]
 fn each_growth_of_the_nodes(rt: HostRuntime) -> Result<(), Fail> {
     let alloc = rt.alloc();
     let has_refuser = has_refuser(alloc);
-    for (nodes, wanted) in [(1, 1), (127, 1), (128, 2), (300, 2)] {
+    for (nodes, wanted) in [(1, 1), (31, 1), (32, 2), (300, 2)] {
         let count = room_refused_in_turn(alloc, nodes)?;
         let is_well = count == Some(if has_refuser { wanted } else { 0 });
         assert!(rt; is_well, "{nodes} nodes: {count:?}");
