@@ -1,5 +1,7 @@
-//! Scripts that are awkward: paths forty names deep and names of up to 250 bytes with escapes, refusals of each kind,
-//! exchanges, links, equal neighbours, queues of one record, watches of one event, cuts, comments and blank lines.
+//! Scripts that are awkward: forty directories in one another, all of them watched, with paths of at most 41 names;
+//! names of at most 147 bytes with a character of two bytes in every five, which takes six bytes of escapes; calls that
+//! are refused, exchanges, links, equal neighbours, a queue of one record and one of seven, oneshot watches, cuts,
+//! comments and blank lines.
 
 use crate::digest::Digest;
 use crate::fault::BenchFault;
@@ -10,7 +12,7 @@ use std::alloc::{AllocError, Global};
 /// The most bytes of a script, less those of the calls that follow one roll.
 const FULL: usize = 1_030_000;
 
-/// How deep the deep directories are.
+/// How many directories stand in one another.
 const DEEP: u64 = 40;
 
 /// Adds a path of so many names.
@@ -22,7 +24,8 @@ fn add_deep(script: &mut Script, depth: u64) -> Result<(), AllocError> {
     Ok(())
 }
 
-/// Adds a name of so many escapes and letters.
+/// Adds a name: a number of at most three digits, and so many characters. With at most 120 of these it has at most 147
+/// bytes, and takes at most 243 in a script.
 fn add_long(script: &mut Script, which: u64, length: u64) -> Result<(), AllocError> {
     script.number(which)?;
     for at in 0..length {

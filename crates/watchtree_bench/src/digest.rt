@@ -1,10 +1,10 @@
-//! A digest of all that a workload answers.
+//! A digest of all that a workload is answered.
 
 use std::io;
 use std::io::Write;
 
-/// A digest of bytes and numbers: each byte is mixed in by FNV-1a (Fowler, Noll and Vo), eight at a time where a number
-/// is whole.
+/// A digest of bytes and numbers, each mixed in by FNV-1a (Fowler, Noll and Vo), eight bytes at a time as far as they
+/// go. Bytes that are written to it count write by write.
 #[derive(Drop)]
 pub(crate) struct Digest {
     at: u64,
@@ -24,8 +24,9 @@ impl Digest {
         self.at = mixed ^ (mixed >> 29);
     }
 
-    /// Adds bytes, eight at a time, and how many there are.
+    /// Adds how many bytes there are, and then the bytes, eight at a time.
     pub(crate) fn add_bytes(&mut self, bytes: &[u8]) {
+        self.add(bytes.len() as u64);
         let mut rest = bytes;
         while let Some((word, behind)) = rest.split_first_chunk::<8>() {
             self.add(u64::from_le_bytes(*word));
@@ -34,7 +35,6 @@ impl Digest {
         for byte in rest {
             self.add(u64::from(*byte));
         }
-        self.add(bytes.len() as u64);
     }
 
     /// The digest so far.

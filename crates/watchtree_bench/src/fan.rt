@@ -1,5 +1,6 @@
-//! Ninety-six instances that each watch eight of twenty-four directories: each change of a file notifies about a third
-//! of them, and each is read now and then. Some have short queues, which overflow.
+//! Ninety-six instances that each watch eight of twenty-four directories, with six files each: each change of a file
+//! notifies about a third of them, and each is read now and then. Every eighth has a queue of five records, which
+//! overflows. A name has ten bytes at most.
 
 use crate::digest::Digest;
 use crate::fault::BenchFault;

@@ -1,5 +1,6 @@
 //! Why a workload ends early.
 
+use event_sinks::SettleFault;
 use std::alloc::{AllocError, AllocFailed};
 use tree_paths::Refusal;
 use watchtree_script::RunFault;
@@ -14,7 +15,7 @@ pub(crate) enum BenchFault {
     /// A script was not run to its end.
     Script(RunFault),
     /// A book is not settled.
-    Unsettled,
+    Unsettled(SettleFault),
     /// A call that the workload needs was refused.
     Refused(Refusal),
 }
@@ -40,5 +41,11 @@ impl From<Refusal> for BenchFault {
 impl From<RunFault> for BenchFault {
     fn from(fault: RunFault) -> BenchFault {
         BenchFault::Script(fault)
+    }
+}
+
+impl From<SettleFault> for BenchFault {
+    fn from(fault: SettleFault) -> BenchFault {
+        BenchFault::Unsettled(fault)
     }
 }

@@ -1,19 +1,18 @@
-//! A tree as a library's caller has it: thirty thousand files, whole directories moved and exchanged, looks without a
-//! journal, cuts, forks that go their own way, and the journal printed as a script.
+//! A tree as a library's caller has it: 300 directories of 100 files each, whole directories moved and exchanged, looks
+//! without a journal, cuts, forks that go their own way, and the journal printed as a script. One instance watches all
+//! directories. A name has at most 16 bytes, and a path three names.
 
+use crate::answers::{add_answer, add_names, add_refusal, make, make_file};
 use crate::digest::Digest;
 use crate::fault::BenchFault;
 use crate::rng::Rng;
 use crate::script::Script;
 use record_codec::Bytes;
 use std::alloc::{AllocError, Global};
-use tree_core::{Call, Entry, Reply, State};
-use tree_ops::{Answer, FileCall};
-use tree_paths::{Limits, Path, Refusal};
+use tree_core::{Call, State};
+use tree_ops::FileCall;
+use tree_paths::{Limits, Path};
 use watchtree_script::append_entry;
-
-/// Who makes the calls.
-const CALLER: u32 = 1;
 
 /// How many directories the tree has below each of its two tops, and how many files each has.
 const FOLDERS: u64 = 150;
@@ -76,59 +75,6 @@ impl Paths {
         let top = self.top();
         self.path(top, FOLDERS, None)
     }
-}
-
-/// Adds the reply of a call on files.
-fn add_answer(digest: &mut Digest, answer: &Answer) {
-    match answer {
-        Answer::Done => digest.add(1),
-        Answer::Number(number) => digest.add(u64::from(*number)),
-        Answer::Count(count) => digest.add(u64::from(*count)),
-        Answer::Bytes(bytes) => digest.add_bytes(bytes.as_slice()),
-        Answer::Names(names) => {
-            for name in names.as_slice() {
-                digest.add_bytes(name.bytes());
-            }
-        }
-        Answer::Stat {
-            number,
-            kind: _,
-            mode,
-            links,
-            size,
-        } => {
-            digest.add(u64::from(*number));
-            digest.add(u64::from(*mode));
-            digest.add(*links);
-            digest.add(*size);
-        }
-    }
-}
-
-/// Adds a reply.
-pub(crate) fn add_reply(digest: &mut Digest, reply: &Reply) {
-    match reply {
-        Reply::File(answer) => add_answer(digest, answer),
-        Reply::Instance(id) => digest.add(u64::from(*id)),
-        Reply::Wd(wd) => digest.add(u64::from(wd.unsigned_abs())),
-        Reply::Records(bytes) => digest.add_bytes(bytes.as_slice()),
-        Reply::Done => digest.add(2),
-        Reply::Refused(refusal) => digest.add(u64::from(refusal.number())),
-    }
-}
-
-/// Makes a call, and adds its reply.
-fn make(state: &mut State, digest: &mut Digest, call: Call) -> Result<(), Refusal> {
-    state.record(CALLER, call)?;
-    if let Some(Entry { reply, .. }) = state.last_entry() {
-        add_reply(digest, reply);
-    }
-    Ok(())
-}
-
-/// Makes a call on files, and adds its reply.
-fn make_file(state: &mut State, digest: &mut Digest, call: FileCall) -> Result<(), Refusal> {
-    make(state, digest, Call::File(call))
 }
 
 /// A tree with its directories, files, and an instance that watches the directories below one top.
@@ -227,12 +173,14 @@ fn any_call(paths: &mut Paths) -> Result<FileCall, BenchFault> {
 
 /// Looks at a file and a directory, which the journal does not keep.
 fn look(paths: &mut Paths, state: &State, digest: &mut Digest) -> Result<(), BenchFault> {
-    if let Ok(answer) = state.peek_stat(&paths.file()?) {
-        add_answer(digest, &answer);
+    match state.peek_stat(&paths.file()?) {
+        Ok(answer) => add_answer(digest, &answer),
+        Err(refusal) => add_refusal(digest, refusal),
     }
     if paths.rng.below(32) == 0 {
-        if let Ok(names) = state.peek_names(&paths.folder()?) {
-            digest.add(names.as_slice().len() as u64);
+        match state.peek_names(&paths.folder()?) {
+            Ok(names) => add_names(digest, &names),
+            Err(refusal) => add_refusal(digest, refusal),
         }
     }
     Ok(())
@@ -259,15 +207,21 @@ fn go_on(
     Ok(())
 }
 
-/// Adds the journal as a script.
+/// Adds the journal as a script, with who made each call.
 fn add_journal(alloc: Global, state: &State, digest: &mut Digest) -> Result<(), AllocError> {
     let mut text = Vec::new(alloc);
-    let before = state
-        .last_place()
-        .saturating_sub(state.journal().len() as u64);
-    for at in 0..state.journal().len() {
-        if let Some(entry) = state.entry(before.wrapping_add(at as u64).wrapping_add(1)) {
-            append_entry(entry, &mut text)?;
+    let last = state.last_place();
+    let count = state.journal().len();
+    digest.add(last);
+    digest.add(count as u64);
+    let before = last.saturating_sub(count as u64);
+    for at in 0..count {
+        match state.entry(before.wrapping_add(at as u64).wrapping_add(1)) {
+            Some(entry) => {
+                digest.add(u64::from(entry.caller));
+                append_entry(entry, &mut text)?;
+            }
+            None => digest.add(u64::MAX),
         }
         if text.len() > 60_000 {
             digest.add_bytes(text.as_slice());

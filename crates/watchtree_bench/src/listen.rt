@@ -1,15 +1,15 @@
-//! What threads share, by one thread: two seats write logs, three instances are pumped, listeners write what they are
-//! handed as lines, and the book is settled.
+//! What threads share, by one thread: two seats write logs, 96 at most in eight directories, three instances that watch
+//! all of these are pumped, listeners write what they are handed as lines, and the book is settled.
 
 ghost use Rattle.std.specs.Prelude.{◌≡◌, IfOk, IsTrue, true};
 ghost use Rattle.tree_core.specs.Calls.{is_plain};
 
+use crate::answers::{add_receipt, add_reply};
 use crate::digest::Digest;
 use crate::fault::BenchFault;
-use crate::history::add_reply;
 use crate::rng::Rng;
 use crate::script::Script;
-use event_sinks::{Ended, Gate, LineSink, Listening, settle};
+use event_sinks::{Cause, Ended, Gate, LineSink, Listening, Settled, SinkFault, settle};
 use record_codec::Bytes;
 use shared_tree::{Feed, Held, Seat, SeatLog};
 use std::alloc::Global;
@@ -50,17 +50,20 @@ impl Gate for Open {
     }
 }
 
-/// Adds what a listener writes to a digest, whose value others see.
+/// Adds what a listener writes to a digest, whose value others see from the closing line on.
 #[derive(Drop)]
 struct Lines {
     digest: Digest,
     value: Arc<AtomicU64, Global>,
+    /// Whether the closing line has begun.
+    is_closing: bool,
 }
 
 impl Write for Lines {
     fn write(&mut self, buf: &[u8]) -> io::Result<usize> {
         self.digest.add_bytes(buf);
-        if buf.starts_with(b"closed") {
+        self.is_closing |= buf.starts_with(b"closed");
+        if self.is_closing {
             self.value.store(self.digest.value(), Ordering::SeqCst);
         }
         Ok(buf.len())
@@ -113,23 +116,48 @@ fn any_call(alloc: Global, text: &mut Script, rng: &mut Rng) -> Result<Call, Ben
     }))
 }
 
+/// Makes a call with a seat, and adds its receipt.
+fn make<L: Ledger>(
+    held: &mut Held<L>,
+    seat: &mut Seat<L>,
+    digest: &mut Digest,
+    call: Call,
+) -> Result<(), BenchFault>
+    requires { IsTrue (is_plain call) }
+{
+    add_receipt(digest, &held.call(seat, call)?);
+    Ok(())
+}
+
 /// Makes the directories, and an instance with a pipe for each listener, which watches them.
 fn begin<L: Ledger>(
     alloc: Global,
     held: &mut Held<L>,
     seat: &mut Seat<L>,
     feeds: &mut Vec<Feed>,
+    digest: &mut Digest,
 ) -> Result<(), BenchFault> {
     for path in ["/var", "/var/log"] {
         let path = Path::parse(alloc, path.as_bytes())?;
-        held.call(seat, Call::File(FileCall::Mkdir { path, mode: 0o755 }))?;
+        make(
+            held,
+            seat,
+            digest,
+            Call::File(FileCall::Mkdir { path, mode: 0o755 }),
+        )?;
     }
     for folder in 0..8 {
         let path = folder_of(alloc, folder)?;
-        held.call(seat, Call::File(FileCall::Mkdir { path, mode: 0o755 }))?;
+        make(
+            held,
+            seat,
+            digest,
+            Call::File(FileCall::Mkdir { path, mode: 0o755 }),
+        )?;
     }
     for instance in 1..LISTENERS + 1 {
-        let (_, feed) = held.open_piped(seat, 1024, SLOTS)?;
+        let (receipt, feed) = held.open_piped(seat, 1024, SLOTS)?;
+        add_receipt(digest, &receipt);
         feeds.extend(feed)?;
         for folder in 0..8 {
             let path = folder_of(alloc, folder)?;
@@ -138,7 +166,7 @@ fn begin<L: Ledger>(
                 path,
                 mask: 0xfce,
             };
-            held.call(seat, watch)?;
+            make(held, seat, digest, watch)?;
         }
     }
     Ok(())
@@ -156,29 +184,45 @@ fn write_logs<L: Ledger>(
     let mut text = Script::new(alloc);
     for at in 0..CALLS {
         let seat = if at % 2 == 0 { &mut *one } else { &mut *other };
-        let receipt = held.call(seat, any_call(alloc, &mut text, rng)?)?;
-        add_reply(digest, &receipt.reply);
+        make(held, seat, digest, any_call(alloc, &mut text, rng)?)?;
         if at % 4 == 0 {
             let instance = (at / 4 % 3) as u32 + 1;
-            let receipt = held.pump(seat, instance, 1024)?;
-            digest.add(receipt.place);
+            add_receipt(digest, &held.pump(seat, instance, 1024)?);
         }
     }
     Ok(())
 }
 
 /// Pumps what is left, and closes each instance.
-fn close_all<L: Ledger>(held: &mut Held<L>, seat: &mut Seat<L>) -> Result<(), BenchFault> {
+fn close_all<L: Ledger>(
+    held: &mut Held<L>,
+    seat: &mut Seat<L>,
+    digest: &mut Digest,
+) -> Result<(), BenchFault> {
     for instance in 1..LISTENERS + 1 {
         for _ in 0..40 {
-            held.pump(seat, instance, 4096)?;
+            add_receipt(digest, &held.pump(seat, instance, 4096)?);
         }
-        held.call(seat, Call::Close { instance })?;
+        make(held, seat, digest, Call::Close { instance })?;
     }
     Ok(())
 }
 
-/// Lets a listener take all that a feed has, and adds its lines.
+/// Adds why a listener ended.
+fn add_cause(digest: &mut Digest, cause: Cause) {
+    digest.add(match cause {
+        Cause::Last => 1,
+        Cause::Turns => 2,
+        Cause::Given => 3,
+        Cause::Memory => 4,
+        Cause::Sink(SinkFault::Full) => 5,
+        Cause::Sink(SinkFault::Write) => 6,
+        Cause::Sink(SinkFault::Memory) => 7,
+    });
+}
+
+/// Lets a listener take all that a feed has, and adds its lines, why it ended, and of each batch its instance, its
+/// sequence number, and how many records it had, which are those of the lines.
 fn listen(
     alloc: Global,
     number: u32,
@@ -189,11 +233,30 @@ fn listen(
     let lines = Lines {
         digest: Digest::new(),
         value: Arc::try_clone(&value)?,
+        is_closing: false,
     };
     let ended = Listening::new(alloc, number, feed, LineSink::new(alloc, lines)).run(&Open, 20_000);
     digest.add(value.load(Ordering::SeqCst));
+    digest.add(u64::from(ended.number()));
+    digest.add(u64::from(ended.instance()));
+    add_cause(digest, ended.cause());
     digest.add(ended.handed().len() as u64);
+    for batch in ended.handed() {
+        digest.add(u64::from(batch.instance));
+        digest.add(batch.place);
+        digest.add(batch.records.as_slice().len() as u64);
+    }
     Ok(ended)
+}
+
+/// Adds what a seat kept: its number, and of each call its sequence number and its reply.
+fn add_log(digest: &mut Digest, log: &SeatLog) {
+    digest.add(u64::from(log.number));
+    digest.add(log.kept.as_slice().len() as u64);
+    for kept in log.kept.as_slice() {
+        digest.add(kept.place);
+        add_reply(digest, &kept.reply);
+    }
 }
 
 /// One round: a tree of its own, from its first call to the settled book.
@@ -210,9 +273,9 @@ fn round<L: Ledger>(
     let mut one = pass.seat()?;
     let mut other = pass.seat()?;
     let mut feeds = Vec::new(alloc);
-    begin(alloc, &mut held, &mut one, &mut feeds)?;
+    begin(alloc, &mut held, &mut one, &mut feeds, digest)?;
     write_logs(alloc, &mut held, &mut one, &mut other, digest, rng)?;
-    close_all(&mut held, &mut other)?;
+    close_all(&mut held, &mut other, digest)?;
     let mut logs: Vec<SeatLog> = Vec::with_capacity(alloc, 2)?;
     logs.push(pass.join(one))?;
     logs.push(pass.join(other))?;
@@ -222,10 +285,12 @@ fn round<L: Ledger>(
         number = u32::wrapping_add(number, 1);
         ended.push(listen(alloc, number, feed, digest)?)?;
     }
-    match settle(alloc, held.dissolve(pass), logs, ended) {
-        Ok(settled) => digest.add(settled.entries),
-        Err(_) => return Err(BenchFault::Unsettled),
+    for log in logs.as_slice() {
+        add_log(digest, log);
     }
+    let Settled { entries, calls } = settle(alloc, held.dissolve(pass), logs, ended)?;
+    digest.add(entries);
+    digest.add(calls);
     Ok(())
 }
 

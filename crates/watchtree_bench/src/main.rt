@@ -1,10 +1,12 @@
-//! The benchmark: runs a workload, and prints a digest of all that it answered.
+//! The benchmark: runs a workload, and prints a digest of all that it was answered.
 //!
 //!     watchtree_bench WORKLOAD SEED ROUNDS
 //!
-//! `bench/workloads.txt` has the workloads; `all` runs each of them.
+//! `bench/workloads.txt` has the workloads; `all` runs each of them. The seed decides what is called, and nothing else
+//! does.
 #![tactic(auto)]
 
+mod answers;
 mod awkward;
 mod digest;
 mod fan;

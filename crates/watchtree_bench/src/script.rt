@@ -68,7 +68,8 @@ impl Script {
         Ok(())
     }
 
-    /// Runs the script on a new tree, and adds what it prints, and how it ends, to the digest.
+    /// Runs the script on a new tree, and adds what it prints to the digest: the reply of each call. Where the run ends
+    /// before the script, that is a fault.
     pub(crate) fn run(&self, alloc: Global, digest: Digest) -> Result<Digest, BenchFault> {
         let mut input = Port::new(Source {
             rest: self.text.as_slice(),

@@ -1,5 +1,6 @@
-//! A synchroniser and an indexer beside an editor: a project of 259 directories, seven names deep, all of them watched,
-//! in which files are made, saved, moved and read.
+//! A synchroniser and an indexer beside an editor: a project of 258 directories, whose files have paths of seven names,
+//! and names of at most 22 bytes. The synchroniser watches all of the directories, the indexer 114 of them. Files are
+//! made, saved, moved and read.
 
 use crate::digest::Digest;
 use crate::fault::BenchFault;
