@@ -8,14 +8,19 @@
 
 mod answers;
 mod awkward;
+mod bases;
+mod desk;
 mod digest;
 mod fan;
 mod fault;
 mod history;
 mod listen;
+mod moves;
 mod rng;
+mod saves;
 mod script;
 mod sync;
+mod upkeep;
 
 use digest::Digest;
 use fault::BenchFault;
@@ -56,6 +61,7 @@ fn digest_of(alloc: Global, asked: &Asked<'_>) -> Result<Digest, BenchFault> {
         "awkward" => awkward::run(alloc, *seed, *rounds),
         "history" => history::run(alloc, *seed, *rounds),
         "listen" => listen::run(alloc, *seed, *rounds),
+        "upkeep" => upkeep::run(alloc, *seed, *rounds),
         _ => Err(BenchFault::Words),
     }
 }
@@ -63,7 +69,7 @@ fn digest_of(alloc: Global, asked: &Asked<'_>) -> Result<Digest, BenchFault> {
 /// One digest of all workloads.
 fn digest_of_all(alloc: Global, seed: u64, rounds: u64) -> Result<Digest, BenchFault> {
     let mut digest = Digest::new();
-    for workload in ["sync", "fan", "awkward", "history", "listen"] {
+    for workload in ["sync", "fan", "awkward", "history", "listen", "upkeep"] {
         let asked = Asked {
             workload,
             seed,
