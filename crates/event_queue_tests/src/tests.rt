@@ -131,8 +131,8 @@ fn greatest_limit(rt: HostRuntime) -> Result<(), Refusal> {
     Ok(())
 }
 
-/// One of four queues of three records: an empty one, a full one, one with the overflow mark behind its records, and one
-/// with the mark between two of them.
+/// One of four queues of three records: an empty one, a full one, one with the overflow mark behind its records, and
+/// one with the mark between two of them.
 fn queue_of(alloc: Global, which: u32) -> Result<Queue, Refusal> {
     let mut queue = Queue::with_limit(alloc, 3)?;
     let offers = match which {

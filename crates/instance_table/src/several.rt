@@ -61,7 +61,7 @@ impl Several {
         Ok(several)
     }
 
-    /// No instances, with room for as many as that. `Err` is out of memory.
+    /// No instances, with capacity for `count`. `Err` is out of memory.
     fn with_room(alloc: Global, count: usize) -> Result<Several, AllocError>
         ensures { IfOk result (λ several. several ≡ map.empty) }
     {

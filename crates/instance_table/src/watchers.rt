@@ -9,20 +9,20 @@ use std::marker::Model;
 use std::mem::size_of;
 use std::slice;
 
-/// The instances that watch a file, by their numbers; and the descriptor and the bits of the watch of each. One at
-/// least: a file that nobody watches has none of these. The first is in place, and takes no memory of its own.
+/// The instances that watch a file, by their numbers; and the descriptor and the bits of the watch of each. There is at
+/// least one, since an unwatched file has no row. The first is in place, and takes no memory of its own.
 pub struct Watchers {
     row: Row,
 }
 
-/// One instance and its watch, or several. Those stay several where but one is left.
+/// One instance and its watch, or several. A row of several stays so where one is left.
 #[derive(Drop)]
 enum Row {
     One(u32, (i32, u32)),
     Several(Box<Several>),
 }
 
-// So many bytes has each place of the index, whether its file is watched or not.
+// A node of the index has eleven of these, whether they are used or not.
 const _: () = prove!(size_of::<Row>() == 16);
 
 impl Drop for Watchers {

@@ -173,7 +173,7 @@ fn names_of_each_kind_of_length(rt: HostRuntime) {
 fn is_level(rt: &impl Abort, alloc: Global, bytes: &[u8]) {
     let name = name(rt, alloc, bytes);
     let copied = copied(rt, &name);
-    holds(rt, "one place in order", name.cmp(&copied).is_eq());
+    holds(rt, "one and the same in order", name.cmp(&copied).is_eq());
 }
 
 #[test]

@@ -25,8 +25,8 @@ pub(crate) fn block_stops<const N: usize>(text: &[u8], at: usize) -> u64
     (bytes.simd_eq(Simd::splat(SEPARATOR)) | bytes.simd_eq(Simd::splat(0))).to_bitmask()
 }
 
-/// The stops of a text of at least `N` bytes. Of a text of fewer than 64 bytes they are all, with a slash behind it: the
-/// last block then overlaps the one before it. Of a longer one they are those of the first 64 - `N` bytes.
+/// The stops of a text of at least `N` bytes. Of a text of fewer than 64 bytes they are all, with a slash behind it:
+/// the last block then overlaps the one before it. Of a longer one they are those of the first 64 - `N` bytes.
 #[inline(always)]
 fn stops_by<const N: usize>(text: &[u8]) -> u64
     requires some { 0 < N }

@@ -15,7 +15,7 @@ pub(crate) struct Bases {
     pub(crate) small: State,
     /// Ten watched directories.
     pub(crate) marked: State,
-    /// A thousand directories, which nobody watches.
+    /// A thousand unwatched directories.
     pub(crate) bare: State,
     /// The same, watched by one instance.
     pub(crate) watched: State,

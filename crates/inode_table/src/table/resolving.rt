@@ -77,9 +77,9 @@ impl Table {
     /// the next path in the same directory takes a comparison of texts. Nor does a walk lead to the root.
     ///
     /// A table of at least 32 nodes remembers directories whose paths have up to 80 bytes, until a directory is moved
-    /// or removed: one for each eight nodes, as a power of two, and up to 64. The memory, 96 bytes for each, is taken by
-    /// [`Table::reserve_node`], where the table grows: a new table has none, nor has a copy. A smaller table walks each
-    /// time, and so does a path with a name of more than 31 bytes. It takes no memory.
+    /// or removed: one for each eight nodes, as a power of two, and up to 64. [`Table::reserve_node`] takes the memory,
+    /// 96 bytes for each, where the table grows: a new table has none, nor has a copy. A smaller table walks each time,
+    /// and so does a path with a name of more than 31 bytes. It takes no memory.
     #[inline(always)]
     pub fn resolve_recent<'a>(&mut self, path: &'a Path) -> Resolved<'a>
         ensures same { self.new ≡ self.old }

@@ -67,7 +67,7 @@ fn have_heard(instances: &mut Instances, list: &[Watch], file: u32, bits: u32) -
     is_well
 }
 
-/// Whether each file is watched as is listed, and an event of one file is told to those that watch for it.
+/// Whether each file is watched as is listed, and those that watch one file for an event receive it.
 fn is_told(
     alloc: Global,
     instances: &mut Instances,

@@ -221,7 +221,7 @@ fn each_allocation_of_a_copy(rt: HostRuntime) -> Result<(), Fail> {
     Ok(())
 }
 
-/// A copy of a table with so many nodes, which has no room for one more.
+/// A copy of a table with so many nodes, which has no capacity for one more.
 fn full(alloc: Global, nodes: u32) -> Result<Table, Refusal> {
     let mut calls = Calls::new(alloc, Limits::full())?;
     for i in 1..nodes {
@@ -231,8 +231,8 @@ fn full(alloc: Global, nodes: u32) -> Result<Table, Refusal> {
     calls.table.copy()
 }
 
-/// How many allocations room for one more node takes. Each was made to fail, with the table as it was. `None` if a
-/// result was wrong.
+/// How many allocations capacity for one more node takes. Each was made to fail, with the table as it was. `None` if
+/// a result was wrong.
 fn room_refused_in_turn(alloc: Global, nodes: u32) -> Result<Option<u32>, Refusal> {
     let control = full(alloc, nodes)?;
     let mut table = full(alloc, nodes)?;

@@ -47,7 +47,8 @@ returns-else-remove-clause-rows c rows =
     let there : tree.get nat_cmp a.watchers c.args.number ≡ Some c.in-Some.row.now = sym c.in-Some.ensures.value in
     let put = (c.get_mut.follows.holds c.remove.new.self).3 (subst (λ o. IsSome o) (sym there) refl) in
     rows-kept a (record a { watchers = c.get_mut.follows.lender c.remove.new.self }) c.args.number (Some c.remove.new.self) put.0
-    (row-is c.remove.new.self (λ none. false≢true (sym c.if-remove.false ∙ c.remove.ensures.none.1 (sym (c.remove.ensures.rest c.if-remove.false) ∙ none)))) rows
+    (row-is c.remove.new.self
+    (λ none. false≢true (sym c.if-remove.false ∙ c.remove.ensures.none.1 (sym (c.remove.ensures.rest c.if-remove.false) ∙ none)))) rows
 
 pub returns-then-remove-clause-rows : goal.returns-then-remove-clause-rows
 returns-then-remove-clause-rows c rows =

@@ -7,7 +7,7 @@ use Rattle.instance_table.proofs.Alone.{one-kept, one-left}
 use Rattle.instance_table.proofs.watchers.Watchers.remove.Goals as goal
 use Rattle.instance_table.proofs.watchers.Watchers.remove.Goals.{in-One, in-Several}
 
--- an answer that tells whether none is left in a row tells it of a map that the row stands for
+-- an answer whether none is left in a row is one of the map that the row stands for
 none-left : (row m : WatchMap) (id : ℕ) (is : Bool) → row ≡ m
     → ((is ≡ true → finmap.remove row id ≡ finmap.empty) × (finmap.remove row id ≡ finmap.empty → is ≡ true))
     → ((is ≡ true → finmap.remove m id ≡ finmap.empty) × (finmap.remove m id ≡ finmap.empty → is ≡ true))
