@@ -14,7 +14,7 @@ use record_codec::bits;
 #[derive(Clone, Copy)]
 pub struct EndedWatches {
     is_gone: bool,
-    // The bits of the events, in one.
+    // The bits of all its events, joined.
     bits: u32,
 }
 

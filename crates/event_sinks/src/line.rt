@@ -56,16 +56,18 @@ impl<W: Write + Send + Drop> Sink for LineSink<W> {
         ensures stays { is_open_of self.new ≡ true }
         ensures written { PutsLine W.contents (port_of self.old) (line_of event.now) result (port_of self.new) }
     {
+        let copy = event.copy()?;
         self.records.reserve(1)?;
         self.line.clear();
         append_record_line(event, &mut self.line)?;
         self.line.push(b'\n')?;
-        self.records.push_reserved(event.copy()?);
-        if self.port.write_all(&self.line).is_err() {
-            let _ = self.records.pop();
-            return Err(SinkFault::Write);
+        match self.port.write_all(&self.line) {
+            Ok(()) => {
+                self.records.push_reserved(copy);
+                Ok(())
+            }
+            Err(_) => Err(SinkFault::Write),
         }
-        Ok(())
     }
 
     fn close(&mut self)

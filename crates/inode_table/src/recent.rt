@@ -21,11 +21,11 @@ pub(crate) const TEXT_MAX: usize = 80;
 /// How many nodes a table has at least for each slot.
 const NODES_OF_A_SLOT: usize = 8;
 
-/// What a word is multiplied by: 2^64 by the golden ratio. The top bits of the product depend on all bits of the word
-/// (Knuth, "The Art of Computer Programming", 6.4, multiplicative hashing).
+/// What a word is multiplied by: 2^64 divided by the golden ratio. The top bits of the product depend on all bits of
+/// the word (Knuth, "The Art of Computer Programming", 6.4, multiplicative hashing).
 const MULTIPLIER: u64 = 0x9e37_79b9_7f4a_7c15;
 
-/// A directory that was remembered at a time: its key, and the text of its path.
+/// A directory that was remembered, and the time when: its key, and the text of its path.
 #[derive(Clone, Copy)]
 struct Slot {
     time: u64,
@@ -142,7 +142,7 @@ impl Recent {
         Some(slot.key as usize)
     }
 
-    /// Remembers a directory in place of the one in the slot, if its key has 32 bits. It takes no memory.
+    /// Remembers a directory in place of the one in the slot, if its key fits in 32 bits. It takes no memory.
     pub(crate) fn keep(&mut self, at: usize, text: &[u8], key: usize)
         requires { length text.now ≤ TEXT_MAX }
         ensures { (p : List Label) (k : ℕ) → IsKnown self.new p k

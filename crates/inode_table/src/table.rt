@@ -100,7 +100,7 @@ impl Table {
         })
     }
 
-    /// Reserves capacity for one node. Where the nodes grow, there is memory taken for directories to be remembered too
+    /// Reserves capacity for one node. Where the nodes grow, it also allocates slots for remembered directories
     /// ([`Table::resolve_recent`]).
     pub fn reserve_node(&mut self) -> Result<(), Refusal>
         ensures rows { self.new.rows ≡ self.old.rows }

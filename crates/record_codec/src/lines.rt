@@ -21,7 +21,7 @@ const PRINTED_BYTE_LEN: usize = 3;
 /// The most bytes that the three numbers of a record line take, with the spaces between them.
 const NUMBERS_LEN: usize = 11 + 1 + 8 + 1 + 10;
 
-/// The most bytes of a name that are printed one by one: fewer than are tested at a time.
+/// The most bytes of a name that are printed one by one without a test before: fewer than are tested at a time.
 const SHORT_NAME_LEN: usize = CHUNK_LEN - 1;
 
 /// How many bytes of a name are tested at a time.

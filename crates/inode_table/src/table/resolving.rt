@@ -74,12 +74,13 @@ impl Table {
     }
 
     /// The same as [`Table::resolve`]. The directory of the last name is remembered, and no walk leads to one that is:
-    /// the next path in the same directory takes a comparison of texts. Nor does a walk lead to the root.
+    /// the next path in the same directory takes a comparison of texts.
     ///
-    /// A table of at least 32 nodes remembers directories whose paths have up to 80 bytes, until a directory is moved
-    /// or removed: one for each eight nodes, as a power of two, and up to 64. [`Table::reserve_node`] takes the memory,
-    /// 96 bytes for each, where the table grows: a new table has none, nor has a copy. A smaller table walks each time,
-    /// and so does a path with a name of more than 31 bytes. It takes no memory.
+    /// A table remembers directories whose paths have up to 80 bytes, until a directory is moved or removed. It has as
+    /// many slots as the largest power of two that is at most an eighth of its nodes, from 4 to 64, once its nodes have
+    /// grown from 32 or more: [`Table::reserve_node`] then allocates 96 bytes for each. A new table has no slots, nor
+    /// has a copy. A table without slots walks each time, and so does a path with a name of more than 31 bytes; a path
+    /// in the root needs no slot. It takes no memory.
     #[inline(always)]
     pub fn resolve_recent<'a>(&mut self, path: &'a Path) -> Resolved<'a>
         ensures same { self.new ≡ self.old }

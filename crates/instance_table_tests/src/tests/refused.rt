@@ -296,8 +296,8 @@ fn stage_each_refused(alloc: Global, instances: &Instances, notices: &[Notice]) 
     None
 }
 
-/// The allocations that stage two events for each of a crowd, and a third that says that its watch has ended: two
-/// buffers that grow, one of up to 512 events, and one of up to 128 watches that end.
+/// The most allocations that stage the events of a crowd, 320 in all, and the 128 watches that end: two buffers that
+/// grow, one of up to 512 events, and one of up to 128 watches.
 const ENDS: u32 = 14;
 
 #[test]
