@@ -29,6 +29,11 @@ impl Numbers {
             .wrapping_add(1_013_904_223);
         (self.state >> 16) % end.max(1)
     }
+
+    /// The number of an instance, or of a file.
+    fn any(&mut self) -> u32 {
+        self.below(COUNT).saturating_add(1)
+    }
 }
 
 /// The bits of a watch.
@@ -55,7 +60,7 @@ fn name_of(alloc: Global, numbers: &mut Numbers) -> Result<Option<Name>, Refusal
 
 /// A notice of one of the files: of an event, or that the file is gone.
 fn notice_of(alloc: Global, numbers: &mut Numbers) -> Result<Notice, Refusal> {
-    let number = 1 + numbers.below(COUNT);
+    let number = numbers.any();
     let bits = match numbers.below(6) {
         0 => return Ok(Notice::Gone { number }),
         1 => IN_DELETE_SELF,
@@ -137,7 +142,7 @@ impl Both {
         for instance in &mut self.model {
             let mut staged = Staged::new(self.alloc);
             stage(id, &instance.watches, notices, &mut staged)?;
-            receive(instance, staged)?;
+            receive(instance, &staged)?;
             id = id.saturating_add(1);
         }
         Ok(())
@@ -171,10 +176,9 @@ impl Both {
 }
 
 /// Gives an instance the events that were staged for it, and ends its watches.
-fn receive(instance: &mut Instance, staged: Staged) -> Result<(), Refusal> {
-    let mut staged = staged;
-    while let Some(heard) = staged.events.pop_front() {
-        instance.queue.offer(heard.event);
+fn receive(instance: &mut Instance, staged: &Staged) -> Result<(), Refusal> {
+    for heard in &staged.events {
+        instance.queue.offer(heard.event.copy()?);
     }
     for ended in &staged.drops {
         instance.watches.remove(ended.wd)?;
@@ -210,13 +214,13 @@ fn is_indexed(instances: &Instances, id: u32, wanted: &Instance) -> bool {
 /// Watches some files for some instances, notifies both, and reads some records of one instance.
 fn step(both: &mut Both, numbers: &mut Numbers, staging: &mut Staging) -> Result<(), Refusal> {
     for _ in 0..numbers.below(8) {
-        let id = 1 + numbers.below(COUNT);
-        let number = 1 + numbers.below(COUNT);
+        let id = numbers.any();
+        let number = numbers.any();
         both.watch(id, number, bits_of(numbers.below(6)))?;
     }
     let notices = notices_of(both.alloc, numbers)?;
     both.tell(&notices, staging)?;
-    both.read(1 + numbers.below(COUNT), numbers.below(12) as usize);
+    both.read(numbers.any(), numbers.below(12) as usize);
     Ok(())
 }
 
