@@ -48,7 +48,8 @@ fn stops_by<const N: usize>(text: &[u8]) -> u64
     stops + (last << seen) + (1 << len)
 }
 
-/// The stops of a text: all, with a slash behind it, if it has fewer than 64 bytes, else those of its first 48 bytes.
+/// The stops of a text of at least eight bytes: all, with a slash behind it, if it has fewer than 64 bytes, else those
+/// of its first 48 bytes. Of a shorter text none is given: its names are short, and are looked at byte by byte.
 #[inline(always)]
 pub(crate) fn stops_of(text: &[u8]) -> u64
     ensures { IsMarked text.now result }
@@ -59,13 +60,7 @@ pub(crate) fn stops_of(text: &[u8]) -> u64
     if 8 <= text.len() {
         return stops_by::<8>(text);
     }
-    if 4 <= text.len() {
-        return stops_by::<4>(text);
-    }
-    if text.is_empty() {
-        return 1;
-    }
-    stops_by::<1>(text)
+    0
 }
 
 /// How many bytes stand before the first stop, and the stops behind that one.
@@ -85,7 +80,7 @@ pub(crate) fn next_stop(text: &[u8], stops: u64) -> (usize, u64)
 }
 
 /// The same where no stop is known.
-#[cold]
+#[inline(never)]
 fn far_stop(text: &[u8]) -> (usize, u64)
     ensures within { result.0 ≤ length text.now }
     ensures front { list_all is_name_byte (take result.0 text.now) ≡ true }

@@ -1,6 +1,8 @@
 //! Paths that are resolved by the directories which a table remembers, beside walks from the root. The tree has some
 //! 300 directories, for which there are 32 slots.
 
+ghost use Rattle.std.specs.Prelude.{◌≡◌, ◌<◌};
+
 use super::*;
 use inode_table::Seen;
 
