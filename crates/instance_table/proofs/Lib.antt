@@ -10,3 +10,5 @@ mod Copied
 mod Zipped
 mod Alone
 mod Kept
+mod Arrays
+mod Fews

@@ -1,6 +1,7 @@
 //! The open instances of inotify(7): what each watches, what waits in its queue, and who watches a file.
 #![tactic(auto)]
 
+mod few;
 mod ids;
 mod index;
 mod instance;

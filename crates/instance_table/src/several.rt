@@ -46,28 +46,34 @@ impl Clone for Several {
 }
 
 impl Several {
-    /// Two instances, each with its watch. `Err` is out of memory.
-    pub fn two(
+    /// Instances, each with its watch, and one more, with capacity for as many again. `Err` is out of memory.
+    pub fn with(
         alloc: Global,
-        first: (u32, (i32, u32)),
-        second: (u32, (i32, u32)),
+        ids: &[u32],
+        watches: &[(i32, u32)],
+        id: u32,
+        watch: (i32, u32),
     ) -> Result<Several, AllocError>
-        ensures { IfOk result (λ several.
-            several ≡ map.insert (map.insert map.empty first.0 first.1) second.0 second.1) }
+        requires watchers { AreWatchers ids.now watches.now }
+        ensures { IfOk result (λ several. several ≡ map.insert (watchers_map ids.now watches.now) id watch) }
     {
-        let mut several = Several::with_room(alloc, 2)?;
-        several.put(first.0, first.1)?;
-        several.put(second.0, second.1)?;
+        let mut several = Several::of(alloc, ids, watches)?;
+        several.put(id, watch)?;
         Ok(several)
     }
 
-    /// No instances, with capacity for `count`. `Err` is out of memory.
-    fn with_room(alloc: Global, count: usize) -> Result<Several, AllocError>
-        ensures { IfOk result (λ several. several ≡ map.empty) }
+    /// Instances, each with its watch, with capacity for as many again. `Err` is out of memory.
+    fn of(alloc: Global, ids: &[u32], watches: &[(i32, u32)]) -> Result<Several, AllocError>
+        requires watchers { AreWatchers ids.now watches.now }
+        ensures { IfOk result (λ several. several ≡ watchers_map ids.now watches.now) }
     {
+        let mut its_ids = Vec::with_capacity(alloc, ids.len() * 2)?;
+        let mut its_watches = Vec::with_capacity(alloc, ids.len() * 2)?;
+        its_ids.extend_from_slice(ids)?;
+        its_watches.extend_from_slice(watches)?;
         Ok(Several {
-            ids: Vec::with_capacity(alloc, count)?,
-            watches: Vec::with_capacity(alloc, count)?,
+            ids: its_ids,
+            watches: its_watches,
         })
     }
 

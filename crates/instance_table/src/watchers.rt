@@ -3,6 +3,7 @@ ghost use Rattle.std.specs.Prelude.{◌≡◌, ◌↔◌, IsTrue, IsSome, OnErr,
 ghost use Rattle.std.specs.FinMap as map;
 ghost use Rattle.instance_table.specs.Watchers.{AreWatchers, watchers_map};
 
+use crate::few::Few;
 use crate::several::Several;
 use std::alloc::{AllocError, Global};
 use std::marker::Model;
@@ -15,10 +16,12 @@ pub struct Watchers {
     row: Row,
 }
 
-/// One instance and its watch, or several. A row of several stays so where one is left.
+/// One instance and its watch, at most four or eight, or any number. A row keeps its capacity where instances go.
 #[derive(Drop)]
 enum Row {
     One(u32, (i32, u32)),
+    Four(Box<Few<4>>),
+    Eight(Box<Few<8>>),
     Several(Box<Several>),
 }
 
@@ -51,6 +54,8 @@ impl Clone for Watchers {
     fn clone(&self) -> Result<Watchers, AllocError> {
         let row = match &self.row {
             Row::One(id, watch) => Row::One(*id, *watch),
+            Row::Four(four) => Row::Four(four.clone()?),
+            Row::Eight(eight) => Row::Eight(eight.clone()?),
             Row::Several(several) => Row::Several(several.clone()?),
         };
         Ok(Watchers { row })
@@ -78,12 +83,26 @@ impl Watchers {
                     *its = watch;
                     return Ok(());
                 }
-                let several = Several::two(alloc, (*first, *its), (id, watch))?;
-                self.row = Row::Several(Box::new(alloc, several)?);
-                Ok(())
+                let four = Few::with(slice::from_ref(first), slice::from_ref(its), id, watch);
+                self.row = Row::Four(Box::new(alloc, four)?);
             }
-            Row::Several(several) => several.put(id, watch),
+            Row::Four(four) => {
+                if !four.put(id, watch) {
+                    let (ids, watches) = four.as_slices();
+                    let eight = Few::with(ids, watches, id, watch);
+                    self.row = Row::Eight(Box::new(alloc, eight)?);
+                }
+            }
+            Row::Eight(eight) => {
+                if !eight.put(id, watch) {
+                    let (ids, watches) = eight.as_slices();
+                    let several = Several::with(alloc, ids, watches, id, watch)?;
+                    self.row = Row::Several(Box::new(alloc, several)?);
+                }
+            }
+            Row::Several(several) => return several.put(id, watch),
         }
+        Ok(())
     }
 
     /// Gives an instance that is there another watch. It takes no memory.
@@ -93,6 +112,8 @@ impl Watchers {
     {
         match &mut self.row {
             Row::One(_, its) => *its = watch,
+            Row::Four(four) => four.set(id, watch),
+            Row::Eight(eight) => eight.set(id, watch),
             Row::Several(several) => several.set(id, watch),
         }
     }
@@ -105,6 +126,14 @@ impl Watchers {
     {
         match &mut self.row {
             Row::One(first, _) => *first == id,
+            Row::Four(four) => {
+                four.remove(id);
+                four.is_empty()
+            }
+            Row::Eight(eight) => {
+                eight.remove(id);
+                eight.is_empty()
+            }
             Row::Several(several) => {
                 several.remove(id);
                 several.is_empty()
@@ -120,6 +149,8 @@ impl Watchers {
     {
         match &self.row {
             Row::One(id, watch) => (slice::from_ref(id), slice::from_ref(watch)),
+            Row::Four(four) => four.as_slices(),
+            Row::Eight(eight) => eight.as_slices(),
             Row::Several(several) => several.as_slices(),
         }
     }

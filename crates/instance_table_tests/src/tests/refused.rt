@@ -318,7 +318,7 @@ fn watches_that_end_take_two_buffers(rt: HostRuntime) -> Result<(), Fail> {
 /// Some open instances, which watch nothing.
 fn some_open(alloc: Global) -> Result<Instances, Refusal> {
     let mut instances = Instances::new(alloc);
-    for id in 1..9 {
+    for id in 1..14 {
         open(&mut instances, id)?;
     }
     Ok(instances)
@@ -361,8 +361,8 @@ fn each_growth_of_a_row_of_watchers(rt: HostRuntime) -> Result<(), Fail> {
         "the first",
         matches!(first, Some(count) if count <= FIRST),
     );
-    for step in 0..8 {
-        let id = (step * 3 + 4) % 8 + 1;
+    for step in 0..13 {
+        let id = (step * 5 + 4) % 13 + 1;
         let count = watch_refused(alloc, &mut instances, &mut control, id)?;
         assert!(rt; count.is_some(), "instance {id}");
     }

@@ -8,7 +8,7 @@ use std::alloc::AllocError;
 const STEPS: u32 = 600;
 
 /// How many instances and files there are, each numbered from 0 on.
-const IDS: u32 = 6;
+const IDS: u32 = 16;
 
 const FILES: u32 = 5;
 
@@ -146,7 +146,7 @@ fn step(
         0 => opens_anew(instances, list, id)?,
         1..6 => ends(instances, list, id, file),
         6 => *instances = instances.copy()?,
-        _ => watches(instances, list, id, file, some_bits(made / 128))?,
+        _ => watches(instances, list, id, file, some_bits(made / 256))?,
     }
     Ok(())
 }

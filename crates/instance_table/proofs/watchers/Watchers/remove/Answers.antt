@@ -5,7 +5,7 @@ use Rattle.instance_table.specs.WatcherRow.{row_map}
 use Rattle.instance_table.specs.Watchers.{WatchMap}
 use Rattle.instance_table.proofs.Alone.{one-kept, one-left}
 use Rattle.instance_table.proofs.watchers.Watchers.remove.Goals as goal
-use Rattle.instance_table.proofs.watchers.Watchers.remove.Goals.{in-One, in-Several}
+use Rattle.instance_table.proofs.watchers.Watchers.remove.Goals.{in-Eight, in-Four, in-One, in-Several}
 
 -- an answer whether none is left in a row is one of the map that the row stands for
 none-left : (row m : WatchMap) (id : ℕ) (is : Bool) → row ≡ m
@@ -21,12 +21,29 @@ returns-clause-none c =
           let was : finmap.insert finmap.empty w.in-One.first w.in-One.field-1 ≡ c.args.self.now = sym (ap row_map w.in-One.is) ∙ c.self.view_is in
           none-left (finmap.insert finmap.empty w.in-One.first w.in-One.field-1) c.args.self.now c.args.id c.match-self.result was
           (one-left w.in-One.first c.args.id w.in-One.field-1 c.match-self.result (sym w.result-is))
-      | in-Several w ↦
-          let was : w.deref_mut.result.now ≡ c.args.self.now = w.deref_mut.ensures.value ∙ sym (ap row_map w.in-Several.is) ∙ c.self.view_is in
+      | in-Four w ↦
+          let lent = w.deref_mut in
+          let was : lent.result.now ≡ c.args.self.now = lent.ensures.value ∙ sym (ap row_map w.in-Four.is) ∙ c.self.view_is in
           let left : w.deref.result.now ≡ finmap.remove c.args.self.now c.args.id =
           w.deref.ensures ∙ w.remove.ensures ∙ ap (λ (m : WatchMap). finmap.remove m c.args.id) was in (
             (λ h. sym left ∙ w.is_empty.ensures.0 (sym w.result-is ∙ h)),
             (λ h. w.result-is ∙ w.is_empty.ensures.1 (left ∙ h)),
+          )
+      | in-Eight w ↦
+          let lent = w.deref_mut-in-Eight in
+          let was : lent.result.now ≡ c.args.self.now = lent.ensures.value ∙ sym (ap row_map w.in-Eight.is) ∙ c.self.view_is in
+          let left : w.deref-in-Eight.result.now ≡ finmap.remove c.args.self.now c.args.id =
+          w.deref-in-Eight.ensures ∙ w.remove-in-Eight.ensures ∙ ap (λ (m : WatchMap). finmap.remove m c.args.id) was in (
+            (λ h. sym left ∙ w.is_empty-in-Eight.ensures.0 (sym w.result-is ∙ h)),
+            (λ h. w.result-is ∙ w.is_empty-in-Eight.ensures.1 (left ∙ h)),
+          )
+      | in-Several w ↦
+          let lent = w.deref_mut-in-Several in
+          let was : lent.result.now ≡ c.args.self.now = lent.ensures.value ∙ sym (ap row_map w.in-Several.is) ∙ c.self.view_is in
+          let left : w.deref-in-Several.result.now ≡ finmap.remove c.args.self.now c.args.id =
+          w.deref-in-Several.ensures ∙ w.remove-in-Several.ensures ∙ ap (λ (m : WatchMap). finmap.remove m c.args.id) was in (
+            (λ h. sym left ∙ w.is_empty-in-Several.ensures.0 (sym w.result-is ∙ h)),
+            (λ h. w.result-is ∙ w.is_empty-in-Several.ensures.1 (left ∙ h)),
           )
     ]
 
@@ -38,7 +55,16 @@ returns-clause-rest c =
           ap (λ (a : Inside). row_map a.row) w.self-inside-is
           ∙ sym (one-kept w.in-One.first c.args.id w.in-One.field-1 (sym w.result-is ∙ other))
           ∙ ap (λ (m : WatchMap). finmap.remove m c.args.id) was
-      | in-Several w ↦ λ other.
-          let was : w.deref_mut.result.now ≡ c.args.self.now = w.deref_mut.ensures.value ∙ sym (ap row_map w.in-Several.is) ∙ c.self.view_is in
+      | in-Four w ↦ λ other.
+          let lent = w.deref_mut in
+          let was : lent.result.now ≡ c.args.self.now = lent.ensures.value ∙ sym (ap row_map w.in-Four.is) ∙ c.self.view_is in
           ap (λ (a : Inside). row_map a.row) w.self-inside-is ∙ w.remove.ensures ∙ ap (λ (m : WatchMap). finmap.remove m c.args.id) was
+      | in-Eight w ↦ λ other.
+          let lent = w.deref_mut-in-Eight in
+          let was : lent.result.now ≡ c.args.self.now = lent.ensures.value ∙ sym (ap row_map w.in-Eight.is) ∙ c.self.view_is in
+          ap (λ (a : Inside). row_map a.row) w.self-inside-is ∙ w.remove-in-Eight.ensures ∙ ap (λ (m : WatchMap). finmap.remove m c.args.id) was
+      | in-Several w ↦ λ other.
+          let lent = w.deref_mut-in-Several in
+          let was : lent.result.now ≡ c.args.self.now = lent.ensures.value ∙ sym (ap row_map w.in-Several.is) ∙ c.self.view_is in
+          ap (λ (a : Inside). row_map a.row) w.self-inside-is ∙ w.remove-in-Several.ensures ∙ ap (λ (m : WatchMap). finmap.remove m c.args.id) was
     ]

@@ -5,7 +5,7 @@ use Rattle.instance_table.specs.WatcherRow.{row_map}
 use Rattle.instance_table.specs.Watchers.{WatchMap}
 use Rattle.instance_table.proofs.Alone.{is-one, one-again}
 use Rattle.instance_table.proofs.watchers.Watchers.set.Goals as goal
-use Rattle.instance_table.proofs.watchers.Watchers.set.Goals.{in-One, in-Several}
+use Rattle.instance_table.proofs.watchers.Watchers.set.Goals.{in-Eight, in-Four, in-One, in-Several}
 
 pub returns : goal.returns
 returns c =
@@ -16,7 +16,16 @@ returns c =
           ap (λ (a : Inside). row_map a.row) w.self-inside-is ∙ sym (one-again w.in-One.field-0 w.in-One.its c.args.watch)
           ∙ ap (λ q. finmap.insert (finmap.insert finmap.empty w.in-One.field-0 w.in-One.its) q c.args.watch) (sym same)
           ∙ ap (λ (m : WatchMap). finmap.insert m c.args.id c.args.watch) was
-      | in-Several w ↦
-          let was : w.deref_mut.result.now ≡ c.args.self.now = w.deref_mut.ensures.value ∙ sym (ap row_map w.in-Several.is) ∙ c.self.view_is in
+      | in-Four w ↦
+          let lent = w.deref_mut in
+          let was : lent.result.now ≡ c.args.self.now = lent.ensures.value ∙ sym (ap row_map w.in-Four.is) ∙ c.self.view_is in
           ap (λ (a : Inside). row_map a.row) w.self-inside-is ∙ w.set.ensures ∙ ap (λ (m : WatchMap). finmap.insert m c.args.id c.args.watch) was
+      | in-Eight w ↦
+          let lent = w.deref_mut-in-Eight in
+          let was : lent.result.now ≡ c.args.self.now = lent.ensures.value ∙ sym (ap row_map w.in-Eight.is) ∙ c.self.view_is in
+          ap (λ (a : Inside). row_map a.row) w.self-inside-is ∙ w.set-in-Eight.ensures ∙ ap (λ (m : WatchMap). finmap.insert m c.args.id c.args.watch) was
+      | in-Several w ↦
+          let lent = w.deref_mut-in-Several in
+          let was : lent.result.now ≡ c.args.self.now = lent.ensures.value ∙ sym (ap row_map w.in-Several.is) ∙ c.self.view_is in
+          ap (λ (a : Inside). row_map a.row) w.self-inside-is ∙ w.set-in-Several.ensures ∙ ap (λ (m : WatchMap). finmap.insert m c.args.id c.args.watch) was
     ]

@@ -1,0 +1,149 @@
+//! Few instances that watch a file, each with its watch.
+ghost use Rattle.std.specs.Prelude.{◌≡◌, ◌≤◌, ◌<◌, true, false, length, IsSome, ◌↔◌, IsTrue};
+ghost use Rattle.std.specs.FinMap as map;
+ghost use Rattle.instance_table.specs.Watchers.{AreWatchers, watchers_map};
+
+use crate::ids::place_of;
+use std::alloc::AllocError;
+use std::marker::Model;
+
+/// At most `N` instances that watch a file, by their numbers, rising; and the descriptor and the bits of the watch of
+/// each. They take no memory of their own. What stands behind the first `len` has no meaning.
+pub struct Few<const N: usize> {
+    len: usize,
+    ids: [u32; N],
+    watches: [(i32, u32); N],
+}
+
+impl<const N: usize> Drop for Few<N> {
+    fn drop(self) {
+        let Few {
+            len: _,
+            ids: _,
+            watches: _,
+        } = self;
+    }
+}
+
+impl<const N: usize> Model for Few<N> {
+    ghost use Rattle.std.specs.Prelude.{◌≡◌, ◌≤◌, length, take};
+    ghost use Rattle.std.specs.Coded.{coded×, coded_ℕ, coded_ℤ};
+    ghost use Rattle.std.specs.FinMap as finmap;
+    ghost use Rattle.instance_table.specs.Watchers.{AreWatchers, WatchMap, watchers_map};
+
+    ghost Value = { WatchMap };
+
+    ghost coded = { finmap.code coded_ℕ (coded× coded_ℤ coded_ℕ) };
+
+    ghost view = { λ a. watchers_map (take a.len a.ids) (take a.len a.watches) };
+
+    ghost invariant = { λ a. (a.len ≤ N) × (length a.ids ≡ N) × (length a.watches ≡ N)
+        × AreWatchers (take a.len a.ids) (take a.len a.watches) };
+}
+
+impl<const N: usize> Clone for Few<N> {
+    ghost is_clone = { λ few copy. copy ≡ few };
+
+    fn clone(&self) -> Result<Few<N>, AllocError> {
+        Ok(Few {
+            len: self.len,
+            ids: self.ids,
+            watches: self.watches,
+        })
+    }
+}
+
+impl<const N: usize> Few<N> {
+    /// At most `N` instances, each with its watch.
+    pub fn of(ids: &[u32], watches: &[(i32, u32)]) -> Few<N>
+        requires watchers { AreWatchers ids.now watches.now }
+        requires count { length ids.now ≤ N }
+        ensures { result ≡ watchers_map ids.now watches.now }
+    {
+        let len = ids.len();
+        let mut its_ids = [0; N];
+        let mut its_watches = [(0, 0); N];
+        its_ids[..len].copy_from_slice(ids);
+        its_watches[..len].copy_from_slice(watches);
+        Few {
+            len,
+            ids: its_ids,
+            watches: its_watches,
+        }
+    }
+
+    /// Fewer than `N` instances, each with its watch, and one more.
+    pub fn with(ids: &[u32], watches: &[(i32, u32)], id: u32, watch: (i32, u32)) -> Few<N>
+        requires watchers { AreWatchers ids.now watches.now }
+        requires count { length ids.now < N }
+        ensures { result ≡ map.insert (watchers_map ids.now watches.now) id watch }
+    {
+        let mut few = Few::of(ids, watches);
+        if !few.put(id, watch) {
+            unreachable!()
+        }
+        few
+    }
+
+    /// Puts in an instance with its watch, in place of the one that it has. Where `N` others are there, the answer is
+    /// `false`, and nothing changes.
+    pub fn put(&mut self, id: u32, watch: (i32, u32)) -> bool
+        ensures put { result ≡ true → self.new ≡ map.insert self.old id watch }
+        ensures rest { result ≡ false → self.new ≡ self.old }
+        ensures full { result ≡ false → N ≤ length (map.keys self.old) }
+    {
+        match place_of(&self.ids[..self.len], id) {
+            Ok(place) => self.watches[place] = watch,
+            Err(place) => {
+                if self.len == N {
+                    return false;
+                }
+                self.ids.copy_within(place..self.len, place + 1);
+                self.ids[place] = id;
+                self.watches.copy_within(place..self.len, place + 1);
+                self.watches[place] = watch;
+                self.len += 1;
+            }
+        }
+        true
+    }
+
+    /// Gives an instance that is there another watch.
+    pub fn set(&mut self, id: u32, watch: (i32, u32))
+        requires { IsSome (map.get self.old id) }
+        ensures { self.new ≡ map.insert self.old id watch }
+    {
+        let Ok(place) = place_of(&self.ids[..self.len], id) else {
+            unreachable!()
+        };
+        self.watches[place] = watch;
+    }
+
+    /// Takes out an instance, if it is there.
+    pub fn remove(&mut self, id: u32)
+        ensures { self.new ≡ map.remove self.old id }
+    {
+        if let Ok(place) = place_of(&self.ids[..self.len], id) {
+            self.ids.copy_within(place + 1..self.len, place);
+            self.watches.copy_within(place + 1..self.len, place);
+            self.len -= 1;
+        }
+    }
+
+    /// The numbers of the instances, rising, and the watch of each.
+    #[inline(always)]
+    pub fn as_slices(&self) -> (&[u32], &[(i32, u32)])
+        ensures watchers { AreWatchers result.0.now result.1.now }
+        ensures map { watchers_map result.0.now result.1.now ≡ self.now }
+        ensures few { length result.0.now ≤ N }
+    {
+        (&self.ids[..self.len], &self.watches[..self.len])
+    }
+
+    /// Whether there is no instance.
+    pub fn is_empty(&self) -> bool
+        ensures { IsTrue result ↔ (self.now ≡ map.empty) }
+    {
+        self.len == 0
+    }
+}
