@@ -159,6 +159,8 @@ static void fork_folders(int watchers) {
 
 static void fork_folders_1(void) { fork_folders(1); }
 static void fork_folders_4(void) { fork_folders(4); }
+static void fork_folders_8(void) { fork_folders(8); }
+static void fork_folders_16(void) { fork_folders(16); }
 
 /* Watches of a thousand directories by one instance after another. */
 static void add_watches(int watchers) {
@@ -173,6 +175,8 @@ static void add_watches(int watchers) {
 static void watch_1(void) { add_watches(1); }
 static void watch_2(void) { add_watches(2); }
 static void watch_4(void) { add_watches(4); }
+static void watch_8(void) { add_watches(8); }
+static void watch_16(void) { add_watches(16); }
 
 static void watch_anew(int watchers) {
     uint32_t first = watched_folders(FOLDERS, watchers);
@@ -195,6 +199,8 @@ static void unwatch(int watchers) {
 
 static void unwatch_1(void) { unwatch(1); }
 static void unwatch_4(void) { unwatch(4); }
+static void unwatch_8(void) { unwatch(8); }
+static void unwatch_16(void) { unwatch(16); }
 
 static void rmdir_watched(void) {
     watched_folders(FOLDERS, 1);
@@ -212,6 +218,8 @@ static void close_instance(int watchers) {
 
 static void close_instance_1(void) { close_instance(1); }
 static void close_instance_4(void) { close_instance(4); }
+static void close_instance_8(void) { close_instance(8); }
+static void close_instance_16(void) { close_instance(16); }
 
 static void close_tree(int count) {
     watched_folders(count, 1);
@@ -304,10 +312,14 @@ static const struct { const char *name; void (*run)(void); } shapes[] = {
     { "fork_10", fork_10 }, { "fork_10_dropped", fork_10_dropped }, { "fork_10_instance", fork_10_instance },
     { "fork_10_watched", fork_10_watched }, { "fork_10_watched_dropped", fork_10_watched_dropped },
     { "open_close", open_close }, { "new_trees", new_trees },
-    { "fork_folders_1", fork_folders_1 }, { "fork_folders_4", fork_folders_4 },
-    { "watch_1", watch_1 }, { "watch_2", watch_2 }, { "watch_4", watch_4 },
-    { "watch_anew_1", watch_anew_1 }, { "watch_anew_4", watch_anew_4 }, { "unwatch_1", unwatch_1 }, { "unwatch_4", unwatch_4 },
-    { "rmdir_watched", rmdir_watched }, { "close_instance_1", close_instance_1 }, { "close_instance_4", close_instance_4 },
+    { "fork_folders_1", fork_folders_1 }, { "fork_folders_4", fork_folders_4 }, { "fork_folders_8", fork_folders_8 },
+    { "fork_folders_16", fork_folders_16 },
+    { "watch_1", watch_1 }, { "watch_2", watch_2 }, { "watch_4", watch_4 }, { "watch_8", watch_8 }, { "watch_16", watch_16 },
+    { "watch_anew_1", watch_anew_1 }, { "watch_anew_4", watch_anew_4 },
+    { "unwatch_1", unwatch_1 }, { "unwatch_4", unwatch_4 }, { "unwatch_8", unwatch_8 }, { "unwatch_16", unwatch_16 },
+    { "rmdir_watched", rmdir_watched },
+    { "close_instance_1", close_instance_1 }, { "close_instance_4", close_instance_4 },
+    { "close_instance_8", close_instance_8 }, { "close_instance_16", close_instance_16 },
     { "close_tree_1000", close_tree_1000 }, { "close_tree_8000", close_tree_8000 },
     { "missing_root", missing_root }, { "missing_below_nothing", missing_below_nothing },
     { "move_in_root", exchange }, { "rename_short", rename_short }, { "move_and_save", move_and_save },

@@ -2,24 +2,35 @@
 //!
 //! Neighbouring calls are mostly in one directory, or in a few. A directory that is remembered is found by the text of
 //! its path, without a walk from the root. The cache is direct-mapped: a text has one slot, by its hash. The number of
-//! slots follows the number of nodes of the table, and a small table has none.
+//! slots follows the number of directories of the table, and a small table has none.
 
 ghost use Rattle.std.specs.Prelude.{◌≡◌, ◌⊎◌, ◌≤◌, ◌*◌, ℕ, List, Some, IfOk, IfSome, false, take, length};
+ghost use Rattle.slab.specs.Slab.{slab_len};
 ghost use Rattle.tree_paths.specs.Paths.{names_of};
 ghost use Rattle.inode_table.specs.Rows.{Label};
 ghost use Rattle.inode_table.specs.Kept.{rows_of, is_directory};
 ghost use Rattle.inode_table.specs.Recent.{IsKnown};
 
 use crate::node::{Node, is_directory};
+use crate::seen::Kind;
 use slab::Slab;
 use std::alloc::{AllocError, Global};
 use std::marker::Model;
 
+/// The fewest bytes of a text that is remembered. A walk to a directory with a shorter path takes hardly more.
+pub(crate) const TEXT_MIN: usize = 8;
+
 /// The most bytes of a text that is remembered.
 pub(crate) const TEXT_MAX: usize = 80;
 
+/// How many nodes a new table has at least before it has slots.
+pub(crate) const NODES_MIN: usize = 32;
+
 /// How many nodes a table has at least for each slot.
-const NODES_OF_A_SLOT: usize = 8;
+const NODES_OF_A_SLOT: usize = 4;
+
+/// How many slots a table has at most for each directory.
+const SLOTS_OF_A_DIRECTORY: usize = 2;
 
 /// What a word is multiplied by: 2^64 divided by the golden ratio. The top bits of the product depend on all bits of
 /// the word (Knuth, "The Art of Computer Programming", 6.4, multiplicative hashing).
@@ -62,13 +73,19 @@ impl Slot {
 pub(crate) struct Recent {
     /// The time now, which begins with 1.
     time: u64,
+    /// How many nodes there are before the first slots.
+    from: usize,
     /// As many as a power of two, or none.
     slots: Vec<Slot>,
 }
 
 impl Drop for Recent {
     fn drop(self) {
-        let Recent { time: _, slots: _ } = self;
+        let Recent {
+            time: _,
+            from: _,
+            slots: _,
+        } = self;
     }
 }
 
@@ -84,29 +101,38 @@ impl Model for Recent {
 }
 
 impl Recent {
-    /// Nothing is remembered, and there are no slots. It takes no memory.
-    pub(crate) fn new(alloc: Global) -> Recent
+    /// Nothing is remembered, and there are no slots before there are `from` nodes. It takes no memory.
+    pub(crate) fn new(alloc: Global, from: usize) -> Recent
         ensures { (p : List Label) (k : ℕ) → IsKnown result p k → ⊥ }
     {
         Recent {
             time: 1,
+            from,
             slots: Vec::new(alloc),
         }
     }
 
-    /// Nothing is remembered, in the slots of a table of so many nodes, if these are more than the slots here.
+    /// Nothing is remembered, in the slots of a table of these nodes, if these are more than the slots here.
     ///
     /// # Errors
     /// `AllocError`, if there is no memory for the slots.
-    pub(crate) fn grown(&self, alloc: Global, nodes: usize) -> Result<Option<Recent>, AllocError>
+    pub(crate) fn grown(
+        &self,
+        alloc: Global,
+        nodes: &Slab<Node>,
+    ) -> Result<Option<Recent>, AllocError>
         ensures { IfOk result (λ recent. IfSome recent (λ r. (p : List Label) (k : ℕ) → IsKnown r p k → ⊥)) }
     {
+        if nodes.len() < self.from {
+            return Ok(None);
+        }
         let len = slots_for(nodes);
         if len <= self.slots.len() {
             return Ok(None);
         }
         Ok(Some(Recent {
             time: 1,
+            from: self.from,
             slots: vec![in alloc; BLANK; len]?,
         }))
     }
@@ -168,24 +194,41 @@ impl Recent {
     }
 }
 
-/// How many slots a table of so many nodes has: the largest power of two that is at most their eighth, and at least
-/// 4 and at most 64, or none.
-fn slots_for(nodes: usize) -> usize
-    ensures { result * NODES_OF_A_SLOT ≤ nodes }
+/// How many slots a table of these nodes has: at most one for four of them, and two for each directory.
+fn slots_for(nodes: &Slab<Node>) -> usize
+    ensures { result * NODES_OF_A_SLOT ≤ slab_len nodes.now }
 {
-    match nodes {
-        0..=31 => 0,
-        32..=63 => 4,
-        64..=127 => 8,
-        128..=255 => 16,
-        256..=511 => 32,
+    let wanted = count_directories(nodes).saturating_mul(SLOTS_OF_A_DIRECTORY);
+    slots_within(usize::min(nodes.len() / NODES_OF_A_SLOT, wanted))
+}
+
+/// The largest power of two that is at most `most`, from 4 to 64, or none.
+fn slots_within(most: usize) -> usize
+    ensures { result ≤ most }
+{
+    match most {
+        0..=3 => 0,
+        4..=7 => 4,
+        8..=15 => 8,
+        16..=31 => 16,
+        32..=63 => 32,
         _ => 64,
     }
 }
 
-/// Six bits of a hash of all bytes of a text, and of its length: of each eight bytes from the front, and of the last
-/// eight. The bytes of a shorter text are one word. The last byte of a word is its lowest, as names differ most at
-/// their ends.
+/// How many of the nodes are directories.
+fn count_directories(nodes: &Slab<Node>) -> usize {
+    let mut count: usize = 0;
+    for (_, node) in nodes.iter() {
+        if node.content.kind() == Kind::Directory {
+            count = count.saturating_add(1);
+        }
+    }
+    count
+}
+
+/// Six bits of a hash of all bytes of a text that has at least eight, and of its length: of each eight bytes from the
+/// front, and of the last eight. The last byte of a word is its lowest, as names differ most at their ends.
 #[inline(always)]
 fn hash_of(text: &[u8]) -> usize {
     let mut hash = text.len() as u64;
@@ -194,30 +237,16 @@ fn hash_of(text: &[u8]) -> usize {
         hash = mixed(hash, u64::from_be_bytes(*word));
         rest = behind;
     }
-    let last = match text.last_chunk::<8>() {
-        Some(word) => u64::from_be_bytes(*word),
-        None => word_of(text),
-    };
-    (mixed(hash, last) >> 58) as usize
+    if let Some(word) = text.last_chunk::<8>() {
+        hash = mixed(hash, u64::from_be_bytes(*word));
+    }
+    (hash >> 58) as usize
 }
 
 /// A hash, and one word more.
 #[inline(always)]
 fn mixed(hash: u64, word: u64) -> u64 {
     (hash.rotate_left(25) ^ word).wrapping_mul(MULTIPLIER)
-}
-
-/// The bytes of a text that is shorter than a word, as a word: the first four and the last four of at least four.
-#[inline(always)]
-fn word_of(text: &[u8]) -> u64 {
-    if let (Some(front), Some(back)) = (text.first_chunk::<4>(), text.last_chunk::<4>()) {
-        return (u64::from(u32::from_be_bytes(*front)) << 32) | u64::from(u32::from_be_bytes(*back));
-    }
-    let mut word = 0;
-    for byte in text {
-        word = (word << 8) | u64::from(*byte);
-    }
-    word
 }
 
 /// Forgets all directories if the node at a key is one.

@@ -12,7 +12,7 @@ use crate::content::Content;
 use crate::found::Found;
 use crate::key::Key;
 use crate::node::{Node, is_directory};
-use crate::recent::Recent;
+use crate::recent::{NODES_MIN, Recent};
 use record_codec::Name;
 use slab::Slab;
 use std::alloc::{AllocError, Global};
@@ -84,7 +84,7 @@ impl Table {
         ensures world { IfOk result (λ table. world_of table ≡ opening_world) }
         ensures memory { IfErr result (λ refusal. refusal ≡ Refusal.Enomem) }
     {
-        let recent = Recent::new(alloc);
+        let recent = Recent::new(alloc, NODES_MIN);
         let mut nodes = Slab::new(alloc);
         nodes.reserve(1)?;
         nodes.insert_reserved(Node {
@@ -118,7 +118,7 @@ impl Table {
         Ok(())
     }
 
-    /// Where the nodes are to grow: more slots for directories to be remembered, if as many nodes have more than now.
+    /// Where the nodes are to grow: more slots for directories to be remembered, if such nodes have more than now.
     fn grown_recent(&self) -> Result<Option<Recent>, AllocError>
         ensures none { IfOk result (λ recent. IfSome recent (λ r. (p : List Label) (k : ℕ) → IsKnown r p k → ⊥)) }
         ensures err { OnErr result (self.now.room ≡ 0) }
@@ -126,7 +126,7 @@ impl Table {
         if self.nodes.len() < self.nodes.capacity() {
             return Ok(None);
         }
-        self.recent.grown(self.alloc, self.nodes.len())
+        self.recent.grown(self.alloc, &self.nodes)
     }
 
     /// What is true of the world of every table, for a caller's proof: it is a world of files, its paths are those that

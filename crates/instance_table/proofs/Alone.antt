@@ -1,5 +1,5 @@
 -- One instance that watches a file, with its watch.
-use Rattle.std.proofs.Common.{◌≡◌, ◌≢◌, ℕ, Bool, true, false, cond, eqb, List, [], ◌∷◌, Option, Some, None, is_some, IsSome}
+use Rattle.std.proofs.Common.{◌≡◌, ℕ, Bool, true, false, cond, eqb, [], ◌∷◌, Some, None, IsSome}
 use Rattle.std.proofs.Common.{refl, sym, ap, ◌∙◌, subst, arith}
 use Rattle.std.proofs.lemmas.Bool.{eq-eqb, eqb-true, false≢true}
 use Rattle.std.specs.FinMap as finmap
@@ -7,7 +7,7 @@ use Rattle.std.specs.FinMap.{get-empty, get-insert, get-remove, same_map, nat_cm
 use Rattle.std.specs.Ordering.{nat_cmp}
 use Rattle.std.specs.Cmp.{nat_cmp_total, unsigned_tied}
 use Rattle.watch_table.specs.Watching.{Watch}
-use Rattle.instance_table.specs.Watchers.{AreWatchers, WatchMap, watchers_map}
+use Rattle.instance_table.specs.Watchers.{AreWatchers, WatchMap}
 use Rattle.instance_table.proofs.Noted.{put-not-empty}
 use Rattle.instance_table.proofs.Rising.{cut-absent}
 use Rattle.instance_table.proofs.Zipped.{are-put, none-watch}

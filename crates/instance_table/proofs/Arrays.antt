@@ -1,6 +1,6 @@
 -- The first elements of an array that can have more.
 use Rattle.std.proofs.Common.{◌≡◌, ℕ, zero, suc, ◌+◌, ◌-◌, ◌<◌, ◌≤◌, ◌++◌, ◌∷◌, [], List, length, take, drop, set}
-use Rattle.std.proofs.Common.{refl, sym, ap, ◌∙◌, arith, length-take-le}
+use Rattle.std.proofs.Common.{refl, ap, ◌∙◌, arith, length-take-le}
 use Rattle.std.proofs.Math.Seq.{paste, take_at}
 
 first : {A : Type 0} (xs rest : List A) (n k : ℕ) → k ≡ n → n ≤ length xs → take n (take k xs ++ rest) ≡ take n xs

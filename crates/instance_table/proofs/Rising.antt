@@ -374,10 +374,3 @@ items-rising ks h = ap (map (λ (e : ℕ × Unit {0}). e.0)) (entries-rising (λ
     keys-marked : (ks : List ℕ) → map (λ (e : ℕ × Unit {0}). e.0) (marked ks) ≡ ks
     keys-marked [] = refl
     keys-marked (k ∷ ks) = ap (λ rest. k ∷ rest) (keys-marked ks)
-
-pub set-put : (ks : List ℕ) (i x : ℕ) → IsPlace ks x (Err i) → set_of (take i ks ++ x ∷ drop i ks) ≡ finmap.insert (set_of ks) x tt
-set-put ks i x place = map-put (λ (k : ℕ). k) (λ _. tt) ks i x (place-of-row ks x (Err i) place)
-
-pub set-there : (ks : List ℕ) (i x : ℕ) → IsStrictlySortedBy nat_cmp ks → IsPlace ks x (Ok i) → set_of ks ≡ finmap.insert (set_of ks) x tt
-set-there ks i x h place =
-    let at = place-of-row ks x (Ok i) place in sym (put-there (set_of ks) x tt (get-at (λ (k : ℕ). k) (λ _. tt) ks i x 0 (as-rows ks h) at.0 at.1))

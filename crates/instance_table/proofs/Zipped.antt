@@ -149,9 +149,6 @@ module _ (ids : List ℕ) (ws : List Watch) (are : AreWatchers ids ws) where
         ap paired (zip-set ids ws i x w are.same place.0 place.1) ∙ sym (mapped-is (set (zip ids ws) i (x, w)))
         ∙ map-set number watch (zip ids ws) i (x, w) rises within there ∙ ap (λ (m : WatchMap). finmap.insert m x w) is-map
 
-    pub are-set : (w : Watch) → AreWatchers ids (set ws i w)
-    are-set w = record { rising = are.rising; same = length-set ws i w ∙ are.same }
-
     -- an instance loses its watch
     pub watchers-cut : watchers_map (take i ids ++ drop (suc i) ids) (take i ws ++ drop (suc i) ws) ≡ finmap.remove (watchers_map ids ws) x
     watchers-cut =

@@ -4,7 +4,6 @@ ghost use Rattle.std.specs.FinMap as map;
 ghost use Rattle.instance_table.specs.Watchers.{AreWatchers, watchers_map};
 
 use crate::ids::place_of;
-use std::alloc::AllocError;
 use std::marker::Model;
 
 /// At most `N` instances that watch a file, by their numbers, rising; and the descriptor and the bits of the watch of
@@ -39,18 +38,6 @@ impl<const N: usize> Model for Few<N> {
 
     ghost invariant = { λ a. (a.len ≤ N) × (length a.ids ≡ N) × (length a.watches ≡ N)
         × AreWatchers (take a.len a.ids) (take a.len a.watches) };
-}
-
-impl<const N: usize> Clone for Few<N> {
-    ghost is_clone = { λ few copy. copy ≡ few };
-
-    fn clone(&self) -> Result<Few<N>, AllocError> {
-        Ok(Few {
-            len: self.len,
-            ids: self.ids,
-            watches: self.watches,
-        })
-    }
 }
 
 impl<const N: usize> Few<N> {

@@ -34,19 +34,16 @@ impl Model for Several {
     ghost invariant = { λ a. AreWatchers a.ids.items a.watches.items };
 }
 
-impl Clone for Several {
-    ghost is_clone = { λ several copy. copy ≡ several };
-
-    fn clone(&self) -> Result<Several, AllocError> {
-        Ok(Several {
-            ids: self.ids.clone()?,
-            watches: self.watches.clone()?,
-        })
-    }
-}
-
 impl Several {
-    /// Instances, each with its watch, and one more, with capacity for as many again. `Err` is out of memory.
+    /// Instances, each with its watch. `Err` is out of memory.
+    pub fn of(alloc: Global, ids: &[u32], watches: &[(i32, u32)]) -> Result<Several, AllocError>
+        requires watchers { AreWatchers ids.now watches.now }
+        ensures { IfOk result (λ several. several ≡ watchers_map ids.now watches.now) }
+    {
+        Several::within(alloc, ids.len(), ids, watches)
+    }
+
+    /// Instances, each with its watch, and one more. `Err` is out of memory.
     pub fn with(
         alloc: Global,
         ids: &[u32],
@@ -57,18 +54,23 @@ impl Several {
         requires watchers { AreWatchers ids.now watches.now }
         ensures { IfOk result (λ several. several ≡ map.insert (watchers_map ids.now watches.now) id watch) }
     {
-        let mut several = Several::of(alloc, ids, watches)?;
+        let mut several = Several::within(alloc, ids.len() * 2, ids, watches)?;
         several.put(id, watch)?;
         Ok(several)
     }
 
-    /// Instances, each with its watch, with capacity for as many again. `Err` is out of memory.
-    fn of(alloc: Global, ids: &[u32], watches: &[(i32, u32)]) -> Result<Several, AllocError>
+    /// Instances, each with its watch, with capacity for so many. `Err` is out of memory.
+    fn within(
+        alloc: Global,
+        capacity: usize,
+        ids: &[u32],
+        watches: &[(i32, u32)],
+    ) -> Result<Several, AllocError>
         requires watchers { AreWatchers ids.now watches.now }
         ensures { IfOk result (λ several. several ≡ watchers_map ids.now watches.now) }
     {
-        let mut its_ids = Vec::with_capacity(alloc, ids.len() * 2)?;
-        let mut its_watches = Vec::with_capacity(alloc, ids.len() * 2)?;
+        let mut its_ids = Vec::with_capacity(alloc, capacity)?;
+        let mut its_watches = Vec::with_capacity(alloc, capacity)?;
         its_ids.extend_from_slice(ids)?;
         its_watches.extend_from_slice(watches)?;
         Ok(Several {

@@ -1,6 +1,7 @@
 //! The instances that watch a file, each with its watch.
-ghost use Rattle.std.specs.Prelude.{◌≡◌, ◌↔◌, IsTrue, IsSome, OnErr, OnOk, false};
+ghost use Rattle.std.specs.Prelude.{◌≡◌, ◌↔◌, IsTrue, IsSome, IfOk, OnErr, OnOk, false};
 ghost use Rattle.std.specs.FinMap as map;
+ghost use Rattle.instance_table.specs.WatcherRow.{row_map};
 ghost use Rattle.instance_table.specs.Watchers.{AreWatchers, watchers_map};
 
 use crate::few::Few;
@@ -16,12 +17,14 @@ pub struct Watchers {
     row: Row,
 }
 
-/// One instance and its watch, at most four or eight, or any number. A row keeps its capacity where instances go.
+/// One instance and its watch, at most four, eight or sixteen, or any number. A row keeps its capacity where instances
+/// go, and a copy of more than four has what it needs.
 #[derive(Drop)]
 enum Row {
     One(u32, (i32, u32)),
     Four(Box<Few<4>>),
     Eight(Box<Few<8>>),
+    Sixteen(Box<Few<16>>),
     Several(Box<Several>),
 }
 
@@ -52,12 +55,15 @@ impl Clone for Watchers {
     ghost is_clone = { λ watchers copy. copy ≡ watchers };
 
     fn clone(&self) -> Result<Watchers, AllocError> {
-        let row = match &self.row {
-            Row::One(id, watch) => Row::One(*id, *watch),
-            Row::Four(four) => Row::Four(four.clone()?),
-            Row::Eight(eight) => Row::Eight(eight.clone()?),
-            Row::Several(several) => Row::Several(several.clone()?),
+        let alloc = match &self.row {
+            Row::One(id, watch) => return Ok(Watchers::one(*id, *watch)),
+            Row::Four(four) => *Box::allocator(four),
+            Row::Eight(eight) => *Box::allocator(eight),
+            Row::Sixteen(sixteen) => *Box::allocator(sixteen),
+            Row::Several(several) => *Box::allocator(several),
         };
+        let (ids, watches) = self.as_slices();
+        let row = row_of(alloc, ids, watches)?;
         Ok(Watchers { row })
     }
 }
@@ -77,30 +83,22 @@ impl Watchers {
         ensures ok { OnOk result (self.new ≡ map.insert self.old id watch) }
         ensures err { OnErr result (self.new ≡ self.old) }
     {
-        match &mut self.row {
+        let is_put = match &mut self.row {
             Row::One(first, its) => {
-                if *first == id {
+                let is_first = *first == id;
+                if is_first {
                     *its = watch;
-                    return Ok(());
                 }
-                let four = Few::with(slice::from_ref(first), slice::from_ref(its), id, watch);
-                self.row = Row::Four(Box::new(alloc, four)?);
+                is_first
             }
-            Row::Four(four) => {
-                if !four.put(id, watch) {
-                    let (ids, watches) = four.as_slices();
-                    let eight = Few::with(ids, watches, id, watch);
-                    self.row = Row::Eight(Box::new(alloc, eight)?);
-                }
-            }
-            Row::Eight(eight) => {
-                if !eight.put(id, watch) {
-                    let (ids, watches) = eight.as_slices();
-                    let several = Several::with(alloc, ids, watches, id, watch)?;
-                    self.row = Row::Several(Box::new(alloc, several)?);
-                }
-            }
+            Row::Four(four) => four.put(id, watch),
+            Row::Eight(eight) => eight.put(id, watch),
+            Row::Sixteen(sixteen) => sixteen.put(id, watch),
             Row::Several(several) => return several.put(id, watch),
+        };
+        if !is_put {
+            let (ids, watches) = self.as_slices();
+            self.row = larger_row(alloc, ids, watches, id, watch)?;
         }
         Ok(())
     }
@@ -114,6 +112,7 @@ impl Watchers {
             Row::One(_, its) => *its = watch,
             Row::Four(four) => four.set(id, watch),
             Row::Eight(eight) => eight.set(id, watch),
+            Row::Sixteen(sixteen) => sixteen.set(id, watch),
             Row::Several(several) => several.set(id, watch),
         }
     }
@@ -134,6 +133,10 @@ impl Watchers {
                 eight.remove(id);
                 eight.is_empty()
             }
+            Row::Sixteen(sixteen) => {
+                sixteen.remove(id);
+                sixteen.is_empty()
+            }
             Row::Several(several) => {
                 several.remove(id);
                 several.is_empty()
@@ -151,6 +154,7 @@ impl Watchers {
             Row::One(id, watch) => (slice::from_ref(id), slice::from_ref(watch)),
             Row::Four(four) => four.as_slices(),
             Row::Eight(eight) => eight.as_slices(),
+            Row::Sixteen(sixteen) => sixteen.as_slices(),
             Row::Several(several) => several.as_slices(),
         }
     }
@@ -161,5 +165,37 @@ impl Watchers {
     {
         let (ids, _) = self.as_slices();
         ids
+    }
+}
+
+/// A row of at least two instances, each with its watch. `Err` is out of memory.
+fn row_of(alloc: Global, ids: &[u32], watches: &[(i32, u32)]) -> Result<Row, AllocError>
+    requires { AreWatchers ids.now watches.now }
+    ensures { IfOk result (λ row. row_map row ≡ watchers_map ids.now watches.now) }
+{
+    match ids.len() {
+        0..=4 => Ok(Row::Four(Box::new(alloc, Few::of(ids, watches))?)),
+        5..=8 => Ok(Row::Eight(Box::new(alloc, Few::of(ids, watches))?)),
+        9..=16 => Ok(Row::Sixteen(Box::new(alloc, Few::of(ids, watches))?)),
+        _ => Ok(Row::Several(Box::new(alloc, Several::of(alloc, ids, watches)?)?)),
+    }
+}
+
+/// A row of instances, each with its watch, and one more. `Err` is out of memory.
+fn larger_row(
+    alloc: Global,
+    ids: &[u32],
+    watches: &[(i32, u32)],
+    id: u32,
+    watch: (i32, u32),
+) -> Result<Row, AllocError>
+    requires { AreWatchers ids.now watches.now }
+    ensures { IfOk result (λ row. row_map row ≡ map.insert (watchers_map ids.now watches.now) id watch) }
+{
+    match ids.len() {
+        0..=3 => Ok(Row::Four(Box::new(alloc, Few::with(ids, watches, id, watch))?)),
+        4..=7 => Ok(Row::Eight(Box::new(alloc, Few::with(ids, watches, id, watch))?)),
+        8..=15 => Ok(Row::Sixteen(Box::new(alloc, Few::with(ids, watches, id, watch))?)),
+        _ => Ok(Row::Several(Box::new(alloc, Several::with(alloc, ids, watches, id, watch)?)?)),
     }
 }

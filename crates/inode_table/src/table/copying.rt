@@ -25,7 +25,7 @@ impl Table {
         Ok(Table {
             nodes: self.nodes.clone()?,
             alloc: self.alloc,
-            recent: Recent::new(self.alloc),
+            recent: Recent::new(self.alloc, self.nodes.len().saturating_mul(2)),
         })
     }
 }

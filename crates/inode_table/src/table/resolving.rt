@@ -12,7 +12,7 @@ use super::{ROOT, Table, missing_at};
 use crate::found::Found;
 use crate::key::Key;
 use crate::node::{child, is_directory};
-use crate::recent::TEXT_MAX;
+use crate::recent::{TEXT_MAX, TEXT_MIN};
 use crate::resolved::Resolved;
 use crate::seen::Seen;
 use tree_paths::{NamePlace, Path, PathNames, Refusal};
@@ -76,11 +76,11 @@ impl Table {
     /// The same as [`Table::resolve`]. The directory of the last name is remembered, and no walk leads to one that is:
     /// the next path in the same directory takes a comparison of texts.
     ///
-    /// A table remembers directories whose paths have up to 80 bytes, until a directory is moved or removed. It has as
-    /// many slots as the largest power of two that is at most an eighth of its nodes, from 4 to 64, once its nodes have
-    /// grown from 32 or more: [`Table::reserve_node`] then allocates 96 bytes for each. A new table has no slots, nor
-    /// has a copy. A table without slots walks each time, and so does a path with a name of more than 31 bytes; a path
-    /// in the root needs no slot. It takes no memory.
+    /// A table remembers directories whose paths have 8 to 80 bytes, until a directory is moved or removed, or there
+    /// are more slots. Where its nodes grow from 32 or more, [`Table::reserve_node`] allocates slots of 96 bytes: 4 to
+    /// 64, a power of two, at most one for four nodes and two for each directory. A new table has no slots, nor has a
+    /// copy until its nodes are twice as many. A table without slots walks each time, and so does a path with a name of
+    /// more than 31 bytes. It takes no memory.
     #[inline(always)]
     pub fn resolve_recent<'a>(&mut self, path: &'a Path) -> Resolved<'a>
         ensures same { self.new ≡ self.old }
@@ -90,9 +90,6 @@ impl Table {
         let Some(text) = self.short_parent_text(path) else {
             return self.resolve(path);
         };
-        if text.is_empty() {
-            return self.resolve_last(ROOT, path);
-        }
         let at = self.recent.index_of(text);
         match self.recent.find(at, text) {
             Some(directory) => self.resolve_last(directory, path),
@@ -110,7 +107,7 @@ impl Table {
             return None;
         }
         let text = path.parent_text()?;
-        if TEXT_MAX < text.len() {
+        if text.len() < TEXT_MIN || TEXT_MAX < text.len() {
             return None;
         }
         Some(text)

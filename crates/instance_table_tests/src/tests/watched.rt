@@ -8,7 +8,7 @@ use std::alloc::AllocError;
 const STEPS: u32 = 600;
 
 /// How many instances and files there are, each numbered from 0 on.
-const IDS: u32 = 16;
+const IDS: u32 = 20;
 
 const FILES: u32 = 5;
 
@@ -169,6 +169,40 @@ fn walked(alloc: Global, seed: u32) -> Result<u32, Refusal> {
         }
     }
     Ok(STEPS)
+}
+
+/// Whether a file loses its watchers one by one until it is unwatched, whatever row they stand in, and is then
+/// watched again.
+fn is_left_by_all(alloc: Global, count: u32) -> Result<bool, Refusal> {
+    let mut instances = Instances::new(alloc);
+    let mut list = Vec::new(alloc);
+    for id in 0..IDS {
+        open(&mut instances, id)?;
+    }
+    for id in 0..count {
+        watches(&mut instances, &mut list, id * 7 % IDS, 1, IN_CREATE)?;
+    }
+    let mut is_well = is_told(alloc, &mut instances, &list, 1, IN_CREATE)?;
+    for id in 0..count {
+        is_well = is_well && instances.is_watching();
+        ends(&mut instances, &mut list, id * 5 % IDS, 1);
+        is_well = is_told(alloc, &mut instances, &list, 1, IN_CREATE)? && is_well;
+    }
+    for id in 0..IDS {
+        ends(&mut instances, &mut list, id, 1);
+    }
+    is_well = is_well && !instances.is_watching();
+    watches(&mut instances, &mut list, 3, 1, IN_CREATE)?;
+    Ok(is_told(alloc, &mut instances, &list, 1, IN_CREATE)? && is_well)
+}
+
+#[test]
+fn a_file_is_unwatched_where_all_have_ended(rt: HostRuntime) -> Result<(), Fail> {
+    let alloc = rt.alloc();
+    for count in 1..=IDS {
+        assert!(rt; is_left_by_all(alloc, count)?, "{count} watchers");
+    }
+    Ok(())
 }
 
 #[test]

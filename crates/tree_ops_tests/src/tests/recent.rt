@@ -1,5 +1,6 @@
 //! Paths that are resolved by the directories which a table remembers, beside walks from the root. The tree has some
-//! 300 directories, for which there are 32 slots.
+//! 300 directories, for which there are 64 slots. The paths of some have fewer than the eight bytes that are
+//! remembered.
 
 ghost use Rattle.std.specs.Prelude.{◌≡◌, ◌<◌};
 
@@ -41,12 +42,20 @@ fn make(calls: &mut Calls, text: &str) -> Result<Answer, Refusal> {
     calls.made(&FileCall::Mkdir { path, mode: 0o755 })
 }
 
+/// The path of a directory in another one, of 6 to 8 bytes or of 10 to 12.
+fn inner(alloc: Global, a: u64, b: u64) -> Result<String, Refusal> {
+    if b % 2 == 0 {
+        return Ok(format!(in alloc; "/d{a}/e{b}")?);
+    }
+    Ok(format!(in alloc; "/d{a}/inner{b}")?)
+}
+
 fn prepared(alloc: Global) -> Result<Calls, Refusal> {
     let mut calls = Calls::new(alloc, Limits::full())?;
     for a in 0..TOP {
         make(&mut calls, format!(in alloc; "/d{a}")?.as_str())?;
         for b in 1..INNER {
-            make(&mut calls, format!(in alloc; "/d{a}/e{b}")?.as_str())?;
+            make(&mut calls, inner(alloc, a, b)?.as_str())?;
         }
     }
     for text in LONG {
@@ -68,8 +77,8 @@ fn some_path(calls: &Calls, made: &mut Made) -> Result<Path, Refusal> {
         2 => format!(in alloc; "/d{a}/x{c}/e{b}")?,
         3 => format!(in alloc; "{long}/f{c}")?,
         4 => format!(in alloc; "{long}c/f{c}")?,
-        5 | 6 => format!(in alloc; "/d{a}/e{b}/f{c}")?,
-        _ => format!(in alloc; "/d{a}/e{b}")?,
+        5 | 6 => format!(in alloc; "{}/f{c}", inner(alloc, a, b)?)?,
+        _ => inner(alloc, a, b)?,
     };
     calls.path(text.as_str())
 }

@@ -221,42 +221,68 @@ fn each_allocation_of_a_copy(rt: HostRuntime) -> Result<(), Fail> {
     Ok(())
 }
 
-/// A copy of a table with so many nodes, which has no capacity for one more.
-fn full(alloc: Global, nodes: u32) -> Result<Table, Refusal> {
+/// The kinds of trees that grow here: of files or of directories in the root, and a copy of the latter.
+#[derive(Clone, Copy, Debug)]
+enum Shape {
+    Files,
+    Directories,
+    Copy,
+}
+
+/// Calls on a tree of so many nodes.
+fn grown(alloc: Global, nodes: u32, shape: Shape) -> Result<Calls, Refusal> {
     let mut calls = Calls::new(alloc, Limits::full())?;
     for i in 1..nodes {
         let text = format!(in alloc; "/{i}")?;
-        calls.create(text.as_str(), 0o644)?;
+        match shape {
+            Shape::Files => calls.create(text.as_str(), 0o644)?,
+            Shape::Directories | Shape::Copy => mkdir(&mut calls, text.as_str())?,
+        };
     }
-    calls.table.copy()
+    if let Shape::Copy = shape {
+        calls.table = calls.table.copy()?;
+    }
+    Ok(calls)
 }
 
 /// How many allocations capacity for one more node takes. Each was made to fail, with the table as it was. `None` if
 /// a result was wrong.
-fn room_refused_in_turn(alloc: Global, nodes: u32) -> Result<Option<u32>, Refusal> {
-    let control = full(alloc, nodes)?;
-    let mut table = full(alloc, nodes)?;
+fn room_refused_in_turn(alloc: Global, nodes: u32, shape: Shape) -> Result<Option<u32>, Refusal> {
+    let control = grown(alloc, nodes, shape)?;
+    let mut calls = grown(alloc, nodes, shape)?;
     for k in 1..MOST {
         let _ = refuse(alloc, k);
-        let told = table.reserve_node();
+        let told = calls.table.reserve_node();
+        let alike = are_alike(&calls.table, &control.table)?;
         match (told, was_refused(alloc)) {
-            (Err(Refusal::Enomem), true) if are_alike(&table, &control)? => {}
-            (Ok(()), false) if are_alike(&table, &control)? => return Ok(Some(k - 1)),
+            (Err(Refusal::Enomem), true) if alike => {}
+            (Ok(()), false) if alike => return Ok(Some(k - 1)),
             _ => return Ok(None),
         }
     }
     Ok(None)
 }
 
-/// From 32 nodes on there are slots for directories to be remembered, which are taken where the nodes grow.
+/// From 32 nodes on there are slots for directories to be remembered, taken where the nodes grow, if there are
+/// directories; in a copy not before its nodes are twice as many.
 #[test]
 fn each_growth_of_the_nodes(rt: HostRuntime) -> Result<(), Fail> {
     let alloc = rt.alloc();
     let has_refuser = has_refuser(alloc);
-    for (nodes, wanted) in [(1, 1), (31, 1), (32, 2), (300, 2)] {
-        let count = room_refused_in_turn(alloc, nodes)?;
+    for (nodes, shape, wanted) in [
+        (16, Shape::Directories, 1),
+        (31, Shape::Directories, 0),
+        (32, Shape::Directories, 2),
+        (32, Shape::Files, 1),
+        (256, Shape::Directories, 2),
+        (512, Shape::Directories, 1),
+        (1, Shape::Copy, 1),
+        (32, Shape::Copy, 1),
+        (300, Shape::Copy, 1),
+    ] {
+        let count = room_refused_in_turn(alloc, nodes, shape)?;
         let is_well = count == Some(if has_refuser { wanted } else { 0 });
-        assert!(rt; is_well, "{nodes} nodes: {count:?}");
+        assert!(rt; is_well, "{nodes} nodes, {shape:?}: {count:?}");
     }
     Ok(())
 }

@@ -1,6 +1,4 @@
 use Rattle.std.proofs.Common.{ap, ◌∙◌, sym}
-use Rattle.std.proofs.lemmas.Bool.{eqb-true}
-use Rattle.std.proofs.lemmas.List.{nil_from_length}
 use Rattle.tree_paths.specs.Paths.{names_of}
 use Rattle.inode_table.specs.Kept.{rows_of}
 use Rattle.inode_table.specs.Refusals.{parent_of}
@@ -10,11 +8,6 @@ use Rattle.inode_table.proofs.table.Table.resolve_recent.Goals as goal
 
 pub resolve_last-requires-clause-there : goal.resolve_last-requires-clause-there
 resolve_last-requires-clause-there c =
-    let nil = nil_from_length c.in-Some.text.now (eqb-true _ _ (sym c.is_empty.ensures ∙ c.if-is_empty.true)) in
-    ap (walk (child c.args.self.now.rows) 0) (sym c.in-Some.ensures.text.front ∙ ap names_of nil)
-
-pub resolve_last-requires-in-Some-find-clause-there : goal.resolve_last-requires-in-Some-find-clause-there
-resolve_last-requires-in-Some-find-clause-there c =
     let directory = c.in-Some-find.directory in
     let known = c.find.ensures directory c.in-Some-find.is in
     ap (λ t. walk (child t.rows) 0 (parent_of c.args.path.now)) (sym c.self.view_is)

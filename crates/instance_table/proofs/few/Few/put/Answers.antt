@@ -1,4 +1,4 @@
-use Rattle.std.proofs.Common.{ap, sym, ◌∙◌, ◌≡◌, ◌<◌, ◌≤◌, length, take, arith}
+use Rattle.std.proofs.Common.{ap, sym, ◌∙◌, length, take, arith}
 use Rattle.std.specs.FinMap as finmap
 use Rattle.instance_table.specs.Watchers.{WatchMap}
 use Rattle.instance_table.proofs.Fews.{few-are-put, few-length, few-put, few-set}

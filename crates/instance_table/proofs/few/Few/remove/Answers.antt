@@ -1,10 +1,17 @@
-use Rattle.std.proofs.Common.{◌∙◌, ◌≤◌, ap, sym, refl, take, arith}
+use Rattle.std.proofs.Common.{◌∙◌, ap, sym, refl, take, arith}
 use Rattle.std.specs.FinMap as finmap
 use Rattle.instance_table.specs.Watchers.{WatchMap}
 use Rattle.instance_table.proofs.Fews.{few-are-cut, few-cut}
 use Rattle.instance_table.proofs.Rising.{cut-absent}
 use Rattle.instance_table.proofs.Zipped.{watchers-absent_in}
 use Rattle.instance_table.proofs.few.Few.remove.Goals as goal
+
+pub returns-in-Ok : goal.returns-in-Ok
+returns-in-Ok g c =
+    let few = c.self.inside in
+    few-cut g.row.N few.len few.ids few.watches c.self.invariant c.in-Ok.place c.args.id c.in-Ok.ensures
+    c.copy_within.new.self c.copy_within-in-Ok.new.self c.copy_within.ensures.after c.copy_within-in-Ok.ensures.after
+    ∙ ap (λ (m : WatchMap). finmap.remove m c.args.id) c.self.view_is
 
 pub invariant_of-self : goal.invariant_of-self
 invariant_of-self g c =
@@ -16,13 +23,6 @@ invariant_of-self g c =
       few-are-cut g.row.N few.len few.ids few.watches c.self.invariant c.in-Ok.place c.args.id c.in-Ok.ensures
           c.copy_within.new.self c.copy_within-in-Ok.new.self c.copy_within.ensures.after c.copy_within-in-Ok.ensures.after,
     )
-
-pub returns-in-Ok : goal.returns-in-Ok
-returns-in-Ok g c =
-    let few = c.self.inside in
-    few-cut g.row.N few.len few.ids few.watches c.self.invariant c.in-Ok.place c.args.id c.in-Ok.ensures
-    c.copy_within.new.self c.copy_within-in-Ok.new.self c.copy_within.ensures.after c.copy_within-in-Ok.ensures.after
-    ∙ ap (λ (m : WatchMap). finmap.remove m c.args.id) c.self.view_is
 
 pub returns-in_default : goal.returns-in_default
 returns-in_default g c =

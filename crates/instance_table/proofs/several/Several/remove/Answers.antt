@@ -7,15 +7,6 @@ use Rattle.instance_table.proofs.Rising.{cut-absent}
 use Rattle.instance_table.proofs.Zipped.{are-cut, watchers-absent_in, watchers-cut}
 use Rattle.instance_table.proofs.several.Several.remove.Goals as goal
 
-pub invariant_of-self : goal.invariant_of-self
-invariant_of-self c =
-    let ids = c.self.inside.ids.items in
-    let ws = c.self.inside.watches.items in
-    let i = c.in-Ok.place in
-    let place : IsPlace ids c.args.id (Ok i) = subst (λ xs. IsPlace xs c.args.id (Ok i)) c.as_slice.ensures.value c.in-Ok.ensures in
-    subst (λ xs. AreWatchers xs c.remove-in-Ok.new.self.items) (sym c.remove.ensures.items)
-    (subst (AreWatchers (take i ids ++ drop (suc i) ids)) (sym c.remove-in-Ok.ensures.items) (are-cut ids ws c.self.invariant i c.args.id place))
-
 pub returns-in-Ok : goal.returns-in-Ok
 returns-in-Ok c =
     let ids = c.self.inside.ids.items in
@@ -25,6 +16,15 @@ returns-in-Ok c =
     (λ k. watchers_map (c.remove.ensures.items k) (c.remove-in-Ok.ensures.items k))
     ∙ watchers-cut ids ws c.self.invariant i c.args.id place
     ∙ ap (λ (m : WatchMap). finmap.remove m c.args.id) c.self.view_is
+
+pub invariant_of-self : goal.invariant_of-self
+invariant_of-self c =
+    let ids = c.self.inside.ids.items in
+    let ws = c.self.inside.watches.items in
+    let i = c.in-Ok.place in
+    let place : IsPlace ids c.args.id (Ok i) = subst (λ xs. IsPlace xs c.args.id (Ok i)) c.as_slice.ensures.value c.in-Ok.ensures in
+    subst (λ xs. AreWatchers xs c.remove-in-Ok.new.self.items) (sym c.remove.ensures.items)
+    (subst (AreWatchers (take i ids ++ drop (suc i) ids)) (sym c.remove-in-Ok.ensures.items) (are-cut ids ws c.self.invariant i c.args.id place))
 
 pub returns-in_default : goal.returns-in_default
 returns-in_default c =

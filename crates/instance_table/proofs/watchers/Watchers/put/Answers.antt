@@ -1,20 +1,37 @@
-use Rattle.std.proofs.Common.{◌≡◌, ◌<◌, [], ◌∷◌, ap, sym, subst, ◌∙◌, rules, arith}
+use Rattle.std.proofs.Common.{◌≡◌, true, false, ap, sym, ◌∙◌, rules}
 use Rattle.std.specs.FinMap as finmap
-use Rattle.instance_table.specs.Watchers.{AreWatchers, WatchMap}
-use Rattle.instance_table.proofs.Alone.{are-one, one-again}
+use Rattle.std.proofs.lemmas.Bool.{false≢true}
+use Rattle.instance_table.specs.declared.watchers.Watchers.TheInside.{Inside}
+use Rattle.instance_table.specs.WatcherRow.{row_map}
+use Rattle.instance_table.specs.Watchers.{WatchMap}
+use Rattle.instance_table.proofs.Alone.{one-again}
 use Rattle.instance_table.proofs.watchers.Watchers.put.Goals as goal
+use Rattle.instance_table.proofs.watchers.Watchers.put.Goals.{in-One+then-is_first, in-One+else-is_first, in-Four, in-Eight, in-Sixteen}
 
-pub returns-then-first-id-clause-ok : goal.returns-then-first-id-clause-ok
-returns-then-first-id-clause-ok c =
-    let id = c.in-One.first in
-    let same : id ≡ c.args.id = search rules in
-    let was : finmap.insert finmap.empty id c.in-One.its ≡ c.args.self.now = search rules in
-    sym (one-again id c.in-One.its c.args.watch) ∙ ap (λ (m : WatchMap). finmap.insert m id c.args.watch) was
-    ∙ ap (λ q. finmap.insert c.args.self.now q c.args.watch) same
-
-pub with-four-requires : goal.with-four-requires
-with-four-requires c =
-    let one = c.from_ref.ensures.len in
-    let are = subst (λ ids. AreWatchers ids c.from_ref-in-One.result.now) (sym c.from_ref.ensures.value)
-    (subst (λ watches. AreWatchers (c.in-One.first ∷ []) watches) (sym c.from_ref-in-One.ensures.value) (are-one c.in-One.first c.in-One.its)) in
-    (omega arith, (are, omega (arith, one)))
+pub returns-else-not-is_put-clause-ok : goal.returns-else-not-is_put-clause-ok
+returns-else-not-is_put-clause-ok c =
+    let put : c.match-self.is_put ≡ true = search rules in
+    elim c.match-self.branch [
+      | in-One+then-is_first w ↦
+          let id = w.in-One.first in
+          let same : id ≡ c.args.id = search rules in
+          let was : finmap.insert finmap.empty id w.in-One.its ≡ c.args.self.now = sym (ap row_map w.in-One.is) ∙ c.self.view_is in
+          ap (λ (a : Inside). row_map a.row) w.self-inside-is ∙ sym (one-again id w.in-One.its c.args.watch)
+          ∙ ap (λ (m : WatchMap). finmap.insert m id c.args.watch) was ∙ ap (λ q. finmap.insert c.args.self.now q c.args.watch) same
+      | in-One+else-is_first w ↦ let other : c.match-self.is_put ≡ false = search rules in absurd (false≢true (sym other ∙ put))
+      | in-Four w ↦
+          let lent = w.deref_mut in
+          let was : lent.result.now ≡ c.args.self.now = lent.ensures.value ∙ sym (ap row_map w.in-Four.is) ∙ c.self.view_is in
+          ap (λ (a : Inside). row_map a.row) w.self-inside-is ∙ w.put-is_put.ensures.put (sym w.is_put-is ∙ put)
+          ∙ ap (λ (m : WatchMap). finmap.insert m c.args.id c.args.watch) was
+      | in-Eight w ↦
+          let lent = w.deref_mut-in-Eight in
+          let was : lent.result.now ≡ c.args.self.now = lent.ensures.value ∙ sym (ap row_map w.in-Eight.is) ∙ c.self.view_is in
+          ap (λ (a : Inside). row_map a.row) w.self-inside-is ∙ w.put-is_put-in-Eight.ensures.put (sym w.is_put-is ∙ put)
+          ∙ ap (λ (m : WatchMap). finmap.insert m c.args.id c.args.watch) was
+      | in-Sixteen w ↦
+          let lent = w.deref_mut-in-Sixteen in
+          let was : lent.result.now ≡ c.args.self.now = lent.ensures.value ∙ sym (ap row_map w.in-Sixteen.is) ∙ c.self.view_is in
+          ap (λ (a : Inside). row_map a.row) w.self-inside-is ∙ w.put-is_put-in-Sixteen.ensures.put (sym w.is_put-is ∙ put)
+          ∙ ap (λ (m : WatchMap). finmap.insert m c.args.id c.args.watch) was
+    ]

@@ -5,7 +5,7 @@ use Rattle.instance_table.specs.WatcherRow.{row_map}
 use Rattle.instance_table.specs.Watchers.{WatchMap}
 use Rattle.instance_table.proofs.Alone.{one-kept, one-left}
 use Rattle.instance_table.proofs.watchers.Watchers.remove.Goals as goal
-use Rattle.instance_table.proofs.watchers.Watchers.remove.Goals.{in-Eight, in-Four, in-One, in-Several}
+use Rattle.instance_table.proofs.watchers.Watchers.remove.Goals.{in-Eight, in-Four, in-One, in-Several, in-Sixteen}
 
 -- an answer whether none is left in a row is one of the map that the row stands for
 none-left : (row m : WatchMap) (id : ℕ) (is : Bool) → row ≡ m
@@ -37,6 +37,14 @@ returns-clause-none c =
             (λ h. sym left ∙ w.is_empty-in-Eight.ensures.0 (sym w.result-is ∙ h)),
             (λ h. w.result-is ∙ w.is_empty-in-Eight.ensures.1 (left ∙ h)),
           )
+      | in-Sixteen w ↦
+          let lent = w.deref_mut-in-Sixteen in
+          let was : lent.result.now ≡ c.args.self.now = lent.ensures.value ∙ sym (ap row_map w.in-Sixteen.is) ∙ c.self.view_is in
+          let left : w.deref-in-Sixteen.result.now ≡ finmap.remove c.args.self.now c.args.id =
+          w.deref-in-Sixteen.ensures ∙ w.remove-in-Sixteen.ensures ∙ ap (λ (m : WatchMap). finmap.remove m c.args.id) was in (
+            (λ h. sym left ∙ w.is_empty-in-Sixteen.ensures.0 (sym w.result-is ∙ h)),
+            (λ h. w.result-is ∙ w.is_empty-in-Sixteen.ensures.1 (left ∙ h)),
+          )
       | in-Several w ↦
           let lent = w.deref_mut-in-Several in
           let was : lent.result.now ≡ c.args.self.now = lent.ensures.value ∙ sym (ap row_map w.in-Several.is) ∙ c.self.view_is in
@@ -63,6 +71,10 @@ returns-clause-rest c =
           let lent = w.deref_mut-in-Eight in
           let was : lent.result.now ≡ c.args.self.now = lent.ensures.value ∙ sym (ap row_map w.in-Eight.is) ∙ c.self.view_is in
           ap (λ (a : Inside). row_map a.row) w.self-inside-is ∙ w.remove-in-Eight.ensures ∙ ap (λ (m : WatchMap). finmap.remove m c.args.id) was
+      | in-Sixteen w ↦ λ other.
+          let lent = w.deref_mut-in-Sixteen in
+          let was : lent.result.now ≡ c.args.self.now = lent.ensures.value ∙ sym (ap row_map w.in-Sixteen.is) ∙ c.self.view_is in
+          ap (λ (a : Inside). row_map a.row) w.self-inside-is ∙ w.remove-in-Sixteen.ensures ∙ ap (λ (m : WatchMap). finmap.remove m c.args.id) was
       | in-Several w ↦ λ other.
           let lent = w.deref_mut-in-Several in
           let was : lent.result.now ≡ c.args.self.now = lent.ensures.value ∙ sym (ap row_map w.in-Several.is) ∙ c.self.view_is in

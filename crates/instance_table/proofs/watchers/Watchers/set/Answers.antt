@@ -5,7 +5,7 @@ use Rattle.instance_table.specs.WatcherRow.{row_map}
 use Rattle.instance_table.specs.Watchers.{WatchMap}
 use Rattle.instance_table.proofs.Alone.{is-one, one-again}
 use Rattle.instance_table.proofs.watchers.Watchers.set.Goals as goal
-use Rattle.instance_table.proofs.watchers.Watchers.set.Goals.{in-Eight, in-Four, in-One, in-Several}
+use Rattle.instance_table.proofs.watchers.Watchers.set.Goals.{in-Eight, in-Four, in-One, in-Several, in-Sixteen}
 
 pub returns : goal.returns
 returns c =
@@ -24,6 +24,10 @@ returns c =
           let lent = w.deref_mut-in-Eight in
           let was : lent.result.now ≡ c.args.self.now = lent.ensures.value ∙ sym (ap row_map w.in-Eight.is) ∙ c.self.view_is in
           ap (λ (a : Inside). row_map a.row) w.self-inside-is ∙ w.set-in-Eight.ensures ∙ ap (λ (m : WatchMap). finmap.insert m c.args.id c.args.watch) was
+      | in-Sixteen w ↦
+          let lent = w.deref_mut-in-Sixteen in
+          let was : lent.result.now ≡ c.args.self.now = lent.ensures.value ∙ sym (ap row_map w.in-Sixteen.is) ∙ c.self.view_is in
+          ap (λ (a : Inside). row_map a.row) w.self-inside-is ∙ w.set-in-Sixteen.ensures ∙ ap (λ (m : WatchMap). finmap.insert m c.args.id c.args.watch) was
       | in-Several w ↦
           let lent = w.deref_mut-in-Several in
           let was : lent.result.now ≡ c.args.self.now = lent.ensures.value ∙ sym (ap row_map w.in-Several.is) ∙ c.self.view_is in
