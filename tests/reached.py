@@ -5,8 +5,8 @@ contracts aside:
 
 - `name(..)`, also with type arguments, and `name` as an argument, of a function without `self` that the file has or imports;
 - `Type::name`, `Self::name` and `module::name`;
-- `self.name(..)`, and `value.name(..)` where the file says the type of the value: a field of a struct, a parameter, or a `let`
-  whose value begins with the name of the type;
+- `self.name(..)`, and `value.name(..)` where the crate says the type of the value: a field of a struct, a parameter, a `let`
+  whose value begins with the name of the type, or an arm for a variant of an enum that holds one value;
 - `value.name(..)` of a value of another kind, where methods of one type alone have this name in the crate, and std has it for
   no type that is common (COMMON);
 - `NAME` of a constant that the file has or imports.
@@ -26,14 +26,17 @@ OWNER = re.compile(r"(?:pub )?(?:impl|trait)\b")
 FUNCTION = re.compile(r"^( *)(pub(?:\(\w+\))? )?(?:const )?(?:extern \"C\" )?fn (\w+)")
 CONSTANT = re.compile(r"^( *)(pub(?:\(\w+\))? )?(?:const|static) (\w+)\b")
 STRUCT = re.compile(r"^(?:pub(?:\(\w+\))? )?struct (\w+)(?:<[^{;]*>)? \{(.*?)^\}", re.MULTILINE | re.DOTALL)
+ENUM = re.compile(r"^(?:pub(?:\(\w+\))? )?enum (\w+)(?:<[^{;]*>)? \{(.*?)^\}", re.MULTILINE | re.DOTALL)
+VARIANT = re.compile(r"^\s+(\w+)\((.*?)\),?$", re.MULTILINE)
 FIELD = re.compile(r"^\s+(?:pub(?:\(\w+\))? )?(\w+): (.*?),?$", re.MULTILINE)
-IMPORT = re.compile(r"^use crate::([\w:]*?)(?:::\{(.*?)\}|::(\w+));", re.MULTILINE | re.DOTALL)
+IMPORT = re.compile(r"^use (?:crate::)?(super|[\w:]*?)(?:::\{(.*?)\}|::(\w+));", re.MULTILINE | re.DOTALL)
 EXPORT = re.compile(r"^pub use \w+::(?:\{(.*?)\}|(\w+));", re.MULTILINE | re.DOTALL)
 ARGUMENTS = r"(?:::<[^>]*>)?"
 QUALIFIED = re.compile(rf"\b(\w+){ARGUMENTS}::(\w+)")
 ALONE = re.compile(rf"(?<![\w.:])(\w+){ARGUMENTS}\(|(?<![\w.:])([A-Z][A-Z0-9_]+)\b|[(,] ?(\w+)(?=[,)])")
 METHOD = re.compile(rf"((?:\b\w+\.)*)(?<=\.)(\w+){ARGUMENTS}\(")
 BINDING = re.compile(rf"let (?:mut )?(\w+) = (\w+){ARGUMENTS}(?:::\w+\(| \{{)")
+ARM = re.compile(r"\b(\w+)::(\w+)\((\w+)\) =>")
 PARAMETER = re.compile(r"\b(\w+): ([^,)]*)")
 # Methods of std that a value of any type may have.
 COMMON = set("clone close cmp copy drop eq find fmt from get get_mut insert is_empty iter len map new next pop push read remove "
@@ -68,7 +71,7 @@ def owner_of(line):
 
 def type_of(text):
     """Returns the name of a type without what is around it."""
-    found = re.match(r"(?:&(?:'\w+ )?(?:mut )?)?(?:\w+::)*(\w+)", text.strip())
+    found = re.match(r"(?:&(?:'\w+ )?(?:mut )?)?(?:Box<)?(?:\w+::)*(\w+)", text.strip())
     return found[1] if found else ""
 
 
@@ -109,13 +112,15 @@ class Crate:
         self.files = sorted((folder / "src").rglob("*.rt"))
         self.items = [item for file in self.files for item in items_of(file)]
         self.exported = self.exports(folder / "src")
-        self.imports, self.fields = {}, {}
+        self.imports, self.fields, self.variants = {}, {}, {}
         self.free, self.methods = collections.defaultdict(list), collections.defaultdict(list)
         for file in self.files:
             text = file.read_text(encoding="utf-8")
-            self.imports[file] = {name: it[1].split("::")[-1] for it in IMPORT.finditer(text)
+            above = file.parent.name if file.parent != folder / "src" else "lib"
+            self.imports[file] = {name: above if it[1] == "super" else it[1].split("::")[-1] for it in IMPORT.finditer(text)
                                   for name in re.findall(r"\w+", it[2] or it[3])}
             self.fields.update((it[1], dict(FIELD.findall(it[2]))) for it in STRUCT.finditer(text))
+            self.variants.update((it[1], dict(VARIANT.findall(it[2]))) for it in ENUM.finditer(text))
         for item in self.items:
             (self.methods if item.owner else self.free)[item.name].append(item)
         self.owners = {item.owner for item in self.items if item.owner}
@@ -142,7 +147,8 @@ class Crate:
     def receivers(self, item, code):
         """Returns the types of the values that an item names."""
         found = {name: type_of(text) for name, text in PARAMETER.findall(code.split("{")[0])}
-        return {**dict(BINDING.findall(code)), **found, "self": item.owner}
+        arms = {name: type_of(self.variants.get(enum, {}).get(variant, "")) for enum, variant, name in ARM.findall(code)}
+        return {**dict(BINDING.findall(code)), **arms, **found, "self": item.owner}
 
     def of_method(self, types, chain, name):
         """Returns the methods that a call of a value may mean: the value is a name and fields of it."""
