@@ -1,5 +1,5 @@
-/* Calls that the workloads of bench/run make seldom, each measured alone: costs NAME runs one, with callgrind collecting
- * during the measured calls only, and prints how many there were and how many bytes of memory they left allocated. */
+/* Single calls, each measured alone: costs NAME runs one, with callgrind collecting during the measured calls only, and
+ * prints how many there were and how many bytes of memory they left allocated. */
 #include "watchtree.h"
 #include <malloc.h>
 #include <stdio.h>
@@ -150,6 +150,41 @@ static void new_trees(void) {
     end(FORKS);
 }
 
+/* Files in folders of a tree, so many in each. */
+static void fill(struct wt_tree *in, int folders, int files) {
+    must(wt_mkdir(in, PATH("/other"), 0755));
+    for (int i = 0; i < folders; i++) {
+        sprintf(path, "/other/folder%d", i);
+        must(wt_mkdir(in, PATH(path), 0755));
+        for (int k = 0; k < files; k++) sprintf(path, "/other/folder%d/file%d", i, k), must(wt_create(in, PATH(path), 0644));
+    }
+}
+
+/* Trees that grow to so many folders and files. */
+static void grow(int folders, int files) {
+    begin();
+    for (int i = 0; i < 20; i++) must(wt_open(&forks[i])), fill(&forks[i], folders, files);
+    end(20);
+}
+
+static void tree_4_by_10(void) { grow(4, 10); }
+static void tree_1_by_600(void) { grow(1, 600); }
+static void tree_40_by_15(void) { grow(40, 15); }
+
+/* Forks of such a tree that are kept, with one more file in each. */
+static void fork_and_create(int folders, int files) {
+    fill(&tree, folders, files);
+    begin();
+    for (int i = 0; i < 20; i++) {
+        must(wt_fork(&tree, &forks[i]));
+        must(wt_create(&forks[i], PATH("/other/folder0/more"), 0644));
+    }
+    end(20);
+}
+
+static void fork_4_by_10_create(void) { fork_and_create(4, 10); }
+static void fork_40_by_15_create(void) { fork_and_create(40, 15); }
+
 static void fork_folders(int watchers) {
     watched_folders(FOLDERS, watchers);
     begin();
@@ -242,7 +277,7 @@ static void unlink_3(void) { unlink_watched(3); }
 static void oneshot_128(void) { oneshot(MOST); }
 static void oneshot_2(void) { oneshot(2); }
 
-/* A look for what is missing, below nothing and below a directory. */
+/* A look for what is missing, in the root and below nothing. */
 static void missing(const char *wanted) {
     struct wt_stat stat;
     mkdir_at("/d");
@@ -254,6 +289,7 @@ static void missing(const char *wanted) {
 
 static void missing_root(void) { missing("/a"); }
 static void missing_below_nothing(void) { missing("/a/b"); }
+static void missing_below_long_nothing(void) { missing("/no-such-folder/file"); }
 
 static void exchange(void) {
     mkdir_at("/a0"), mkdir_at("/a1"), create_at("/a0/f"), create_at("/a1/f");
@@ -270,7 +306,7 @@ static void rename_short(void) {
     end(2 * ROUNDS);
 }
 
-/* Directories that are moved, each followed by a save below. */
+/* Directories that are moved, each followed by a write below. */
 static void move_and_save(void) {
     mkdir_at("/src"), mkdir_at("/src/main"), mkdir_at("/src/main/java");
     create_at("/src/main/java/App.java");
@@ -305,6 +341,18 @@ static void short_folders(void) { in_turn("/d%d/f", 100); }
 static void modules(void) { in_turn("/services/module-%d/src/main/resources/application.yaml", 100); }
 static void two_modules(void) { in_turn("/services/module-%d/src/main/resources/application.yaml", 2); }
 
+/* The same beside 600 files in 40 folders. */
+static void crowded(void (*run)(void)) { fill(&tree, 40, 15), run(); }
+
+static void missing_root_crowded(void) { crowded(missing_root); }
+static void missing_below_nothing_crowded(void) { crowded(missing_below_nothing); }
+static void missing_below_long_nothing_crowded(void) { crowded(missing_below_long_nothing); }
+static void move_in_root_crowded(void) { crowded(exchange); }
+static void rename_short_crowded(void) { crowded(rename_short); }
+static void move_and_save_crowded(void) { crowded(move_and_save); }
+static void two_modules_crowded(void) { crowded(two_modules); }
+static void modules_crowded(void) { crowded(modules); }
+
 static const struct { const char *name; void (*run)(void); } shapes[] = {
     { "save_128", save_128 }, { "save_128_long", save_128_long }, { "save_20", save_20 }, { "save_3", save_3 },
     { "save_3_long", save_3_long }, { "save_1", save_1 }, { "unlink_128", unlink_128 }, { "unlink_3", unlink_3 },
@@ -312,6 +360,8 @@ static const struct { const char *name; void (*run)(void); } shapes[] = {
     { "fork_10", fork_10 }, { "fork_10_dropped", fork_10_dropped }, { "fork_10_instance", fork_10_instance },
     { "fork_10_watched", fork_10_watched }, { "fork_10_watched_dropped", fork_10_watched_dropped },
     { "open_close", open_close }, { "new_trees", new_trees },
+    { "tree_4_by_10", tree_4_by_10 }, { "tree_1_by_600", tree_1_by_600 }, { "tree_40_by_15", tree_40_by_15 },
+    { "fork_4_by_10_create", fork_4_by_10_create }, { "fork_40_by_15_create", fork_40_by_15_create },
     { "fork_folders_1", fork_folders_1 }, { "fork_folders_4", fork_folders_4 }, { "fork_folders_8", fork_folders_8 },
     { "fork_folders_16", fork_folders_16 },
     { "watch_1", watch_1 }, { "watch_2", watch_2 }, { "watch_4", watch_4 }, { "watch_8", watch_8 }, { "watch_16", watch_16 },
@@ -322,8 +372,14 @@ static const struct { const char *name; void (*run)(void); } shapes[] = {
     { "close_instance_8", close_instance_8 }, { "close_instance_16", close_instance_16 },
     { "close_tree_1000", close_tree_1000 }, { "close_tree_8000", close_tree_8000 },
     { "missing_root", missing_root }, { "missing_below_nothing", missing_below_nothing },
+    { "missing_below_long_nothing", missing_below_long_nothing },
     { "move_in_root", exchange }, { "rename_short", rename_short }, { "move_and_save", move_and_save },
     { "short_folders", short_folders }, { "modules", modules }, { "two_modules", two_modules },
+    { "missing_root_crowded", missing_root_crowded }, { "missing_below_nothing_crowded", missing_below_nothing_crowded },
+    { "missing_below_long_nothing_crowded", missing_below_long_nothing_crowded },
+    { "move_in_root_crowded", move_in_root_crowded }, { "rename_short_crowded", rename_short_crowded },
+    { "move_and_save_crowded", move_and_save_crowded },
+    { "modules_crowded", modules_crowded }, { "two_modules_crowded", two_modules_crowded },
 };
 
 int main(int count, char **words) {
