@@ -32,19 +32,19 @@ class Words(argparse.ArgumentParser):
 def _range(word: str) -> range:
     first, dots, last = word.partition("..")
     if not dots or not first.isdecimal() or not last.isdecimal() or int(last) < int(first):
-        raise argparse.ArgumentTypeError(f"not A..B: {word}")
+        raise argparse.ArgumentTypeError(f"it wants A..B, the first seed and the last, as 1..200, and not '{word}'")
     return range(int(first), int(last) + 1)
 
 
 def _vary(word: str) -> str:
     if not word or any(it not in VARIED for it in word.split(",")):
-        raise argparse.ArgumentTypeError(f"not of {', '.join(VARIED)}: {word}")
+        raise argparse.ArgumentTypeError(f"it wants words of lines, reads and queue, as lines,reads, and not '{word}'")
     return word
 
 
 def _count(word: str) -> int:
     if not word.isdecimal() or int(word) < 1:
-        raise argparse.ArgumentTypeError(f"no count: {word}")
+        raise argparse.ArgumentTypeError(f"it wants a number from 1 on, and not '{word}'")
     return int(word)
 
 

@@ -1,7 +1,9 @@
 /* The command line: words of options, and what each may be. */
 #include "options.h"
+#include <ctype.h>
 #include <errno.h>
 #include <getopt.h>
+#include <inttypes.h>
 #include <limits.h>
 #include <sched.h>
 #include <signal.h>
@@ -31,15 +33,19 @@ static const char usage[] =
     "  --stall MS         a run without a record or a line for so long is ended (10000)\n"
     "  --one-cpu          keep everything on one CPU\n";
 
-_Noreturn static void refuse(const char *option, const char *value) {
-    fault("--%s: bad value '%s'", option, value);
+_Noreturn static void refuse(const char *option, const char *value, const char *wanted) {
+    fault("--%s: bad value '%s': it wants %s", option, value, wanted);
 }
 
 static uint64_t number(const char *option, const char *word, uint64_t least, uint64_t most) {
     char *end;
     errno = 0;
     unsigned long long value = strtoull(word, &end, 0);
-    if (errno || end == word || *end || strchr(word, '-') || value < least || value > most) refuse(option, word);
+    if (errno || end == word || *end || strchr(word, '-') || value < least || value > most) {
+        char wanted[64];
+        snprintf(wanted, sizeof wanted, "a number from %" PRIu64 " to %" PRIu64, least, most);
+        refuse(option, word, wanted);
+    }
     return value;
 }
 
@@ -52,16 +58,19 @@ static int signal_named(const char *word) {
         const char *known = sigabbrev_np(i);
         if (known && !strcmp(known, name)) return i;
     }
+    if (!isdigit((unsigned char)*word))
+        refuse("end", word, "the name of a signal, as TERM or INT, a number from 1 to 64, or none");
     return (int)number("end", word, 1, 64);
 }
 
 static void seeds(const char *word) {
     char text[64];
     const char *dots = strstr(word, "..");
-    if (!dots || (size_t)(dots - word) >= sizeof text) refuse("seeds", word);
+    if (!dots || dots == word || !dots[2] || (size_t)(dots - word) >= sizeof text)
+        refuse("seeds", word, "A..B, the first seed and the last, as 1..200");
     memcpy(text, word, (size_t)(dots - word));
     text[dots - word] = 0;
-    options.seed = number("seeds", text, 0, UINT64_MAX);
+    options.seed = number("seeds", text, 0, UINT64_MAX - 1);
     options.last_seed = number("seeds", dots + 2, options.seed, UINT64_MAX - 1);
     options.has_seed = options.many_seeds = true;
 }
@@ -76,7 +85,7 @@ static void stay_on_one_cpu(void) {
 static void outside(const char *word) {
     if (!strcmp(word, "ignore")) options.ignores_outside = true;
     else if (!strcmp(word, "refuse")) options.ignores_outside = false;
-    else refuse("outside", word);
+    else refuse("outside", word, "refuse or ignore");
 }
 
 static void vary(const char *list) {
@@ -87,7 +96,7 @@ static void vary(const char *list) {
         size_t length = strcspn(at, ",");
         int i = 0;
         while (i < 3 && (strlen(names[i]) != length || memcmp(at, names[i], length))) i++;
-        if (i == 3) refuse("vary", list);
+        if (i == 3) refuse("vary", list, "words of lines, reads and queue, as lines,reads");
         options.vary |= 1 << i;
     }
 }
@@ -105,6 +114,7 @@ void read_options(int argc, char **argv) {
         { "vary", 1, NULL, 'v' }, { "schedule", 1, NULL, 'R' }, { "quick", 0, NULL, 'Q' },
         { "outside", 1, NULL, 'u' }, { "end", 1, NULL, 'E' }, { "one-cpu", 0, NULL, '1' }, { "help", 0, NULL, 'h' },
         { 0 } };
+    argv[0] = "watchtree under";  /* which getopt_long names, and not where the tool is installed */
     for (int c; (c = getopt_long(argc, argv, "+h", words, NULL)) >= 0;) switch (c) {
         case 'd': options.dir = optarg; break;
         case 't': options.traces = true; break;
