@@ -1,8 +1,8 @@
-"""Compares watchtree.h with the synopsis of its man page: each function, its result and its parameters.
+"""Compares a header with the synopsis of its man page: each function, its result and its parameters.
 
 usage: manual.py HEADER PAGE
 
-In the page a parameter `tree` stands for `struct wt_tree *tree`. Afterwards each function is taken out of the page, in
+In the page a parameter `tree` stands for the struct that its description names. Afterwards each function is taken out of the page, in
 memory, and given one parameter less, and each change must be seen.
 """
 import re
@@ -16,9 +16,10 @@ def in_page(text):
     """Returns the declaration of each function of the synopsis."""
     found = {}
     synopsis = text.partition(".Sh SYNOPSIS")[2].partition(".Sh DESCRIPTION")[0]
+    tree = re.search(r'^\.Fa tree\nstands for\n\.Vt "([^"]*)" \.$', text, re.M)[1]
     for result, name, words in re.findall(r"^\.Ft (.*)\n\.Fn (\w+)(.*)$", synopsis, re.M):
         taken = [quoted or word for quoted, word in re.findall(r'"([^"]*)"|(\S+)', words)]
-        taken = ["struct wt_tree *tree" if it == "tree" else it for it in taken]
+        taken = [tree if it == "tree" else it for it in taken]
         found[name] = plain(f"{result} {name}({', '.join(taken)})")
     return found
 
