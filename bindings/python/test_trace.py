@@ -85,8 +85,10 @@ class Trace(unittest.TestCase):
             self.assertEqual(fates(run, 1), [(5, "CREATE", "joined", 7)])
 
     def test_a_line_that_is_no_command_is_a_fault(self):
-        with self.assertRaisesRegex(watchtree_trace.Fault, "line 2: unknown command"):
+        with self.assertRaisesRegex(watchtree_trace.Fault, "line 2: unknown command: watchtree.1. has all commands"):
             run_of("init\nfly /d\n")
+        with self.assertRaisesRegex(watchtree_trace.Fault, "line 2: bad mask: it is 0x and 1 to 8 hexadecimal digits"):
+            run_of("init\nwatch 1 / 256\n")
 
 
 if __name__ == "__main__":

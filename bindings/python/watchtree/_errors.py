@@ -7,10 +7,19 @@ from ._library import text_of
 
 JOURNAL_FULL, COOKIES_SPENT, NUMBERS_SPENT = 1001, 1004, 1007
 OWN = {
-    1001: "JournalFull", 1003: "Piped", 1004: "CookiesSpent", 1007: "NumbersSpent",
-    1101: "bad byte", 1102: "unknown command", 1103: "wrong number of words", 1104: "bad escape",
-    1105: "bad mode", 1106: "bad hexadecimal", 1107: "bad mask", 1108: "bad number",
-}  # fmt: skip
+    1001: "JournalFull",
+    1003: "Piped",
+    1004: "CookiesSpent",
+    1007: "NumbersSpent",
+    1101: "bad byte: a line has spaces and the bytes from ! to ~",
+    1102: "unknown command: watchtree(1) has all commands",
+    1103: "wrong number of words: watchtree(1) has the words of each command",
+    1104: "bad escape: after a % there are two hexadecimal digits",
+    1105: "bad mode: it has 1 to 6 octal digits",
+    1106: "bad hexadecimal: bytes are an even number of hexadecimal digits, or -",
+    1107: "bad mask: it is 0x and 1 to 8 hexadecimal digits",
+    1108: "bad number: it has 1 to 20 decimal digits, and fits 32 bits, an offset or a length 64 bits",
+}
 
 
 def fail(number: int) -> NoReturn:

@@ -134,8 +134,12 @@ static void hide_nursery(char *text, size_t *length) {
 }
 
 static const char *text_of(int64_t reply) {
-    static const char *const faults[] = { "bad byte", "unknown command", "wrong number of words", "bad escape", "bad mode",
-                                          "bad hex", "bad mask", "bad number" };
+    static const char *const faults[] = {
+        "bad byte: a line has spaces and the bytes from ! to ~", "unknown command: watchtree(1) has all commands",
+        "wrong number of words: watchtree(1) has the words of each command",
+        "bad escape: after a % there are two hexadecimal digits", "bad mode: it has 1 to 6 octal digits",
+        "bad hex: bytes are an even number of hexadecimal digits, or -", "bad mask: it is 0x and 1 to 8 hexadecimal digits",
+        "bad number: it has 1 to 20 decimal digits, and fits 32 bits, an offset or a length 64 bits" };
     int64_t i = -reply - WT_BAD_BYTE;
     return i >= 0 && i < (int64_t)(sizeof faults / sizeof *faults) ? faults[i] : strerror(errno_of(reply));
 }
