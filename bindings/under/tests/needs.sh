@@ -55,13 +55,15 @@ expect 'the status of the program' 7 - "$under" empty -- sh -c 'exit 7'
 expect 'the signal of the program' 137 - "$under" empty -- sh -c 'kill -9 $$'
 expect 'no such script' 125 'none: No such file' "$under" none -- ls /wt
 expect 'a fault of the script' 125 'line 4' "$under" fault -- touch "$room/started"
-expect 'a bad mode' 125 'line 3: bad mode: it has 1 to 6 octal digits' "$under" mode -- touch "$room/started"
+expect 'a bad mode' 125 'line 3' "$under" mode -- touch "$room/started"
 [ ! -e started ] && echo 'ok a fault is found before the start' || echo 'FAILED a fault is found before the start: it started'
 expect 'no such program' 127 'no-such-program: No such file' "$under" script -- no-such-program
 expect 'no program' 126 'Permission denied' "$under" script -- "$room/script"
 expect 'no words' 125 - sh -c '"$0" 2>&1' "$under"
 expect 'no program named' 125 - sh -c '"$0" script 2>&1' "$under"
 expect 'a bad number' 125 'settle.*bad value' "$under" --settle soon script -- ls
+printf '%s\n' 'watch 1 / 256' >mask
+expect 'a bad mask' 125 'line 1: bad mask: it is 0x and 1 to 8 hexadecimal digits' "$under" mask -- true
 expect 'an unknown option' 125 - sh -c '"$0" --no-such script -- ls 2>&1' "$under"
 expect 'a program that ends early' 123 '2 lines did not happen' "$under" two -- true
 expect 'a program that fails early' 3 '2 lines did not happen' "$under" two -- sh -c 'exit 3'
