@@ -8,14 +8,16 @@ import signal
 import stat
 import sys
 import tempfile
+import traceback
 from typing import List, NoReturn, Optional, Tuple
 
 sys.dont_write_bytecode = True
 sys.path.insert(0, os.path.dirname(os.path.abspath(__file__)))
 import report  # noqa: E402
+import schedules  # noqa: E402
 import search  # noqa: E402
 from runs import NOT_EXECUTABLE, NOT_FOUND, TOOL_FAULT, Bench, Result  # noqa: E402
-from schedules import Fault, parse  # noqa: E402
+from schedules import Fault  # noqa: E402
 
 USAGE = "watchtree explore [OPTIONS] SCRIPT --check COMMAND -- PROGRAM [ARGUMENT..]"
 VARIED = ("lines", "reads", "queue")
@@ -95,8 +97,7 @@ def check_script(path: str) -> None:
         mode = os.stat(path).st_mode
         if not stat.S_ISREG(mode):
             raise Fault(f"{path}: a script that is read for each run is a file")
-        with open(path, encoding="utf-8", errors="surrogateescape") as file:
-            schedule = parse(file.read())
+        schedule = schedules.read(path)
     except OSError as fault:
         raise Fault(f"{path}: {fault.strerror}") from fault
     if not schedule.lines():
@@ -147,14 +148,32 @@ def main(words: List[str]) -> int:
         print(f"watchtree explore: {fault}", file=sys.stderr)
         return TOOL_FAULT
     except OSError as fault:
-        print(f"watchtree explore: {fault.filename or ''}: {fault.strerror}", file=sys.stderr)
+        where = f"{fault.filename}: " if fault.filename else ""
+        print(f"watchtree explore: {where}{fault.strerror}", file=sys.stderr)
         return TOOL_FAULT
     except KeyboardInterrupt:
         return 130
+    except Exception:  # pylint: disable=broad-except
+        # The status of an exception that nobody takes is 1, which means that a schedule fails.
+        traceback.print_exc()
+        print("watchtree explore: this is a fault of the tool", file=sys.stderr)
+        return TOOL_FAULT
     finally:
         if room:
             shutil.rmtree(room, ignore_errors=True)
 
 
+def flushed(status: int) -> int:
+    """Returns the exit status after all is written: that of a fault if it cannot be."""
+    try:
+        sys.stdout.flush()
+    except OSError as fault:
+        print(f"watchtree explore: standard output: {fault.strerror}", file=sys.stderr)
+        # (Python would write it again at its end, and exit with a status of its own)
+        os.dup2(os.open(os.devnull, os.O_WRONLY), sys.stdout.fileno())
+        return TOOL_FAULT
+    return status
+
+
 if __name__ == "__main__":
-    sys.exit(main(sys.argv[1:]))
+    sys.exit(flushed(main(sys.argv[1:])))

@@ -76,8 +76,7 @@ def replay(runner, name, client, room):
         sys.exit(f"{name}: no schedule of it fails as far as is known")
     all_failed = True
     for file in stored:
-        with open(f"{HERE}/{file}", encoding="utf-8") as text:
-            schedule = schedules.parse(text.read())
+        schedule = schedules.read(f"{HERE}/{file}")
         options = ["--quick", "--settle", str(client.settle)]
         check = check_of(client, file.split(".")[1])
         bench = runs.Bench(runner, options, "", check, words_of(client, room), room)
