@@ -8,11 +8,13 @@ from dataclasses import dataclass
 from typing import Dict, List, Optional
 
 import traces
-from schedules import Fault, Schedule, read
+from schedules import Fault, Refused, Schedule, read
 
 # Exit statuses of the runner, and of a shell that cannot run a command.
 NOTHING_DELIVERED, LINES_LEFT, STALLED, TOOL_FAULT = 122, 123, 124, 125
 NOT_EXECUTABLE, NOT_FOUND = 126, 127
+# How the runner reports a set-up that is refused.
+REFUSED = "before `--` is refused: "
 # No run takes so long: the runner ends one that stalls.
 LONGEST_RUN = 900
 
@@ -79,7 +81,8 @@ class Bench:
         except subprocess.TimeoutExpired as late:
             raise Fault(f"a run was not over after {LONGEST_RUN} seconds") from late
         if said.returncode == TOOL_FAULT:
-            raise Fault("the runner: " + _last_line(said.stderr, f"status {TOOL_FAULT}"))
+            why = _last_line(said.stderr, f"status {TOOL_FAULT}")
+            raise (Refused if REFUSED in why else Fault)(f"the runner: {why}")
         return said
 
     def _judge(self, out: str, status: int, seed: Optional[int]) -> Result:

@@ -11,6 +11,10 @@ class Fault(Exception):
     """What stops the search: a fault of the tool, the script, the check or the machine."""
 
 
+class Refused(Fault):
+    """A line that sets the tree up is refused, so the program is not started."""
+
+
 @dataclass(frozen=True)
 class Line:
     """A line after the first mark. It happens at rest, or before a request: its number, or how many requests follow the one

@@ -40,6 +40,12 @@ class Faults(ToolTest):
     def test_a_line_that_is_none(self) -> None:
         self.fails("line 3: unknown command", self.write("script", "mkdir /d 755", "--", "fly /d"), "true", self.program)
 
+    def test_a_line_of_the_set_up_that_is_refused(self) -> None:
+        script = self.write("script", "create /d/f 644", "mkdir /d 755", "--", "create /d/g 644")
+        self.fails("line 1: 'create /d/f 644' before `--` is refused: err ENOENT 2", script, "true", self.program)
+        script = self.write("script", "# a comment", "mkdir d 755", "--", "create /d/g 644")
+        self.fails("line 2: 'mkdir d 755' before `--` is refused: err E", script, "true", self.program)
+
     def test_a_comment_of_any_bytes(self) -> None:
         for comment in (b"\xff", "\u2028fly /d".encode(), b"\x0cfly /d", b"\rfly /d"):
             with open(f"{self.room}/script", "wb") as file:

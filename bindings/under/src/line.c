@@ -155,7 +155,14 @@ static int64_t call_line(const char *line, size_t length, size_t *size) {
     return 0;
 }
 
-bool run_text(const char *line, size_t length, long number) {
+/* Names the line, of which a long one is cut, and the reply without its newline. */
+_Noreturn static void refuse_setup(const char *line, size_t length, long number, size_t size) {
+    enum { SHOWN = 1024 };
+    fault("line %ld: '%.*s' before `--` is refused: %.*s", number, (int)(length < SHOWN ? length : SHOWN), line,
+          (int)size - 1, reply_text);
+}
+
+bool run_text(const char *line, size_t length, long number, bool is_setup) {
     struct words words;
     size_t size;
     read_words(line, length, &words);
@@ -172,6 +179,7 @@ bool run_text(const char *line, size_t length, long number) {
         say("line %ld: %s", number, text_of(reply));
         return false;
     }
+    if (is_setup && !is_done) refuse_setup(line, length, number, size);
     if (is_done) note_change(&words);
     if (!strcmp(words.command, "list") && number_at(words.first) == ROOT) hide_nursery(reply_text, &size);
     line_count++;

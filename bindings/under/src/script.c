@@ -75,7 +75,7 @@ void run_line(void) {
     line_happened(next_request());
     record_line(copy, length, request_of_line());
     happened_after_mark += had_mark;        /* before a record of it is taken */
-    if (!run_text(copy, length, number)) {
+    if (!run_text(copy, length, number, !had_mark)) {
         refused++;
         happened_after_mark -= had_mark;
     }

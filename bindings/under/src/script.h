@@ -25,8 +25,9 @@ long lines_after_first_mark(void);
 int live_script(void);
 void read_live_script(void);
 
-/* line.c: runs a line on the tree. False if it is no line of a script, which is said. */
-bool run_text(const char *line, size_t length, long number);
+/* line.c: runs a line on the tree. False if it is no line of a script, which is said. A line of the set-up that is
+ * refused is a fault. */
+bool run_text(const char *line, size_t length, long number, bool is_setup);
 void free_text(void);
 /* Each line of a script that is read at once is tried on a tree of its own before the program starts. */
 void try_text(struct wt_tree *scratch, const char *line, size_t length, long number);
