@@ -3,6 +3,7 @@
 #include "files.h"
 #include "instances.h"
 #include "options.h"
+#include "record.h"
 #include "script.h"
 #include "trace.h"
 #include "tree.h"
@@ -180,6 +181,7 @@ bool run_text(const char *line, size_t length, long number, bool is_setup) {
         return false;
     }
     if (is_setup && !is_done) refuse_setup(line, length, number, size);
+    record_line(line, length, request_of_line());
     if (is_done) note_change(&words);
     if (!strcmp(words.command, "list") && number_at(words.first) == ROOT) hide_nursery(reply_text, &size);
     line_count++;
@@ -189,8 +191,8 @@ bool run_text(const char *line, size_t length, long number, bool is_setup) {
     return true;
 }
 
-void try_text(struct wt_tree *scratch, const char *line, size_t length, long number) {
+const char *fault_of_text(struct wt_tree *scratch, const char *line, size_t length) {
     char none;
     int64_t reply = wt_line(scratch, options.queue, line, length, &none, 0);
-    if (reply < 0 && -reply >= WT_BAD_BYTE) fault("line %ld: %s", number, text_of(reply));
+    return reply < 0 && -reply >= WT_BAD_BYTE ? text_of(reply) : NULL;
 }
