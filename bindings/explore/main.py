@@ -16,6 +16,7 @@ sys.path.insert(0, os.path.dirname(os.path.abspath(__file__)))
 import report  # noqa: E402
 import schedules  # noqa: E402
 import search  # noqa: E402
+from folder import Folder  # noqa: E402
 from runs import NOT_EXECUTABLE, NOT_FOUND, TOOL_FAULT, Bench, Result  # noqa: E402
 from schedules import Fault  # noqa: E402
 
@@ -78,6 +79,8 @@ def read_words(words: List[str]) -> Tuple[argparse.Namespace, List[str]]:
         parser.error("there is no program")
     if said.moves and "queue" in said.vary:
         parser.error("--moves does not vary the queue: give --queue N")
+    if not said.moves:
+        said.seeds = said.seeds or range(1, 201)
     return said, words[at + 1 :]
 
 
@@ -116,19 +119,20 @@ def base_run(bench: Bench) -> Result:
 
 def explore(said: argparse.Namespace, program: List[str], room: str) -> int:
     """Searches, and reports what was found. Returns the exit status."""
+    out = Folder(said.out or os.path.basename(said.script) + ".failures", lambda name: report.is_left(name, said.seeds))
+    out.check()
     bench = Bench(said.runner, runner_options(said), said.script, said.check, program, room)
     base = base_run(bench)
     report.say_base(base)
     if said.moves:
         found = search.by_moves(bench, base, said.moves, said.vary, said.jobs, said.first)
     else:
-        found = search.by_seeds(bench, said.seeds or range(1, 201), said.vary, said.jobs, said.first)
+        found = search.by_seeds(bench, said.seeds, said.vary, said.jobs, said.first)
     if base.fails:
         found.failures.insert(0, base)
     report.say_found(found, said.jobs)
     if not found.failures:
         return 0
-    out = said.out or os.path.basename(said.script) + ".failures"
     report.keep(found.failures, out)
     report.shrink_one(bench, found.failures, not base.fails, out, said)
     return 1
