@@ -70,6 +70,7 @@ def read_words(words: List[str]) -> Tuple[argparse.Namespace, List[str]]:
                        ("end", "SIGNAL"), ("outside", "HOW")):
         parser.add_argument(f"--{name}", metavar=what, help="as of watchtree under")
     parser.add_argument("--runner", required=True, help=argparse.SUPPRESS)
+    parser.add_argument("--command", default="watchtree", help=argparse.SUPPRESS)  # what the user called
     parser.add_argument("--library", help=argparse.SUPPRESS)  # where Python finds watchtree_trace, if not beside the runner
     if "--" not in words:
         parser.error("there is no -- and program") if not {"-h", "--help"} & set(words) else parser.parse_args(words)
@@ -128,13 +129,12 @@ def explore(said: argparse.Namespace, program: List[str], room: str) -> int:
         found = search.by_moves(bench, base, said.moves, said.vary, said.jobs, said.first)
     else:
         found = search.by_seeds(bench, said.seeds, said.vary, said.jobs, said.first)
-    if base.fails:
-        found.failures.insert(0, base)
     report.say_found(found, said.jobs)
-    if not found.failures:
+    failures = [base, *found.failures] if base.fails else found.failures
+    if not failures:
         return 0
-    report.keep(found.failures, out)
-    report.shrink_one(bench, found.failures, not base.fails, out, said)
+    report.keep(failures, out)
+    report.shrink_one(bench, failures, not base.fails, out, said)
     return 1
 
 
@@ -142,6 +142,8 @@ def main(words: List[str]) -> int:
     """Runs the tool."""
     signal.signal(signal.SIGPIPE, signal.SIG_DFL)
     signal.signal(signal.SIGTERM, signal.default_int_handler)
+    # Words of the command line may have any bytes, and are printed as they were.
+    sys.stdout.reconfigure(errors="surrogateescape")  # type: ignore[union-attr]
     said, program = read_words(words)
     room: Optional[str] = None
     try:

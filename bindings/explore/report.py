@@ -93,8 +93,8 @@ def shrink_one(bench: Bench, failures: List[Result], is_race: bool, out: Folder,
     print("\n" + timeline(last.trace), end="")
     page = f"no page: {why}" if why else f"{out.path}/page.html its records"
     print(f"\n{out.path}/timeline.txt has every request, {out.path}/run the files of the run; {page}")
-    command = ["under", *bench.options, "--schedule", f"{out.path}/shrunk.schedule", "--", *bench.program]
-    print(f"again: ./watchtree {shlex.join(command)}")
+    command = [said.command, "under", *bench.options, "--schedule", f"{out.path}/shrunk.schedule", "--", *bench.program]
+    print(f"again: {shlex.join(command)}")
 
 
 def replay(bench: Bench, best: Result, times: int, jobs: int) -> int:

@@ -17,6 +17,7 @@ import tempfile
 
 HERE = os.path.dirname(os.path.abspath(__file__))
 CLIENTS, EXPLORE = f"{HERE}/clients", os.path.dirname(HERE)
+COMMAND = os.path.normpath(f"{HERE}/../../../watchtree")
 sys.path.insert(0, EXPLORE)
 import runs  # noqa: E402
 import schedules  # noqa: E402
@@ -103,8 +104,9 @@ def main():
         build(client, room)
         if not said.script:
             return 0 if replay(said.runner, said.client, client, room) else 1
-        command = [sys.executable, f"{EXPLORE}/main.py", "--runner", said.runner, "--settle", str(client.settle), *options,
-                   f"{HERE}/{said.script}.script", "--check", check_of(client, said.script), "--", *words_of(client, room)]
+        command = [sys.executable, f"{EXPLORE}/main.py", "--runner", said.runner, "--command", COMMAND,
+                   "--settle", str(client.settle), *options, f"{HERE}/{said.script}.script",
+                   "--check", check_of(client, said.script), "--", *words_of(client, room)]
         return subprocess.run(command, check=False).returncode
 
 
