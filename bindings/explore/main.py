@@ -8,14 +8,17 @@ import signal
 import stat
 import sys
 import tempfile
+import traceback
 from typing import List, NoReturn, Optional, Tuple
 
 sys.dont_write_bytecode = True
 sys.path.insert(0, os.path.dirname(os.path.abspath(__file__)))
 import report  # noqa: E402
+import schedules  # noqa: E402
 import search  # noqa: E402
+from folder import Folder  # noqa: E402
 from runs import NOT_EXECUTABLE, NOT_FOUND, TOOL_FAULT, Bench, Result  # noqa: E402
-from schedules import Fault, parse  # noqa: E402
+from schedules import Fault  # noqa: E402
 
 USAGE = "watchtree explore [OPTIONS] SCRIPT --check COMMAND -- PROGRAM [ARGUMENT..]"
 VARIED = ("lines", "reads", "queue")
@@ -67,6 +70,7 @@ def read_words(words: List[str]) -> Tuple[argparse.Namespace, List[str]]:
                        ("end", "SIGNAL"), ("outside", "HOW")):
         parser.add_argument(f"--{name}", metavar=what, help="as of watchtree under")
     parser.add_argument("--runner", required=True, help=argparse.SUPPRESS)
+    parser.add_argument("--command", default="watchtree", help=argparse.SUPPRESS)  # what the user called
     parser.add_argument("--library", help=argparse.SUPPRESS)  # where Python finds watchtree_trace, if not beside the runner
     if "--" not in words:
         parser.error("there is no -- and program") if not {"-h", "--help"} & set(words) else parser.parse_args(words)
@@ -76,6 +80,8 @@ def read_words(words: List[str]) -> Tuple[argparse.Namespace, List[str]]:
         parser.error("there is no program")
     if said.moves and "queue" in said.vary:
         parser.error("--moves does not vary the queue: give --queue N")
+    if not said.moves:
+        said.seeds = said.seeds or range(1, 201)
     return said, words[at + 1 :]
 
 
@@ -95,8 +101,7 @@ def check_script(path: str) -> None:
         mode = os.stat(path).st_mode
         if not stat.S_ISREG(mode):
             raise Fault(f"{path}: a script that is read for each run is a file")
-        with open(path, encoding="utf-8", errors="surrogateescape") as file:
-            schedule = parse(file.read())
+        schedule = schedules.read(path)
     except OSError as fault:
         raise Fault(f"{path}: {fault.strerror}") from fault
     if not schedule.lines():
@@ -115,21 +120,21 @@ def base_run(bench: Bench) -> Result:
 
 def explore(said: argparse.Namespace, program: List[str], room: str) -> int:
     """Searches, and reports what was found. Returns the exit status."""
+    out = Folder(said.out or os.path.basename(said.script) + ".failures", lambda name: report.is_left(name, said.seeds))
+    out.check()
     bench = Bench(said.runner, runner_options(said), said.script, said.check, program, room)
     base = base_run(bench)
     report.say_base(base)
     if said.moves:
         found = search.by_moves(bench, base, said.moves, said.vary, said.jobs, said.first)
     else:
-        found = search.by_seeds(bench, said.seeds or range(1, 201), said.vary, said.jobs, said.first)
-    if base.fails:
-        found.failures.insert(0, base)
+        found = search.by_seeds(bench, said.seeds, said.vary, said.jobs, said.first)
     report.say_found(found, said.jobs)
-    if not found.failures:
+    failures = [base, *found.failures] if base.fails else found.failures
+    if not failures:
         return 0
-    out = said.out or os.path.basename(said.script) + ".failures"
-    report.keep(found.failures, out)
-    report.shrink_one(bench, found.failures, not base.fails, out, said)
+    report.keep(failures, out)
+    report.shrink_one(bench, failures, not base.fails, out, said)
     return 1
 
 
@@ -137,6 +142,8 @@ def main(words: List[str]) -> int:
     """Runs the tool."""
     signal.signal(signal.SIGPIPE, signal.SIG_DFL)
     signal.signal(signal.SIGTERM, signal.default_int_handler)
+    # Words of the command line may have any bytes, and are printed as they were.
+    sys.stdout.reconfigure(errors="surrogateescape")  # type: ignore[union-attr]
     said, program = read_words(words)
     room: Optional[str] = None
     try:
@@ -147,14 +154,32 @@ def main(words: List[str]) -> int:
         print(f"watchtree explore: {fault}", file=sys.stderr)
         return TOOL_FAULT
     except OSError as fault:
-        print(f"watchtree explore: {fault.filename or ''}: {fault.strerror}", file=sys.stderr)
+        where = f"{fault.filename}: " if fault.filename else ""
+        print(f"watchtree explore: {where}{fault.strerror}", file=sys.stderr)
         return TOOL_FAULT
     except KeyboardInterrupt:
         return 130
+    except Exception:  # pylint: disable=broad-except
+        # The status of an exception that nobody takes is 1, which means that a schedule fails.
+        traceback.print_exc()
+        print("watchtree explore: this is a fault of the tool", file=sys.stderr)
+        return TOOL_FAULT
     finally:
         if room:
             shutil.rmtree(room, ignore_errors=True)
 
 
+def flushed(status: int) -> int:
+    """Returns the exit status after all is written: that of a fault if it cannot be."""
+    try:
+        sys.stdout.flush()
+    except OSError as fault:
+        print(f"watchtree explore: standard output: {fault.strerror}", file=sys.stderr)
+        # (Python would write it again at its end, and exit with a status of its own)
+        os.dup2(os.open(os.devnull, os.O_WRONLY), sys.stdout.fileno())
+        return TOOL_FAULT
+    return status
+
+
 if __name__ == "__main__":
-    sys.exit(main(sys.argv[1:]))
+    sys.exit(flushed(main(sys.argv[1:])))

@@ -1,14 +1,14 @@
 """What explore prints, and the files that it leaves."""
 
 import argparse
-import glob
 import os
+import re
 import shlex
-import shutil
 import sys
-from typing import List
+from typing import List, Optional
 
 import traces
+from folder import Folder
 from runs import NOTHING_DELIVERED, Bench, Result
 from schedules import Schedule
 from search import Found, in_parallel
@@ -17,6 +17,8 @@ from timeline import timeline, write_page
 
 # So many failures are printed; all of them are kept. So many of them are shrunk.
 SHOWN, SHRUNK = 10, 3
+# What a search leaves beside a schedule for each failure.
+OTHERS = ("shrunk.schedule", "timeline.txt", "run", "calls.script", "page.html")
 
 
 def many(count: int, what: str) -> str:
@@ -41,26 +43,27 @@ def say_found(found: Found, jobs: int) -> None:
     sys.stdout.flush()
 
 
-def keep(failures: List[Result], out: str) -> None:
+def is_left(name: str, seeds: Optional[range]) -> bool:
+    """Whether a search of these seeds, or by moves, may leave a file of this name."""
+    found = re.fullmatch(r"(seed|failure)-(0|[1-9][0-9]*)\.schedule", name)
+    if not found:
+        return name in OTHERS
+    if found[1] == "seed":
+        return seeds is not None and int(found[2]) in seeds
+    return seeds is None or found[2] == "1"
+
+
+def keep(failures: List[Result], out: Folder) -> None:
     """Leaves the schedule of each failing run in a folder, which has nothing of an earlier search then."""
-    os.makedirs(out, exist_ok=True)
-    for pattern in ("*.schedule", "timeline.txt", "page.html", "calls.script"):
-        for old in glob.glob(f"{glob.escape(out)}/{pattern}"):
-            os.remove(old)
-    shutil.rmtree(f"{out}/run", ignore_errors=True)
+    out.clear()
     for number, it in enumerate(failures, 1):
         name = f"seed-{it.seed}" if it.seed is not None else f"failure-{number}"
-        _write(f"{out}/{name}.schedule", it.schedule.text())
+        out.write(f"{name}.schedule", it.schedule.encoded())
         if number <= SHOWN:
             moved = many(it.schedule.moved(), "line") + " moved, " + many(it.schedule.short_reads(), "short read")
-            print(f"  {out}/{name}.schedule: status {it.status}, {moved}")
+            print(f"  {out.path}/{name}.schedule: status {it.status}, {moved}")
     if len(failures) > SHOWN:
         print(f"  and {len(failures) - SHOWN} more")
-
-
-def _write(path: str, text: str) -> None:
-    with open(path, "w", encoding="utf-8", errors="surrogateescape") as file:
-        file.write(text)
 
 
 def simplest(failures: List[Result]) -> List[Result]:
@@ -68,7 +71,7 @@ def simplest(failures: List[Result]) -> List[Result]:
     return sorted(failures, key=lambda it: (it.status == NOTHING_DELIVERED, it.schedule.changes()))[:SHRUNK]
 
 
-def shrink_one(bench: Bench, failures: List[Result], is_race: bool, out: str, said: argparse.Namespace) -> None:
+def shrink_one(bench: Bench, failures: List[Result], is_race: bool, out: Folder, said: argparse.Namespace) -> None:
     """Shrinks a few failing schedules, replays the smallest, and prints its timeline."""
     shrinkers = [Shrinker(bench, it, is_race, said.jobs, said.shrink_runs // SHRUNK) for it in simplest(failures)]
     shrunk = [it for it in (one.shrink() for one in shrinkers) if it]
@@ -78,19 +81,20 @@ def shrink_one(bench: Bench, failures: List[Result], is_race: bool, out: str, sa
         return
     best = min(shrunk, key=lambda it: it.schedule.size())
     lines, changes, _ = best.schedule.size()
-    _write(f"{out}/shrunk.schedule", best.schedule.text())
+    out.write("shrunk.schedule", best.schedule.encoded())
     print(f"shrunk by {many(sum(it.runs for it in shrinkers), 'run')}: {many(lines, 'line')}, {many(changes, 'move')}")
     failed = replay(bench, best, said.replays, said.jobs)
     print(f"replayed {many(said.replays, 'time')}, failed {many(failed, 'time')}")
-    last = bench.replay(best.schedule, best.seed, f"{os.path.abspath(out)}/run")
-    _write(f"{out}/timeline.txt", timeline(last.trace, is_whole=True))
+    with out.directory("run") as run:
+        last = bench.replay(best.schedule, best.seed, run)
+    out.write("timeline.txt", timeline(last.trace, is_whole=True).encode("utf-8", "surrogateescape"))
     why = write_page(out, said.library or os.path.dirname(os.path.abspath(said.runner)), last.trace, best.schedule.queue)
     print_schedule(best.schedule)
     print("\n" + timeline(last.trace), end="")
-    page = f"no page: {why}" if why else f"{out}/page.html its records"
-    print(f"\n{out}/timeline.txt has every request, {out}/run the files of the run; {page}")
-    command = ["under", *bench.options, "--schedule", f"{out}/shrunk.schedule", "--", *bench.program]
-    print(f"again: ./watchtree {shlex.join(command)}")
+    page = f"no page: {why}" if why else f"{out.path}/page.html its records"
+    print(f"\n{out.path}/timeline.txt has every request, {out.path}/run the files of the run; {page}")
+    command = [said.command, "under", *bench.options, "--schedule", f"{out.path}/shrunk.schedule", "--", *bench.program]
+    print(f"again: {shlex.join(command)}")
 
 
 def replay(bench: Bench, best: Result, times: int, jobs: int) -> int:

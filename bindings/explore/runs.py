@@ -8,11 +8,13 @@ from dataclasses import dataclass
 from typing import Dict, List, Optional
 
 import traces
-from schedules import Fault, Schedule, parse
+from schedules import Fault, Refused, Schedule, read
 
 # Exit statuses of the runner, and of a shell that cannot run a command.
 NOTHING_DELIVERED, LINES_LEFT, STALLED, TOOL_FAULT = 122, 123, 124, 125
 NOT_EXECUTABLE, NOT_FOUND = 126, 127
+# How the runner reports a set-up that is refused.
+REFUSED = "before `--` is refused: "
 # No run takes so long: the runner ends one that stalls.
 LONGEST_RUN = 900
 
@@ -50,16 +52,16 @@ class Bench:
 
     def base(self, kept: Optional[str] = None) -> Result:
         """Runs the script with every line at rest."""
-        with tempfile.NamedTemporaryFile("w", dir=self.room, suffix=".schedule") as file:
-            with open(self.script, encoding="utf-8", errors="surrogateescape") as script:
+        with tempfile.NamedTemporaryFile(dir=self.room, suffix=".schedule") as file:
+            with open(self.script, "rb") as script:
                 shutil.copyfileobj(script, file)
             file.flush()
             return self._run(["--schedule", file.name, "--"], None, kept)
 
     def replay(self, schedule: Schedule, seed: Optional[int] = None, kept: Optional[str] = None) -> Result:
         """Runs a schedule. The files of the run are left in `kept`."""
-        with tempfile.NamedTemporaryFile("w", dir=self.room, suffix=".schedule", errors="surrogateescape") as file:
-            file.write(schedule.text())
+        with tempfile.NamedTemporaryFile(dir=self.room, suffix=".schedule") as file:
+            file.write(schedule.encoded())
             file.flush()
             return self._run(["--schedule", file.name, "--"], seed, kept)
 
@@ -79,17 +81,16 @@ class Bench:
         except subprocess.TimeoutExpired as late:
             raise Fault(f"a run was not over after {LONGEST_RUN} seconds") from late
         if said.returncode == TOOL_FAULT:
-            raise Fault("the runner: " + _last_line(said.stderr, f"status {TOOL_FAULT}"))
+            why = _last_line(said.stderr, f"status {TOOL_FAULT}")
+            raise (Refused if REFUSED in why else Fault)(f"the runner: {why}")
         return said
 
     def _judge(self, out: str, status: int, seed: Optional[int]) -> Result:
         fails = self._check(out, status, seed)
         with open(f"{out}/trace", encoding="utf-8", errors="surrogateescape") as file:
             trace = traces.read_trace(file)
-        with open(f"{out}/schedule", encoding="utf-8", errors="surrogateescape") as file:
-            schedule = parse(file.read())
         delivered = any(isinstance(it, traces.Told) for it in trace)
-        return Result(seed, status, fails, delivered, schedule, trace)
+        return Result(seed, status, fails, delivered, read(f"{out}/schedule"), trace)
 
     def _check(self, out: str, status: int, seed: Optional[int]) -> bool:
         """Whether the check fails."""

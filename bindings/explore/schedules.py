@@ -11,6 +11,10 @@ class Fault(Exception):
     """What stops the search: a fault of the tool, the script, the check or the machine."""
 
 
+class Refused(Fault):
+    """A line that sets the tree up is refused, so the program is not started."""
+
+
 @dataclass(frozen=True)
 class Line:
     """A line after the first mark. It happens at rest, or before a request: its number, or how many requests follow the one
@@ -86,6 +90,10 @@ class Schedule:
                 out.append(it.text)
         return "\n".join(out) + "\n"
 
+    def encoded(self) -> bytes:
+        """Returns the bytes of its file."""
+        return self.text().encode("utf-8", "surrogateescape")
+
     def at_rest(self) -> "Schedule":
         """Returns the script with nothing moved."""
         kept = (replace(it, before=None, is_relative=False) if isinstance(it, Line) else it for it in self.items)
@@ -100,11 +108,17 @@ def _parse_request(word: str) -> Tuple[int, bool]:
     return int(word), word.startswith("+")
 
 
+def read(path: str) -> Schedule:
+    """Reads the file of a script or a schedule. Comments may have any bytes."""
+    with open(path, "rb") as file:
+        return parse(file.read().decode("utf-8", "surrogateescape"))
+
+
 def parse(text: str) -> Schedule:
     """Reads a script, or the file of a schedule."""
     queue, setup, items = USUAL_QUEUE, [], []  # type: int, List[str], List[Item]
     is_setup, place, is_relative = True, None, False  # type: bool, Optional[int], bool
-    for number, line in enumerate(text.splitlines(), 1):
+    for number, line in enumerate(text.split("\n"), 1):
         if line == "--":
             if not is_setup:
                 items.append(Mark())

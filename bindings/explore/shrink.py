@@ -9,7 +9,7 @@ from dataclasses import replace
 from typing import Callable, Iterator, List, Optional, Sequence, Tuple
 
 from runs import Bench, Result
-from schedules import USUAL_QUEUE, Item, Line, Schedule, ShortRead, relative
+from schedules import USUAL_QUEUE, Item, Line, Refused, Schedule, ShortRead, relative
 
 # A run that fails for the first time is replayed so often before it counts as one that cannot be replayed.
 ATTEMPTS = 3
@@ -37,16 +37,21 @@ class Shrinker:
                     pass
         return self.best
 
-    def _run(self, schedule: Schedule) -> Result:
-        return self.bench.replay(schedule, self.seed)
+    def _run(self, schedule: Schedule) -> Optional[Result]:
+        """Runs a candidate. None if it is no run, as a line that sets the tree up needs one that was dropped."""
+        try:
+            return self.bench.replay(schedule, self.seed)
+        except Refused:
+            return None
 
-    def _takes(self, result: Result) -> bool:
+    def _takes(self, result: Optional[Result]) -> bool:
         """Keeps a run that fails as the first one did."""
-        if not result.fails or result.status != self.status:
+        if not result or not result.fails or result.status != self.status:
             return False
         if self.is_race:
             self.runs += 1
-            if self._run(result.schedule.at_rest()).fails:
+            at_rest = self._run(result.schedule.at_rest())
+            if not at_rest or at_rest.fails:
                 return False
         self.best = result
         return True
@@ -63,7 +68,7 @@ class Shrinker:
                     return False
                 self.runs += len(batch)
                 for result in pool.map(self._run, batch):
-                    if result.schedule.size() < least and self._takes(result):
+                    if result and result.schedule.size() < least and self._takes(result):
                         return True
         return False
 

@@ -6,6 +6,7 @@ import sys
 from typing import Dict, Iterator, List, Optional, Tuple
 
 import traces
+from folder import Folder
 from traces import Asked, Called, Entry, Happened, Told
 
 # So many requests in a row are printed one by one; more are printed as one line.
@@ -123,19 +124,17 @@ def size_of(it: Told) -> int:
     return 16 + (16 * (length // 16 + 1) if it.name else 0)
 
 
-def write_page(out: str, library: str, trace: List[Entry], queue: int) -> Optional[str]:
+def write_page(out: Folder, library: str, trace: List[Entry], queue: int) -> Optional[str]:
     """Writes the page of a run. Returns why there is none."""
     script = as_script(trace, queue)
     if script is None:
         return "the program changes files itself"
-    with open(f"{out}/calls.script", "w", encoding="utf-8", errors="surrogateescape") as file:
-        file.write(script)
-    with open(f"{out}/page.html", "wb") as page:
-        said = subprocess.run([sys.executable, "-c", PAGE, f"{out}/calls.script"], env={**os.environ, "PYTHONPATH": library},
-                              stdout=page, stderr=subprocess.PIPE, check=False)
+    out.write("calls.script", script.encode("utf-8", "surrogateescape"))
+    said = subprocess.run([sys.executable, "-c", PAGE, f"{out.path}/calls.script"], capture_output=True, check=False,
+                          env={**os.environ, "PYTHONPATH": library})
     if said.returncode == 0:
+        out.write("page.html", said.stdout)
         return None
-    os.remove(f"{out}/page.html")
     lines = said.stderr.decode(errors="replace").strip().splitlines()
     return lines[-1] if lines else f"watchtree_trace ended with status {said.returncode}"
 

@@ -17,6 +17,7 @@ import tempfile
 
 HERE = os.path.dirname(os.path.abspath(__file__))
 CLIENTS, EXPLORE = f"{HERE}/clients", os.path.dirname(HERE)
+COMMAND = os.path.normpath(f"{HERE}/../../../watchtree")
 sys.path.insert(0, EXPLORE)
 import runs  # noqa: E402
 import schedules  # noqa: E402
@@ -76,8 +77,7 @@ def replay(runner, name, client, room):
         sys.exit(f"{name}: no schedule of it fails as far as is known")
     all_failed = True
     for file in stored:
-        with open(f"{HERE}/{file}", encoding="utf-8") as text:
-            schedule = schedules.parse(text.read())
+        schedule = schedules.read(f"{HERE}/{file}")
         options = ["--quick", "--settle", str(client.settle)]
         check = check_of(client, file.split(".")[1])
         bench = runs.Bench(runner, options, "", check, words_of(client, room), room)
@@ -104,8 +104,9 @@ def main():
         build(client, room)
         if not said.script:
             return 0 if replay(said.runner, said.client, client, room) else 1
-        command = [sys.executable, f"{EXPLORE}/main.py", "--runner", said.runner, "--settle", str(client.settle), *options,
-                   f"{HERE}/{said.script}.script", "--check", check_of(client, said.script), "--", *words_of(client, room)]
+        command = [sys.executable, f"{EXPLORE}/main.py", "--runner", said.runner, "--command", COMMAND,
+                   "--settle", str(client.settle), *options, f"{HERE}/{said.script}.script",
+                   "--check", check_of(client, said.script), "--", *words_of(client, room)]
         return subprocess.run(command, check=False).returncode
 
 

@@ -1,6 +1,9 @@
 """What is no search never looks like a success."""
 
-from tool import EXAMPLES, ToolTest
+import os
+import sys
+
+from tool import EXAMPLES, MAIN, ToolTest
 
 
 class Faults(ToolTest):
@@ -36,6 +39,36 @@ class Faults(ToolTest):
 
     def test_a_line_that_is_none(self) -> None:
         self.fails("line 3: unknown command", self.write("script", "mkdir /d 755", "--", "fly /d"), "true", self.program)
+
+    def test_a_line_of_the_set_up_that_is_refused(self) -> None:
+        script = self.write("script", "create /d/f 644", "mkdir /d 755", "--", "create /d/g 644")
+        self.fails("line 1: 'create /d/f 644' before `--` is refused: err ENOENT 2", script, "true", self.program)
+        script = self.write("script", "# a comment", "mkdir d 755", "--", "create /d/g 644")
+        self.fails("line 2: 'mkdir d 755' before `--` is refused: err E", script, "true", self.program)
+
+    def test_a_comment_of_any_bytes(self) -> None:
+        for comment in (b"\xff", "\u2028fly /d".encode(), b"\x0cfly /d", b"\rfly /d"):
+            with open(f"{self.room}/script", "wb") as file:
+                file.write(b"mkdir /d 755\n# " + comment + b"\n--\n# " + comment + b"\ncreate /d/a 644\n")
+            said = self.explore(f"{self.room}/script", "true", self.program, "--seeds", "1..2")
+            self.assertEqual(said.returncode, 0, said.stdout + said.stderr)
+            self.assertIn("at rest: 1 line,", said.stdout)
+
+    def test_a_fault_of_the_tool_itself(self) -> None:
+        main = f"import sys; sys.path.insert(0, {os.path.dirname(MAIN)!r}); import main; " \
+               "main.check_script = lambda path: 1 // 0; sys.exit(main.flushed(main.main(sys.argv[1:])))"
+        words = ["--runner", self.runner, self.script, "--check", "true", "--", "true"]
+        said = self.run_tool([sys.executable, "-c", main, *words])
+        self.assertEqual(said.returncode, 125)
+        self.assertIn("ZeroDivisionError", said.stderr)
+        self.assertIn("watchtree explore: this is a fault of the tool\n", said.stderr)
+
+    def test_output_that_cannot_be_written(self) -> None:
+        words = ["--runner", self.runner, "--seeds", "1..1", self.script, "--check", "true", "--", *self.program]
+        for buffered in (["env", "-u", "PYTHONUNBUFFERED"], ["env", "PYTHONUNBUFFERED=1"]):
+            said = self.run_tool(["sh", "-c", '"$@" >/dev/full', "sh", *buffered, sys.executable, MAIN, *words])
+            self.assertEqual(said.returncode, 125, said.stderr)
+            self.assertIn("watchtree explore: No space left", said.stderr)
 
     def test_words_of_the_command_line(self) -> None:
         for words in (["--seeds", "3"], ["--seeds", "5..4"], ["--moves", "3"], ["--vary", "all"], ["--vary", ""],

@@ -33,6 +33,39 @@ class Replays(ToolTest):
         self.assertGreater(self.same(f"{EXAMPLES}/recursive.script", program, range(1, 9)), 5)
 
 
+class Live(ToolTest):
+    """What a run of a live script took."""
+
+    def live(self, out: str, program: list, *lines: str) -> str:
+        """Runs lines that come by a pipe, of which one is bad. Returns the schedule that the run left."""
+        command = [self.runner, "--quick", "--out", out, "-", "--", *program]
+        said = self.run_tool(["sh", "-c", 'printf "%s\\n" "$0" | "$@"', "\n".join(lines), *command])
+        self.assertEqual(said.returncode, 123, said.stderr)
+        return self.read(f"{out}/schedule")
+
+    def test_a_line_that_is_none_is_not_kept(self) -> None:
+        program = [self.built("renames"), "/wt/d", "correct"]
+        schedule = self.live("live", program, "mkdir /d 755", "--", "crate /d/a 644", "create /d/b 644", "stat \u00e9")
+        self.assertEqual(schedule, "mkdir /d 755\n--\ncreate /d/b 644\n")
+        said = self.under("again", ["--schedule", f"{self.room}/live/schedule"], program)
+        self.assertEqual(said.returncode, 0, said.stderr)
+        self.assertEqual(self.read("again/schedule"), schedule)
+        self.assertEqual(self.read("again/stdout"), self.read("live/stdout"))
+
+    def test_nor_one_that_was_left(self) -> None:
+        lines = ("mkdir /d 755", "--", "create /d/a 644", "crate /d/b 644", "--", "create /d/c 644")
+        schedule = self.live("live", ["true"], *lines)
+        self.assertEqual(schedule.splitlines(), [it for it in lines if "crate " not in it])
+
+    def test_a_run_that_is_ended_by_its_script(self) -> None:
+        lines = 'printf "%s\\n" "mkdir /d 755" --; head -c 3000000 /dev/zero'
+        command = [self.runner, "--quick", "--out", "live", "-", "--", self.built("renames"), "/wt/d", "correct"]
+        said = self.run_tool(["sh", "-c", f'{{ {lines}; }} | "$@"', "sh", *command])
+        self.assertEqual(said.returncode, 125, said.stderr)
+        self.assertIn("a line is too long", said.stderr)
+        self.assertEqual(self.read("live/schedule"), "mkdir /d 755\n--\n")
+
+
 class Directives(ToolTest):
     """A schedule that is written by hand."""
 

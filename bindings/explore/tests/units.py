@@ -183,6 +183,20 @@ class Shrinking(unittest.TestCase):
         best = self.shrink(model, Schedule(schedules.USUAL_QUEUE, ("mkdir /d 755",), (Line("a"), Line("b", 3))))
         self.assertEqual(best.schedule.setup, ("mkdir /d 755",))
 
+    def test_a_set_up_that_is_refused_is_no_candidate(self) -> None:
+        setup = ("mkdir /d 755", "create /d/a 644")
+        model = Model(lambda it: it.schedule.moved() > 0 and setup[1] in it.schedule.setup)
+        run = model.replay
+
+        def replay(schedule: Schedule, seed: Optional[int] = None) -> Result:
+            if setup[1] in schedule.setup and setup[0] not in schedule.setup:
+                raise schedules.Refused("line 1 is refused")
+            return run(schedule, seed)
+
+        model.replay = replay
+        best = self.shrink(model, Schedule(schedules.USUAL_QUEUE, (*setup, "mkdir /e 755"), (Line("a"), Line("b", 3))))
+        self.assertEqual((best.schedule.setup, best.schedule.moved()), (setup, 1))
+
     def test_what_does_not_fail_again(self) -> None:
         model = Model(lambda it: model.runs == 1)
         self.assertIsNone(self.shrink_only(model))

@@ -3,6 +3,7 @@
 #include "files.h"
 #include "instances.h"
 #include "options.h"
+#include "record.h"
 #include "script.h"
 #include "trace.h"
 #include "tree.h"
@@ -159,7 +160,14 @@ static int64_t call_line(const char *line, size_t length, size_t *size) {
     return 0;
 }
 
-bool run_text(const char *line, size_t length, long number) {
+/* Names the line, of which a long one is cut, and the reply without its newline. */
+_Noreturn static void refuse_setup(const char *line, size_t length, long number, size_t size) {
+    enum { SHOWN = 1024 };
+    fault("line %ld: '%.*s' before `--` is refused: %.*s", number, (int)(length < SHOWN ? length : SHOWN), line,
+          (int)size - 1, reply_text);
+}
+
+bool run_text(const char *line, size_t length, long number, bool is_setup) {
     struct words words;
     size_t size;
     read_words(line, length, &words);
@@ -176,6 +184,8 @@ bool run_text(const char *line, size_t length, long number) {
         say("line %ld: %s", number, text_of(reply));
         return false;
     }
+    if (is_setup && !is_done) refuse_setup(line, length, number, size);
+    record_line(line, length, request_of_line());
     if (is_done) note_change(&words);
     if (!strcmp(words.command, "list") && number_at(words.first) == ROOT) hide_nursery(reply_text, &size);
     line_count++;
@@ -185,8 +195,8 @@ bool run_text(const char *line, size_t length, long number) {
     return true;
 }
 
-void try_text(struct wt_tree *scratch, const char *line, size_t length, long number) {
+const char *fault_of_text(struct wt_tree *scratch, const char *line, size_t length) {
     char none;
     int64_t reply = wt_line(scratch, options.queue, line, length, &none, 0);
-    if (reply < 0 && -reply >= WT_BAD_BYTE) fault("line %ld: %s", number, text_of(reply));
+    return reply < 0 && -reply >= WT_BAD_BYTE ? text_of(reply) : NULL;
 }

@@ -12,6 +12,7 @@ void open_record(void) {
     if (!options.out) return;
     snprintf(path, sizeof path, "%s/schedule", options.out);
     if (!(file = fopen(path, "we"))) fail(path);
+    setvbuf(file, NULL, _IOLBF, 0);         /* what ran is kept if the tool is ended */
     if (options.queue != USUAL_QUEUE) fprintf(file, "#@ queue %u\n", options.queue);
 }
 

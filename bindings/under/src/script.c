@@ -73,9 +73,8 @@ void run_line(void) {
     memcpy(copy, text + at, length);        /* the line may be moved by a read */
     pass(length);
     line_happened(next_request());
-    record_line(copy, length, request_of_line());
     happened_after_mark += had_mark;        /* before a record of it is taken */
-    if (!run_text(copy, length, number)) {
+    if (!run_text(copy, length, number, !had_mark)) {
         refused++;
         happened_after_mark -= had_mark;
     }
@@ -113,12 +112,16 @@ long lines_left(void) {
 }
 
 void record_rest(void) {
+    struct wt_tree scratch = WT_TREE_INIT;
+    if (!options.out) return;
+    if (wt_open(&scratch) < 0) fault("wt_open");
     for (enum next next; (next = next_in_script()) == NEXT_LINE || next == NEXT_MARK;) {
         size_t length = (size_t)line_length();
         if (next == NEXT_MARK) record_mark();
-        else record_line(text + at, length, 0);
+        else if (!fault_of_text(&scratch, text + at, length)) record_line(text + at, length, 0);
         pass(length);
     }
+    wt_close(&scratch);
 }
 
 long lines_after_first_mark(void) { return happened_after_mark; }
@@ -140,7 +143,8 @@ static void try_all(void) {
         bool is_mark = length == 2 && !memcmp(line, "--", 2);
         if (is_directive(line, (size_t)length)) expect_directive(line, (size_t)length, number + 1, lines);
         if (is_mark || is_empty(line, (size_t)length)) continue;
-        try_text(&scratch, line, (size_t)length, number + 1);
+        const char *why = fault_of_text(&scratch, line, (size_t)length);
+        if (why) fault("line %ld: %s", number + 1, why);
         lines++;
     }
     wt_close(&scratch);

@@ -16,7 +16,7 @@ void pass_mark(void);
 void run_first_lines(void);
 /* How many lines did not happen. */
 long lines_left(void);
-/* Records the lines that did not happen, in the form of a script. */
+/* Records the lines that did not happen, in the form of a script, without those that are no lines of one. */
 void record_rest(void);
 /* How many lines stood or stand after the first mark and happened so far. */
 long lines_after_first_mark(void);
@@ -25,9 +25,10 @@ long lines_after_first_mark(void);
 int live_script(void);
 void read_live_script(void);
 
-/* line.c: runs a line on the tree. False if it is no line of a script, which is said. */
-bool run_text(const char *line, size_t length, long number);
+/* line.c: runs and records a line. False if it is no line of a script, which is said. A line of the set-up that is
+ * refused is a fault. */
+bool run_text(const char *line, size_t length, long number, bool is_setup);
 void free_text(void);
-/* Each line of a script that is read at once is tried on a tree of its own before the program starts. */
-void try_text(struct wt_tree *scratch, const char *line, size_t length, long number);
+/* Why a line is none of a script, by a tree of its own that it is tried on: NULL if it is one. */
+const char *fault_of_text(struct wt_tree *scratch, const char *line, size_t length);
 #endif

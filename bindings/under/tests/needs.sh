@@ -35,6 +35,8 @@ printf '%s\n' 'mkdir /d 755' -- 'create /d/f 644' >script
 printf '%s\n' 'mkdir /d 755' -- 'create /d/f 644' 'create /d/g 644' >two
 printf '%s\n' 'mkdir /d 755' -- 'create /d/f 644' 'crate /d/g 644' >fault
 printf '%s\n' 'mkdir /d 755' -- 'create /d/f 9' >mode
+printf '%s\n' 'create /d/f 644' 'mkdir /d 755' -- 'create /d/g 644' >order
+printf '%s\n' '# a comment' 'mkdir d 755' >relative
 printf '%s\n' 'mkdir /d 755' -- 'create /d/f 644' 'unlink /d/none' >refused
 printf '%s\n' 'mkdir /d 755' -- 'write /d/f 0 00' >refused-alone
 
@@ -56,6 +58,12 @@ expect 'the signal of the program' 137 - "$under" empty -- sh -c 'kill -9 $$'
 expect 'no such script' 125 'none: No such file' "$under" none -- ls /wt
 expect 'a fault of the script' 125 'line 4' "$under" fault -- touch "$room/started"
 expect 'a bad mode' 125 'line 3' "$under" mode -- touch "$room/started"
+refused="line 1: 'create /d/f 644' before .--. is refused: err ENOENT 2\$"
+expect 'a refused line before the first mark' 125 "$refused" "$under" order -- touch "$room/started"
+expect 'a refused line of a script without a mark' 125 "line 2: 'mkdir d 755' before .--. is refused: err E" \
+    "$under" relative -- touch "$room/started"
+expect 'a refused line before the first mark of a pipe' 125 "$refused" \
+    sh -c 'cat order | "$0" - -- touch "$1/started"' "$under" "$room"
 [ ! -e started ] && echo 'ok a fault is found before the start' || echo 'FAILED a fault is found before the start: it started'
 expect 'no such program' 127 'no-such-program: No such file' "$under" script -- no-such-program
 expect 'no program' 126 'Permission denied' "$under" script -- "$room/script"
