@@ -24,11 +24,12 @@ The shared object is the file that the environment variable LIBWATCHTREE names. 
 package, beside it, in the lib/ of the prefix where it is installed, or in out/ of the repository.
 """
 
+from ._arguments import AnyPath
 from ._errors import COOKIES_SPENT, JOURNAL_FULL, NUMBERS_SPENT, OWN, error_text
 from ._events import Event, Mask, parse
 from ._instance import Instance
 from ._library import QUEUE, find_library, load, version
-from ._tree import RENAME_EXCHANGE, RENAME_NOREPLACE, AnyPath, Entry, Stat, Tree
+from ._tree import RENAME_EXCHANGE, RENAME_NOREPLACE, Entry, Stat, Tree
 
 __all__ = [
     "AnyPath",

@@ -3,6 +3,7 @@
 import os
 from typing import NoReturn
 
+from ._arguments import integer
 from ._library import text_of
 
 JOURNAL_FULL, COOKIES_SPENT, NUMBERS_SPENT = 1001, 1004, 1007
@@ -20,4 +21,4 @@ def fail(number: int) -> NoReturn:
 
 def error_text(number: int) -> str:
     """Returns what a negative result of the C library means, such as `ENOENT: No such file or directory`."""
-    return text_of("wt_error_text", number)
+    return text_of("wt_error_text", integer("number", number, -(2**63), 2**63 - 1))

@@ -5,11 +5,12 @@ import io
 import os
 from typing import AsyncIterator, Iterator, NoReturn, Optional, Union
 
+from .._arguments import AnyPath, unsigned
 from .._errors import fail
 from .._events import Event, parse_one, records
 from .._instance import _SIZE, Instance
-from .._library import QUEUE, unsigned
-from .._tree import AnyPath, Stat, Tree
+from .._library import QUEUE
+from .._tree import Stat, Tree
 from ._player import EndOfRun, Player
 
 
@@ -36,8 +37,8 @@ class ExploredInstance(Instance):
     def read_bytes(self, size: int = _SIZE, timeout: Optional[float] = 0) -> bytes:
         """As Instance.read_bytes(), but time does not pass: docs/EXPLORE.md says when a timeout is over."""
         if self._ahead:
-            return self._rest_of_batch(unsigned(size))
-        data = self._player.read(self.number, unsigned(size), timeout)
+            return self._rest_of_batch(unsigned("size", size))
+        data = self._player.read(self.number, unsigned("size", size), timeout)
         if data is not None:
             return data
         if timeout == 0:
@@ -97,7 +98,7 @@ class ExploredTree(Tree):
 
     def inotify(self, limit: int = QUEUE) -> ExploredInstance:
         """Makes an instance. Its queue has the limit of the schedule if that is smaller."""
-        least = min(unsigned(limit), self._player.queue)
+        least = min(unsigned("limit", limit), self._player.queue)
         return ExploredInstance(self, self._call("wtt_inotify_init", least))
 
     def instance(self, number: int) -> ExploredInstance:
