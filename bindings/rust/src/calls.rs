@@ -226,7 +226,7 @@ macro_rules! calls {
                 })
                 .map(|text| Entry::new(place, &text))
             };
-            Ok((first..=last).map(entry).take_while(|it| *it != Err(Error::NONE)))
+            Ok((first..=last).map(entry).take_while(|it| *it != Err(Error::ENOENT)))
         }
 
         /// The journal as a script: each call as its line, and its reply in lines that begin with `# `.

@@ -7,7 +7,6 @@ use std::ffi::OsString;
 use std::path::Path;
 use std::rc::Rc;
 
-const INVALID: Error = Error(22);
 /// The sizes of records differ by this, in bytes.
 const STEP: usize = 16;
 
@@ -176,14 +175,14 @@ impl Tree {
             }
             let left = bytes - taken.len();
             let sizes = (1..=left / STEP).map(|it| it * STEP);
-            let tried = sizes.map(|size| self.tree.read(instance, size)).find(|it| *it != Err(INVALID));
+            let tried = sizes.map(|size| self.tree.read(instance, size)).find(|it| *it != Err(Error::EINVAL));
             match tried {
                 Some(events) => taken.extend_from_slice(events?.as_bytes()),
                 None => break,
             }
         }
         if taken.is_empty() {
-            return Err(INVALID);
+            return Err(Error::EINVAL);
         }
         Ok(Events::new(taken))
     }
