@@ -16,8 +16,8 @@
 //!
 //! Each method returns what the system call of its name returns. A [`Tree`] is for one thread at a time: every call takes
 //! `&mut Tree`. A [`SharedTree`] is for several: its calls take `&self`, reads can wait, and an instance has a
-//! descriptor for event loops. [`Tree::try_clone`] and [`SharedTree::fork`] make an independent tree like this one, and
-//! `script` prints the calls so far as a script. [`explore`] runs event code under many schedules, and shrinks one that breaks it.
+//! descriptor for event loops. In both, `fork` makes an independent tree like this one, and `script` prints the calls so
+//! far as a script. [`explore`] runs event code under many schedules, and shrinks one that breaks it.
 mod calls;
 mod error;
 mod events;

@@ -9,7 +9,7 @@ use std::path::{Path, PathBuf};
 use std::ptr;
 
 /// The number of an instance of inotify in a [`Tree`], which is that of the same instance in its
-/// [clones](Tree::try_clone).
+/// [forks](Tree::fork).
 #[derive(Clone, Copy, Debug, PartialEq, Eq, Hash)]
 pub struct Instance(pub u32);
 
@@ -50,17 +50,23 @@ impl Tree {
     /// let instance = tree.inotify(16)?;
     /// tree.add_watch(instance, "/", mask::CREATE)?;
     /// tree.create("/f", 0o644)?;
-    /// let mut fork = tree.try_clone()?;
+    /// let mut fork = tree.fork()?;
     /// fork.unlink("/f")?;
     /// assert_eq!((tree.list("/")?.len(), fork.list("/")?.len()), (1, 0));
     /// assert_eq!(tree.read(instance, 4096)?, fork.read(instance, 4096)?);
     /// assert_eq!(fork.entries()?.next().expect("a call")?.to_string(), "unlink /f\n# ok\n");
     /// # Ok::<(), watchtree::Error>(())
     /// ```
-    pub fn try_clone(&mut self) -> Result<Tree, Error> {
+    pub fn fork(&mut self) -> Result<Tree, Error> {
         let mut fork = Tree { raw: RawTree { at: ptr::null_mut(), ready: false } };
         answer(unsafe { sys::wt_fork(&mut self.raw, &mut fork.raw) })?;
         Ok(fork)
+    }
+
+    /// As [`fork`](Tree::fork).
+    #[deprecated(note = "call `fork`, the name that `SharedTree` has for it too")]
+    pub fn try_clone(&mut self) -> Result<Tree, Error> {
+        self.fork()
     }
 
     fn raw(&mut self) -> &mut RawTree {
