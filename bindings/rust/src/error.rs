@@ -34,7 +34,7 @@ impl Error {
     pub const ENOMEM: Error = Error(12);
     /// The root is removed or renamed, or something is renamed onto it.
     pub const EBUSY: Error = Error(16);
-    /// Something exists at the path; or the file is watched, and the mask has [`MASK_CREATE`](crate::mask::MASK_CREATE).
+    /// Something exists at the path, or the file is watched and the mask has [`MASK_CREATE`](crate::mask::MASK_CREATE).
     pub const EEXIST: Error = Error(17);
     /// A file is used as a directory, or a directory would replace a file.
     pub const ENOTDIR: Error = Error(20);

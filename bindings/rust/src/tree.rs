@@ -2,7 +2,7 @@
 use crate::calls::{all_of, calls, names, numbers, text};
 use crate::error::answer;
 use crate::sys::{self, RawStat, RawTree};
-use crate::{Entry, Error, Events, Stat};
+use crate::{Entry, Error, Events, Mask, Stat};
 use std::ffi::OsString;
 use std::os::unix::ffi::OsStringExt;
 use std::path::{Path, PathBuf};
@@ -83,9 +83,14 @@ impl Tree {
     }
 
     /// Watches what is at a path, and returns the watch descriptor.
-    pub fn add_watch(&mut self, instance: Instance, path: impl AsRef<Path>, mask: u32) -> Result<i32, Error> {
-        let (path, len) = text(path.as_ref());
-        answer(unsafe { sys::wt_inotify_add_watch(&mut self.raw, instance.0, path, len, mask) }).map(|it| it as i32)
+    pub fn add_watch(
+        &mut self,
+        instance: Instance,
+        path: impl AsRef<Path>,
+        mask: impl Into<Mask>,
+    ) -> Result<i32, Error> {
+        let ((path, len), Mask(bits)) = (text(path.as_ref()), mask.into());
+        answer(unsafe { sys::wt_inotify_add_watch(&mut self.raw, instance.0, path, len, bits) }).map(|it| it as i32)
     }
 
     pub fn rm_watch(&mut self, instance: Instance, wd: i32) -> Result<(), Error> {

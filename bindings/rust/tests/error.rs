@@ -1,4 +1,5 @@
-//! Each error has a constant: those that the library has a text for, those of watchtree.h, and two of the layer for threads.
+//! Each error has a constant: those that the library has a text for, those of watchtree.h, and two of the layer for
+//! threads.
 use std::collections::BTreeMap;
 use watchtree::{Error, SharedTree, Tree};
 

@@ -2,7 +2,7 @@
 use super::plan::Plan;
 use super::schedule::{Change, Schedule, PAUSE};
 use super::timeline::Timeline;
-use crate::{Error, Events, Instance, Stat};
+use crate::{Error, Events, Instance, Mask, Stat};
 use std::ffi::OsString;
 use std::path::Path;
 use std::rc::Rc;
@@ -224,11 +224,16 @@ impl Tree {
     }
 
     /// As [`Tree::add_watch`](crate::Tree::add_watch).
-    pub fn add_watch(&mut self, instance: Instance, path: impl AsRef<Path>, mask: u32) -> Result<i32, Error> {
-        let (request, path) = (self.request(), path.as_ref());
-        let answer = self.tree.add_watch(instance, path, mask);
+    pub fn add_watch(
+        &mut self,
+        instance: Instance,
+        path: impl AsRef<Path>,
+        mask: impl Into<Mask>,
+    ) -> Result<i32, Error> {
+        let (request, path, Mask(bits)) = (self.request(), path.as_ref(), mask.into());
+        let answer = self.tree.add_watch(instance, path, bits);
         if let Some(timeline) = &mut self.timeline {
-            let words = format!("{} {} {mask:#x}", instance.0, path.display());
+            let words = format!("{} {} {bits:#x}", instance.0, path.display());
             timeline.request(request, "add_watch", &words, &answer);
         }
         answer
