@@ -17,10 +17,10 @@
 //! Each method returns what the system call of its name returns, or an [`Error`], which has constants such as
 //! [`Error::ENOENT`]. A [`Mask`] has the bits of a mask with their names; a function that takes one also takes a `u32`.
 //!
-//! A [`Tree`] is for one thread at a time: every call takes `&mut Tree`. A [`SharedTree`] is for several: its calls take
-//! `&self`, reads can wait, and an instance has a descriptor for event loops. In both, `fork` makes an independent tree
-//! like this one, and `script` prints the calls so far as a script. [`explore`] runs event code under many schedules, and
-//! shrinks one that breaks it.
+//! A [`Tree`] is for one thread at a time: every call takes `&mut Tree`. A [`SharedTree`] is for several: its calls
+//! take `&self`, reads can wait, and an instance has a descriptor for event loops. In both, `fork` makes an independent
+//! tree like this one, and `script` prints the calls so far as a script. [`explore`] runs event code under many
+//! schedules, and shrinks one that breaks it.
 mod calls;
 mod error;
 mod events;
