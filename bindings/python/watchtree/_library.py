@@ -5,7 +5,7 @@ import functools
 import os
 from typing import Any, Optional
 
-from ._arguments import path_text
+from ._arguments import AnyPath, path_text
 
 QUEUE = 16384
 
@@ -80,7 +80,7 @@ def find_library() -> str:
     raise ImportError(f"no libwatchtree.so for {here}: run ./watchtree lib, or set LIBWATCHTREE")
 
 
-def load(path: Optional[str] = None) -> ctypes.CDLL:
+def load(path: Optional[AnyPath] = None) -> ctypes.CDLL:
     """Loads the library, that of find_library() unless another is named, and declares its functions."""
     found = find_library() if path is None else os.fsdecode(path_text("path", path))
     library = ctypes.CDLL(found)
