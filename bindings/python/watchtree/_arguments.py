@@ -9,6 +9,7 @@ if TYPE_CHECKING:
     from _typeshed import ReadableBuffer
 
 AnyPath = Union[str, bytes, "os.PathLike[str]", "os.PathLike[bytes]"]
+PathText = Union[str, bytes]
 
 
 def wrong_type(name: str, wanted: str, given: object) -> TypeError:
@@ -32,8 +33,8 @@ def unsigned(name: str, given: int, bits: int = 32) -> int:
     return integer(name, given, 0, 2**bits - 1)
 
 
-def path_text(name: str, given: AnyPath) -> Union[str, bytes]:
-    """Returns the text of a path as OSError.filename has it: str or bytes, as the caller has it."""
+def path_text(name: str, given: AnyPath) -> PathText:
+    """Returns the text of a path as OSError.filename has it: str or bytes, as the caller passed it."""
     if not isinstance(given, (str, bytes, os.PathLike)):
         raise wrong_type(name, "str, bytes or os.PathLike", given)
     return os.fspath(given)

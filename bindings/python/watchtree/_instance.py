@@ -61,11 +61,7 @@ class Instance:
         """Watches what stands at a path, and returns the watch descriptor."""
         text, bits = path_text("path", path), unsigned("mask", mask)
         plain = os.fsencode(text)
-        try:
-            return self.tree._call("wtt_inotify_add_watch", self.number, plain, len(plain), bits)
-        except OSError as fault:
-            fault.filename = text
-            raise
+        return self.tree._call("wtt_inotify_add_watch", self.number, plain, len(plain), bits, paths=(text,))
 
     def rm_watch(self, wd: int) -> None:
         """Ends a watch."""

@@ -5,9 +5,9 @@ import errno
 import os
 import threading
 from collections import deque
-from typing import TYPE_CHECKING, Deque, Dict, Iterator, List, NamedTuple, NoReturn, Optional, Tuple, Union
+from typing import TYPE_CHECKING, Deque, Dict, Iterator, List, NamedTuple, NoReturn, Optional, Sequence, Tuple, Union
 
-from ._arguments import AnyPath, data_bytes, path_text, unsigned, wrong_type
+from ._arguments import AnyPath, PathText, data_bytes, path_text, unsigned, wrong_type
 from ._errors import fail
 from ._instance import Instance
 from ._library import QUEUE, StatBuffer, default_library
@@ -90,31 +90,22 @@ class Tree:
     def __exit__(self, *_: object) -> None:
         self.close()
 
-    def _call(self, name: str, *words: object) -> int:
+    def _call(self, name: str, *words: object, paths: Sequence[PathText] = ()) -> int:
+        """Makes a call of the library. Its OSError has the paths."""
         number: int = getattr(self._library, name)(self._at, *words)
         if number < 0:
-            fail(-number)
+            fail(-number, *paths)
         return number
 
     def _on_path(self, name: str, path: AnyPath, *words: object) -> int:
-        """Makes a call on a path. Its OSError has the path, as one of the module `os` has."""
         text = path_text("path", path)
         plain = os.fsencode(text)
-        try:
-            return self._call(name, plain, len(plain), *words)
-        except OSError as fault:
-            fault.filename = text
-            raise
+        return self._call(name, plain, len(plain), *words, paths=(text,))
 
     def _on_paths(self, name: str, old: AnyPath, to: AnyPath, *words: object) -> int:
-        """Makes a call on two paths, as _on_path()."""
         texts = path_text("old", old), path_text("to", to)
         one, other = map(os.fsencode, texts)
-        try:
-            return self._call(name, one, len(one), other, len(other), *words)
-        except OSError as fault:
-            fault.filename, fault.filename2 = texts
-            raise
+        return self._call(name, one, len(one), other, len(other), *words, paths=texts)
 
     def _lock(self) -> "threading._RLock":
         # In a child of fork(2) a thread that is not there any more may hold it.
@@ -267,19 +258,15 @@ class Tree:
     def _list(self, name: str, path: AnyPath) -> List[str]:
         text = path_text("path", path)
         plain = os.fsencode(text)
-        try:
-            names = self._text(name, plain, len(plain))
-        except OSError as fault:
-            fault.filename = text
-            raise
+        names = self._text(name, plain, len(plain), paths=(text,))
         return [os.fsdecode(it) for it in names.split(b"\0")[:-1]]
 
-    def _text(self, name: str, *words: object) -> bytes:
+    def _text(self, name: str, *words: object, paths: Sequence[PathText] = ()) -> bytes:
         """Makes a call that returns how many bytes it has, with a larger buffer until they fit."""
         size = 4096
         while True:
             out = ctypes.create_string_buffer(size)
-            wanted = self._call(name, *words, out, size)
+            wanted = self._call(name, *words, out, size, paths=paths)
             if wanted <= size:
                 return ctypes.string_at(out, wanted)
             size = wanted

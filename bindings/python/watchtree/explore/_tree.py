@@ -1,11 +1,12 @@
 """The tree as the consumer has it: each call is a request, and changes happen between them."""
 
 import errno
+import functools
 import io
 import os
-from typing import AsyncIterator, Iterator, NoReturn, Optional, Union
+from typing import AsyncIterator, Iterator, NoReturn, Optional, Sequence, Union
 
-from .._arguments import AnyPath, unsigned
+from .._arguments import AnyPath, PathText, unsigned
 from .._errors import fail
 from .._events import Event, parse_one, records
 from .._instance import _SIZE, Instance
@@ -82,17 +83,17 @@ class ExploredTree(Tree):
         """Closes the tree for the consumer: further calls raise EBADF."""
         self._is_closed = True
 
-    def _call(self, name: str, *words: object) -> int:
+    def _call(self, name: str, *words: object, paths: Sequence[PathText] = ()) -> int:
         if self._is_closed:
-            fail(errno.EBADF)
-        answer = self._player.answer(name, words, self._tree._call)
+            fail(errno.EBADF, *paths)
+        answer = self._player.answer(name, words, functools.partial(self._tree._call, paths=paths))
         assert isinstance(answer, int)
         return answer
 
-    def _text(self, name: str, *words: object) -> bytes:
+    def _text(self, name: str, *words: object, paths: Sequence[PathText] = ()) -> bytes:
         if self._is_closed:
-            fail(errno.EBADF)
-        answer = self._player.answer(name, words, self._player.text)
+            fail(errno.EBADF, *paths)
+        answer = self._player.answer(name, words, functools.partial(self._player.text, paths=paths))
         assert isinstance(answer, bytes)
         return answer
 
