@@ -8,8 +8,8 @@
     ...     [(event.wd, event.mask.name, event.name) for event in instance.read()]
     [(1, 'CREATE', 'f')]
 
-Each method does what the system call of its name does, and raises OSError with the same errno. Numbers from 1001 on are
-this library's own (JOURNAL_FULL and others). A path is a str, bytes or os.PathLike.
+Each method does what the system call of its name does, and raises OSError with the errno and the paths of the call.
+Numbers from 1001 on are this library's own (JOURNAL_FULL and others). A path is a str, bytes or os.PathLike.
 
 Threads may share a tree and its instances: each call takes the lock of the tree. A tree or an instance that is closed,
 and a tree in a child of os.fork(), raises OSError with EBADF.
@@ -24,11 +24,12 @@ The shared object is the file that the environment variable LIBWATCHTREE names. 
 package, beside it, in the lib/ of the prefix where it is installed, or in out/ of the repository.
 """
 
+from ._arguments import AnyPath
 from ._errors import COOKIES_SPENT, JOURNAL_FULL, NUMBERS_SPENT, OWN, error_text
 from ._events import Event, Mask, parse
 from ._instance import Instance
 from ._library import QUEUE, find_library, load, version
-from ._tree import RENAME_EXCHANGE, RENAME_NOREPLACE, AnyPath, Entry, Stat, Tree
+from ._tree import RENAME_EXCHANGE, RENAME_NOREPLACE, Entry, Stat, Tree
 
 __all__ = [
     "AnyPath",

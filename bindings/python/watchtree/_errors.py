@@ -3,6 +3,7 @@
 import os
 from typing import NoReturn
 
+from ._arguments import PathText, integer
 from ._library import text_of
 
 JOURNAL_FULL, COOKIES_SPENT, NUMBERS_SPENT = 1001, 1004, 1007
@@ -22,11 +23,14 @@ OWN = {
 }
 
 
-def fail(number: int) -> NoReturn:
-    """Raises the OSError of an error number."""
-    raise OSError(number, OWN.get(number) or os.strerror(number))
+def fail(number: int, *paths: PathText) -> NoReturn:
+    """Raises the OSError of an error number, with the paths of the call, as the module `os` does."""
+    text = OWN.get(number) or os.strerror(number)
+    if len(paths) == 2:
+        raise OSError(number, text, paths[0], None, paths[1])
+    raise OSError(number, text, *paths)
 
 
 def error_text(number: int) -> str:
     """Returns what a negative result of the C library means, such as `ENOENT: No such file or directory`."""
-    return text_of("wt_error_text", number)
+    return text_of("wt_error_text", integer("number", number, -(2**63), 2**63 - 1))

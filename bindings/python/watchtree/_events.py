@@ -3,7 +3,12 @@
 import enum
 import os
 import struct
-from typing import Iterator, List, NamedTuple
+from typing import TYPE_CHECKING, Iterator, List, NamedTuple
+
+from ._arguments import data_bytes
+
+if TYPE_CHECKING:
+    from _typeshed import ReadableBuffer
 
 _HEAD = struct.Struct("=iIII")
 
@@ -62,6 +67,6 @@ def parse_one(record: bytes) -> Event:
     return Event(wd, Mask(mask), cookie, os.fsdecode(record[_HEAD.size :].rstrip(b"\0")))
 
 
-def parse(data: bytes) -> List[Event]:
+def parse(data: "ReadableBuffer") -> List[Event]:
     """Returns the events of what read(2) on an inotify descriptor returns."""
-    return [parse_one(it) for it in records(data)]
+    return [parse_one(it) for it in records(data_bytes("data", data))]

@@ -4,15 +4,15 @@ import ctypes
 import errno
 import os
 from collections import deque
-from typing import TYPE_CHECKING, AsyncIterator, Deque, Iterator, List, Optional
+from typing import TYPE_CHECKING, AsyncIterator, Deque, Iterator, List, NoReturn, Optional
 
 from . import _waiting
+from ._arguments import AnyPath, integer, path_text, unsigned
 from ._errors import fail
 from ._events import Event, Mask, parse, parse_one, records
-from ._library import fit, unsigned
 
 if TYPE_CHECKING:
-    from ._tree import AnyPath, Tree
+    from ._tree import Tree
 
 _SIZE = 65536
 # The bytes of the record with the longest name.
@@ -32,7 +32,7 @@ class Instance:
 
     def __init__(self, tree: "Tree", number: int) -> None:
         self.tree = tree
-        self.number = number
+        self.number = number = unsigned("number", number)
         # The rest of a batch, which each object for this instance takes from, and the descriptor of fileno().
         self._ahead: Deque[bytes] = tree._batches.setdefault(number, deque())
         self._fd = -1
@@ -41,6 +41,10 @@ class Instance:
         # Not in close(): a thread or an event loop that waits for the descriptor is woken by it.
         if getattr(self, "_fd", -1) >= 0:
             os.close(self._fd)
+
+    def __reduce__(self) -> NoReturn:
+        # A second object with the same descriptor would close it twice.
+        raise TypeError("an instance can't be copied or pickled: it owns a descriptor; use tree.instance(number)")
 
     def __enter__(self) -> "Instance":
         return self
@@ -53,14 +57,15 @@ class Instance:
             if fault.errno != errno.EBADF:
                 raise
 
-    def add_watch(self, path: "AnyPath", mask: int = Mask.ALL_EVENTS) -> int:
+    def add_watch(self, path: AnyPath, mask: int = Mask.ALL_EVENTS) -> int:
         """Watches what stands at a path, and returns the watch descriptor."""
-        plain = os.fsencode(path)
-        return self.tree._call("wtt_inotify_add_watch", self.number, plain, len(plain), unsigned(int(mask)))
+        text, bits = path_text("path", path), unsigned("mask", mask)
+        plain = os.fsencode(text)
+        return self.tree._call("wtt_inotify_add_watch", self.number, plain, len(plain), bits, paths=(text,))
 
     def rm_watch(self, wd: int) -> None:
         """Ends a watch."""
-        self.tree._call("wtt_inotify_rm_watch", self.number, fit(wd, -(2**31), 2**31 - 1))
+        self.tree._call("wtt_inotify_rm_watch", self.number, integer("wd", wd, -(2**31), 2**31 - 1))
 
     def close(self) -> None:
         """Closes the instance, and wakes whoever waits for it."""
@@ -96,7 +101,7 @@ class Instance:
         If no record waits, it waits at most so many seconds, without limit if the timeout is None. Then it raises as a
         socket does: BlockingIOError if the timeout is 0, and TimeoutError otherwise.
         """
-        end = _waiting.end_of(timeout)
+        end, size = _waiting.end_of(timeout), unsigned("size", size)
         while True:
             try:
                 return self._take(size)
@@ -134,12 +139,11 @@ class Instance:
         return _AsyncEvents(self)
 
     def _read(self, size: int) -> bytes:
-        wanted = unsigned(size)
         count = self._count()
         if not count:
             fail(errno.EAGAIN)
         # As much as what waits can need: a larger buffer takes longer than the read.
-        size = min(wanted, count * _LONGEST)
+        size = min(size, count * _LONGEST)
         out = ctypes.create_string_buffer(max(size, 1))
         return ctypes.string_at(out, self.tree._call("wtt_read", self.number, out, size, 0))
 
@@ -150,7 +154,7 @@ class Instance:
                 return self._read(size)
             self._count()
             taken = b""
-            while self._ahead and len(taken) + len(self._ahead[0]) <= unsigned(size):
+            while self._ahead and len(taken) + len(self._ahead[0]) <= size:
                 taken += self._ahead.popleft()
             if not taken:
                 fail(errno.EINVAL)

@@ -5,6 +5,8 @@ import functools
 import os
 from typing import Any, Optional
 
+from ._arguments import AnyPath, path_text
+
 QUEUE = 16384
 
 
@@ -78,9 +80,9 @@ def find_library() -> str:
     raise ImportError(f"no libwatchtree.so for {here}: run ./watchtree lib, or set LIBWATCHTREE")
 
 
-def load(path: Optional[str] = None) -> ctypes.CDLL:
+def load(path: Optional[AnyPath] = None) -> ctypes.CDLL:
     """Loads the library, that of find_library() unless another is named, and declares its functions."""
-    found = path or find_library()
+    found = find_library() if path is None else os.fsdecode(path_text("path", path))
     library = ctypes.CDLL(found)
     types: Any = {name: (ctypes.c_void_p, *rest) for name, rest in CALLS.items()}
     types.update(PLAIN, wtt_open=(ctypes.POINTER(ctypes.c_void_p),), wtt_shutdown=(ctypes.c_void_p,))
@@ -98,18 +100,6 @@ def load(path: Optional[str] = None) -> ctypes.CDLL:
 def default_library() -> ctypes.CDLL:
     """Returns the library that a Tree uses unless it is given another."""
     return load()
-
-
-def fit(number: int, low: int, high: int) -> int:
-    """Returns a number that is within bounds; ctypes would truncate another."""
-    if not low <= number <= high:
-        raise OverflowError(f"{number} is not between {low} and {high}")
-    return number
-
-
-def unsigned(number: int, bits: int = 32) -> int:
-    """Returns a number that fits into so many bits."""
-    return fit(number, 0, 2**bits - 1)
 
 
 def text_of(name: str, *words: int) -> str:

@@ -5,16 +5,19 @@ import errno
 import os
 import threading
 from collections import deque
-from typing import Deque, Dict, Iterator, List, NamedTuple, Optional, Tuple, Union
+from typing import TYPE_CHECKING, Deque, Dict, Iterator, List, NamedTuple, NoReturn, Optional, Sequence, Tuple, Union
 
+from ._arguments import AnyPath, PathText, data_bytes, path_text, unsigned, wrong_type
 from ._errors import fail
 from ._instance import Instance
-from ._library import QUEUE, StatBuffer, default_library, unsigned
+from ._library import QUEUE, StatBuffer, default_library
+
+if TYPE_CHECKING:
+    from _typeshed import ReadableBuffer
 
 RENAME_NOREPLACE, RENAME_EXCHANGE = 1, 2
 # How many instances can be open at a time.
 INSTANCES = 128
-AnyPath = Union[str, bytes, "os.PathLike[str]", "os.PathLike[bytes]"]
 
 
 class Stat(NamedTuple):
@@ -51,6 +54,8 @@ class Tree:
     """
 
     def __init__(self, library: Optional[ctypes.CDLL] = None) -> None:
+        if not isinstance(library, (ctypes.CDLL, type(None))):
+            raise wrong_type("library", "None or a ctypes.CDLL", library)
         self._begin(library or default_library())
         number = self._library.wtt_open(ctypes.byref(self._at))
         if number < 0:
@@ -71,6 +76,10 @@ class Tree:
         if getattr(self, "_at", None):
             self._library.wtt_close(self._at)
 
+    def __reduce__(self) -> NoReturn:
+        # A second object with the same handle would free it twice.
+        raise TypeError("a tree can't be copied or pickled: fork() returns an independent tree like it")
+
     def close(self) -> None:
         """Closes the tree and its instances. Calls on them, and those that wait in other threads, raise EBADF."""
         self._library.wtt_shutdown(self._at)
@@ -81,19 +90,22 @@ class Tree:
     def __exit__(self, *_: object) -> None:
         self.close()
 
-    def _call(self, name: str, *words: object) -> int:
+    def _call(self, name: str, *words: object, paths: Sequence[PathText] = ()) -> int:
+        """Makes a call of the library. Its OSError has the paths."""
         number: int = getattr(self._library, name)(self._at, *words)
         if number < 0:
-            fail(-number)
+            fail(-number, *paths)
         return number
 
     def _on_path(self, name: str, path: AnyPath, *words: object) -> int:
-        plain = os.fsencode(path)
-        return self._call(name, plain, len(plain), *words)
+        text = path_text("path", path)
+        plain = os.fsencode(text)
+        return self._call(name, plain, len(plain), *words, paths=(text,))
 
     def _on_paths(self, name: str, old: AnyPath, to: AnyPath, *words: object) -> int:
-        plain = os.fsencode(to)
-        return self._on_path(name, old, plain, len(plain), *words)
+        texts = path_text("old", old), path_text("to", to)
+        one, other = map(os.fsencode, texts)
+        return self._call(name, one, len(one), other, len(other), *words, paths=texts)
 
     def _lock(self) -> "threading._RLock":
         # In a child of fork(2) a thread that is not there any more may hold it.
@@ -118,7 +130,7 @@ class Tree:
 
     def instance(self, number: int) -> Instance:
         """Returns the open instance with a number, which is that of the same instance in a fork. EBADF if none is open."""
-        self._call("wtt_waiting", unsigned(number))
+        self._call("wtt_waiting", unsigned("number", number))
         return Instance(self, number)
 
     def entries(self) -> Iterator[Entry]:
@@ -142,16 +154,16 @@ class Tree:
 
     def mkdir(self, path: AnyPath, mode: int = 0o755) -> int:
         """Makes a directory, and returns its number."""
-        return self._on_path("wtt_mkdir", path, unsigned(mode))
+        return self._on_path("wtt_mkdir", path, unsigned("mode", mode))
 
     def create(self, path: AnyPath, mode: int = 0o644) -> int:
         """Makes a regular file, and returns its number."""
-        return self._on_path("wtt_create", path, unsigned(mode))
+        return self._on_path("wtt_create", path, unsigned("mode", mode))
 
-    def write(self, path: AnyPath, data: bytes, offset: int = 0) -> int:
+    def write(self, path: AnyPath, data: "ReadableBuffer", offset: int = 0) -> int:
         """Writes bytes at an offset, and returns how many."""
-        plain = bytes(data)
-        return self._on_path("wtt_write", path, unsigned(offset, 64), plain, len(plain))
+        plain = data_bytes("data", data)
+        return self._on_path("wtt_write", path, unsigned("offset", offset, 64), plain, len(plain))
 
     def read(self, path: AnyPath, count: int, offset: int = 0) -> bytes:
         """Reads at most so many bytes at an offset."""
@@ -159,11 +171,11 @@ class Tree:
 
     def truncate(self, path: AnyPath, length: int) -> None:
         """Sets the size of a file."""
-        self._on_path("wtt_truncate", path, unsigned(length, 64))
+        self._on_path("wtt_truncate", path, unsigned("length", length, 64))
 
     def chmod(self, path: AnyPath, mode: int) -> None:
         """Sets the mode of a file or directory."""
-        self._on_path("wtt_chmod", path, unsigned(mode))
+        self._on_path("wtt_chmod", path, unsigned("mode", mode))
 
     def link(self, old: AnyPath, to: AnyPath) -> None:
         """Makes a hard link."""
@@ -183,7 +195,7 @@ class Tree:
 
     def rename2(self, old: AnyPath, to: AnyPath, flags: int) -> None:
         """Renames with the flags of renameat2(2): RENAME_NOREPLACE, RENAME_EXCHANGE, or 0."""
-        self._on_paths("wtt_rename2", old, to, unsigned(flags))
+        self._on_paths("wtt_rename2", old, to, unsigned("flags", flags))
 
     def stat(self, path: AnyPath) -> Stat:
         """Returns what stands at a path."""
@@ -210,7 +222,7 @@ class Tree:
 
         It looks at each path of the tree, and the journal has no entry of it.
         """
-        return os.fsdecode(self._text("wtt_path_of", unsigned(number, 64)))
+        return os.fsdecode(self._text("wtt_path_of", unsigned("number", number, 64)))
 
     def ready(self) -> List[int]:
         """Returns the numbers of the open instances that have a record waiting in their queue, rising."""
@@ -234,8 +246,9 @@ class Tree:
             yield place, os.fsdecode(text)
 
     def _read(self, name: str, path: AnyPath, count: int, offset: int) -> bytes:
-        out = ctypes.create_string_buffer(max(unsigned(count), 1))
-        return ctypes.string_at(out, self._on_path(name, path, unsigned(offset, 64), out, count))
+        size, at = unsigned("count", count), unsigned("offset", offset, 64)
+        out = ctypes.create_string_buffer(max(size, 1))
+        return ctypes.string_at(out, self._on_path(name, path, at, out, size))
 
     def _stat(self, name: str, path: AnyPath) -> Stat:
         out = StatBuffer()
@@ -243,29 +256,33 @@ class Tree:
         return Stat(out.number, bool(out.is_directory), out.mode, out.links, out.size)
 
     def _list(self, name: str, path: AnyPath) -> List[str]:
-        plain = os.fsencode(path)
-        return [os.fsdecode(it) for it in self._text(name, plain, len(plain)).split(b"\0")[:-1]]
+        text = path_text("path", path)
+        plain = os.fsencode(text)
+        names = self._text(name, plain, len(plain), paths=(text,))
+        return [os.fsdecode(it) for it in names.split(b"\0")[:-1]]
 
-    def _text(self, name: str, *words: object) -> bytes:
+    def _text(self, name: str, *words: object, paths: Sequence[PathText] = ()) -> bytes:
         """Makes a call that returns how many bytes it has, with a larger buffer until they fit."""
         size = 4096
         while True:
             out = ctypes.create_string_buffer(size)
-            wanted = self._call(name, *words, out, size)
+            wanted = self._call(name, *words, out, size, paths=paths)
             if wanted <= size:
                 return ctypes.string_at(out, wanted)
             size = wanted
 
     def inotify(self, limit: int = QUEUE) -> Instance:
         """Makes an instance with a queue of so many records."""
-        return Instance(self, self._call("wtt_inotify_init", unsigned(limit)))
+        return Instance(self, self._call("wtt_inotify_init", unsigned("limit", limit)))
 
     def line(self, line: Union[str, bytes], queue: int = QUEUE) -> str:
         """Runs a line of a script, such as `mkdir /d 755`, and returns the text that it prints."""
-        plain = os.fsencode(line)
+        if not isinstance(line, (str, bytes)):
+            raise wrong_type("line", "str or bytes", line)
+        plain, limit = os.fsencode(line), unsigned("queue", queue)
         out = ctypes.create_string_buffer(4096)
         with self._lock():
-            wanted = self._call("wtt_line", unsigned(queue), plain, len(plain), out, len(out))
+            wanted = self._call("wtt_line", limit, plain, len(plain), out, len(out))
             if wanted > len(out):
                 out = ctypes.create_string_buffer(wanted)
                 # (a signal handler that runs a line in between changes the text)

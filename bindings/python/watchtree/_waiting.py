@@ -6,6 +6,8 @@ import select
 import time
 from typing import TYPE_CHECKING, Optional
 
+from ._arguments import seconds
+
 if TYPE_CHECKING:
     import asyncio
 
@@ -17,9 +19,7 @@ def end_of(timeout: Optional[float]) -> float:
     """Returns the time of the monotonic clock at which a wait of so many seconds ends: None is without end."""
     if timeout is None:
         return math.inf
-    if not timeout >= 0:
-        raise ValueError("timeout must be None or a non-negative number")
-    return time.monotonic() + timeout
+    return time.monotonic() + seconds("timeout", timeout)
 
 
 def wait_until(fd: int, end: float) -> bool:

@@ -191,7 +191,8 @@ macro_rules! calls {
         /// The names in a directory, in the order of their bytes.
         pub fn list($($receiver)+, path: impl AsRef<Path>) -> Result<Vec<OsString>, Error> {
             let (path, len) = text(path.as_ref());
-            all_of(|out| unsafe { $sys::$list($me.$prefix(), path, len, out.as_mut_ptr().cast(), out.len()) }).map(names)
+            all_of(|out| unsafe { $sys::$list($me.$prefix(), path, len, out.as_mut_ptr().cast(), out.len()) })
+                .map(names)
         }
 
         /// As `list`, but the journal has no entry of it.
@@ -226,7 +227,7 @@ macro_rules! calls {
                 })
                 .map(|text| Entry::new(place, &text))
             };
-            Ok((first..=last).map(entry).take_while(|it| *it != Err(Error::NONE)))
+            Ok((first..=last).map(entry).take_while(|it| *it != Err(Error::ENOENT)))
         }
 
         /// The journal as a script: each call as its line, and its reply in lines that begin with `# `.

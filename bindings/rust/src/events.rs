@@ -1,4 +1,5 @@
 //! The records that a read returns.
+use crate::Mask;
 use std::ffi::OsStr;
 use std::os::unix::ffi::OsStrExt;
 
@@ -6,12 +7,19 @@ use std::os::unix::ffi::OsStrExt;
 #[derive(Clone, Copy, Debug, PartialEq, Eq)]
 pub struct Event<'a> {
     pub wd: i32,
-    /// Bits of [`mask`](crate::mask).
+    /// Bits of [`mask`](crate::mask); [`mask()`](Event::mask) returns them with their names.
     pub mask: u32,
     /// Connects the two records of a rename; otherwise 0.
     pub cookie: u32,
     /// The name in the watched directory; none if the event is about the watched file itself.
     pub name: Option<&'a OsStr>,
+}
+
+impl Event<'_> {
+    /// The bits of `mask`, with their names.
+    pub fn mask(&self) -> Mask {
+        Mask(self.mask)
+    }
 }
 
 /// The records that a read returned, in the bytes of read(2).

@@ -1,23 +1,26 @@
 //! A file tree in memory with inotify(7): safe wrappers over libwatchtree.
 //!
 //! ```
-//! use watchtree::{mask, Tree};
+//! use watchtree::{Mask, Tree};
 //!
 //! let mut tree = Tree::open()?;
 //! tree.mkdir("/d", 0o755)?;
 //! let instance = tree.inotify(16384)?;
-//! tree.add_watch(instance, "/d", mask::CREATE)?;
+//! tree.add_watch(instance, "/d", Mask::CREATE | Mask::DELETE)?;
 //! tree.create("/d/f", 0o644)?;
 //! for event in &tree.read(instance, 4096)? {
-//!     println!("wd {} mask {:#x} name {:?}", event.wd, event.mask, event.name);
+//!     println!("wd {} mask {} name {:?}", event.wd, event.mask(), event.name);
 //! }
 //! # Ok::<(), watchtree::Error>(())
 //! ```
 //!
-//! Each method returns what the system call of its name returns. A [`Tree`] is for one thread at a time: every call takes
-//! `&mut Tree`. A [`SharedTree`] is for several: its calls take `&self`, reads can wait, and an instance has a
-//! descriptor for event loops. [`Tree::try_clone`] and [`SharedTree::fork`] make an independent tree like this one, and
-//! `script` prints the calls so far as a script. [`explore`] runs event code under many schedules, and shrinks one that breaks it.
+//! Each method returns what the system call of its name returns, or an [`Error`], which has constants such as
+//! [`Error::ENOENT`]. A [`Mask`] has the bits of a mask with their names; a function that takes one also takes a `u32`.
+//!
+//! A [`Tree`] is for one thread at a time: every call takes `&mut Tree`. A [`SharedTree`] is for several: its calls
+//! take `&self`, reads can wait, and an instance has a descriptor for event loops. In both, `fork` makes an independent
+//! tree like this one, and `script` prints the calls so far as a script. [`explore`] runs event code under many
+//! schedules, and shrinks one that breaks it.
 mod calls;
 mod error;
 mod events;
@@ -30,6 +33,7 @@ mod tree;
 pub use calls::{Entry, Stat};
 pub use error::{version, Error};
 pub use events::{Event, EventIter, Events};
+pub use mask::Mask;
 pub use shared::{SharedInstance, SharedTree};
 pub use tree::{Instance, Tree};
 

@@ -1,4 +1,8 @@
-//! The bits of <sys/inotify.h>: what a watch asks for, and what a record says.
+//! The bits of <sys/inotify.h>: what a watch asks for, and what a record says. Each is a `u32`, and also a constant of
+//! [`Mask`].
+use std::fmt;
+use std::ops::{BitOr, BitOrAssign};
+
 pub const ACCESS: u32 = 0x1;
 pub const MODIFY: u32 = 0x2;
 pub const ATTRIB: u32 = 0x4;
@@ -34,3 +38,109 @@ pub const MASK_ADD: u32 = 0x2000_0000;
 pub const ISDIR: u32 = 0x4000_0000;
 /// The watch ends with its first event.
 pub const ONESHOT: u32 = 0x8000_0000;
+
+/// A set of the bits of this module, with their names as constants: it prints them, and `|` joins them.
+///
+/// Where a function takes a mask it takes this type or a `u32`, and each becomes the other by `into`.
+///
+/// ```
+/// use watchtree::{mask, Mask, Tree};
+///
+/// let mut tree = Tree::open()?;
+/// let instance = tree.inotify(16)?;
+/// tree.add_watch(instance, "/", Mask::CREATE | Mask::MOVE)?;
+/// tree.mkdir("/d", 0o755)?;
+/// let events = tree.read(instance, 4096)?;
+/// let found = events.iter().next().expect("an event").mask();
+/// assert!(found.contains(Mask::CREATE | Mask::ISDIR) && !found.intersects(Mask::MOVE));
+/// assert_eq!(found.to_string(), "CREATE|ISDIR");
+/// assert_eq!(u32::from(found), mask::CREATE | mask::ISDIR);
+/// # Ok::<(), watchtree::Error>(())
+/// ```
+#[derive(Clone, Copy, Default, PartialEq, Eq, Hash)]
+pub struct Mask(pub u32);
+
+/// Declares the constants of `Mask`: single bits in ascending order, which it prints the names of, and sets of several.
+macro_rules! constants {
+    ([$($bit:ident)*] [$($set:ident)*]) => {
+        const NAMES: &[(u32, &str)] = &[$(($bit, stringify!($bit))),*];
+
+        /// The constants of [`mask`](crate::mask).
+        impl Mask {
+            $(
+                #[doc = concat!("[`mask::", stringify!($bit), "`](crate::mask::", stringify!($bit), ").")]
+                pub const $bit: Mask = Mask($bit);
+            )*
+            $(
+                #[doc = concat!("[`mask::", stringify!($set), "`](crate::mask::", stringify!($set), "), several bits.")]
+                pub const $set: Mask = Mask($set);
+            )*
+        }
+    };
+}
+
+constants! {
+    [ACCESS MODIFY ATTRIB CLOSE_WRITE CLOSE_NOWRITE OPEN MOVED_FROM MOVED_TO CREATE DELETE DELETE_SELF MOVE_SELF UNMOUNT
+     Q_OVERFLOW IGNORED ONLYDIR DONT_FOLLOW EXCL_UNLINK MASK_CREATE MASK_ADD ISDIR ONESHOT]
+    [CLOSE MOVE ALL_EVENTS]
+}
+
+impl Mask {
+    /// Whether all bits of another mask are in this one.
+    pub fn contains(self, other: impl Into<Mask>) -> bool {
+        let other = other.into();
+        self.0 & other.0 == other.0
+    }
+
+    /// Whether any bit of another mask is in this one.
+    pub fn intersects(self, other: impl Into<Mask>) -> bool {
+        self.0 & other.into().0 != 0
+    }
+}
+
+impl<T: Into<Mask>> BitOr<T> for Mask {
+    type Output = Mask;
+
+    fn bitor(self, other: T) -> Mask {
+        Mask(self.0 | other.into().0)
+    }
+}
+
+impl<T: Into<Mask>> BitOrAssign<T> for Mask {
+    fn bitor_assign(&mut self, other: T) {
+        *self = *self | other;
+    }
+}
+
+impl From<u32> for Mask {
+    fn from(bits: u32) -> Mask {
+        Mask(bits)
+    }
+}
+
+impl From<Mask> for u32 {
+    fn from(mask: Mask) -> u32 {
+        mask.0
+    }
+}
+
+/// The names of the bits, such as `CREATE|ISDIR`. Bits without a name are one hexadecimal number, and so is no bit.
+impl fmt::Display for Mask {
+    fn fmt(&self, f: &mut fmt::Formatter<'_>) -> fmt::Result {
+        let (mut rest, mut between) = (self.0, "");
+        for (bit, name) in NAMES.iter().filter(|it| self.0 & it.0 != 0) {
+            write!(f, "{between}{name}")?;
+            (rest, between) = (rest & !bit, "|");
+        }
+        if rest != 0 || self.0 == 0 {
+            write!(f, "{between}{rest:#x}")?;
+        }
+        Ok(())
+    }
+}
+
+impl fmt::Debug for Mask {
+    fn fmt(&self, f: &mut fmt::Formatter<'_>) -> fmt::Result {
+        write!(f, "Mask({self})")
+    }
+}

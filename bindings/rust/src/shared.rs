@@ -2,7 +2,7 @@
 use crate::calls::{all_of, calls, names, numbers, text};
 use crate::error::answer;
 use crate::sys::{self, RawShared, RawStat};
-use crate::{Entry, Error, Events, Stat};
+use crate::{Entry, Error, Events, Mask, Stat};
 use std::ffi::OsString;
 use std::os::raw::c_int;
 use std::os::unix::ffi::OsStringExt;
@@ -187,9 +187,9 @@ impl SharedInstance {
     }
 
     /// Watches what is at a path, and returns the watch descriptor.
-    pub fn add_watch(&self, path: impl AsRef<Path>, mask: u32) -> Result<i32, Error> {
-        let (path, len) = text(path.as_ref());
-        let wd = unsafe { sys::wtt_inotify_add_watch(self.tree.raw(), self.number, path, len, mask) };
+    pub fn add_watch(&self, path: impl AsRef<Path>, mask: impl Into<Mask>) -> Result<i32, Error> {
+        let ((path, len), Mask(bits)) = (text(path.as_ref()), mask.into());
+        let wd = unsafe { sys::wtt_inotify_add_watch(self.tree.raw(), self.number, path, len, bits) };
         answer(wd).map(|it| it as i32)
     }
 

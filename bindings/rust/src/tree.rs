@@ -2,14 +2,14 @@
 use crate::calls::{all_of, calls, names, numbers, text};
 use crate::error::answer;
 use crate::sys::{self, RawStat, RawTree};
-use crate::{Entry, Error, Events, Stat};
+use crate::{Entry, Error, Events, Mask, Stat};
 use std::ffi::OsString;
 use std::os::unix::ffi::OsStringExt;
 use std::path::{Path, PathBuf};
 use std::ptr;
 
 /// The number of an instance of inotify in a [`Tree`], which is that of the same instance in its
-/// [clones](Tree::try_clone).
+/// [forks](Tree::fork).
 #[derive(Clone, Copy, Debug, PartialEq, Eq, Hash)]
 pub struct Instance(pub u32);
 
@@ -50,17 +50,23 @@ impl Tree {
     /// let instance = tree.inotify(16)?;
     /// tree.add_watch(instance, "/", mask::CREATE)?;
     /// tree.create("/f", 0o644)?;
-    /// let mut fork = tree.try_clone()?;
+    /// let mut fork = tree.fork()?;
     /// fork.unlink("/f")?;
     /// assert_eq!((tree.list("/")?.len(), fork.list("/")?.len()), (1, 0));
     /// assert_eq!(tree.read(instance, 4096)?, fork.read(instance, 4096)?);
     /// assert_eq!(fork.entries()?.next().expect("a call")?.to_string(), "unlink /f\n# ok\n");
     /// # Ok::<(), watchtree::Error>(())
     /// ```
-    pub fn try_clone(&mut self) -> Result<Tree, Error> {
+    pub fn fork(&mut self) -> Result<Tree, Error> {
         let mut fork = Tree { raw: RawTree { at: ptr::null_mut(), ready: false } };
         answer(unsafe { sys::wt_fork(&mut self.raw, &mut fork.raw) })?;
         Ok(fork)
+    }
+
+    /// As [`fork`](Tree::fork).
+    #[deprecated(note = "call `fork`, the name that `SharedTree` has for it too")]
+    pub fn try_clone(&mut self) -> Result<Tree, Error> {
+        self.fork()
     }
 
     fn raw(&mut self) -> &mut RawTree {
@@ -77,9 +83,14 @@ impl Tree {
     }
 
     /// Watches what is at a path, and returns the watch descriptor.
-    pub fn add_watch(&mut self, instance: Instance, path: impl AsRef<Path>, mask: u32) -> Result<i32, Error> {
-        let (path, len) = text(path.as_ref());
-        answer(unsafe { sys::wt_inotify_add_watch(&mut self.raw, instance.0, path, len, mask) }).map(|it| it as i32)
+    pub fn add_watch(
+        &mut self,
+        instance: Instance,
+        path: impl AsRef<Path>,
+        mask: impl Into<Mask>,
+    ) -> Result<i32, Error> {
+        let ((path, len), Mask(bits)) = (text(path.as_ref()), mask.into());
+        answer(unsafe { sys::wt_inotify_add_watch(&mut self.raw, instance.0, path, len, bits) }).map(|it| it as i32)
     }
 
     pub fn rm_watch(&mut self, instance: Instance, wd: i32) -> Result<(), Error> {

@@ -111,21 +111,32 @@ fn answers(tree: &mut Tree, instance: Instance, mut state: u32) -> Vec<Result<u6
 }
 
 #[test]
-fn a_clone_answers_as_its_tree() -> Result<(), Error> {
+fn a_fork_answers_as_its_tree() -> Result<(), Error> {
     let mut tree = Tree::open()?;
     let instance = tree.inotify(7)?;
     tree.add_watch(instance, "/", mask::ALL_EVENTS)?;
     for seed in 0..50 {
         answers(&mut tree, instance, seed);
-        let (mut first, mut second) = (tree.try_clone()?, tree.try_clone()?);
+        let (mut first, mut second) = (tree.fork()?, tree.fork()?);
         assert_ne!(answers(&mut first, instance, 2 * seed + 1000).len(), 0);
         let wanted = answers(&mut tree, instance, 2 * seed + 1001);
         assert_eq!(answers(&mut second, instance, 2 * seed + 1001), wanted);
         assert_eq!(tree.list("/")?, second.list("/")?);
         assert_eq!(tree.cut()?, second.cut()?);
         drop(tree);
-        tree = second.try_clone()?;
+        tree = second.fork()?;
     }
+    Ok(())
+}
+
+#[test]
+#[allow(deprecated)]
+fn the_old_name_of_a_fork() -> Result<(), Error> {
+    let mut tree = Tree::open()?;
+    tree.create("/f", 0o644)?;
+    let mut fork = tree.try_clone()?;
+    fork.unlink("/f")?;
+    assert_eq!((tree.list("/")?.len(), fork.list("/")?.len()), (1, 0));
     Ok(())
 }
 

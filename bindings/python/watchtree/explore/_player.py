@@ -5,6 +5,7 @@ import errno
 import os
 from typing import TYPE_CHECKING, Callable, Dict, List, Optional, Sequence, Set, Tuple
 
+from .._arguments import PathText, seconds
 from .._errors import fail
 from .._tree import Tree
 from ._plans import Plan
@@ -141,8 +142,8 @@ class Player:
 
     def read(self, instance: int, size: int, timeout: Optional[float]) -> Optional[bytes]:
         """Returns the bytes of whole records, or None if the timeout is over."""
-        if timeout is not None and not timeout >= 0:
-            raise ValueError("timeout must be None or a non-negative number")
+        if timeout is not None:
+            seconds("timeout", timeout)
         while not self._tree._call("wtt_waiting", instance):
             if not self._rest(instance, timeout):
                 return None
@@ -160,10 +161,10 @@ class Player:
             self.timeline.read(request, instance, data, limit)
         return data
 
-    def text(self, name: str, *words: object) -> bytes:
+    def text(self, name: str, *words: object, paths: Sequence[PathText] = ()) -> bytes:
         """Makes a call that returns how many bytes its text has. (As Tree._text, with one buffer for all.)"""
         while True:
-            wanted = self._tree._call(name, *words, self.buffer, len(self.buffer))
+            wanted = self._tree._call(name, *words, self.buffer, len(self.buffer), paths=paths)
             if wanted <= len(self.buffer):
                 return ctypes.string_at(self.buffer, wanted)
             self.buffer = new_buffer(wanted)

@@ -1,15 +1,17 @@
 """The tree as the consumer has it: each call is a request, and changes happen between them."""
 
 import errno
+import functools
 import io
 import os
-from typing import AsyncIterator, Iterator, NoReturn, Optional, Union
+from typing import AsyncIterator, Iterator, NoReturn, Optional, Sequence, Union
 
+from .._arguments import AnyPath, PathText, unsigned
 from .._errors import fail
 from .._events import Event, parse_one, records
 from .._instance import _SIZE, Instance
-from .._library import QUEUE, unsigned
-from .._tree import AnyPath, Stat, Tree
+from .._library import QUEUE
+from .._tree import Stat, Tree
 from ._player import EndOfRun, Player
 
 
@@ -36,8 +38,8 @@ class ExploredInstance(Instance):
     def read_bytes(self, size: int = _SIZE, timeout: Optional[float] = 0) -> bytes:
         """As Instance.read_bytes(), but time does not pass: docs/EXPLORE.md says when a timeout is over."""
         if self._ahead:
-            return self._rest_of_batch(unsigned(size))
-        data = self._player.read(self.number, unsigned(size), timeout)
+            return self._rest_of_batch(unsigned("size", size))
+        data = self._player.read(self.number, unsigned("size", size), timeout)
         if data is not None:
             return data
         if timeout == 0:
@@ -81,23 +83,23 @@ class ExploredTree(Tree):
         """Closes the tree for the consumer: further calls raise EBADF."""
         self._is_closed = True
 
-    def _call(self, name: str, *words: object) -> int:
+    def _call(self, name: str, *words: object, paths: Sequence[PathText] = ()) -> int:
         if self._is_closed:
-            fail(errno.EBADF)
-        answer = self._player.answer(name, words, self._tree._call)
+            fail(errno.EBADF, *paths)
+        answer = self._player.answer(name, words, functools.partial(self._tree._call, paths=paths))
         assert isinstance(answer, int)
         return answer
 
-    def _text(self, name: str, *words: object) -> bytes:
+    def _text(self, name: str, *words: object, paths: Sequence[PathText] = ()) -> bytes:
         if self._is_closed:
-            fail(errno.EBADF)
-        answer = self._player.answer(name, words, self._player.text)
+            fail(errno.EBADF, *paths)
+        answer = self._player.answer(name, words, functools.partial(self._player.text, paths=paths))
         assert isinstance(answer, bytes)
         return answer
 
     def inotify(self, limit: int = QUEUE) -> ExploredInstance:
         """Makes an instance. Its queue has the limit of the schedule if that is smaller."""
-        least = min(unsigned(limit), self._player.queue)
+        least = min(unsigned("limit", limit), self._player.queue)
         return ExploredInstance(self, self._call("wtt_inotify_init", least))
 
     def instance(self, number: int) -> ExploredInstance:

@@ -1,5 +1,5 @@
 //! The text of a run: what the consumer asked, what happened, and which events it read.
-use crate::{mask, Error, Events, Instance};
+use crate::{Error, Events, Instance};
 use std::fmt::{self, Debug, Write};
 
 #[derive(Debug, Default)]
@@ -10,25 +10,6 @@ impl fmt::Display for Timeline {
         f.write_str(&self.0)
     }
 }
-
-const NAMES: [(u32, &str); 16] = [
-    (mask::ACCESS, "ACCESS"),
-    (mask::MODIFY, "MODIFY"),
-    (mask::ATTRIB, "ATTRIB"),
-    (mask::CLOSE_WRITE, "CLOSE_WRITE"),
-    (mask::CLOSE_NOWRITE, "CLOSE_NOWRITE"),
-    (mask::OPEN, "OPEN"),
-    (mask::MOVED_FROM, "MOVED_FROM"),
-    (mask::MOVED_TO, "MOVED_TO"),
-    (mask::CREATE, "CREATE"),
-    (mask::DELETE, "DELETE"),
-    (mask::DELETE_SELF, "DELETE_SELF"),
-    (mask::MOVE_SELF, "MOVE_SELF"),
-    (mask::UNMOUNT, "UNMOUNT"),
-    (mask::Q_OVERFLOW, "Q_OVERFLOW"),
-    (mask::IGNORED, "IGNORED"),
-    (mask::ISDIR, "ISDIR"),
-];
 
 impl Timeline {
     fn push(&mut self, line: fmt::Arguments<'_>) {
@@ -52,10 +33,9 @@ impl Timeline {
         let most = limit.map_or(String::new(), |it| format!(", at most {it}"));
         self.push(format_args!("{number:8}  read {}{most}:", instance.0));
         for event in events {
-            let bits: Vec<&str> = NAMES.iter().filter(|it| event.mask & it.0 != 0).map(|it| it.1).collect();
             let name = event.name.map_or(String::new(), |it| format!(" {}", it.to_string_lossy()));
             let cookie = if event.cookie == 0 { String::new() } else { format!(" cookie {}", event.cookie) };
-            self.push(format_args!("          < wd {} {}{cookie}{name}", event.wd, bits.join("|")));
+            self.push(format_args!("          < wd {} {}{cookie}{name}", event.wd, event.mask()));
         }
     }
 

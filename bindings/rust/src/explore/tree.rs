@@ -2,12 +2,11 @@
 use super::plan::Plan;
 use super::schedule::{Change, Schedule, PAUSE};
 use super::timeline::Timeline;
-use crate::{Error, Events, Instance, Stat};
+use crate::{Error, Events, Instance, Mask, Stat};
 use std::ffi::OsString;
 use std::path::Path;
 use std::rc::Rc;
 
-const INVALID: Error = Error(22);
 /// The sizes of records differ by this, in bytes.
 const STEP: usize = 16;
 
@@ -176,14 +175,14 @@ impl Tree {
             }
             let left = bytes - taken.len();
             let sizes = (1..=left / STEP).map(|it| it * STEP);
-            let tried = sizes.map(|size| self.tree.read(instance, size)).find(|it| *it != Err(INVALID));
+            let tried = sizes.map(|size| self.tree.read(instance, size)).find(|it| *it != Err(Error::EINVAL));
             match tried {
                 Some(events) => taken.extend_from_slice(events?.as_bytes()),
                 None => break,
             }
         }
         if taken.is_empty() {
-            return Err(INVALID);
+            return Err(Error::EINVAL);
         }
         Ok(Events::new(taken))
     }
@@ -225,11 +224,16 @@ impl Tree {
     }
 
     /// As [`Tree::add_watch`](crate::Tree::add_watch).
-    pub fn add_watch(&mut self, instance: Instance, path: impl AsRef<Path>, mask: u32) -> Result<i32, Error> {
-        let (request, path) = (self.request(), path.as_ref());
-        let answer = self.tree.add_watch(instance, path, mask);
+    pub fn add_watch(
+        &mut self,
+        instance: Instance,
+        path: impl AsRef<Path>,
+        mask: impl Into<Mask>,
+    ) -> Result<i32, Error> {
+        let (request, path, Mask(bits)) = (self.request(), path.as_ref(), mask.into());
+        let answer = self.tree.add_watch(instance, path, bits);
         if let Some(timeline) = &mut self.timeline {
-            let words = format!("{} {} {mask:#x}", instance.0, path.display());
+            let words = format!("{} {} {bits:#x}", instance.0, path.display());
             timeline.request(request, "add_watch", &words, &answer);
         }
         answer
