@@ -10,7 +10,7 @@ import sys
 from tool import EXAMPLES, HERE, MAIN, ToolTest
 
 TOP = os.path.abspath(f"{HERE}/../../..")
-LAUNCH, CLONE = f"{TOP}/bindings/launch", f"{TOP}/watchtree"
+LAUNCH, CLONE, WORDS = f"{TOP}/bindings/launch", f"{TOP}/watchtree", f"{TOP}/bindings/words"
 
 
 class Counts(ToolTest):
@@ -52,6 +52,7 @@ class Commands(ToolTest):
         os.makedirs(parts)
         shutil.copy(LAUNCH, f"{self.room}/prefix/bin/watchtree")
         os.chmod(f"{self.room}/prefix/bin/watchtree", 0o755)
+        shutil.copy(WORDS, f"{parts}/words")
         shutil.copy(self.runner, f"{parts}/under")
         others = shutil.ignore_patterns("tests", "examples", "explored")
         shutil.copytree(os.path.dirname(MAIN), f"{parts}/explore", ignore=others)
@@ -67,6 +68,7 @@ class Commands(ToolTest):
             self.write(f"clone/{name}")
         os.symlink(os.path.dirname(MAIN), f"{clone}/bindings/explore")
         shutil.copy(CLONE, f"{clone}/watchtree")
+        shutil.copy(WORDS, f"{clone}/bindings/words")
         os.utime(f"{clone}/out/libwatchtree.so")
         # (made last: the library and the runner are newer than their sources)
         shutil.copy(self.runner, f"{clone}/out/under")
