@@ -253,8 +253,9 @@ fn room_refused_in_turn(alloc: Global, nodes: u32, shape: Shape) -> Result<Optio
     for k in 1..MOST {
         let _ = refuse(alloc, k);
         let told = calls.table.reserve_node();
+        let is_refused = was_refused(alloc);
         let alike = are_alike(&calls.table, &control.table)?;
-        match (told, was_refused(alloc)) {
+        match (told, is_refused) {
             (Err(Refusal::Enomem), true) if alike => {}
             (Ok(()), false) if alike => return Ok(Some(k - 1)),
             _ => return Ok(None),
