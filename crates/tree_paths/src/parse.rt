@@ -10,7 +10,7 @@ ghost use Rattle.tree_paths.specs.Pieces.{is_nonempty};
 ghost use Rattle.tree_paths.specs.Paths.{parsed, names_of, is_null, is_dots, is_long, slash, slashed};
 
 use crate::Refusal;
-use crate::stops::{BLOCK, block_stops, next_stop, stops_of};
+use crate::stops::{BLOCK, block_stops, near_len, next_stop, stops_of};
 use record_codec::{NAME_IN_PLACE, NAME_MAX, Name};
 use std::alloc::{AllocError, Global};
 
@@ -105,10 +105,7 @@ pub(crate) fn front_len(text: &[u8]) -> usize
         }
         len += BLOCK;
     }
-    while len < text.len() && text[len] != SEPARATOR && text[len] != 0 {
-        len += 1;
-    }
-    len
+    len + near_len(&text[len..])
 }
 
 /// Whether a name is `.` or `..`.

@@ -127,6 +127,7 @@ impl PathText {
     }
 
     /// The names, to be read.
+    #[inline(always)]
     pub(crate) fn left(&self) -> Left<'_>
         requires { IsKept self.now }
         ensures names { left_names result ≡ kept_names self.now }

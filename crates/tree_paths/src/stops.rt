@@ -11,6 +11,10 @@ use std::simd::prelude::*;
 /// How many bytes are compared at once in a text that has as many.
 pub(crate) const BLOCK: usize = 16;
 
+/// How many bytes are compared at once in a shorter text. Of one that has fewer no stops are given: its names are
+/// short, and are looked at byte by byte.
+const HALF: usize = BLOCK / 2;
+
 /// How many bits a number of stops has.
 const BITS: usize = 64;
 
@@ -48,19 +52,28 @@ fn stops_by<const N: usize>(text: &[u8]) -> u64
     stops + (last << seen) + (1 << len)
 }
 
-/// The stops of a text of at least eight bytes: all, with a slash behind it, if it has fewer than 64 bytes, else those
-/// of its first 48 bytes. Of a shorter text none is given: its names are short, and are looked at byte by byte.
+/// The stops of a text, or none of a text of fewer than eight bytes.
 #[inline(always)]
 pub(crate) fn stops_of(text: &[u8]) -> u64
+    ensures { IsMarked text.now result }
+{
+    if text.len() < HALF {
+        return 0;
+    }
+    long_stops(text)
+}
+
+/// The stops of a text of at least eight bytes: all, with a slash behind it, if it has fewer than 64 bytes, else those
+/// of its first 48 bytes.
+#[inline(never)]
+fn long_stops(text: &[u8]) -> u64
+    requires { HALF ≤ length text.now }
     ensures { IsMarked text.now result }
 {
     if BLOCK <= text.len() {
         return stops_by::<BLOCK>(text);
     }
-    if 8 <= text.len() {
-        return stops_by::<8>(text);
-    }
-    0
+    stops_by::<HALF>(text)
 }
 
 /// How many bytes stand before the first stop, and the stops behind that one.
@@ -73,13 +86,32 @@ pub(crate) fn next_stop(text: &[u8], stops: u64) -> (usize, u64)
     ensures behind { IsMarked (drop (result.0 + 1) text.now) result.1 }
 {
     if stops == 0 {
+        if text.len() < HALF {
+            return (near_len(text), 0);
+        }
         return far_stop(text);
     }
     let len = stops.trailing_zeros() as usize;
     (len, (stops >> len) >> 1)
 }
 
-/// The same where no stop is known.
+/// How many bytes stand before the first slash or zero byte, looked at one by one.
+#[inline(always)]
+pub(crate) fn near_len(text: &[u8]) -> usize
+    ensures within { result ≤ length text.now }
+    ensures front { list_all is_name_byte (take result text.now) ≡ true }
+    ensures end { result < length text.now → is_name_byte (slice_index text.now result) ≡ false }
+{
+    for (i, b) in text.iter().enumerate() {
+        // The first test alone passes over most bytes of a name.
+        if *b <= SEPARATOR && (*b == SEPARATOR || *b == 0) {
+            return i;
+        }
+    }
+    text.len()
+}
+
+/// The same as [`next_stop`] where no stop is known.
 #[inline(never)]
 fn far_stop(text: &[u8]) -> (usize, u64)
     ensures within { result.0 ≤ length text.now }

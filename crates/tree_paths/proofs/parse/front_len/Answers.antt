@@ -1,4 +1,7 @@
-use Rattle.std.proofs.Common.{take, drop, refl, sym, ◌∙◌, arith}
+use Rattle.std.proofs.Common.{take, drop, refl, sym, ap, ◌∙◌, arith}
+use Rattle.std.proofs.lemmas.List.{take_rest}
+use Rattle.std.specs.List.{list_all}
+use Rattle.record_codec.specs.Names.{is_name_byte}
 use Rattle.tree_paths.proofs.StopLemmas.{block-front, front-more, no-stops}
 use Rattle.tree_paths.proofs.parse.front_len.Goals as goal
 
@@ -30,3 +33,10 @@ loop-len-preserved c =
           front-more text c.loop-len.len 16 inv.front
           (no-stops (take 16 (drop c.loop-len.len text)) (sym c.block_stops-stops.ensures ∙ c.if-stops-ne0.false));
     }
+
+pub returns-clause-front : goal.returns-clause-front
+returns-clause-front c =
+    let text = c.args.text.now in
+    let len = c.loop-len.len in
+    front-more text len c.near_len.result c.loop-len.invariant.front
+    (ap (λ xs. list_all is_name_byte (take c.near_len.result xs)) (sym (take_rest text len)) ∙ c.near_len.ensures.front)

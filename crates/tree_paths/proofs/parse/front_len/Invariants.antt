@@ -11,12 +11,3 @@ invariant-loop-len l = record {
 
 abbrev pub decreases-loop-len : goal.decreases-loop-len
 decreases-loop-len l = length l.text - l.len
-
-abbrev pub invariant-loop-len-2 : goal.invariant-loop-len-2
-invariant-loop-len-2 l = record {
-  within : l.len ≤ length l.text;
-  front : list_all is_name_byte (take l.len l.text) ≡ true;
-}
-
-abbrev pub decreases-loop-len-2 : goal.decreases-loop-len-2
-decreases-loop-len-2 l = length l.text - l.len
