@@ -29,6 +29,9 @@ pub(crate) const NODES_MIN: usize = 32;
 /// How many nodes a table has at least for each slot.
 const NODES_OF_A_SLOT: usize = 4;
 
+/// How many slots a table has at most.
+const SLOTS_MAX: usize = 64;
+
 /// How many slots a table has at most for each directory.
 const SLOTS_OF_A_DIRECTORY: usize = 2;
 
@@ -123,7 +126,7 @@ impl Recent {
     ) -> Result<Option<Recent>, AllocError>
         ensures { IfOk result (λ recent. IfSome recent (λ r. (p : List Label) (k : ℕ) → IsKnown r p k → ⊥)) }
     {
-        if nodes.len() < self.from {
+        if nodes.len() < self.from || self.slots.len() == SLOTS_MAX {
             return Ok(None);
         }
         let len = slots_for(nodes);
@@ -198,7 +201,8 @@ impl Recent {
 fn slots_for(nodes: &Slab<Node>) -> usize
     ensures { result * NODES_OF_A_SLOT ≤ slab_len nodes.now }
 {
-    let wanted = count_directories(nodes).saturating_mul(SLOTS_OF_A_DIRECTORY);
+    let directories = count_directories(nodes, SLOTS_MAX / SLOTS_OF_A_DIRECTORY);
+    let wanted = directories.saturating_mul(SLOTS_OF_A_DIRECTORY);
     slots_within(usize::min(nodes.len() / NODES_OF_A_SLOT, wanted))
 }
 
@@ -212,14 +216,17 @@ fn slots_within(most: usize) -> usize
         8..=15 => 8,
         16..=31 => 16,
         32..=63 => 32,
-        _ => 64,
+        _ => SLOTS_MAX,
     }
 }
 
-/// How many of the nodes are directories.
-fn count_directories(nodes: &Slab<Node>) -> usize {
+/// How many of the nodes are directories, or `enough` if there are more.
+fn count_directories(nodes: &Slab<Node>, enough: usize) -> usize {
     let mut count: usize = 0;
     for (_, node) in nodes.iter() {
+        if count == enough {
+            break;
+        }
         if node.content.kind() == Kind::Directory {
             count = count.saturating_add(1);
         }
