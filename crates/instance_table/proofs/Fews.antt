@@ -6,13 +6,9 @@ use Rattle.std.specs.Prelude.{Ok, Err}
 use Rattle.std.specs.FinMap as finmap
 use Rattle.watch_table.specs.Watching.{Watch}
 use Rattle.instance_table.specs.Ids.{IsPlace}
-use Rattle.instance_table.specs.Watchers.{AreWatchers, watchers_map}
+use Rattle.instance_table.specs.Watchers.{AreFew, AreWatchers, watchers_map}
 use Rattle.instance_table.proofs.Arrays.{take-in, take-out, take-set}
 use Rattle.instance_table.proofs.Zipped.{are-cut, are-put, watchers-cut, watchers-put, watchers-set}
-
--- the first of the arrays are watchers
-abbrev pub AreFew : ℕ → ℕ → List ℕ → List Watch → Type 0
-AreFew size n ids ws = (n ≤ size) × (length ids ≡ size) × (length ws ≡ size) × AreWatchers (take n ids) (take n ws)
 
 pub few-length : (size n : ℕ) (ids : List ℕ) (ws : List Watch) → AreFew size n ids ws → length (take n ids) ≡ n
 few-length size n ids ws few = length-take-le n ids (omega (arith, few.0, few.1))

@@ -1,5 +1,5 @@
 -- The instances that watch a file, each with its watch. No public clause cites this module.
-use Rattle.std.specs.Prelude.{◌≡◌, ℕ, List, Option, Some, None, length, if◌then◌else◌}
+use Rattle.std.specs.Prelude.{◌≡◌, ◌≤◌, ℕ, List, Option, Some, None, length, take, if◌then◌else◌}
 use Rattle.std.specs.Option.{unwrap_or}
 use Rattle.std.specs.FinMap as map
 use Rattle.std.specs.FinMap.{FinMap, from_entries}
@@ -28,6 +28,11 @@ row_or_none row = unwrap_or row map.empty
 pub record AreWatchers (ids : List ℕ) (watches : List Watch) : Type 0 where
   pub rising : IsStrictlySortedBy nat_cmp ids
   pub same : length watches ≡ length ids
+
+-- of the numbers and the watches in two arrays of a size, the first `n` are watchers
+abbrev pub AreFew : ℕ → ℕ → List ℕ → List Watch → Type 0
+AreFew size n ids watches = (n ≤ size) × (length ids ≡ size) × (length watches ≡ size)
+    × AreWatchers (take n ids) (take n watches)
 
 -- a watch that may be there, if it has not ended
 abbrev pub unless_ended : EndedWatches → Option Watch → Option Watch

@@ -25,10 +25,10 @@ impl<const N: usize> Drop for Few<N> {
 }
 
 impl<const N: usize> Model for Few<N> {
-    ghost use Rattle.std.specs.Prelude.{◌≡◌, ◌≤◌, length, take};
+    ghost use Rattle.std.specs.Prelude.{take};
     ghost use Rattle.std.specs.Coded.{coded×, coded_ℕ, coded_ℤ};
     ghost use Rattle.std.specs.FinMap as finmap;
-    ghost use Rattle.instance_table.specs.Watchers.{AreWatchers, WatchMap, watchers_map};
+    ghost use Rattle.instance_table.specs.Watchers.{AreFew, WatchMap, watchers_map};
 
     ghost Value = { WatchMap };
 
@@ -36,8 +36,7 @@ impl<const N: usize> Model for Few<N> {
 
     ghost view = { λ a. watchers_map (take a.len a.ids) (take a.len a.watches) };
 
-    ghost invariant = { λ a. (a.len ≤ N) × (length a.ids ≡ N) × (length a.watches ≡ N)
-        × AreWatchers (take a.len a.ids) (take a.len a.watches) };
+    ghost invariant = { λ a. AreFew N a.len a.ids a.watches };
 }
 
 impl<const N: usize> Few<N> {
