@@ -31,15 +31,15 @@ pub(crate) fn folder_of(desk: &mut Desk, folder: u64) -> Result<Path, BenchFault
 /// A watched directory with ten files.
 fn small_tree(desk: &mut Desk) -> Result<State, BenchFault> {
     let mut state = desk.open()?;
-    let path = desk.path("/work")?;
+    let path = desk.path("/jobs")?;
     desk.mkdir(&mut state, path)?;
     desk.init(&mut state, 1)?;
-    let path = desk.path("/work")?;
+    let path = desk.path("/jobs")?;
     desk.watch(&mut state, 1, path, 0xfce)?;
     for file in 0..10 {
-        let path = desk.numbered("/work/job-", file)?;
+        let path = desk.numbered("/jobs/job-", file)?;
         desk.create(&mut state, path)?;
-        let path = desk.numbered("/work/job-", file)?;
+        let path = desk.numbered("/jobs/job-", file)?;
         let write = desk.write(path, 0)?;
         desk.file(&mut state, write)?;
     }

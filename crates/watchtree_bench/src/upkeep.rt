@@ -38,11 +38,11 @@ const WATCHES: u64 = 100;
 /// Makes three calls in a fork of the small tree: a file is written, another is removed, and the instance is read.
 fn use_fork(desk: &mut Desk, fork: &mut State) -> Result<(), BenchFault> {
     let file = desk.rng.below(10);
-    let path = desk.numbered("/work/job-", file)?;
+    let path = desk.numbered("/jobs/job-", file)?;
     let write = desk.write(path, 10)?;
     desk.file(fork, write)?;
     let file = desk.rng.below(10);
-    let path = desk.numbered("/work/job-", file)?;
+    let path = desk.numbered("/jobs/job-", file)?;
     desk.file(fork, FileCall::Unlink { path })?;
     desk.read(fork, 1)
 }
@@ -64,7 +64,7 @@ fn fork_trees(desk: &mut Desk, small: &State, marked: &State) -> Result<(), Benc
     }
     for fork in kept.as_slice() {
         let file = desk.rng.below(10);
-        let path = desk.numbered("/work/job-", file)?;
+        let path = desk.numbered("/jobs/job-", file)?;
         desk.peek_stat(fork, &path);
         desk.digest.add(fork.last_place());
     }
