@@ -16,7 +16,8 @@ ghost use Rattle.shared_tree.specs.Pipes.{feed_of};
 ghost use Rattle.shared_tree.specs.Seats.{passing};
 ghost use Rattle.shared_tree.specs.Handed.{AreOfEvents, batch, handed_since};
 ghost use Rattle.shared_tree.specs.Calls.{tree_with_pipes, JoinsJournal, HandsOver, IsSent, IsOutOfSpace, RefusalOf};
-ghost use Rattle.shared_tree.specs.Law.{AtEach, HasCookiesInTurn, HasPipesOfPiped, IsTold, RefusedAddsNothing};
+ghost use Rattle.tree_core.specs.Law.{AtEach, HasCookiesInTurn, IsTold, RefusedAddsNothing};
+ghost use Rattle.shared_tree.specs.Law.{HasPipesOfPiped};
 ghost use Rattle.shared_tree.specs.Held.{sents, closed_of, end_of, LacksSpace};
 
 use crate::book::Book;
@@ -28,10 +29,7 @@ use std::alloc::Global;
 use std::marker::Model;
 use std::sync::ledger::{Blank, Ledger};
 use std::sync::{Mutex, ledger};
-use tree_core::{
-    Call, Kept, Receipt, Reply, State, bytes_are_of_records, cookies_are_in_turn,
-    events_are_accounted_for, pasts_make_whole, reads_are_in_order, replies_tell, watches_end_once,
-};
+use tree_core::{Call, Kept, Receipt, Reply, State, pasts_make_whole, replies_tell};
 use tree_paths::{Limits, Refusal};
 
 /// A tree that threads share. It is made and taken apart by `new` and `into_inner`, and a caller takes its lock to make
@@ -278,14 +276,7 @@ impl<L: Ledger> Held<L> {
         ensures events { (id : ℕ) → AreOfEvents (handed_since self.now.state id) }
         ensures counted { self.now.total ≡ last_place self.now.state }
     {
-        pasts_make_whole();
-        reads_are_in_order();
-        bytes_are_of_records();
-        events_are_accounted_for();
-        cookies_are_in_turn();
-        watches_end_once();
-        replies_tell();
-        let _ = self.core.journal();
+        self.core.law();
     }
 
     /// Carries out a call for a seat, under its number. A close of an instance with a pipe hands the end batch over.

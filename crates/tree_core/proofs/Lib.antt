@@ -22,6 +22,7 @@ mod Quiet
 mod Ends
 mod Descriptors
 mod Waiting
+mod EachEntry
 pub mod Shown
 pub mod Soundness
 mod Peeked

@@ -28,6 +28,7 @@ use tree_ops::Answer;
 use tree_paths::{Limits, Refusal};
 
 mod forking;
+mod law;
 mod paths;
 mod peeking;
 

@@ -1,61 +1,43 @@
 use Rattle.std.proofs.Common.{ℕ, subst}
 use Rattle.instance_table.specs.Instances.{instance_of, waiting_of}
 use Rattle.tree_core.specs.Histories.{raised_in}
-use Rattle.tree_core.specs.Journal.{now}
+use Rattle.tree_core.specs.Law.{AtEach, HasCookiesInTurn, IsTold, RefusedAddsNothing}
 use Rattle.tree_core.specs.QueueLaws.{RecordsAreEvents}
 use Rattle.tree_core.specs.Sound.{IsSoundTree}
 use Rattle.tree_core.specs.TurnLaws.{EndsOnce}
 use Rattle.shared_tree.specs.Calls.{TreeWithPipes, IsSent}
 use Rattle.shared_tree.specs.Handed.{AreOfEvents, handed_since}
 use Rattle.shared_tree.specs.Held.{sents}
-use Rattle.shared_tree.specs.Law.{HasPipesOfPiped, IsTold, RefusedAddsNothing, TiesMoves}
-use Rattle.shared_tree.proofs.EachEntry.{at_each}
+use Rattle.shared_tree.specs.Law.{HasPipesOfPiped}
 use Rattle.shared_tree.proofs.Wholes.{held-events, held-pipes-of-piped, held-sends}
 use Rattle.shared_tree.proofs.held.Held.law.Goals as goal
 
 pub returns-clause-sound : goal.returns-clause-sound
-returns-clause-sound g c =
-    let a = c.self.inside in
-    subst (λ (h : TreeWithPipes). IsSoundTree h.state.start) c.self.view_is
-    (c.pasts_make_whole.ensures a.core c.self.invariant.past c.self.invariant.is_past
-    c.journal.ensures.lawful).sound
+returns-clause-sound g c = subst (λ (h : TreeWithPipes). IsSoundTree h.state.start) c.self.view_is c.law.ensures.sound
 
 pub returns-clause-told : goal.returns-clause-told
-unfolding now
 returns-clause-told g c =
-    let a = c.self.inside in
-    let sound = (c.pasts_make_whole.ensures a.core c.self.invariant.past c.self.invariant.is_past c.journal.ensures.lawful).sound in
-    subst (λ (h : TreeWithPipes). (id : ℕ) → IsTold h.state id) c.self.view_is (λ id. record {
-      order = c.reads_are_in_order.ensures a.core.start a.core.entries id sound;
-      bytes = c.bytes_are_of_records.ensures a.core.start a.core.entries id c.journal.ensures.lawful;
-      accounted = c.events_are_accounted_for.ensures.fates a.core.start a.core.entries id sound;
-      found = c.events_are_accounted_for.ensures.found a.core.start a.core.entries id sound;
-    })
+    subst (λ (h : TreeWithPipes). (id : ℕ) → IsTold h.state id) c.self.view_is c.law.ensures.told
 
 pub returns-clause-records : goal.returns-clause-records
-returns-clause-records g c = subst (λ (h : TreeWithPipes). RecordsAreEvents h.state) c.self.view_is c.journal.ensures.events
+returns-clause-records g c = subst (λ (h : TreeWithPipes). RecordsAreEvents h.state) c.self.view_is c.law.ensures.records
 
 pub returns-clause-cookies : goal.returns-clause-cookies
-returns-clause-cookies g c = record {
-  turn = c.cookies_are_in_turn.ensures.turn c.args.self.now.state.start c.args.self.now.state.entries;
-  ties = at_each TiesMoves (λ t d id. c.cookies_are_in_turn.ensures.tie t d id) c.args.self.now.state.start c.args.self.now.state.entries;
-}
+returns-clause-cookies g c = subst (λ (h : TreeWithPipes). HasCookiesInTurn h.state) c.self.view_is c.law.ensures.cookies
 
 pub returns-clause-ends : goal.returns-clause-ends
 returns-clause-ends g c =
-    let a = c.self.inside in
-    let sound = (c.pasts_make_whole.ensures a.core c.self.invariant.past c.self.invariant.is_past c.journal.ensures.lawful).sound in
     subst
     (λ (h : TreeWithPipes).
     (id : ℕ)
     → EndsOnce (waiting_of (instance_of h.state.start.instances id))
     (raised_in h.state.start h.state.entries id))
-    c.self.view_is (λ id. c.watches_end_once.ensures.ends a.core.start a.core.entries id sound)
+    c.self.view_is c.law.ensures.ends
 
 pub returns-clause-refused : goal.returns-clause-refused
 returns-clause-refused g c =
-    at_each RefusedAddsNothing (λ t d refusal. (c.replies_tell.ensures t d).refused refusal) c.args.self.now.state.start
-    c.args.self.now.state.entries
+    subst (λ (h : TreeWithPipes). AtEach RefusedAddsNothing h.state.start h.state.entries) c.self.view_is
+    c.law.ensures.refused
 
 pub returns-clause-with_pipe : goal.returns-clause-with_pipe
 returns-clause-with_pipe g c =

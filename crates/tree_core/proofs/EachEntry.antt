@@ -3,7 +3,7 @@ use Rattle.std.proofs.Common.{List, [], ◌∷◌}
 use Rattle.tree_core.specs.declared.call.Call.{Call}
 use Rattle.tree_core.specs.declared.reply.Entry.{Entry}
 use Rattle.tree_core.specs.Tree.{Tree, after}
-use Rattle.shared_tree.specs.Law.{AtEach}
+use Rattle.tree_core.specs.Law.{AtEach}
 
 pub at_each : (P : Tree → Call → Type 0) → ((t : Tree) (c : Call) → P t c) → (t : Tree) (es : List Entry) → AtEach P t es
 at_each P all t [] = tt
