@@ -1,6 +1,6 @@
 //! What fits into a read.
 
-/// How many of the oldest records fit into so many bytes.
+/// How many of the oldest records fit into a buffer.
 #[derive(Clone, Copy, Debug, PartialEq, Eq)]
 pub struct Fit {
     /// How many they are.

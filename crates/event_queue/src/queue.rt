@@ -67,8 +67,7 @@ impl Queue {
         })
     }
 
-    /// The same queue once more: its limit, and the records that wait, the oldest first. They are in a buffer of their
-    /// own, as large as this one.
+    /// Returns a copy: the limit, and the records that wait, the oldest first, in a buffer as large as this one.
     ///
     /// # Errors
     /// `ENOMEM`, where there is no memory for the buffer or for a name.
@@ -175,7 +174,7 @@ impl Queue {
         Some(event)
     }
 
-    /// Reads so many of the oldest records, or all where fewer wait: they are dropped, as [`Queue::take`] of each does.
+    /// Reads the `count` oldest records, or all if fewer wait: they are dropped, as by [`Queue::take`] of each.
     ///
     /// Where no record is left, the next one is kept where the oldest was, so that a queue that is read whole over and
     /// over stays in the same part of its buffer.
@@ -192,7 +191,7 @@ impl Queue {
         }
     }
 
-    /// Takes so many records, one by one.
+    /// Takes `count` records, one by one.
     fn take_each(&mut self, count: usize)
         ensures { self.new ≡ record self.old { waiting = drop count self.old.waiting } }
     {

@@ -45,7 +45,7 @@ impl<'a> Subject<'a> {
         }
     }
 
-    /// That of the path of the call, or of the old one.
+    /// The subject at the call's path: the old one, if it has two.
     #[inline(always)]
     pub(crate) fn at_path(ready: &'a Ready) -> Subject<'a>
         ensures tree { result.tree ≡ ready.now.tree }

@@ -104,7 +104,7 @@ impl<W: Write + Send + Drop> Drop for LineSink<W> {
     }
 }
 
-/// Writes the closing line of a sink that took so many records, up to a write that fails.
+/// Writes the closing line of a sink that took `taken` records, up to a write that fails.
 fn write_closing<W: Write>(port: &mut Port<W>, taken: usize) -> io::Result<()>
     ensures ok { OnOk result (WritesAll W.contents port.old (closing_line taken) port.new) }
     ensures err { OnErr result (WritesFront W.contents port.old (closing_line taken) port.new) }

@@ -179,7 +179,7 @@ impl<S: Sink> Listening<S> {
         Ended { intake, cause }
     }
 
-    /// Steps in each of so many turns that the gate lets through, and ends. It ends before its turns are over where
+    /// Steps in each of `turns` turns that the gate lets through, and ends. It ends before its turns are over if
     /// nothing more can come.
     pub fn run<G: Gate>(self, gate: &G, turns: u64) -> Ended<S>
         requires { IsSoundListener (state_of_listener S.record_list S.is_open self) }

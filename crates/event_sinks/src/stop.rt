@@ -1,4 +1,4 @@
-//! A sink that takes no more than so many records.
+//! A sink that takes records up to a limit.
 
 ghost use Rattle.std.specs.Prelude.{◌≡◌, ◌++◌, [], ◌∷◌, ◌+◌, Err, true, MatchResult, OnOk, OnErr};
 ghost use Rattle.event_sinks.specs.Pages.{PutsText};

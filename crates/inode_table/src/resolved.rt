@@ -29,7 +29,7 @@ impl<'a> Model for Resolved<'a> {
 }
 
 impl<'a> Resolved<'a> {
-    /// The same once more.
+    /// Returns a copy.
     #[inline(always)]
     pub fn copied(&self) -> Resolved<'a>
         ensures { result ≡ self.now }

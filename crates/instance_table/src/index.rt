@@ -38,7 +38,7 @@ impl Index {
         }
     }
 
-    /// The same index once more. `Err` is out of memory.
+    /// Returns a copy. `Err` is out of memory.
     pub fn copy(&self) -> Result<Index, AllocError>
         ensures noted { IfOk result (λ index. (n q : ℕ) → watch_noted index n q ≡ watch_noted self.now n q) }
         ensures rows { IfOk result (λ index. HasNoEmptyRow self.now → HasNoEmptyRow index) }

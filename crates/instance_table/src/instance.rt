@@ -28,7 +28,7 @@ impl Drop for Instance {
 }
 
 impl Instance {
-    /// The same instance once more.
+    /// Returns a copy.
     pub(crate) fn copy(&self) -> Result<Instance, Refusal>
         ensures instance { IfOk result (λ instance. instance ≡ self.now) }
         ensures err { IfErr result (λ refusal. refusal ≡ Enomem) }

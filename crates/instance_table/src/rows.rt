@@ -41,7 +41,7 @@ pub(crate) fn instance_row(
     })
 }
 
-/// The records that wait, once more.
+/// Returns a copy of the records that wait.
 fn waiting(alloc: Global, queue: &Queue) -> Result<Events, AllocError>
     ensures { IfOk result (λ events. events ≡ queue.now.waiting) }
 {

@@ -59,7 +59,7 @@ impl Several {
         Ok(several)
     }
 
-    /// Instances, each with its watch, with capacity for so many. `Err` is out of memory.
+    /// Instances, each with its watch, in buffers of this capacity. `Err` is out of memory.
     fn within(
         alloc: Global,
         capacity: usize,

@@ -138,7 +138,7 @@ fn fits(event: &Event)
     }
 }
 
-/// Raises an event. What waits stays events.
+/// Offers an event to a queue. What waits in it are events before and after.
 #[inline(always)]
 pub(crate) fn offer_one(queue: &mut Queue, event: Event)
     ensures queue { queue.new ≡ after_offer queue.old event }

@@ -312,8 +312,8 @@ impl<L: Ledger> Held<L> {
         Ok(receipt)
     }
 
-    /// Pumps an instance for a seat: the oldest records that fit in so many bytes are read, and handed over as one
-    /// batch. It looks its pipe up by its number, and moves the records.
+    /// Pumps an instance for a seat: the oldest records that fit into a buffer of `bytes` bytes are read, and handed
+    /// over as one batch. It looks its pipe up by its number, and moves the records.
     ///
     /// # Errors
     /// The first that holds; all is then as before, and nothing is journalled.

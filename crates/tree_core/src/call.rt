@@ -75,14 +75,14 @@ pub enum Call {
 impl Call {
     ghost use Rattle.tree_paths.specs.declared.refusal.Refusal.TheVariants.{Enomem};
 
-    /// Whether the call is none that pipes are for: neither a [`Call::Pump`] nor a [`Call::Init`] with a pipe.
+    /// Whether the call involves no pipe: it is neither a [`Call::Pump`] nor a [`Call::Init`] with a pipe.
     pub fn is_plain(&self) -> bool
         ensures { result ≡ is_plain self.now }
     {
         !matches!(self, Call::Pump { .. } | Call::Init { piped: true, .. })
     }
 
-    /// The same call once more.
+    /// Returns a copy.
     ///
     /// # Errors
     /// `ENOMEM`, where there is no memory for it.

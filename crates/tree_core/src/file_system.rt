@@ -115,7 +115,7 @@ impl FileSystem {
         })
     }
 
-    /// The same tree once more, with buffers of its own.
+    /// Returns a copy of the tree, with buffers of its own.
     pub fn copy(&self) -> Result<FileSystem, Refusal>
         ensures ok { IfOk result (λ m. tree_in m ≡ tree_in self.now) }
         ensures err { IfErr result (λ refusal. refusal ≡ Enomem) }

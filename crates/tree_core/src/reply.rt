@@ -60,7 +60,7 @@ pub struct Kept {
 impl Reply {
     ghost use Rattle.tree_paths.specs.declared.refusal.Refusal.TheVariants.{Enomem};
 
-    /// The same reply once more. It takes memory only where the reply holds bytes or names.
+    /// Returns a copy. It takes memory only if the reply holds bytes or names.
     ///
     /// # Errors
     /// `ENOMEM`, where there is no memory for it.
@@ -88,7 +88,7 @@ impl Reply {
     }
 }
 
-/// The same answer once more.
+/// Returns a copy of an answer.
 #[inline(always)]
 fn copy_answer(answer: &Answer) -> Result<Answer, Refusal>
     ensures ok { IfOk result (λ copy. copy ≡ answer.now) }

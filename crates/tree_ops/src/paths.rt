@@ -15,7 +15,7 @@ use std::marker::Model;
 #[derive(Drop)]
 pub struct CallPaths<'a> {
     path: Resolved<'a>,
-    /// The new path of a call that has two, and else the path once more.
+    /// The new path of a call that has two, else the path.
     other_path: Resolved<'a>,
 }
 

@@ -39,7 +39,7 @@ pub struct Plan<'a> {
     pub(crate) call: &'a FileCall,
     pub(crate) counts: Counts,
     pub(crate) path: Resolved<'a>,
-    /// The new path of a call that has two, and else the path once more.
+    /// The new path of a call that has two, else the path.
     pub(crate) other_path: Resolved<'a>,
     pub(crate) moves: Moves,
 }

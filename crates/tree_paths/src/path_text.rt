@@ -213,7 +213,7 @@ impl PathText {
         })
     }
 
-    /// The same names once more.
+    /// Returns a copy.
     pub(crate) fn copy(&self) -> Result<PathText, AllocError>
         requires { IsKept self.now }
         ensures kept { IfOk result (λ kept. kept_names kept ≡ kept_names self.now) }
@@ -300,7 +300,7 @@ fn with_name(alloc: Global, names: PathNames, name: &Name) -> Result<Vec<Name>, 
     Ok(longer)
 }
 
-/// The same names once more.
+/// Returns copies of the names.
 pub(crate) fn copies(alloc: Global, names: &[Name]) -> Result<Vec<Name>, AllocError>
     ensures { IfOk result (λ copied. copied.items ≡ names.now) }
 {

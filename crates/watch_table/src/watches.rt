@@ -74,7 +74,7 @@ impl Watches {
         }
     }
 
-    /// The same watches once more: of the same files under the same descriptors, with the same next one and limits.
+    /// Returns a copy: the watches of the same files under the same descriptors, with the same next one and limits.
     ///
     /// # Errors
     /// `ENOMEM`, where there is no memory for them.

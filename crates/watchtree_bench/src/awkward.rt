@@ -15,7 +15,7 @@ const FULL: usize = 1_030_000;
 /// How many directories stand in one another.
 const DEEP: u64 = 40;
 
-/// Adds a path of so many names.
+/// Adds a path of `depth` names.
 fn add_deep(script: &mut Script, depth: u64) -> Result<(), AllocError> {
     for at in 0..depth {
         script.text(if at % 3 == 0 { "//x" } else { "/yz" })?;
@@ -24,7 +24,7 @@ fn add_deep(script: &mut Script, depth: u64) -> Result<(), AllocError> {
     Ok(())
 }
 
-/// Adds a name: a number of at most three digits, and so many characters. With at most 120 of these it has at most 147
+/// Adds a name: a number of at most three digits, and `length` characters. With at most 120 of these it has at most 147
 /// bytes, and takes at most 243 in a script.
 fn add_long(script: &mut Script, which: u64, length: u64) -> Result<(), AllocError> {
     script.number(which)?;
@@ -137,7 +137,7 @@ fn script_of(alloc: Global, seed: u64) -> Result<Script, AllocError> {
     Ok(script)
 }
 
-/// Runs so many scripts, each of other numbers.
+/// Runs a script each round, each of other numbers.
 pub(crate) fn run(alloc: Global, seed: u64, rounds: u64) -> Result<Digest, BenchFault> {
     let mut seeds = Rng::new(seed);
     let mut digest = Digest::new();

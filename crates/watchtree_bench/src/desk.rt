@@ -118,7 +118,7 @@ impl Desk {
         Ok(Path::parse(self.alloc, self.text.as_slice())?)
     }
 
-    /// One of so many instances by chance.
+    /// One of `count` instances by chance.
     pub(crate) fn any_instance(&mut self, count: u32) -> u32 {
         let at = self.rng.below(u64::from(count));
         u32::try_from(at).unwrap_or(0).wrapping_add(1)
@@ -169,7 +169,7 @@ impl Desk {
         self.file(state, FileCall::Create { path, mode: 0o644 })
     }
 
-    /// Makes so many instances with queues of 16,384 records.
+    /// Makes `count` instances with queues of 16,384 records.
     pub(crate) fn init(&mut self, state: &mut State, count: u32) -> Result<(), BenchFault> {
         for _ in 0..count {
             let init = Call::Init {
@@ -203,7 +203,7 @@ impl Desk {
         self.call(state, Call::Read { instance, bytes })
     }
 
-    /// Reads an eighth of so many instances, by chance, and one at least.
+    /// Reads an eighth of `count` instances, by chance, and at least one.
     pub(crate) fn read_some(&mut self, state: &mut State, count: u32) -> Result<(), BenchFault> {
         for _ in 0..count / 8 + 1 {
             let instance = self.any_instance(count);

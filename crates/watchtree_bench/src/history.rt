@@ -241,7 +241,7 @@ fn turn(paths: &mut Paths, state: &mut State, digest: &mut Digest) -> Result<(),
     go_on(paths, &mut fork, digest, 2_000)
 }
 
-/// Runs so many turns on one tree.
+/// Runs the rounds on one tree.
 pub(crate) fn run(alloc: Global, seed: u64, rounds: u64) -> Result<Digest, BenchFault> {
     let mut paths = Paths {
         alloc,

@@ -299,7 +299,7 @@ fn branded_round(alloc: Global, digest: &mut Digest, rng: &mut Rng) -> Result<()
     round::<Brand>(alloc, Blank::new(65537), digest, rng)
 }
 
-/// Runs so many rounds, each with a tree of its own.
+/// Runs the rounds, each with a tree of its own.
 pub(crate) fn run(alloc: Global, seed: u64, rounds: u64) -> Result<Digest, BenchFault> {
     let mut rng = Rng::new(seed);
     let mut digest = Digest::new();

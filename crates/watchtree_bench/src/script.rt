@@ -58,7 +58,7 @@ impl Script {
             .extend_from_slice(digits.format(number).as_bytes())
     }
 
-    /// Adds so many pairs of hexadecimal digits.
+    /// Adds `count` pairs of hexadecimal digits.
     pub(crate) fn pairs(&mut self, bits: u64, count: u64) -> Result<(), AllocError> {
         let mut left = bits;
         for _ in 0..count {

@@ -298,7 +298,7 @@ fn script_of(alloc: Global, seed: u64) -> Result<Script, AllocError> {
     Ok(script)
 }
 
-/// Runs so many scripts, each of other numbers.
+/// Runs a script each round, each of other numbers.
 pub(crate) fn run(alloc: Global, seed: u64, rounds: u64) -> Result<Digest, BenchFault> {
     let mut seeds = Rng::new(seed);
     let mut digest = Digest::new();

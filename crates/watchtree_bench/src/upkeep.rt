@@ -168,7 +168,7 @@ fn round(desk: &mut Desk, bases: &Bases) -> Result<(), BenchFault> {
     move_folders(desk, &bases.moved)
 }
 
-/// Runs so many rounds, each of other numbers.
+/// Runs the rounds, each of other numbers.
 pub(crate) fn run(alloc: Global, seed: u64, rounds: u64) -> Result<Digest, BenchFault> {
     let mut desk = Desk::new(alloc, seed)?;
     let bases = Bases::new(&mut desk)?;

@@ -129,7 +129,7 @@ fn printable_front(bytes: &[u8]) -> usize
     bytes.len()
 }
 
-/// A first line of so many printable bytes, and what stands behind its line feed.
+/// A first line of `len` printable bytes, and what stands behind its line feed.
 fn cut_printable<'a>(bytes: &'a [u8], len: usize) -> (&'a [u8], Option<&'a [u8]>)
     requires within { len ≤ length bytes.now }
     requires front { list_all is_line_byte (take len bytes.now) ≡ true }

@@ -7,7 +7,7 @@ ghost use Rattle.std.specs.Str.Parse.{digits_value};
 ghost use Rattle.std.specs.Option.{SomeIff};
 ghost use Rattle.watchtree_script.specs.Words.{number_spelled};
 
-/// The number of some digits of a radix, if they are at most so many and it is at most the greatest.
+/// The number that digits of a radix spell, if there are at most `most` of them and it is at most `greatest`.
 #[tactic(auto, unfolding(crate::specs::Words::number_spelled))]
 #[inline(always)]
 pub(crate) fn number_spelled(radix: u32, most: usize, greatest: u64, digits: &[u8]) -> Option<u64>

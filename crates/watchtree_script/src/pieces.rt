@@ -8,7 +8,7 @@ ghost use Rattle.watchtree_script.specs.Reading.{pieces_in};
 use memchr::memchr;
 use std::marker::Model;
 
-/// A byte is found among at most so many by a look at each, which takes fewer instructions than a call of memchr.
+/// Among at most as many bytes one is found by a look at each, which takes fewer instructions than a call of memchr.
 pub(crate) const FEW: usize = 16;
 
 /// The nonempty pieces between separators that are left.
@@ -50,7 +50,7 @@ impl<'a> Words<'a> {
         None
     }
 
-    /// The same once more, to be taken from by itself.
+    /// Returns a copy, to be taken from by itself.
     pub fn copied(&self) -> Words<'a>
         ensures { result ≡ self.now }
     {

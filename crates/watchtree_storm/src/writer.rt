@@ -122,7 +122,7 @@ impl Writer {
         let _ = make(rt, tree, seat, call);
     }
 
-    /// Asks the gate at turn 0, 1 and so on until it is let through, and then makes so many calls, with a pump of its
+    /// Asks the gate at turn 0, 1 and so on until it is let through, and then makes its calls, with a pump of its
     /// instance after each. A writer that is let through at none of the gate's turns makes none. A call or a pump that
     /// runs out of memory is passed over.
     pub fn write<L: Ledger, G: Gate>(

@@ -8,8 +8,8 @@ use std::alloc::Global;
 use tree_paths::Refusal;
 
 impl Instances {
-    /// The same instances once more: what each watches, what waits in it, and who watches each file. The index of
-    /// watchers is copied as it is.
+    /// Returns a copy: what each instance watches, what waits in it, and who watches each file. The index of watchers
+    /// is copied as it is.
     ///
     /// # Errors
     /// `ENOMEM`, where there is no memory for them.
@@ -25,7 +25,7 @@ impl Instances {
     }
 }
 
-/// The same open instances once more, with their numbers.
+/// Returns copies of the open instances, with their numbers.
 fn copy_rows(alloc: Global, rows: &[Opened]) -> Result<Vec<Opened>, Refusal>
     ensures rows { IfOk result (λ copies. copies.items ≡ rows.now) }
     ensures err { IfErr result (λ refusal. refusal ≡ Enomem) }
