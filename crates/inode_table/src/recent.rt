@@ -23,7 +23,7 @@ pub(crate) const TEXT_MIN: usize = 8;
 /// The most bytes of a text that is remembered.
 pub(crate) const TEXT_MAX: usize = 80;
 
-/// How many nodes a new table has at least before it has slots.
+/// How many nodes a table has at least before it has slots.
 pub(crate) const NODES_MIN: usize = 32;
 
 /// How many nodes a table has at least for each slot.

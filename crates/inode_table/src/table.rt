@@ -118,7 +118,8 @@ impl Table {
         Ok(())
     }
 
-    /// Where the nodes are to grow: more slots for directories to be remembered, if such nodes have more than now.
+    /// Where the nodes are to grow: more slots for directories to be remembered, if these nodes call for more than
+    /// there are.
     fn grown_recent(&self) -> Result<Option<Recent>, AllocError>
         ensures none { IfOk result (λ recent. IfSome recent (λ r. (p : List Label) (k : ℕ) → IsKnown r p k → ⊥)) }
         ensures err { OnErr result (self.now.room ≡ 0) }

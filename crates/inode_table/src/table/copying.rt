@@ -6,7 +6,7 @@ ghost use Rattle.inode_table.specs.Copies.{IsContentCopy, IsNodeCopy};
 use super::Table;
 use crate::content::Content;
 use crate::node::Node;
-use crate::recent::Recent;
+use crate::recent::{NODES_MIN, Recent};
 use std::alloc::AllocError;
 use tree_paths::Refusal;
 
@@ -21,11 +21,13 @@ impl Table {
         ensures world { IfOk result (λ table. world_of table ≡ world_of self.now) }
         ensures memory { IfErr result (λ refusal. refusal ≡ Refusal.Enomem) }
     {
+        // Most copies are forks that make few calls, so there are no slots before it has grown.
+        let from = usize::max(NODES_MIN, self.nodes.len().saturating_mul(2));
         // Each node keeps its slot, so the keys in the directories are right in the copy too.
         Ok(Table {
             nodes: self.nodes.clone()?,
             alloc: self.alloc,
-            recent: Recent::new(self.alloc, self.nodes.len().saturating_mul(2)),
+            recent: Recent::new(self.alloc, from),
         })
     }
 }

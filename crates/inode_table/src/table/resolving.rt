@@ -79,8 +79,8 @@ impl Table {
     /// A table remembers directories whose paths have 8 to 80 bytes, until a directory is moved or removed, or there
     /// are more slots. Where its nodes grow from 32 or more, [`Table::reserve_node`] allocates slots of 96 bytes: 4 to
     /// 64, a power of two, at most one for four nodes and two for each directory. A new table has no slots, nor has a
-    /// copy until its nodes are twice as many. A table without slots walks each time, and so does a path with a name of
-    /// more than 31 bytes. It takes no memory.
+    /// copy until its nodes are also twice as many. A table without slots walks each time, and so does a path with a
+    /// name of more than 31 bytes. It takes no memory.
     #[inline(always)]
     pub fn resolve_recent<'a>(&mut self, path: &'a Path) -> Resolved<'a>
         ensures same { self.new ≡ self.old }

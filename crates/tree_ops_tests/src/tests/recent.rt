@@ -66,6 +66,15 @@ fn prepared(alloc: Global) -> Result<Calls, Refusal> {
     Ok(calls)
 }
 
+/// A tree of ten directories, which has no slots.
+fn few_directories(alloc: Global) -> Result<Calls, Refusal> {
+    let mut calls = Calls::new(alloc, Limits::full())?;
+    for a in 0..10 {
+        make(&mut calls, format!(in alloc; "/d{a}")?.as_str())?;
+    }
+    Ok(calls)
+}
+
 /// A path of those that were made, or of what was never there.
 fn some_path(calls: &Calls, made: &mut Made) -> Result<Path, Refusal> {
     let alloc = calls.alloc;
@@ -161,11 +170,30 @@ fn what_is_remembered_is_what_a_walk_finds(rt: HostRuntime) -> Result<(), Fail> 
     for _ in 0..3 {
         let is_alike = are_calls_alike(&mut one, &mut other, &mut made)?;
         holds(&rt, "tables answer alike", is_alike);
-        // A fork remembers nothing, and what comes to be remembered by one is not by the other.
+        // These forks do not come to twice as many nodes, so they walk.
         let mut fork = one.fork()?;
         let mut fork_of_other = other.fork()?;
         let is_alike = are_calls_alike(&mut fork, &mut fork_of_other, &mut made)?;
         holds(&rt, "forks answer alike", is_alike);
     }
+    Ok(())
+}
+
+/// The paths of a tree that has slots, whatever it was forked from.
+const MANY: usize = 64;
+
+#[test]
+fn what_a_fork_remembers_is_what_a_walk_finds(rt: HostRuntime) -> Result<(), Fail> {
+    let one = few_directories(rt.alloc())?;
+    let other = few_directories(rt.alloc())?;
+    let mut fork = one.fork()?;
+    let mut fork_of_other = other.fork()?;
+    let mut made = Made { at: 20261128 };
+    for _ in 0..3 {
+        let is_alike = are_calls_alike(&mut fork, &mut fork_of_other, &mut made)?;
+        holds(&rt, "forks answer alike", is_alike);
+    }
+    let count = fork.table.flat()?.len();
+    assert!(rt; MANY < count, "{count} paths");
     Ok(())
 }

@@ -221,12 +221,14 @@ fn each_allocation_of_a_copy(rt: HostRuntime) -> Result<(), Fail> {
     Ok(())
 }
 
-/// The kinds of trees that grow here: of files or of directories in the root, and a copy of the latter.
+/// The kinds of trees that grow here: of files or of directories in the root, a copy of the latter, and one that was
+/// copied with half of its directories.
 #[derive(Clone, Copy, Debug)]
 enum Shape {
     Files,
     Directories,
     Copy,
+    GrownCopy,
 }
 
 /// Calls on a tree of so many nodes.
@@ -236,8 +238,13 @@ fn grown(alloc: Global, nodes: u32, shape: Shape) -> Result<Calls, Refusal> {
         let text = format!(in alloc; "/{i}")?;
         match shape {
             Shape::Files => calls.create(text.as_str(), 0o644)?,
-            Shape::Directories | Shape::Copy => mkdir(&mut calls, text.as_str())?,
+            Shape::Directories | Shape::Copy | Shape::GrownCopy => {
+                mkdir(&mut calls, text.as_str())?
+            }
         };
+        if let (Shape::GrownCopy, true) = (shape, i + 1 == nodes / 2) {
+            calls.table = calls.table.copy()?;
+        }
     }
     if let Shape::Copy = shape {
         calls.table = calls.table.copy()?;
@@ -265,7 +272,7 @@ fn room_refused_in_turn(alloc: Global, nodes: u32, shape: Shape) -> Result<Optio
 }
 
 /// From 32 nodes on there are slots for directories to be remembered, taken where the nodes grow, if there are
-/// directories; in a copy not before its nodes are twice as many.
+/// directories; in a copy not before its nodes are also twice as many.
 #[test]
 fn each_growth_of_the_nodes(rt: HostRuntime) -> Result<(), Fail> {
     let alloc = rt.alloc();
@@ -280,6 +287,9 @@ fn each_growth_of_the_nodes(rt: HostRuntime) -> Result<(), Fail> {
         (1, Shape::Copy, 1),
         (32, Shape::Copy, 1),
         (300, Shape::Copy, 1),
+        (16, Shape::GrownCopy, 1),
+        (32, Shape::GrownCopy, 2),
+        (64, Shape::GrownCopy, 2),
     ] {
         let count = room_refused_in_turn(alloc, nodes, shape)?;
         let is_well = count == Some(if has_refuser { wanted } else { 0 });
