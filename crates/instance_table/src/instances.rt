@@ -366,6 +366,8 @@ fn add_first(
     ensures rows { HasNoEmptyRow index.old → HasNoEmptyRow index.new }
     ensures err_noted { OnErr result ((n q : ℕ) → watch_noted index.new n q ≡ watch_noted index.old n q) }
 {
+    // Refused calls add nothing, no capacity either.
+    watches.check_new(mask, is_directory)?;
     index.put(number, id, first_watch(watches, mask))?;
     match watches.add(number, mask, is_directory) {
         Ok(wd) => Ok(wd),

@@ -1,6 +1,6 @@
 //! The watches of an instance.
 ghost use Rattle.std.specs.Prelude.{◌≡◌, ◌⊎◌, ℕ, pos, false, Some, None, Ok, Err, IfOk, IfErr, OnOk, OnErr, OnSome};
-ghost use Rattle.std.specs.Prelude.{IfNone, IsErr, IsNone, IsTrue, ◌↔◌};
+ghost use Rattle.std.specs.Prelude.{IfNone, IsErr, IsNone, IsTrue, MatchResult, ◌↔◌};
 ghost use Rattle.std.specs.FinMap as map;
 ghost use Rattle.std.specs.Map.Iter.{ShowsInOrder, deref};
 ghost use Rattle.tree_paths.specs.declared.refusal.Refusal.{Refusal};
@@ -157,6 +157,24 @@ impl Watches {
 }
 
 impl Watches {
+    /// Checks whether a file that is not watched may be watched with this mask.
+    ///
+    /// # Errors
+    /// `ENOTDIR` and `ENOSPC`, where [`Watches::add`] has them. It takes no memory.
+    pub fn check_new(&self, mask: Mask, is_directory: bool) -> Result<(), Refusal>
+        ensures { (number : ℕ) → watch_of self.now number ≡ None → MatchResult result
+            (λ _. add_refusal self.now number mask.0 is_directory ≡ None)
+            (λ refusal. add_refusal self.now number mask.0 is_directory ≡ Some refusal) }
+    {
+        if is_barred(mask, is_directory) {
+            return Err(Refusal::Enotdir);
+        }
+        if self.is_full() {
+            return Err(Refusal::Enospc);
+        }
+        Ok(())
+    }
+
     /// Watches a file, and answers the descriptor of its watch.
     ///
     /// `ENOTDIR` where the mask has ONLYDIR and it is no directory; `EEXIST` where the mask has MASK_CREATE and it is

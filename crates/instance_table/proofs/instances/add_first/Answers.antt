@@ -1,4 +1,4 @@
-use Rattle.std.proofs.Common.{rules, ◌≡◌, Option, Some, None, sym, ap, ◌∙◌, cond, ◌&&◌, eqb}
+use Rattle.std.proofs.Common.{rules, ◌≡◌, Option, Some, None, sym, ap, ◌∙◌, cond, ◌&&◌, eqb, inl}
 use Rattle.watch_table.specs.Watching.{Watch, Watching, watch_of, add_refusal}
 use Rattle.instance_table.specs.Index.{watch_noted}
 use Rattle.instance_table.proofs.Indexed.{first-watch, wd-left}
@@ -14,3 +14,6 @@ returns-in-Ok-clause-noted c n q =
     ∙ ap Some (sym (c.first_watch.ensures.watch left)) in
     c.in_ok-put.ensures.ok n q
     ∙ ap (λ (o : Option Watch). cond (eqb n c.args.number && eqb q c.args.id) o (watch_noted c.args.index.now n q)) (sym there)
+
+pub returns-in_err-check_new-clause-refusals : goal.returns-in_err-check_new-clause-refusals
+returns-in_err-check_new-clause-refusals c = inl (c.in_err-check_new.ensures c.args.number c.requires.unwatched)
