@@ -86,11 +86,6 @@ length-cut [] i h = absurd (omega arith)
 length-cut (y ∷ xs) zero h = refl
 length-cut (y ∷ xs) (suc i) h = ap suc (length-cut xs i (omega arith))
 
-pub length-set : {A : Type 0} (xs : List A) (i : ℕ) (x : A) → length (set xs i x) ≡ length xs
-length-set [] i x = refl
-length-set (y ∷ xs) zero x = refl
-length-set (y ∷ xs) (suc i) x = ap suc (length-set xs i x)
-
 -- ---- one change
 
 pub none-watch : AreWatchers [] []

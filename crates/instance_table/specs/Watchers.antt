@@ -29,7 +29,7 @@ pub record AreWatchers (ids : List ℕ) (watches : List Watch) : Type 0 where
   pub rising : IsStrictlySortedBy nat_cmp ids
   pub same : length watches ≡ length ids
 
--- of the numbers and the watches in two arrays of a size, the first `n` are watchers
+-- the first `n` elements of two arrays of a size are watchers: their numbers, and their watches
 abbrev pub AreFew : ℕ → ℕ → List ℕ → List Watch → Type 0
 AreFew size n ids watches = (n ≤ size) × (length ids ≡ size) × (length watches ≡ size)
     × AreWatchers (take n ids) (take n watches)

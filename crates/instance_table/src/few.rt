@@ -1,5 +1,5 @@
 //! Few instances that watch a file, each with its watch.
-ghost use Rattle.std.specs.Prelude.{◌≡◌, ◌≤◌, ◌<◌, true, false, length, IsSome, ◌↔◌, IsTrue};
+ghost use Rattle.std.specs.Prelude.{◌≡◌, ◌≤◌, ◌<◌, true, false, length, IsSome, None, ◌↔◌, IsTrue};
 ghost use Rattle.std.specs.FinMap as map;
 ghost use Rattle.instance_table.specs.Watchers.{AreWatchers, watchers_map};
 
@@ -76,6 +76,7 @@ impl<const N: usize> Few<N> {
     pub fn put(&mut self, id: u32, watch: (i32, u32)) -> bool
         ensures put { result ≡ true → self.new ≡ map.insert self.old id watch }
         ensures rest { result ≡ false → self.new ≡ self.old }
+        ensures others { result ≡ false → map.get self.old id ≡ None }
         ensures full { result ≡ false → N ≤ length (map.keys self.old) }
     {
         match place_of(&self.ids[..self.len], id) {
@@ -121,7 +122,6 @@ impl<const N: usize> Few<N> {
     pub fn as_slices(&self) -> (&[u32], &[(i32, u32)])
         ensures watchers { AreWatchers result.0.now result.1.now }
         ensures map { watchers_map result.0.now result.1.now ≡ self.now }
-        ensures few { length result.0.now ≤ N }
     {
         (&self.ids[..self.len], &self.watches[..self.len])
     }

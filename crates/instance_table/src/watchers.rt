@@ -17,8 +17,8 @@ pub struct Watchers {
     row: Row,
 }
 
-/// One instance and its watch, at most four, eight or sixteen, or any number. A row keeps its capacity where instances
-/// go, and a copy of more than four has what it needs.
+/// One instance and its watch, at most four, eight or sixteen, or any number. A row keeps its form where instances go.
+/// A copy takes the smallest form that fits, but `Four` for one that is left in a larger row.
 #[derive(Drop)]
 enum Row {
     One(u32, (i32, u32)),
@@ -168,7 +168,7 @@ impl Watchers {
     }
 }
 
-/// A row of at least two instances, each with its watch. `Err` is out of memory.
+/// The smallest row, of four or more, for these instances, each with its watch. `Err` is out of memory.
 fn row_of(alloc: Global, ids: &[u32], watches: &[(i32, u32)]) -> Result<Row, AllocError>
     requires { AreWatchers ids.now watches.now }
     ensures { IfOk result (λ row. row_map row ≡ watchers_map ids.now watches.now) }

@@ -46,7 +46,7 @@ fn is_alike(one: &Instances, other: &Instances, id: u32) -> bool {
 
 /// Whether both agree on each instance and each file.
 fn are_alike(one: &Instances, other: &Instances) -> bool {
-    for id in 0..30 {
+    for id in 0..41 {
         if !is_alike(one, other, id) || one.watchers(id) != other.watchers(id) {
             return false;
         }
@@ -318,7 +318,7 @@ fn watches_that_end_take_two_buffers(rt: HostRuntime) -> Result<(), Fail> {
 /// Some open instances, which watch nothing.
 fn some_open(alloc: Global) -> Result<Instances, Refusal> {
     let mut instances = Instances::new(alloc);
-    for id in 1..14 {
+    for id in 1..41 {
         open(&mut instances, id)?;
     }
     Ok(instances)
@@ -361,10 +361,28 @@ fn each_growth_of_a_row_of_watchers(rt: HostRuntime) -> Result<(), Fail> {
         "the first",
         matches!(first, Some(count) if count <= FIRST),
     );
-    for step in 0..13 {
-        let id = (step * 5 + 4) % 13 + 1;
+    for step in 0..40 {
+        let id = (step * 7 + 4) % 40 + 1;
         let count = watch_refused(alloc, &mut instances, &mut control, id)?;
         assert!(rt; count.is_some(), "instance {id}");
+    }
+    Ok(())
+}
+
+#[test]
+fn each_growth_of_a_copy_of_a_row(rt: HostRuntime) -> Result<(), Fail> {
+    let alloc = rt.alloc();
+    let has_refuser = has_refuser(alloc);
+    for count in [1, 2, 4, 5, 9, 16, 17, 40] {
+        let mut instances = some_open(alloc)?;
+        for id in 1..41 {
+            if id <= count {
+                watch(&mut instances, id, FILE, IN_ALL_EVENTS)?;
+            }
+        }
+        let told = copy_refused(alloc, &instances);
+        let is_well = matches!(told, Some(told) if (told > 0) == has_refuser);
+        assert!(rt; is_well, "{count} watchers: {told:?}");
     }
     Ok(())
 }

@@ -191,11 +191,8 @@ fn is_left_by_all(alloc: Global, count: u32) -> Result<bool, Refusal> {
     let mut is_well = is_told(alloc, &mut instances, &list, 1, IN_CREATE)?;
     for id in 0..count {
         is_well = is_well && instances.is_watching();
-        ends(&mut instances, &mut list, id.wrapping_mul(5) % IDS, 1);
+        ends(&mut instances, &mut list, id.wrapping_mul(7) % IDS, 1);
         is_well = is_told(alloc, &mut instances, &list, 1, IN_CREATE)? && is_well;
-    }
-    for id in 0..IDS {
-        ends(&mut instances, &mut list, id, 1);
     }
     is_well = is_well && !instances.is_watching();
     watches(&mut instances, &mut list, 3, 1, IN_CREATE)?;

@@ -1,9 +1,16 @@
-use Rattle.std.proofs.Common.{ap, sym, ◌∙◌, length, take, arith}
+use Rattle.std.proofs.Common.{refl, ap, sym, ◌∙◌, length, take, arith}
+use Rattle.std.proofs.lemmas.List.{length-set}
 use Rattle.std.specs.FinMap as finmap
 use Rattle.instance_table.specs.Watchers.{WatchMap}
 use Rattle.instance_table.proofs.Fews.{few-are-put, few-length, few-put, few-set}
-use Rattle.instance_table.proofs.Zipped.{length-set, watchers-keys}
+use Rattle.instance_table.proofs.Zipped.{watchers-absent_in, watchers-keys}
 use Rattle.instance_table.proofs.few.Few.put.Goals as goal
+
+pub returns-then-self-clause-others : goal.returns-then-self-clause-others
+returns-then-self-clause-others g c h =
+    let n = c.self.inside.len in
+    watchers-absent_in (take n c.self.inside.ids) (take n c.self.inside.watches) c.self.invariant.3 refl c.self.view_is
+    c.in-Err.place c.args.id c.in-Err.ensures
 
 pub returns-then-self-clause-full : goal.returns-then-self-clause-full
 returns-then-self-clause-full g c h =
