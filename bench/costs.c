@@ -15,6 +15,7 @@ static char path[8192], other[8192];
 static struct wt_tree tree, forks[FORKS];
 static long long calls;
 static size_t before, kept;
+static uint32_t queue = WT_QUEUE;
 
 /* A call that must succeed. */
 static int64_t must(int64_t number) {
@@ -46,7 +47,7 @@ static int64_t watch(uint32_t id, const char *p, uint32_t mask) { return must(wt
 static uint32_t instances(int count) {
     uint32_t first = 0;
     for (int i = 0; i < count; i++) {
-        uint32_t id = (uint32_t)must(wt_inotify_init(&tree, WT_QUEUE));
+        uint32_t id = (uint32_t)must(wt_inotify_init(&tree, queue));
         if (!first) first = id;
     }
     return first;
@@ -197,6 +198,16 @@ static void fork_folders_4(void) { fork_folders(4); }
 static void fork_folders_8(void) { fork_folders(8); }
 static void fork_folders_16(void) { fork_folders(16); }
 
+/* The same with short queues, so that most of the memory is that of files and watches. */
+static void fork_folders_short(int watchers) { queue = 16, fork_folders(watchers); }
+
+static void fork_folders_1_short(void) { fork_folders_short(1); }
+static void fork_folders_2_short(void) { fork_folders_short(2); }
+static void fork_folders_4_short(void) { fork_folders_short(4); }
+static void fork_folders_5_short(void) { fork_folders_short(5); }
+static void fork_folders_9_short(void) { fork_folders_short(9); }
+static void fork_folders_17_short(void) { fork_folders_short(17); }
+
 /* Watches of a thousand directories by one instance after another. */
 static void add_watches(int watchers) {
     watched_folders(FOLDERS, 0);
@@ -209,9 +220,13 @@ static void add_watches(int watchers) {
 
 static void watch_1(void) { add_watches(1); }
 static void watch_2(void) { add_watches(2); }
+static void watch_3(void) { add_watches(3); }
 static void watch_4(void) { add_watches(4); }
+static void watch_5(void) { add_watches(5); }
 static void watch_8(void) { add_watches(8); }
+static void watch_9(void) { add_watches(9); }
 static void watch_16(void) { add_watches(16); }
+static void watch_17(void) { add_watches(17); }
 
 static void watch_anew(int watchers) {
     uint32_t first = watched_folders(FOLDERS, watchers);
@@ -364,7 +379,11 @@ static const struct { const char *name; void (*run)(void); } shapes[] = {
     { "fork_4_by_10_create", fork_4_by_10_create }, { "fork_40_by_15_create", fork_40_by_15_create },
     { "fork_folders_1", fork_folders_1 }, { "fork_folders_4", fork_folders_4 }, { "fork_folders_8", fork_folders_8 },
     { "fork_folders_16", fork_folders_16 },
-    { "watch_1", watch_1 }, { "watch_2", watch_2 }, { "watch_4", watch_4 }, { "watch_8", watch_8 }, { "watch_16", watch_16 },
+    { "fork_folders_1_short", fork_folders_1_short }, { "fork_folders_2_short", fork_folders_2_short },
+    { "fork_folders_4_short", fork_folders_4_short }, { "fork_folders_5_short", fork_folders_5_short },
+    { "fork_folders_9_short", fork_folders_9_short }, { "fork_folders_17_short", fork_folders_17_short },
+    { "watch_1", watch_1 }, { "watch_2", watch_2 }, { "watch_3", watch_3 }, { "watch_4", watch_4 }, { "watch_5", watch_5 },
+    { "watch_8", watch_8 }, { "watch_9", watch_9 }, { "watch_16", watch_16 }, { "watch_17", watch_17 },
     { "watch_anew_1", watch_anew_1 }, { "watch_anew_4", watch_anew_4 },
     { "unwatch_1", unwatch_1 }, { "unwatch_4", unwatch_4 }, { "unwatch_8", unwatch_8 }, { "unwatch_16", unwatch_16 },
     { "rmdir_watched", rmdir_watched },
