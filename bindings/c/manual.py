@@ -2,8 +2,8 @@
 
 usage: manual.py HEADER PAGE
 
-In the page a parameter `tree` stands for the struct that its description names. Afterwards each function is taken out of the page, in
-memory, and given one parameter less, and each change must be seen.
+In the page a parameter `tree` stands for the struct that its description names. Afterwards each function is taken out
+of the page, in memory, and given one parameter less, and each change must be seen.
 """
 import re
 import sys

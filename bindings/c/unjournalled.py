@@ -1,9 +1,9 @@
-"""Finds which refused calls leave no entry in the journal, and compares them with what the pages list.
+"""Checks for each refusal that the pages list that it leaves no entry in the journal, and that they list no other.
 
 usage: unjournalled.py LIBRARY.so WATCHTREE.3 WATCHTREE_THREADS.3 PYTHON.MD
 
-It also finds which functions without a path answer ENOENT, which watchtree.3 lists too. A page names what was found in
-one paragraph, and no other error there.
+It also checks that watchtree.3 lists the functions of a number that answer ENOENT. A page names what was found in one
+paragraph, and no other error there.
 """
 import ctypes
 import errno
@@ -109,7 +109,7 @@ def of_waiting_reads(library):
 
 
 def without_path(library):
-    """Returns the functions that take a number and answer ENOENT."""
+    """Returns which of two functions that take a number answer ENOENT."""
     tree = Tree(library)
     out = ctypes.create_string_buffer(8).raw
     return {it for it in ("wt_entry", "wt_path_of") if tree.call(it, ctypes.c_uint64(99), out) == -errno.ENOENT}

@@ -1,6 +1,6 @@
 """The folder of a search: a list in it names what the search left, so that the next one removes that and nothing else.
 
-A line of the list is `directory PATH`, or the SHA-256 of a file and its path, in the order in which they were made. In
+A line of the list is `directory PATH`, or the SHA-256 of a file and its path, each directory before what is in it. In
 a path % and two hexadecimal digits stand for a byte.
 """
 
@@ -30,7 +30,7 @@ _PIECE = 1 << 20
 
 
 class Folder:
-    """A folder in which nothing is replaced. `is_left` decides whether a search may leave something of a name."""
+    """A folder in which nothing is replaced. `is_left` decides whether a search may leave an entry of that name."""
 
     def __init__(self, path: str, is_left: Callable[[str], bool]) -> None:
         self.path, self._is_left = path, is_left

@@ -54,7 +54,7 @@ def is_left(name: str, seeds: Optional[range]) -> bool:
 
 
 def keep(failures: List[Result], out: Folder) -> None:
-    """Leaves the schedule of each failing run in a folder, which has nothing of an earlier search then."""
+    """Leaves the schedule of each failing run in a folder, once what an earlier search left there is removed."""
     out.clear()
     for number, it in enumerate(failures, 1):
         name = f"seed-{it.seed}" if it.seed is not None else f"failure-{number}"

@@ -38,7 +38,7 @@ class Shrinker:
         return self.best
 
     def _run(self, schedule: Schedule) -> Optional[Result]:
-        """Runs a candidate. None if it is no run, as a line that sets the tree up needs one that was dropped."""
+        """Runs a candidate. None if its set-up is refused: a line needs one that was dropped."""
         try:
             return self.bench.replay(schedule, self.seed)
         except Refused:

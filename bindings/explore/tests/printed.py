@@ -74,7 +74,6 @@ class Commands(ToolTest):
         shutil.copy(self.runner, f"{clone}/out/under")
         self.assertEqual(self.again("./watchtree", "/nonexistent", clone), "./watchtree")
 
-
     def test_words_of_any_bytes(self) -> None:
         words = [sys.executable, MAIN, "--runner", self.runner, "--seeds", "1..1", "--shrink-runs", "3",
                  "--replays", "1", f"{EXAMPLES}/recursive.script", "--check", "false", "--",

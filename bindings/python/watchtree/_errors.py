@@ -17,9 +17,9 @@ OWN = {
     1103: "wrong number of words: watchtree(1) has the words of each command",
     1104: "bad escape: after a % there are two hexadecimal digits",
     1105: "bad mode: it has 1 to 6 octal digits",
-    1106: "bad hexadecimal: bytes are an even number of hexadecimal digits, or -",
+    1106: "bad hex: bytes are an even number of hexadecimal digits, or -",
     1107: "bad mask: it is 0x and 1 to 8 hexadecimal digits",
-    1108: "bad number: it has 1 to 20 decimal digits, and fits 32 bits, an offset or a length 64 bits",
+    1108: "bad number: it has 1 to 20 decimal digits and fits 32 bits; an offset or a length fits 64",
 }
 
 

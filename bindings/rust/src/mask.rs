@@ -39,9 +39,9 @@ pub const ISDIR: u32 = 0x4000_0000;
 /// The watch ends with its first event.
 pub const ONESHOT: u32 = 0x8000_0000;
 
-/// A set of the bits of this module, with their names as constants: it prints them, and `|` joins them.
+/// A set of the bits of this module, each with a constant of its name. It prints their names, and `|` joins sets.
 ///
-/// Where a function takes a mask it takes this type or a `u32`, and each becomes the other by `into`.
+/// A function that takes a mask takes this type or a `u32`; `into` converts either into the other.
 ///
 /// ```
 /// use watchtree::{mask, Mask, Tree};
@@ -124,7 +124,7 @@ impl From<Mask> for u32 {
     }
 }
 
-/// The names of the bits, such as `CREATE|ISDIR`. Bits without a name are one hexadecimal number, and so is no bit.
+/// The names of the bits, such as `CREATE|ISDIR`. Bits without a name are printed as one hexadecimal number, an empty mask as `0x0`.
 impl fmt::Display for Mask {
     fn fmt(&self, f: &mut fmt::Formatter<'_>) -> fmt::Result {
         let (mut rest, mut between) = (self.0, "");
