@@ -55,10 +55,10 @@ def read_words(words: List[str]) -> Tuple[argparse.Namespace, List[str]]:
     """Reads the command line: the options, and the program."""
     parser = Words(prog="watchtree explore", usage=USAGE, allow_abbrev=False)
     parser.add_argument("script", metavar="SCRIPT")
-    parser.add_argument("--check", required=True, metavar="COMMAND", help="fails if the run is wrong")
+    parser.add_argument("--check", required=True, metavar="COMMAND", help="command that judges a run: 0 if it is right")
     how = parser.add_mutually_exclusive_group()
     how.add_argument("--seeds", type=_range, metavar="A..B", help="a run for each seed (1..200)")
-    how.add_argument("--moves", type=int, choices=(1, 2), help="every schedule with at most so many moves")
+    how.add_argument("--moves", type=int, choices=(1, 2), help="every schedule with at most 1 or 2 moves")
     parser.add_argument("--vary", type=_vary, default="lines,reads", metavar="WORDS", help="lines, reads, queue (lines,reads)")
     parser.add_argument("--first", action="store_true", help="stop at the first failure")
     parser.add_argument("--out", metavar="DIR", help="where failing schedules are left (SCRIPT.failures)")
@@ -68,7 +68,7 @@ def read_words(words: List[str]) -> Tuple[argparse.Namespace, List[str]]:
     parser.add_argument("--timers", action="store_true", help="always wait for --debounce and --settle")
     for name, what in (("queue", "N"), ("settle", "MS"), ("debounce", "MS"), ("stall", "MS"), ("dir", "DIR"),
                        ("end", "SIGNAL"), ("outside", "HOW")):
-        parser.add_argument(f"--{name}", metavar=what, help="as of watchtree under")
+        parser.add_argument(f"--{name}", metavar=what, help="see watchtree under --help")
     parser.add_argument("--runner", required=True, help=argparse.SUPPRESS)
     parser.add_argument("--command", default="watchtree", help=argparse.SUPPRESS)  # what the user called
     parser.add_argument("--library", help=argparse.SUPPRESS)  # where Python finds watchtree_trace, if not beside the runner

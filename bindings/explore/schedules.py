@@ -32,7 +32,7 @@ class Mark:
 
 @dataclass(frozen=True)
 class ShortRead:
-    """A read that hands over at most so many records. Its request is counted as that of a line."""
+    """A read that hands over at most `records` records. Its request is counted as that of a line."""
 
     request: int
     records: int

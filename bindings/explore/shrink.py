@@ -16,7 +16,7 @@ ATTEMPTS = 3
 
 
 class Shrinker:
-    """Makes one failing schedule smaller. Each candidate is a run, several at once, and at most so many."""
+    """Makes one failing schedule smaller. Each candidate is a run: up to `jobs` at once, at most `budget` in all."""
 
     def __init__(self, bench: Bench, failed: Result, is_race: bool, jobs: int, budget: int) -> None:
         self.bench, self.jobs, self.budget = bench, jobs, budget

@@ -95,7 +95,7 @@ class Files(unittest.TestCase):
 
 
 class Moves(unittest.TestCase):
-    """Every schedule with so many moves."""
+    """Every schedule with a given number of moves."""
 
     def count(self, moves: int, lines: int, asked: int) -> int:
         model = Model(lambda result: False, asked)

@@ -29,7 +29,7 @@ def integer(name: str, given: int, low: int, high: int) -> int:
 
 
 def unsigned(name: str, given: int, bits: int = 32) -> int:
-    """Returns a number that fits into so many bits."""
+    """Returns the number if it fits into `bits` bits."""
     return integer(name, given, 0, 2**bits - 1)
 
 

@@ -98,7 +98,7 @@ class Instance:
     def read_bytes(self, size: int = _SIZE, timeout: Optional[float] = 0) -> bytes:
         """Returns what read(2) on an inotify descriptor returns: as many whole records as fit.
 
-        If no record waits, it waits at most so many seconds, without limit if the timeout is None. Then it raises as a
+        If no record waits, it waits up to `timeout` seconds for one, forever if that is None. Then it raises as a
         socket does: BlockingIOError if the timeout is 0, and TimeoutError otherwise.
         """
         end, size = _waiting.end_of(timeout), unsigned("size", size)
@@ -112,10 +112,10 @@ class Instance:
                 raise TimeoutError(errno.ETIMEDOUT, os.strerror(errno.ETIMEDOUT))
 
     def read(self, size: int = _SIZE, timeout: Optional[float] = 0) -> List[Event]:
-        """Returns as many events as fit into so many bytes.
+        """Returns as many events as fit into `size` bytes.
 
-        If no record waits, it waits at most so many seconds, without limit if the timeout is None. Then it returns an
-        empty list, as select.select() and selectors do.
+        If no record waits, it waits up to `timeout` seconds for one, forever if that is None. Then it returns an empty
+        list, as select.select() and selectors do.
         """
         try:
             return parse(self.read_bytes(size, timeout))

@@ -166,7 +166,7 @@ class Tree:
         return self._on_path("wtt_write", path, unsigned("offset", offset, 64), plain, len(plain))
 
     def read(self, path: AnyPath, count: int, offset: int = 0) -> bytes:
-        """Reads at most so many bytes at an offset."""
+        """Reads at most `count` bytes at an offset."""
         return self._read("wtt_pread", path, count, offset)
 
     def truncate(self, path: AnyPath, length: int) -> None:
@@ -272,7 +272,7 @@ class Tree:
             size = wanted
 
     def inotify(self, limit: int = QUEUE) -> Instance:
-        """Makes an instance with a queue of so many records."""
+        """Makes an instance whose queue holds at most `limit` records."""
         return Instance(self, self._call("wtt_inotify_init", unsigned("limit", limit)))
 
     def line(self, line: Union[str, bytes], queue: int = QUEUE) -> str:

@@ -16,7 +16,7 @@ _LONGEST = 2**30
 
 
 def end_of(timeout: Optional[float]) -> float:
-    """Returns the time of the monotonic clock at which a wait of so many seconds ends: None is without end."""
+    """Returns when a wait of `timeout` seconds ends, by the monotonic clock: never if it is None."""
     if timeout is None:
         return math.inf
     return time.monotonic() + seconds("timeout", timeout)

@@ -220,7 +220,7 @@ impl SharedInstance {
         Ok(Events::new(out))
     }
 
-    /// Reads as many whole records as fit into so many bytes. If none waits, it waits for one.
+    /// Reads as many whole records as fit into `bytes` bytes. If none waits, it waits for one.
     pub fn read(&self, bytes: usize) -> Result<Events, Error> {
         self.read_for(bytes, -1)
     }

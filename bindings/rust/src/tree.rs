@@ -97,7 +97,7 @@ impl Tree {
         answer(unsafe { sys::wt_inotify_rm_watch(&mut self.raw, instance.0, wd) }).map(drop)
     }
 
-    /// Reads as many whole records as fit into so many bytes. [`Error::AGAIN`] if none waits.
+    /// Reads as many whole records as fit into `bytes` bytes. [`Error::AGAIN`] if none waits.
     pub fn read(&mut self, instance: Instance, bytes: usize) -> Result<Events, Error> {
         let mut out = vec![0; bytes];
         let count = answer(unsafe { sys::wt_read(&mut self.raw, instance.0, out.as_mut_ptr().cast(), bytes) })?;

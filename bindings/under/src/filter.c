@@ -24,7 +24,7 @@
 /* If the number is the value the next instruction runs, else it is passed over. */
 #define IF(value) BPF_JUMP(BPF_JMP | BPF_JEQ | BPF_K, value, 0, 1)
 #define ON(value, action) IF(value), RETURN(action)
-/* If the number is not the value, so many instructions are passed over. */
+/* Skips `count` instructions if the number is not the value. */
 #define UNLESS(value, count) BPF_JUMP(BPF_JMP | BPF_JEQ | BPF_K, value, 0, count)
 
 /* The numbers of a 32-bit program. */

@@ -27,10 +27,10 @@ static const char usage[] =
     "  --check COMMAND    what decides whether a run of --seeds passed\n"
     "  --outside=ignore   a watch outside the mount is taken and never fires (else EACCES)\n"
     "  --end SIGNAL       how the program is ended after the script: TERM, INT, .., none (TERM)\n"
-    "  --debounce MS      how long quiet is for a line -- (100)\n"
-    "  --settle MS        how long the program is quiet before it is ended (300)\n"
+    "  --debounce MS      quiet time before a line -- is passed (100)\n"
+    "  --settle MS        quiet time before the program is ended (300)\n"
     "  --quick            do not wait for --debounce and --settle if no task has a time limit\n"
-    "  --stall MS         a run without a record or a line for so long is ended (10000)\n"
+    "  --stall MS         end a run after this long without a record or a line (10000)\n"
     "  --one-cpu          keep everything on one CPU\n";
 
 _Noreturn static void refuse(const char *option, const char *value, const char *wanted) {

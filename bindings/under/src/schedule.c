@@ -22,7 +22,7 @@ static uint64_t draw(enum kind kind) {
     return z ^ z >> 31;
 }
 
-/* One of so many alternatives. */
+/* One of `count` alternatives. */
 static uint64_t choose(enum kind kind, uint64_t count) { return draw(kind) % count; }
 
 static bool drawn_line(uint64_t count) {

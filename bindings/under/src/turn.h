@@ -16,7 +16,7 @@ uint64_t next_request(void);
 void trace_point(void);
 
 enum turn { TURN_WAITS, TURN_TAKEN, TURN_OVER };
-/* The program is at rest and has been quiet for so long. */
+/* Takes a turn. The program is at rest and has been quiet for `quiet_ms`. */
 enum turn take_turn(int64_t quiet_ms);
 /* Whether the run can wait for nothing that still comes: a live script may have more lines. */
 bool is_waiting_for_lines(void);

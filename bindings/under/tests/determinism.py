@@ -3,7 +3,7 @@
 
     determinism.py [--count N] [--busy N] [--jobs N] UNDER BIN
 
-BIN has `waits` and `recursive`. --busy starts so many processes that never rest beside the runs. It prints `ok NAME: ..`,
+BIN has `waits` and `recursive`. --busy N starts N processes that never rest beside the runs. It prints `ok NAME: ..`,
 `FAILED NAME: WHY` or `left out NAME: WHY` for each.
 """
 import argparse

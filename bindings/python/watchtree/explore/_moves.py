@@ -7,7 +7,7 @@ from ._plans import Moved
 
 
 def moved(program: Program, moves: int, queue: int) -> Iterator[Outcome]:
-    """Runs every schedule in which at most so many lines happen before an earlier request than they would at rest.
+    """Runs every schedule in which at most `moves` lines happen before an earlier request than they would at rest.
 
     Each schedule is run once, those with fewer moved lines first. Lines keep their order.
     """

@@ -181,7 +181,7 @@ class Player:
         return ctypes.string_at(self.buffer, count)
 
     def _take_records(self, instance: int, size: int, limit: int) -> bytes:
-        """Takes so many records at most: each by the shortest buffer that it fits, which fits no other after it."""
+        """Takes at most `limit` records, each with the shortest buffer that it fits, so that no other follows."""
         taken = b""
         for _ in range(limit):
             if taken and not self._tree._call("wtt_waiting", instance):

@@ -98,7 +98,7 @@ def run(
     consumer raises an exception, or if `check(tree, believed)` raises one or returns False.
 
     A seed takes the limit of all queues from `queues`, and how many records a read returns at most from `batches`; None
-    is without a limit. With `moves` all schedules are run in which so many lines at most happen before an earlier
+    is without a limit. With `moves` all schedules are run in which at most `moves` lines happen before an earlier
     request than at rest; queues then have the first limit of `queues`, and seeds are not used. With `keep_going` all
     schedules are run. A consumer that makes more than `max_requests` requests fails.
 

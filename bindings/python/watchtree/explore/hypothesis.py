@@ -89,7 +89,7 @@ class ExploreMachine(RuleBasedStateMachine):
 
     @rule(records=st.integers(1, 3))
     def read_at_most(self, records: int) -> None:
-        """The next read returns so many records at most."""
+        """Limits the next read to `records` records."""
         self._limits.append(records)
 
     def _run(self, limit: int) -> None:

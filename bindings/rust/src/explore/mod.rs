@@ -174,7 +174,7 @@ impl<'a, B: 'a> Explore<'a, B> {
         self.has_said_something(report)
     }
 
-    /// Runs all schedules in which so many lines at most happen before an earlier request than they would at rest.
+    /// Runs all schedules in which at most `moves` lines happen before an earlier request than they would at rest.
     pub fn moves(&self, moves: usize) -> Result<Report, Fault> {
         let mut report = Report::default();
         moved(&self.program, moves, self.queues[0], |outcome| self.count(&mut report, None, outcome));

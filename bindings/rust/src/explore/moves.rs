@@ -4,8 +4,8 @@ use super::program::{Outcome, Program};
 
 type Counts = Vec<(u32, usize)>;
 
-/// Runs every schedule in which at most so many lines happen before an earlier request than they would at rest, until a
-/// run is not wanted. Each schedule is run once, those with fewer moved lines first. Lines keep their order.
+/// Runs every schedule in which at most `moves` lines happen before an earlier request than they would at rest, until
+/// `each` returns false. Each schedule is run once, those with fewer moved lines first. Lines keep their order.
 pub(crate) fn moved<B>(program: &Program<'_, B>, moves: usize, queue: u32, mut each: impl FnMut(Outcome) -> bool) {
     let mut level: Vec<Counts> = vec![Vec::new()];
     for depth in 0..=moves {

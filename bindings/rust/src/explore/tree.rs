@@ -166,7 +166,7 @@ impl Tree {
         Ok(Some(events))
     }
 
-    /// Takes so many records at most: each by the shortest buffer that it fits, which fits no other after it.
+    /// Takes at most `records` records, each with the shortest buffer that it fits, so that no other follows.
     fn take_records(&mut self, instance: Instance, bytes: usize, records: u32) -> Result<Events, Error> {
         let mut taken = Vec::new();
         for _ in 0..records {
