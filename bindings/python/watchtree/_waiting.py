@@ -11,7 +11,7 @@ from ._arguments import seconds
 if TYPE_CHECKING:
     import asyncio
 
-# poll(2) takes no more milliseconds; a wait without an end is made of such.
+# The longest wait for one poll(2), in milliseconds. A wait without an end is a series of these.
 _LONGEST = 2**30
 
 

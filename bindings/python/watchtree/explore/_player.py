@@ -113,7 +113,7 @@ class Player:
         return answer
 
     def _rest(self, instance: int, timeout: Optional[float]) -> bool:
-        """The consumer asks an instance in vain. A line happens; False if none does, as the timeout is over first."""
+        """Lets a line happen, as the consumer asks an instance in vain. False if the timeout is over first."""
         self._asks += 1
         if self._asks > self._limit:
             raise TooManyRequests(f"the consumer asked in vain more than {self._limit} times")

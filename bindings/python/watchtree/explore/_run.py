@@ -50,7 +50,7 @@ class FoundFailure(AssertionError):
 
 
 class Result(NamedTuple):
-    """What run() found. `str(result)` says it."""
+    """What run() found. `str(result)` is its text."""
 
     runs: int
     reads: int
@@ -102,7 +102,7 @@ def run(
     request than at rest; queues then have the first limit of `queues`, and seeds are not used. With `keep_going` all
     schedules are run. A consumer that makes more than `max_requests` requests fails.
 
-    ValueError for a script that is none, or whose set-up is refused; RuntimeError if no read returned a record.
+    ValueError if `script` is no script or its set-up is refused; RuntimeError if no read returned a record.
     """
     program = _program(script, consumer, check, max_requests)
     begin, runs, reads = time.monotonic(), 0, 0
