@@ -23,7 +23,7 @@ pub(crate) fn moved<B>(program: &Program<'_, B>, moves: usize, queue: u32, mut e
     }
 }
 
-/// Moves one more line: before the last request that has any, or a later one. `left` is how many each leaves.
+/// Moves one more line before the last request that has any, or a later one. `left` is how many each leaves.
 fn one_more(counts: &Counts, left: &[(u32, usize)]) -> Vec<Counts> {
     let last = counts.last().map_or(0, |it| it.0);
     let can = left.iter().filter(|it| it.1 > 0 && it.0 >= last.max(1));

@@ -73,7 +73,7 @@ impl<'a, B> Program<'a, B> {
         }
     }
 
-    /// Looks whether each line is one, and whether what happens first is accepted.
+    /// Checks that each line is a line of a script, and that no line of the set-up is refused.
     pub fn try_script(&self) -> Result<(), Fault> {
         let mut tree = crate::Tree::open().map_err(|error| Fault(error.to_string()))?;
         let mut reply_to = |line: &String| {

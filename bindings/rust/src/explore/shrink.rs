@@ -4,7 +4,7 @@ use super::program::{Failed, Outcome, Program};
 use super::schedule::Schedule;
 use crate::QUEUE;
 
-/// What is tried of the schedules of a script: how many lines are moved, and how many runs are made.
+/// How far the schedules of a script are searched: how many lines are moved, and how many runs are made.
 const MOVES: usize = 3;
 const MOVED_RUNS: usize = 300;
 /// How many requests earlier a change is tried when a line before it is dropped.
