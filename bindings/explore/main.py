@@ -35,19 +35,19 @@ class Words(argparse.ArgumentParser):
 def _range(word: str) -> range:
     first, dots, last = word.partition("..")
     if not dots or not first.isdecimal() or not last.isdecimal() or int(last) < int(first):
-        raise argparse.ArgumentTypeError(f"it wants A..B, the first seed and the last, as 1..200, and not '{word}'")
+        raise argparse.ArgumentTypeError(f"expected A..B, the first seed and the last, such as 1..200, not '{word}'")
     return range(int(first), int(last) + 1)
 
 
 def _vary(word: str) -> str:
     if not word or any(it not in VARIED for it in word.split(",")):
-        raise argparse.ArgumentTypeError(f"it wants words of lines, reads and queue, as lines,reads, and not '{word}'")
+        raise argparse.ArgumentTypeError(f"expected words of lines, reads and queue, such as lines,reads, not '{word}'")
     return word
 
 
 def _count(word: str) -> int:
     if not word.isdecimal() or int(word) < 1:
-        raise argparse.ArgumentTypeError(f"it wants a number from 1 on, and not '{word}'")
+        raise argparse.ArgumentTypeError(f"expected a number from 1 on, not '{word}'")
     return int(word)
 
 
@@ -100,7 +100,7 @@ def check_script(path: str) -> None:
     try:
         mode = os.stat(path).st_mode
         if not stat.S_ISREG(mode):
-            raise Fault(f"{path}: a script that is read for each run is a file")
+            raise Fault(f"{path}: the script must be a file, since each run reads it")
         schedule = schedules.read(path)
     except OSError as fault:
         raise Fault(f"{path}: {fault.strerror}") from fault

@@ -18,7 +18,7 @@ import tempfile
 TESTS = os.path.dirname(os.path.abspath(__file__))
 CLIENTS = os.path.join(TESTS, "clients")
 LIMIT = 300
-# A name, the script, options, the program, and what it wants.
+# A name, the script, options, the program, and what it needs.
 RUNS = (
     ("inotifywait", "clients/scripts/basic", [], "inotifywait -q -m /wt/d"),
     ("inotifywait -r, a seed", "clients/scripts/basic", ["--seed", "5"], "inotifywait -q -m -r /wt/d"),

@@ -208,5 +208,5 @@ if [ "$(id -u)" = 0 ] && command -v setpriv >/dev/null; then
     rights 'there EACCES none EACCES' --reuid=65533 --regid=65533 --clear-groups
     rights 'there EACCES none EACCES' --bounding-set=-all --inh-caps=-all
 else
-    echo 'left out the rights of others: it wants root and setpriv'
+    echo 'left out the rights of others: it needs root and setpriv'
 fi

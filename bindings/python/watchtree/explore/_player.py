@@ -74,7 +74,7 @@ class Player:
         count: int = self._library.wtt_line(self._at, self._plan.queue, line, len(line), out, len(out))
         if count < 0:
             if -count >= _FAULTS:
-                raise ValueError(f"{os.fsdecode(line)!r} is no line of a script")
+                raise ValueError(f"{os.fsdecode(line)!r} is not a line of a script")
             fail(-count)
         # (only the beginning of a long text is shown)
         return ctypes.string_at(out, min(count, len(out))) if self.timeline else b""

@@ -174,4 +174,4 @@ def _reply(tree: Tree, line: str) -> str:
     try:
         return tree.line(line)
     except OSError as fault:
-        raise ValueError(f"{line!r} is no line of a script: {fault.strerror}") from None
+        raise ValueError(f"{line!r} is not a line of a script: {fault.strerror}") from None

@@ -98,7 +98,7 @@ class _Parser:
     def take(self, number: int, line: str) -> None:
         if line.startswith("#@"):
             if not self._directive(line[2:].split()):
-                raise ValueError(f"line {number}: {line!r} is no directive, or not one for this line")
+                raise ValueError(f"line {number}: {line!r} is not a directive, or not one for this line")
         elif is_skipped(line):
             pass
         elif not self._is_setup:

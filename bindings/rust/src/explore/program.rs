@@ -77,7 +77,7 @@ impl<'a, B> Program<'a, B> {
     pub fn try_script(&self) -> Result<(), Fault> {
         let mut tree = crate::Tree::open().map_err(|error| Fault(error.to_string()))?;
         let mut reply_to = |line: &String| {
-            tree.line(line, crate::QUEUE).map_err(|error| Fault(format!("{line:?} is no line of a script: {error}")))
+            tree.line(line, crate::QUEUE).map_err(|error| Fault(format!("{line:?} is not a line of a script: {error}")))
         };
         for line in &self.setup {
             let reply = reply_to(line)?;

@@ -49,7 +49,7 @@ impl Schedule {
         let mut parser = Parser::default();
         for (at, line) in text.split('\n').enumerate() {
             if !parser.take(line) {
-                return Err(Fault(format!("line {}: {line:?} is no directive, or not one for this line", at + 1)));
+                return Err(Fault(format!("line {}: {line:?} is not a directive, or not one for this line", at + 1)));
             }
         }
         let mut schedule = parser.schedule;
