@@ -1,5 +1,5 @@
 #!/usr/bin/python3
-"""Each of ten programs again and again with its script: all traces and outputs are to be one.
+"""Runs each of ten programs again and again with its script. All traces and outputs must be the same.
 
     determinism.py [--count N] [--busy N] [--jobs N] UNDER BIN
 
