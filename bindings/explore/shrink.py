@@ -11,7 +11,7 @@ from typing import Callable, Iterator, List, Optional, Sequence, Tuple
 from runs import Bench, Result
 from schedules import USUAL_QUEUE, Item, Line, Refused, Schedule, ShortRead, relative
 
-# A run that fails for the first time is replayed so often before it counts as one that cannot be replayed.
+# How often a run that fails for the first time is replayed before it counts as one that cannot be replayed.
 ATTEMPTS = 3
 
 

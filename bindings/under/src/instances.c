@@ -123,7 +123,7 @@ static void answer_read(struct instance *it, fuse_req_t req, size_t size, uint64
     uint64_t most = most_records(request);
     if (most && (int64_t)most < it->counted) most = (uint64_t)it->counted;     /* they are there, as the program knows */
     int64_t count = take_records(it, size, most);
-    it->waiting = most ? 0 : waiting_in(it);    /* 0: whoever polls is woken again for those that are left */
+    it->waiting = most ? 0 : waiting_in(it);    /* 0: a poll is woken again for those that are left */
     it->counted -= it->counted < before - waiting_in(it) ? it->counted : before - waiting_in(it);
     it->was_asked = false;
     work_count++;

@@ -103,7 +103,7 @@ done
 setsid "$under" script -- sh -c 'trap "" USR1 ALRM; inotifywait -q -m -e create /wt/d & kill -USR1 0; kill -ALRM 0; wait' >out 2>&1
 status=$?
 [ "$status" = 0 ] && [ "$(cat out)" = '/wt/d/ CREATE f' ]
-check 'a signal to the process group is none to the tool' "status $status: $(cat out)"
+check 'a signal to the process group does not reach the tool' "status $status: $(cat out)"
 
 # ---- two runs side by side
 mkfifo first second

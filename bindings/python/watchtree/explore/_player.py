@@ -15,7 +15,7 @@ from ._timeline import Timeline
 if TYPE_CHECKING:
     Buffer = ctypes.Array[ctypes.c_char]
 new_buffer = ctypes.create_string_buffer
-# The first number of a fault of a line, the step by which the sizes of records differ, and the size of a first buffer.
+# The first error number for a line, the step between the sizes of records, and the size of the first buffer.
 _FAULTS, _STEP, _LEAST = 1101, 16, 65536
 
 

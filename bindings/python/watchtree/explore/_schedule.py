@@ -77,7 +77,7 @@ class _Parser:
         self._is_setup, self._before = True, None  # type: bool, Optional[int]
 
     def _directive(self, words: List[str]) -> bool:
-        """Takes a directive. False if it is none."""
+        """Takes a directive. False if there is no such directive."""
         if words == ["at", "rest"]:
             self._before = None
             return not self._is_setup
