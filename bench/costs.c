@@ -60,7 +60,7 @@ static void read_all(uint32_t first, int count) {
 
 static char *folder(int i) { sprintf(path, "/src/folder%d", i); return path; }
 
-/* A tree of a thousand directories, each watched by so many instances. */
+/* A tree of `count` directories, each watched by `watchers` instances. */
 static uint32_t watched_folders(int count, int watchers) {
     uint32_t first = instances(watchers ? watchers : 1);
     mkdir_at("/src");
@@ -70,7 +70,7 @@ static uint32_t watched_folders(int count, int watchers) {
     return first;
 }
 
-/* A rename over a watched file, with instances that watch its directory; names have so many bytes. */
+/* A rename over a watched file whose directory `count` instances watch; names have `name_len` bytes. */
 static void save_over(int count, int name_len) {
     uint32_t first = instances(count);
     mkdir_at("/d");
@@ -151,7 +151,7 @@ static void new_trees(void) {
     end(FORKS);
 }
 
-/* Files in folders of a tree, so many in each. */
+/* `files` files in each of `folders` folders of a tree. */
 static void fill(struct wt_tree *in, int folders, int files) {
     must(wt_mkdir(in, PATH("/other"), 0755));
     for (int i = 0; i < folders; i++) {
@@ -161,7 +161,7 @@ static void fill(struct wt_tree *in, int folders, int files) {
     }
 }
 
-/* Trees that grow to so many folders and files. */
+/* Trees that grow to `folders` folders with `files` files each. */
 static void grow(int folders, int files) {
     begin();
     for (int i = 0; i < 20; i++) must(wt_open(&forks[i])), fill(&forks[i], folders, files);

@@ -2,8 +2,8 @@
 //! a journal, and without a contract or a proof. It reads a script on standard input and prints what watchtree prints for the
 //! scripts of bench/. Of other scripts it may refuse by another error, or stop at a line with a fault.
 //!
-//! With the words `fork COUNT`, for bench/fork, it then copies the tree so often: without its journal, or, with the word
-//! `cut` after them, with the snapshot of a cut.
+//! With the words `fork COUNT`, for bench/fork, it then copies the tree COUNT times: without its journal, or, with the
+//! word `cut` after them, with the snapshot of a cut.
 
 use std::collections::{BTreeMap, HashMap, VecDeque};
 use std::io::{self, Read, Write};

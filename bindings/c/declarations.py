@@ -22,7 +22,7 @@ def in_c(header):
 
 
 def _of_rust(name, words, result):
-    """Returns the declaration of C for one in Rust. A type that there is none for stays as it is."""
+    """Returns the declaration of C for one in Rust. A type without one stays as it is."""
     pairs = [[side.strip() for side in it.split(":")] for it in words.split(",") if it.strip()]
     kinds = [(RUST.get(kind, kind), word) for word, kind in pairs]
     taken = [f"{kind}{'' if kind.endswith('*') else ' '}{word}" for kind, word in kinds]

@@ -41,7 +41,7 @@ int64_t wt_open(struct wt_tree *tree);
 void wt_close(struct wt_tree *tree);
 /* Opens *fork as an independent tree with the same files, instances, watches and waiting records, the same last sequence
  * number, and an empty journal: it answers from now on exactly as tree does. 0; -EBADF if tree is not open, -EBUSY if
- * fork is open, -ENOMEM, and fork is then as it was. It is not a call of the tree. */
+ * fork is open, -ENOMEM. After an error fork is unchanged. It is not a call of the tree. */
 int64_t wt_fork(struct wt_tree *tree, struct wt_tree *fork);
 /* Cuts the journal of calls, which can then take 1,000,000 more, and returns the sequence number of the last call. */
 int64_t wt_cut(struct wt_tree *tree);
@@ -92,14 +92,14 @@ int64_t wt_peek_pread(struct wt_tree *tree, const char *path, size_t path_len, u
 /* The first path, in the order of names, of the file with this number (wt_stat's), truncated to out_len bytes. Returns
  * the length of the path in bytes, and -ENOENT if no file has this number. It looks at each path of the tree. */
 int64_t wt_path_of(struct wt_tree *tree, uint64_t number, void *out, size_t out_len);
-/* Return the sequence numbers of the first entry of the journal, one more than that of the last call before the last
- * wt_cut, and of its last call: if the first is greater, the journal is empty. */
+/* Return the sequence numbers of the journal's first entry, which follows that of the last call before the last wt_cut,
+ * and of its last call. The journal is empty if the first is greater. */
 int64_t wt_first_place(struct wt_tree *tree);
 int64_t wt_last_place(struct wt_tree *tree);
 /* The journal's entry with a sequence number as text, truncated to out_len bytes: the line of a script that makes the
- * call, and its reply in lines that begin with "# ". A call that no line makes, as its mode has more than six octal
- * digits, is a comment; it was refused. Returns the length of the text in bytes. -ENOENT if the journal has no such
- * entry, -ENOMEM. */
+ * call, and its reply in lines that begin with "# ". A call that no line can make, since its mode has more than six
+ * octal digits, is a comment; such a call was refused. Returns the length of the text in bytes. -ENOENT if the journal
+ * has no such entry, -ENOMEM. */
 int64_t wt_entry(struct wt_tree *tree, uint64_t place, void *out, size_t out_len);
 
 /* Runs a line of a script, such as `mkdir /d 755`, and stores its text, truncated to out_len bytes. Returns the length

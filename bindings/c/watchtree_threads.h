@@ -34,10 +34,10 @@ void wtt_shutdown(struct wtt *tree);
  * wtt_close. */
 void wtt_close(struct wtt *tree);
 
-/* Reads records as wt_read. If none waits, it waits for one: at most so many milliseconds, without limit if
- * milliseconds is negative, not at all if it is 0. -EAGAIN if there is still none; this adds no entry to the journal.
- * -EBADF if the instance is closed, also by another thread in the meantime. -ENOMEM if it cannot wait. Signals do not
- * end the wait. Several threads may read one instance; each record goes to one of them. */
+/* Reads records as wt_read. If none waits, it waits for one for at most `milliseconds`, without limit if negative, not
+ * at all if 0. -EAGAIN if there is still none; this adds no entry to the journal. -EBADF if the instance is closed,
+ * also by another thread in the meantime. -ENOMEM if it cannot wait. Signals do not end the wait. Several threads may
+ * read one instance; each record goes to one of them. */
 int64_t wtt_read(struct wtt *tree, uint32_t instance, void *out, size_t out_len, int milliseconds);
 
 /* Returns a new descriptor that poll(2), select(2) and epoll(7) report as readable exactly while records of the

@@ -47,7 +47,7 @@ class Folder:
         os.close(top)
         if taken:
             paths = ", ".join(f"{self.path}/{it}" for it in taken)
-            raise Fault(f"{paths}: in the way: {LIST} does not list it as it is: move it, or give another --out")
+            raise Fault(f"{paths}: in the way: {LIST} does not list it as it is now: move it, or give another --out")
 
     def clear(self) -> None:
         """Removes what an earlier search left, and begins a list. Names what somebody changed since."""
@@ -108,11 +108,11 @@ class Folder:
         if LIST not in os.listdir(top):
             return None
         if _what(top, LIST) in (None, DIRECTORY):
-            raise Fault(f"{self.path}/{LIST}: no file that can be read: give another --out")
+            raise Fault(f"{self.path}/{LIST}: it is not a readable file: give another --out")
         with os.fdopen(os.open(LIST, _OPEN, dir_fd=top), encoding="ascii", errors="replace") as file:
             lines = file.read().split("\n")
         if lines[0] + "\n" != HEAD or lines[-1]:
-            raise Fault(f"{self.path}/{LIST}: no list of what a search left: give another --out")
+            raise Fault(f"{self.path}/{LIST}: it is not a list of what a search left: give another --out")
         return dict(self._entry(number, line) for number, line in enumerate(lines[1:-1], 2))
 
     def _entry(self, number: int, line: str) -> Tuple[str, str]:
@@ -120,7 +120,7 @@ class Folder:
         path = os.fsdecode(unquote_to_bytes(word))
         is_inside = "\0" not in path and not any(it in ("", ".", "..") for it in path.split("/"))
         if not is_inside or not re.fullmatch(rf"{DIRECTORY}|[0-9a-f]{{64}}", what):
-            raise Fault(f"{self.path}/{LIST}: line {number} is none of a search: give another --out")
+            raise Fault(f"{self.path}/{LIST}: line {number} is not one of a search: give another --out")
         return path, what
 
 

@@ -35,19 +35,19 @@ class Words(argparse.ArgumentParser):
 def _range(word: str) -> range:
     first, dots, last = word.partition("..")
     if not dots or not first.isdecimal() or not last.isdecimal() or int(last) < int(first):
-        raise argparse.ArgumentTypeError(f"it wants A..B, the first seed and the last, as 1..200, and not '{word}'")
+        raise argparse.ArgumentTypeError(f"expected A..B, the first seed and the last, such as 1..200, not '{word}'")
     return range(int(first), int(last) + 1)
 
 
 def _vary(word: str) -> str:
     if not word or any(it not in VARIED for it in word.split(",")):
-        raise argparse.ArgumentTypeError(f"it wants words of lines, reads and queue, as lines,reads, and not '{word}'")
+        raise argparse.ArgumentTypeError(f"expected words of lines, reads and queue, such as lines,reads, not '{word}'")
     return word
 
 
 def _count(word: str) -> int:
     if not word.isdecimal() or int(word) < 1:
-        raise argparse.ArgumentTypeError(f"it wants a number from 1 on, and not '{word}'")
+        raise argparse.ArgumentTypeError(f"expected a number from 1 on, not '{word}'")
     return int(word)
 
 
@@ -55,10 +55,10 @@ def read_words(words: List[str]) -> Tuple[argparse.Namespace, List[str]]:
     """Reads the command line: the options, and the program."""
     parser = Words(prog="watchtree explore", usage=USAGE, allow_abbrev=False)
     parser.add_argument("script", metavar="SCRIPT")
-    parser.add_argument("--check", required=True, metavar="COMMAND", help="fails if the run is wrong")
+    parser.add_argument("--check", required=True, metavar="COMMAND", help="command that judges a run: 0 if it is right")
     how = parser.add_mutually_exclusive_group()
     how.add_argument("--seeds", type=_range, metavar="A..B", help="a run for each seed (1..200)")
-    how.add_argument("--moves", type=int, choices=(1, 2), help="every schedule with at most so many moves")
+    how.add_argument("--moves", type=int, choices=(1, 2), help="every schedule with at most 1 or 2 moves")
     parser.add_argument("--vary", type=_vary, default="lines,reads", metavar="WORDS", help="lines, reads, queue (lines,reads)")
     parser.add_argument("--first", action="store_true", help="stop at the first failure")
     parser.add_argument("--out", metavar="DIR", help="where failing schedules are left (SCRIPT.failures)")
@@ -68,7 +68,7 @@ def read_words(words: List[str]) -> Tuple[argparse.Namespace, List[str]]:
     parser.add_argument("--timers", action="store_true", help="always wait for --debounce and --settle")
     for name, what in (("queue", "N"), ("settle", "MS"), ("debounce", "MS"), ("stall", "MS"), ("dir", "DIR"),
                        ("end", "SIGNAL"), ("outside", "HOW")):
-        parser.add_argument(f"--{name}", metavar=what, help="as of watchtree under")
+        parser.add_argument(f"--{name}", metavar=what, help="see watchtree under --help")
     parser.add_argument("--runner", required=True, help=argparse.SUPPRESS)
     parser.add_argument("--command", default="watchtree", help=argparse.SUPPRESS)  # what the user called
     parser.add_argument("--library", help=argparse.SUPPRESS)  # where Python finds watchtree_trace, if not beside the runner
@@ -100,7 +100,7 @@ def check_script(path: str) -> None:
     try:
         mode = os.stat(path).st_mode
         if not stat.S_ISREG(mode):
-            raise Fault(f"{path}: a script that is read for each run is a file")
+            raise Fault(f"{path}: the script must be a file, since each run reads it")
         schedule = schedules.read(path)
     except OSError as fault:
         raise Fault(f"{path}: {fault.strerror}") from fault

@@ -31,7 +31,7 @@ class Progress:
             self._write(self.text(now - self._start))
 
     def text(self, seconds: float) -> str:
-        """Returns the line after so many seconds."""
+        """Returns the line after `seconds` seconds."""
         left = seconds / max(self.runs, 1) * max(self.total - self.runs, 0)
         return f"{self.what}: {self.runs} of {self.total} runs, {self.failures} fail, {_time(left)} left"
 

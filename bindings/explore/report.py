@@ -76,7 +76,7 @@ def shrink_one(bench: Bench, failures: List[Result], is_race: bool, out: Folder,
     shrinkers = [Shrinker(bench, it, is_race, said.jobs, said.shrink_runs // SHRUNK) for it in simplest(failures)]
     shrunk = [it for it in (one.shrink() for one in shrinkers) if it]
     if not shrunk:
-        print("none that was tried fails when it is replayed: the program or the check does not do the same in each run")
+        print("no failing schedule that was tried fails again: the program or the check does not do the same in each run")
         print("(several checks run at once: each has its own files in $WT_OUT)")
         return
     best = min(shrunk, key=lambda it: it.schedule.size())

@@ -15,7 +15,7 @@ NOTHING_DELIVERED, LINES_LEFT, STALLED, TOOL_FAULT = 122, 123, 124, 125
 NOT_EXECUTABLE, NOT_FOUND = 126, 127
 # How the runner reports a set-up that is refused.
 REFUSED = "before `--` is refused: "
-# No run takes so long: the runner ends one that stalls.
+# Seconds. No run takes this long: the runner ends one that stalls.
 LONGEST_RUN = 900
 
 

@@ -32,7 +32,7 @@ class Mark:
 
 @dataclass(frozen=True)
 class ShortRead:
-    """A read that hands over at most so many records. Its request is counted as that of a line."""
+    """A read that hands over at most `records` records. Its request is counted as that of a line."""
 
     request: int
     records: int
@@ -126,7 +126,7 @@ def parse(text: str) -> Schedule:
         elif line.startswith("#@"):
             found = re.fullmatch(r"#@ (?:queue (\d+)|(at rest)|before (\+?\d+)|read (\+?\d+) (\d+))\s*", line)
             if not found:
-                raise Fault(f"line {number}: no directive of a schedule: {line}")
+                raise Fault(f"line {number}: not a directive of a schedule: {line}")
             limit, rest, before, read, records = found.groups()
             if limit:
                 queue = int(limit)

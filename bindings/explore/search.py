@@ -50,7 +50,7 @@ def by_seeds(bench: Bench, seeds: range, vary: str, jobs: int, first: bool) -> F
 
 
 def in_parallel(steps: Iterator[Step], jobs: int) -> Iterator[Result]:
-    """Takes steps, so many at once, and yields the results as they come."""
+    """Takes steps, at most `jobs` at once, and yields the results as they come."""
     pool = ThreadPoolExecutor(jobs)
     waiting: Set["Future[Result]"] = set()
     try:
@@ -126,7 +126,7 @@ def _is_short(schedule: Schedule, request: int) -> bool:
 
 
 def by_moves(bench: Bench, base: Result, moves: int, vary: str, jobs: int, first: bool) -> Found:
-    """Runs every schedule with at most so many moves. With `first` it stops at a failure."""
+    """Runs every schedule with at most `moves` moves. With `first` it stops at a failure."""
     found, progress = Found(), Progress("explore", 0)
     order, queue = 0, []  # type: int, List[Tuple[int, int, Moved]]
     pool, waiting = ThreadPoolExecutor(jobs), {}  # type: ThreadPoolExecutor, Dict["Future[Result]", Moved]

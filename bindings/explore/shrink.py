@@ -11,12 +11,12 @@ from typing import Callable, Iterator, List, Optional, Sequence, Tuple
 from runs import Bench, Result
 from schedules import USUAL_QUEUE, Item, Line, Refused, Schedule, ShortRead, relative
 
-# A run that fails for the first time is replayed so often before it counts as one that cannot be replayed.
+# How often a run that fails for the first time is replayed before it counts as one that cannot be replayed.
 ATTEMPTS = 3
 
 
 class Shrinker:
-    """Makes one failing schedule smaller. Each candidate is a run, several at once, and at most so many."""
+    """Makes one failing schedule smaller. Each candidate is a run: up to `jobs` at once, at most `budget` in all."""
 
     def __init__(self, bench: Bench, failed: Result, is_race: bool, jobs: int, budget: int) -> None:
         self.bench, self.jobs, self.budget = bench, jobs, budget

@@ -16,7 +16,7 @@ from watchtree import Instance, Mask, Tree, explore
 
 PROTOCOLS = range(pickle.HIGHEST_PROTOCOL + 1)
 WAYS = [copy.copy, copy.deepcopy, *(functools.partial(pickle.dumps, protocol=it) for it in PROTOCOLS)]
-# What each parameter may be given, and what it may not. A missing value is none but for a timeout.
+# A value that each parameter accepts. None is a value only for a timeout.
 VALID = {
     "count": 1, "data": b"", "flags": 0, "length": 0, "limit": 1, "line": "stat /", "mask": 1, "mode": 0o755,
     "number": 1, "offset": 0, "old": "/d", "path": "/d", "queue": 1, "size": 64, "timeout": 0, "to": "/e", "wd": 1,

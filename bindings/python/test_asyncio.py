@@ -7,7 +7,7 @@ import unittest
 
 from watchtree import Mask, Tree
 
-# A test that hangs fails after so many seconds.
+# Seconds after which a test that hangs fails.
 PATIENCE = int(os.environ.get("PATIENCE", 60))
 
 

@@ -454,8 +454,8 @@ class Results(unittest.TestCase):
         for script, text in (
             ("mkdir /d 755\n", "a line `--`"),
             ("mkdir /d/e 755\n--\n", "is refused: err ENOENT"),
-            ("--\nnothing\n", "'nothing' is no line"),
-            ("nothing\n--\n", "'nothing' is no line"),
+            ("--\nnothing\n", "'nothing' is not a line"),
+            ("nothing\n--\n", "'nothing' is not a line"),
         ):
             with self.assertRaisesRegex(ValueError, text):
                 explore.run(script, small, fine)

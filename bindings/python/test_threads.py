@@ -16,7 +16,7 @@ from watchtree import Event, Instance, Mask, Tree
 
 THREADS = 8
 CALLS = 12_500
-# A test that hangs fails after so many seconds.
+# Seconds after which a test that hangs fails.
 PATIENCE = int(os.environ.get("PATIENCE", 60))
 
 

@@ -22,7 +22,7 @@ from watchdog.observers import Observer  # noqa: E402
 from watchtree import Tree  # noqa: E402
 from watchtree.watchdog import TreeObserver  # noqa: E402
 
-# A test that hangs fails after so many seconds.
+# Seconds after which a test that hangs fails.
 PATIENCE = int(os.environ.get("PATIENCE", 60))
 MARK = "mark"
 

@@ -216,7 +216,7 @@ def one_call(rng, scribe):
 
 
 def random_calls(seed):
-    """Makes random calls, so many that each kind of call is among them; at last all instances are closed."""
+    """Makes enough random calls that each kind is among them, and then closes all instances."""
     rng = random.Random(seed)
     scribe = Scribe()
     for limit in (1000, 2, 16384):

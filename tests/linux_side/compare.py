@@ -108,7 +108,7 @@ class Queue:
             self.waiting.append(record)
 
     def read(self, count):
-        """The reply to a read of so many bytes."""
+        """The reply to a read with a buffer of `count` bytes."""
         given = []
         if not self.waiting:
             return Reply("EAGAIN", (), ())

@@ -40,7 +40,7 @@ static inline void wait_for_post(sem_t *semaphore) {
     while (sem_wait(semaphore)) IS(errno, EINTR);
 }
 
-/* Of watched.c. Returns once so many waits have begun since the last call or since forget_waits. */
+/* In watched.c. Returns once `wanted` waits have begun since the last call or since forget_waits. */
 void wait_for_waits(unsigned wanted);
 void forget_waits(void);
 /* From now on a thread whose wait is over leaves it only once another wait has begun. */

@@ -64,7 +64,7 @@ static void two_readers(void) {
     IS(wtt_unlink(tree, PATH("/d/a")), 0), IS(wtt_inotify_close(tree, instance), 0);
 }
 
-/* Whoever waits is woken by a close, whichever call makes it. */
+/* A close wakes each thread that waits, whichever call makes it. */
 static void closes(void) {
     uint32_t instances[] = { instance_on("/d", IN_CREATE), instance_on("/d", IN_CREATE) };
     char line[32];
@@ -161,7 +161,7 @@ static void *keep_calling(void *of) {
     return NULL;
 }
 
-/* What a child finds: the parent's tree is not open there, whoever held its lock, and the parent goes on. */
+/* What a child finds: the parent's tree is not open there, whichever thread held its lock, and the parent continues. */
 static int in_child(uint32_t instance) {
     struct wt_stat s;
     struct wtt *own;

@@ -111,7 +111,7 @@ void forget_waits(void) {
     pthread_mutex_unlock(&lock);
 }
 
-/* The next so many allocations of the layer fail. */
+/* The next `count_of` allocations of the layer fail. */
 static int failing;
 void fail_next(int count_of) { failing = count_of; }
 static bool fails(void) { return failing > 0 && failing--; }

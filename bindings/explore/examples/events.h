@@ -65,7 +65,7 @@ static inline void open_instance(void) {
     }
 }
 
-/* Reads for ever, and hands over each read as a whole. */
+/* Reads forever, and hands over each read as a whole. */
 static inline void read_events(void (*handle)(const char *bytes, size_t size)) {
     static char bytes[65536] __attribute__((aligned(8)));
     for (ssize_t size; (size = read(inotify_fd, bytes, sizeof bytes)) > 0;) handle(bytes, (size_t)size);

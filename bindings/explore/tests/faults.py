@@ -1,4 +1,4 @@
-"""What is no search never looks like a success."""
+"""A search that could not run never looks like a success."""
 
 import os
 import sys

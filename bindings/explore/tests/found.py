@@ -32,7 +32,7 @@ class Found(ToolTest):
         self.assertIn("60 runs, 0 failed", twin.stdout)
 
     def replays_by_hand(self, program: List[str], check: str) -> None:
-        """The file that was left fails under the runner alone."""
+        """The schedule that the search wrote fails under the runner alone."""
         said = self.under("again", ["--schedule", f"{self.room}/wrong/shrunk.schedule"], program)
         self.assertIn(said.returncode, (0, NOTHING_DELIVERED), said.stderr)
         checked = self.run_tool(["env", f"WT_OUT={self.room}/again", "sh", f"{EXAMPLES}/{check}"])

@@ -90,12 +90,12 @@ class Files(unittest.TestCase):
 
     def test_what_is_no_directive(self) -> None:
         for line in ("#@ before", "#@ read 3", "#@ queue x", "#@ at noon", "#@"):
-            with self.assertRaisesRegex(schedules.Fault, "line 2: no directive"):
+            with self.assertRaisesRegex(schedules.Fault, "line 2: not a directive"):
                 schedules.parse(f"--\n{line}\n")
 
 
 class Moves(unittest.TestCase):
-    """Every schedule with so many moves."""
+    """Every schedule with a given number of moves."""
 
     def count(self, moves: int, lines: int, asked: int) -> int:
         model = Model(lambda result: False, asked)

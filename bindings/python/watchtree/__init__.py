@@ -14,7 +14,7 @@ Numbers from 1001 on are this library's own (JOURNAL_FULL and others). A path is
 Threads may share a tree and its instances: each call takes the lock of the tree. A tree or an instance that is closed,
 and a tree in a child of os.fork(), raises OSError with EBADF.
 
-`tree.fork()` is an independent tree like this one, and `tree.script()` the calls so far as a script.
+`tree.fork()` returns an independent tree like this one, and `tree.script()` the calls so far as a script.
 
 `instance.read(timeout=)`, `for event in instance` and `async for event in instance` wait for events; `watchtree.watchdog`
 has an observer for handlers of the watchdog package; `watchtree.explore` runs event code under many schedules.

@@ -1,4 +1,4 @@
-"""What callers pass, checked. An error names the parameter, and the type or the value that it was given."""
+"""Checks what callers pass. An error names the parameter, and the type or the value that it was given."""
 
 import numbers
 import operator
@@ -18,7 +18,7 @@ def wrong_type(name: str, wanted: str, given: object) -> TypeError:
 
 
 def integer(name: str, given: int, low: int, high: int) -> int:
-    """Returns a number that is within bounds; ctypes would truncate another."""
+    """Returns the number if it is within bounds; ctypes would truncate others."""
     try:
         number = operator.index(given)
     except TypeError:
@@ -29,7 +29,7 @@ def integer(name: str, given: int, low: int, high: int) -> int:
 
 
 def unsigned(name: str, given: int, bits: int = 32) -> int:
-    """Returns a number that fits into so many bits."""
+    """Returns the number if it fits into `bits` bits."""
     return integer(name, given, 0, 2**bits - 1)
 
 

@@ -1,4 +1,4 @@
-"""The error numbers of the library's own, and the exception for a negative result."""
+"""The library's own error numbers, and the exception for a negative result."""
 
 import os
 from typing import NoReturn

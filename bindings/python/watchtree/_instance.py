@@ -27,7 +27,7 @@ class Instance:
     them, since all methods that read take the rest of the batch first, and a fork of the tree has it too. fileno() does
     not report that rest.
 
-    `number` is its number, as lines of scripts have it: Tree.instance() takes it, of the tree and of its forks.
+    `number` is its number in lines of scripts. Tree.instance() takes it, also in forks of the tree.
     """
 
     def __init__(self, tree: "Tree", number: int) -> None:
@@ -58,7 +58,7 @@ class Instance:
                 raise
 
     def add_watch(self, path: AnyPath, mask: int = Mask.ALL_EVENTS) -> int:
-        """Watches what stands at a path, and returns the watch descriptor."""
+        """Watches the file or directory at a path, and returns the watch descriptor."""
         text, bits = path_text("path", path), unsigned("mask", mask)
         plain = os.fsencode(text)
         return self.tree._call("wtt_inotify_add_watch", self.number, plain, len(plain), bits, paths=(text,))
@@ -98,7 +98,7 @@ class Instance:
     def read_bytes(self, size: int = _SIZE, timeout: Optional[float] = 0) -> bytes:
         """Returns what read(2) on an inotify descriptor returns: as many whole records as fit.
 
-        If no record waits, it waits at most so many seconds, without limit if the timeout is None. Then it raises as a
+        If no record waits, it waits up to `timeout` seconds for one, forever if that is None. Then it raises as a
         socket does: BlockingIOError if the timeout is 0, and TimeoutError otherwise.
         """
         end, size = _waiting.end_of(timeout), unsigned("size", size)
@@ -112,10 +112,10 @@ class Instance:
                 raise TimeoutError(errno.ETIMEDOUT, os.strerror(errno.ETIMEDOUT))
 
     def read(self, size: int = _SIZE, timeout: Optional[float] = 0) -> List[Event]:
-        """Returns as many events as fit into so many bytes.
+        """Returns as many events as fit into `size` bytes.
 
-        If no record waits, it waits at most so many seconds, without limit if the timeout is None. Then it returns an
-        empty list, as select.select() and selectors do.
+        If no record waits, it waits up to `timeout` seconds for one, forever if that is None. Then it returns an empty
+        list, as select.select() and selectors do.
         """
         try:
             return parse(self.read_bytes(size, timeout))
@@ -161,7 +161,7 @@ class Instance:
             return taken
 
     def _next(self) -> Optional[Event]:
-        """Takes one record, after it has taken a batch if there is none. None if no record waits."""
+        """Takes one record, and before that a batch if none is left. None if no record waits."""
         with self.tree._lock():
             try:
                 if self._ahead:

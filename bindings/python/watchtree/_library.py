@@ -103,7 +103,7 @@ def default_library() -> ctypes.CDLL:
 
 
 def text_of(name: str, *words: int) -> str:
-    """Returns a text of the library, each of which is shorter than 128 bytes; ValueError if it has none."""
+    """Returns a text of the library, which is shorter than 128 bytes; ValueError if there is none."""
     out = ctypes.create_string_buffer(128)
     count = getattr(default_library(), name)(*words, out, len(out))
     if count < 0:

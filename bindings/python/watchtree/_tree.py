@@ -21,7 +21,7 @@ INSTANCES = 128
 
 
 class Stat(NamedTuple):
-    """What stat(2) says of a file or directory."""
+    """The status of a file or directory, as of stat(2)."""
 
     number: int
     is_directory: bool
@@ -36,7 +36,7 @@ class Entry(NamedTuple):
     place: int
     """Its sequence number: the first call of a tree has 1."""
     line: str
-    """The line of a script that makes the call, without a newline; a comment if none does, as the mode is too large."""
+    """The line of a script that makes the call, without a newline; a comment if none can, as the mode is too large."""
     reply: str
     """What the line prints, as Tree.line() returns it."""
 
@@ -62,7 +62,7 @@ class Tree:
             fail(-number)
 
     def _begin(self, library: ctypes.CDLL) -> None:
-        """Sets what each tree has, also a fork, before it is opened."""
+        """Sets the attributes of a tree or a fork, before it is opened."""
         self._library = library
         # What takes more than one call, such as line(), has a lock of its own.
         self._several = threading.RLock()
@@ -117,8 +117,8 @@ class Tree:
         """Returns an independent tree with the same files, instances, watches and waiting records.
 
         It answers from now on exactly as this one does, with the same numbers and cookies, and neither sees what the
-        other does. Its journal is empty, and its sequence numbers continue. `instance()` reaches its instances: they
-        have the rest of a batch too, and descriptors of their own.
+        other does. Its journal is empty, and its sequence numbers continue. `instance()` returns its instances, which
+        also have the rest of a batch, and have descriptors of their own.
         """
         fork: Tree = Tree.__new__(Tree)
         fork._begin(self._library)
@@ -129,22 +129,22 @@ class Tree:
         return fork
 
     def instance(self, number: int) -> Instance:
-        """Returns the open instance with a number, which is that of the same instance in a fork. EBADF if none is open."""
+        """Returns the open instance with a number. In a fork it has the same number. EBADF if none is open."""
         self._call("wtt_waiting", unsigned("number", number))
         return Instance(self, number)
 
     def entries(self) -> Iterator[Entry]:
-        """Returns the entries of the journal in order: those of the calls before this one.
+        """Returns the entries of the journal in order, up to this call.
 
-        The journal begins after the last cut(), or where a fork began. The entries of later calls are not among them, and
-        a cut ends them.
+        The journal begins after the last cut(), or where a fork began. Later calls add none to them, and a cut ends the
+        iteration.
         """
         return (entry_of(place, text) for place, text in self._journal(*self._bounds()))
 
     def script(self) -> str:
         """Returns the journal as a script: each call as its line, and its reply in lines that begin with `# `.
 
-        Run on a new tree, or on one like that where the journal begins, it makes the same calls with the same replies.
+        On a new tree, or on one like this tree where its journal begins, it makes the same calls with the same replies.
         """
         return "".join(text for _, text in self._journal(*self._bounds()))
 
@@ -166,7 +166,7 @@ class Tree:
         return self._on_path("wtt_write", path, unsigned("offset", offset, 64), plain, len(plain))
 
     def read(self, path: AnyPath, count: int, offset: int = 0) -> bytes:
-        """Reads at most so many bytes at an offset."""
+        """Reads at most `count` bytes at an offset."""
         return self._read("wtt_pread", path, count, offset)
 
     def truncate(self, path: AnyPath, length: int) -> None:
@@ -198,7 +198,7 @@ class Tree:
         self._on_paths("wtt_rename2", old, to, unsigned("flags", flags))
 
     def stat(self, path: AnyPath) -> Stat:
-        """Returns what stands at a path."""
+        """Returns the status of the file or directory at a path."""
         return self._stat("wtt_stat", path)
 
     def listdir(self, path: AnyPath = "/") -> List[str]:
@@ -206,26 +206,26 @@ class Tree:
         return self._list("wtt_list", path)
 
     def peek_stat(self, path: AnyPath) -> Stat:
-        """As stat(), but the journal has no entry of it."""
+        """Like stat(), but without an entry in the journal."""
         return self._stat("wtt_peek_stat", path)
 
     def peek_listdir(self, path: AnyPath = "/") -> List[str]:
-        """As listdir(), but the journal has no entry of it."""
+        """Like listdir(), but without an entry in the journal."""
         return self._list("wtt_peek_list", path)
 
     def peek_read(self, path: AnyPath, count: int, offset: int = 0) -> bytes:
-        """As read(), but the journal has no entry of it, and it raises no events."""
+        """Like read(), but without an entry in the journal and without events."""
         return self._read("wtt_peek_pread", path, count, offset)
 
     def path_of(self, number: int) -> str:
         """Returns a path of the file or directory with a number: the first in the order of names.
 
-        It looks at each path of the tree, and the journal has no entry of it.
+        It looks at each path of the tree, and adds no entry to the journal.
         """
         return os.fsdecode(self._text("wtt_path_of", unsigned("number", number, 64)))
 
     def ready(self) -> List[int]:
-        """Returns the numbers of the open instances that have a record waiting in their queue, rising."""
+        """Returns the numbers of the open instances that have a record waiting in their queue, in ascending order."""
         out = (ctypes.c_uint32 * INSTANCES)()
         count = self._call("wtt_ready", out, len(out))
         return out[:count]
@@ -262,7 +262,7 @@ class Tree:
         return [os.fsdecode(it) for it in names.split(b"\0")[:-1]]
 
     def _text(self, name: str, *words: object, paths: Sequence[PathText] = ()) -> bytes:
-        """Makes a call that returns how many bytes it has, with a larger buffer until they fit."""
+        """Makes a call that returns the length of a text, with a larger buffer until the text fits."""
         size = 4096
         while True:
             out = ctypes.create_string_buffer(size)
@@ -272,7 +272,7 @@ class Tree:
             size = wanted
 
     def inotify(self, limit: int = QUEUE) -> Instance:
-        """Makes an instance with a queue of so many records."""
+        """Makes an instance whose queue holds at most `limit` records."""
         return Instance(self, self._call("wtt_inotify_init", unsigned("limit", limit)))
 
     def line(self, line: Union[str, bytes], queue: int = QUEUE) -> str:

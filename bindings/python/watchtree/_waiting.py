@@ -11,12 +11,12 @@ from ._arguments import seconds
 if TYPE_CHECKING:
     import asyncio
 
-# poll(2) takes no more milliseconds; a wait without an end is made of such.
+# The longest wait for one poll(2), in milliseconds. A wait without an end is a series of these.
 _LONGEST = 2**30
 
 
 def end_of(timeout: Optional[float]) -> float:
-    """Returns the time of the monotonic clock at which a wait of so many seconds ends: None is without end."""
+    """Returns when a wait of `timeout` seconds ends, by the monotonic clock: never if it is None."""
     if timeout is None:
         return math.inf
     return time.monotonic() + seconds("timeout", timeout)

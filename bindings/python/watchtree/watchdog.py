@@ -1,6 +1,6 @@
 """An observer for handlers of the watchdog package, over a tree.
 
-A program that uses watchdog makes its observer of a tree, and keeps the rest:
+A program that uses watchdog changes how it makes its observer, and nothing else:
 
     from watchtree.watchdog import TreeObserver
 
@@ -89,7 +89,7 @@ class Watches:
         self._paths[self._instance.add_watch(path, _WATCHED)] = path
 
     def follow(self, event: Event) -> List[Change]:
-        """Returns what an event says, with the paths that the watches have, and keeps these up to date."""
+        """Returns the changes that an event reports, with their paths, and updates the paths of the watches."""
         if event.mask & Mask.Q_OVERFLOW:
             _LOGGER.warning("the queue of instance %d overflowed: events are lost", self._instance.number)
         folder = self._paths.get(event.wd)
@@ -221,7 +221,7 @@ class TreeEmitter(EventEmitter):
 
 
 class TreeObserver(BaseObserver):
-    """As watchdog.observers.Observer, for the files of a tree."""
+    """Like watchdog.observers.Observer, for the files of a tree."""
 
     def __init__(self, tree: Tree, timeout: float = DEFAULT_OBSERVER_TIMEOUT) -> None:
         super().__init__(functools.partial(TreeEmitter, tree), timeout=timeout)

@@ -6,7 +6,7 @@ use std::os::raw::c_char;
 use std::os::unix::ffi::{OsStrExt, OsStringExt};
 use std::path::Path;
 
-/// What is at a path.
+/// The status of the file or directory at a path.
 #[derive(Clone, Copy, Debug, PartialEq, Eq)]
 pub struct Stat {
     pub number: u32,
@@ -28,7 +28,7 @@ impl From<RawStat> for Stat {
 pub struct Entry {
     /// The sequence number: the first call of a tree has 1.
     pub place: u64,
-    /// The line of a script that makes the call, without a newline; a comment if none does, as the mode is too large.
+    /// The line of a script that makes the call, without a newline; a comment if none can, as the mode is too large.
     pub line: String,
     /// What the line prints.
     pub reply: String,
@@ -64,7 +64,7 @@ pub(crate) fn text(path: &Path) -> (*const c_char, usize) {
     (bytes.as_ptr().cast(), bytes.len())
 }
 
-/// Calls a function until its buffer is as long as the answer asks for.
+/// Calls a function with longer buffers until the whole answer fits.
 pub(crate) fn all_of(mut call: impl FnMut(&mut [u8]) -> i64) -> Result<Vec<u8>, crate::Error> {
     let mut out = vec![0; 4096];
     loop {
@@ -77,7 +77,7 @@ pub(crate) fn all_of(mut call: impl FnMut(&mut [u8]) -> i64) -> Result<Vec<u8>, 
     }
 }
 
-/// The numbers of instances that a call gives, of which 128 at most are open at a time.
+/// The numbers of instances that a call returns. At most 128 are open at a time.
 pub(crate) fn numbers(call: impl FnOnce(&mut [u32]) -> i64) -> Result<Vec<u32>, crate::Error> {
     let mut out = vec![0; 128];
     let count = crate::error::answer(call(&mut out))? as usize;
@@ -116,7 +116,7 @@ macro_rules! calls {
             answer(unsafe { $sys::$write($me.$prefix(), path, len, offset, data, bytes.len()) })
         }
 
-        /// As `pread`, but the journal has no entry of it, and it raises no events.
+        /// Like `pread`, but without an entry in the journal and without events.
         pub fn peek_pread($($receiver)+, path: impl AsRef<Path>, offset: u64, out: &mut [u8]) -> Result<usize, Error> {
             let (path, len) = text(path.as_ref());
             let buffer = out.as_mut_ptr().cast();
@@ -180,7 +180,7 @@ macro_rules! calls {
             Ok(out.into())
         }
 
-        /// As `stat`, but the journal has no entry of it.
+        /// Like `stat`, but without an entry in the journal.
         pub fn peek_stat($($receiver)+, path: impl AsRef<Path>) -> Result<Stat, Error> {
             let (path, len) = text(path.as_ref());
             let mut out = RawStat::default();
@@ -195,7 +195,7 @@ macro_rules! calls {
                 .map(names)
         }
 
-        /// As `list`, but the journal has no entry of it.
+        /// Like `list`, but without an entry in the journal.
         pub fn peek_list($($receiver)+, path: impl AsRef<Path>) -> Result<Vec<OsString>, Error> {
             let (path, len) = text(path.as_ref());
             all_of(|out| unsafe { $sys::$peek_list($me.$prefix(), path, len, out.as_mut_ptr().cast(), out.len()) })
@@ -203,7 +203,7 @@ macro_rules! calls {
         }
 
         /// A path of the file or directory with a number: the first in the order of names. It looks at each path of the
-        /// tree, and the journal has no entry of it.
+        /// tree, and adds no entry to the journal.
         pub fn path_of($($receiver)+, number: u32) -> Result<PathBuf, Error> {
             let path = all_of(|out| {
                 let buffer = out.as_mut_ptr().cast();
@@ -212,10 +212,10 @@ macro_rules! calls {
             Ok(OsString::from_vec(path).into())
         }
 
-        /// The entries of the journal in order: those of the calls before this one.
+        /// The entries of the journal in order, up to this call.
         ///
-        /// The journal begins after the last `cut`, or where a fork began. The entries of later calls are not among
-        /// them, and a cut ends them.
+        /// The journal begins after the last `cut`, or where a fork began. Later calls add none to them, and a cut ends
+        /// the iteration.
         pub fn entries($($receiver)+) -> Result<impl Iterator<Item = Result<Entry, Error>> + '_, Error> {
             // (the last one first: if another thread cuts the journal in between, none is left)
             let last = answer(unsafe { $sys::$last_place($me.$prefix()) })?;
@@ -232,7 +232,7 @@ macro_rules! calls {
 
         /// The journal as a script: each call as its line, and its reply in lines that begin with `# `.
         ///
-        /// Run on a new tree, or on one like that where the journal begins, it makes the same calls with the same
+        /// On a new tree, or on one like this tree where its journal begins, it makes the same calls with the same
         /// replies.
         pub fn script($($receiver)+) -> Result<String, Error> {
             $me.entries()?.map(|it| it.map(|it| it.to_string())).collect()

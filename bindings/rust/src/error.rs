@@ -77,7 +77,7 @@ impl Error {
     pub const BAD_BYTE: Error = Error(1101);
     /// The first word is no command.
     pub const UNKNOWN_COMMAND: Error = Error(1102);
-    /// The command takes another number of words.
+    /// The command takes more or fewer words.
     pub const WRONG_NUMBER: Error = Error(1103);
     /// A `%` is not followed by two hexadecimal digits.
     pub const BAD_ESCAPE: Error = Error(1104);
@@ -117,7 +117,7 @@ pub(crate) fn answer(number: i64) -> Result<u64, Error> {
     u64::try_from(number).map_err(|_| Error(number.unsigned_abs().try_into().unwrap_or(i32::MAX)))
 }
 
-/// A text of the library, each of which fits into 128 bytes.
+/// A text of the library, which fits into 128 bytes.
 fn text(call: impl FnOnce(*mut c_void, usize) -> i64) -> Result<String, Error> {
     let mut out = [0; 128];
     let len = answer(call(out.as_mut_ptr().cast(), out.len()))? as usize;

@@ -39,7 +39,7 @@ pub use tree::{Instance, Tree};
 
 /// The default limit of a queue in records, as fs.inotify.max_queued_events of Linux.
 pub const QUEUE: u32 = 16384;
-/// The flag of `rename2` by which nothing may be at the new path.
+/// The flag of `rename2` that requires that nothing exists at the new path.
 pub const RENAME_NOREPLACE: u32 = 1;
-/// The flag of `rename2` by which the two files are exchanged.
+/// The flag of `rename2` that exchanges the two files.
 pub const RENAME_EXCHANGE: u32 = 2;

@@ -41,7 +41,7 @@ pub struct SharedTree {
 #[derive(Debug)]
 struct Handle {
     raw: *mut RawShared,
-    /// Held while a line's text is asked for: the tree keeps that of one line.
+    /// Held while a line's text is fetched: the tree keeps the text of one line.
     line: Mutex<()>,
 }
 
@@ -72,7 +72,7 @@ impl SharedTree {
     /// tree.)
     ///
     /// It answers from now on exactly as this one does, with the same numbers and cookies, and neither sees what the
-    /// other does. Its journal is empty, and its sequence numbers continue. [`instance`](SharedTree::instance) reaches
+    /// other does. Its journal is empty, and its sequence numbers continue. [`instance`](SharedTree::instance) returns
     /// its instances, which have descriptors of their own.
     ///
     /// ```
@@ -125,7 +125,7 @@ impl SharedTree {
         Ok(SharedInstance { tree: self.clone(), number, fd })
     }
 
-    /// The numbers of the open instances that have a record waiting, rising.
+    /// The numbers of the open instances that have a record waiting, in ascending order.
     pub fn ready(&self) -> Result<Vec<u32>, Error> {
         numbers(|out| unsafe { sys::wtt_ready(self.raw(), out.as_mut_ptr(), out.len()) })
     }
@@ -181,12 +181,12 @@ impl SharedInstance {
         &self.tree
     }
 
-    /// Its number, as the lines of scripts name it.
+    /// Its number in lines of scripts.
     pub fn number(&self) -> u32 {
         self.number
     }
 
-    /// Watches what is at a path, and returns the watch descriptor.
+    /// Watches the file or directory at a path, and returns the watch descriptor.
     pub fn add_watch(&self, path: impl AsRef<Path>, mask: impl Into<Mask>) -> Result<i32, Error> {
         let ((path, len), Mask(bits)) = (text(path.as_ref()), mask.into());
         let wd = unsafe { sys::wtt_inotify_add_watch(self.tree.raw(), self.number, path, len, bits) };
@@ -220,17 +220,17 @@ impl SharedInstance {
         Ok(Events::new(out))
     }
 
-    /// Reads as many whole records as fit into so many bytes. If none waits, it waits for one.
+    /// Reads as many whole records as fit into `bytes` bytes. If none waits, it waits for one.
     pub fn read(&self, bytes: usize) -> Result<Events, Error> {
         self.read_for(bytes, -1)
     }
 
-    /// As [`read`](SharedInstance::read), but without waiting: [`Error::AGAIN`] if no record waits.
+    /// Like [`read`](SharedInstance::read), but without waiting: [`Error::AGAIN`] if no record waits.
     pub fn try_read(&self, bytes: usize) -> Result<Events, Error> {
         self.read_for(bytes, 0)
     }
 
-    /// As [`read`](SharedInstance::read), but it waits no longer than a time limit, which is rounded up to whole
+    /// Like [`read`](SharedInstance::read), but waits for at most `timeout`, rounded up to whole
     /// milliseconds: [`Error::AGAIN`] if no record came.
     ///
     /// ```

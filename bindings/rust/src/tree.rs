@@ -8,14 +8,13 @@ use std::os::unix::ffi::OsStringExt;
 use std::path::{Path, PathBuf};
 use std::ptr;
 
-/// The number of an instance of inotify in a [`Tree`], which is that of the same instance in its
-/// [forks](Tree::fork).
+/// The number of an instance of inotify in a [`Tree`]. The instance has the same number in [forks](Tree::fork).
 #[derive(Clone, Copy, Debug, PartialEq, Eq, Hash)]
 pub struct Instance(pub u32);
 
 /// A tree of files with its instances, for one thread at a time. It is closed when it is dropped.
 ///
-/// It may go to another thread. Threads that share a tree take a [`SharedTree`](crate::SharedTree).
+/// It may move to another thread. Threads that share a tree use a [`SharedTree`](crate::SharedTree).
 #[derive(Debug)]
 pub struct Tree {
     raw: RawTree,
@@ -41,7 +40,7 @@ impl Tree {
     /// Makes an independent tree with the same files, instances, watches and waiting records.
     ///
     /// It answers from now on exactly as this one does, with the same numbers and cookies, and neither sees what the
-    /// other does. Its journal is empty, and its sequence numbers continue. An [`Instance`] is that of both.
+    /// other does. Its journal is empty, and its sequence numbers continue. An [`Instance`] is valid in both.
     ///
     /// ```
     /// use watchtree::{mask, Tree};
@@ -63,7 +62,7 @@ impl Tree {
         Ok(fork)
     }
 
-    /// As [`fork`](Tree::fork).
+    /// Like [`fork`](Tree::fork).
     #[deprecated(note = "call `fork`, the name that `SharedTree` has for it too")]
     pub fn try_clone(&mut self) -> Result<Tree, Error> {
         self.fork()
@@ -82,7 +81,7 @@ impl Tree {
         answer(unsafe { sys::wt_inotify_init(&mut self.raw, limit) }).map(|it| Instance(it as u32))
     }
 
-    /// Watches what is at a path, and returns the watch descriptor.
+    /// Watches the file or directory at a path, and returns the watch descriptor.
     pub fn add_watch(
         &mut self,
         instance: Instance,
@@ -97,7 +96,7 @@ impl Tree {
         answer(unsafe { sys::wt_inotify_rm_watch(&mut self.raw, instance.0, wd) }).map(drop)
     }
 
-    /// Reads as many whole records as fit into so many bytes. [`Error::AGAIN`] if none waits.
+    /// Reads as many whole records as fit into `bytes` bytes. [`Error::AGAIN`] if none waits.
     pub fn read(&mut self, instance: Instance, bytes: usize) -> Result<Events, Error> {
         let mut out = vec![0; bytes];
         let count = answer(unsafe { sys::wt_read(&mut self.raw, instance.0, out.as_mut_ptr().cast(), bytes) })?;

@@ -303,8 +303,8 @@ fn what_is_refused() -> Result<(), Fault> {
     let faults = [
         ("mkdir /d 755\n", "a line `--`"),
         ("mkdir /d/e 755\n--\n", "is refused: err ENOENT"),
-        ("--\nnothing\n", "\"nothing\" is no line"),
-        ("nothing\n--\n", "\"nothing\" is no line"),
+        ("--\nnothing\n", "\"nothing\" is not a line"),
+        ("nothing\n--\n", "\"nothing\" is not a line"),
     ];
     // (a change may be refused)
     assert!(Explore::new("mkdir /d 755\n--\nmkdir /d 755\n", small, |_, _| Ok(())).is_ok());

@@ -3,10 +3,10 @@
 #define ASKED_H
 #include "requests.h"
 
-/* In a run with a schedule, lets each handler say first what is asked. */
+/* In a run with a schedule, makes each handler first note what is asked. */
 void trace_handlers(struct fuse_lowlevel_ops *handlers);
 
-/* What is asked next: a call, perhaps of a file, or of an instance. */
+/* Each notes what is asked next: a call, one on a file, or one on an instance. */
 void ask(const char *call);
 void ask_file(const char *call, uint64_t number);
 void ask_instance(const char *call, uint32_t instance);

@@ -131,7 +131,7 @@ int write_memory(const struct seccomp_notif *call, uint64_t to, const void *byte
 
 /* ---- its paths */
 
-/* Paths of /proc that speak of whoever opens them. The rest of the path, or NULL. */
+/* For a path of /proc that depends on the process that opens it: the rest of the path. Otherwise NULL. */
 static const char *own_folder(const struct seccomp_notif *call, pid_t process, const char *path, char folder[64]) {
     static const char *const names[] = { "/proc/self/", "/dev/fd/", "/proc/thread-self/" };
     for (int i = 0; i < 3; i++) {

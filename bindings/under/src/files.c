@@ -7,7 +7,7 @@
 struct content {
     uint64_t number;
     uint64_t length;                /* of the file */
-    uint64_t from, to;              /* which bytes of the file stand in `bytes` */
+    uint64_t from, to;              /* which bytes of the file are in `bytes` */
     char *bytes;
     size_t capacity;
     bool is_whole;                  /* the file is gone, and these are all its bytes */
@@ -100,10 +100,10 @@ static bool reserve(struct content *it, size_t size) {
     return true;
 }
 
-/* Makes the bytes from `from` to `to` stand in `bytes` too, with what the file has there. */
+/* Extends `bytes` to the bytes from `from` to `to`, with what the file has there. */
 static int64_t cover(struct content *it, const char *path, uint64_t from, uint64_t to) {
     if (it->from == it->to) it->from = it->to = from;
-    /* A file that is written backwards grows in front by as much as there is, so that not each write moves all. */
+    /* If a file is written backwards, `bytes` doubles at its front, so that not each write moves all of it. */
     uint64_t more = it->to - it->from;
     if (from < it->from && it->from - from < more) from = it->from > more ? it->from - more : 0;
     if (from > it->from) from = it->from;

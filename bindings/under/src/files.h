@@ -11,7 +11,7 @@
 /* The longest file of a tree. */
 enum { LONGEST_FILE = 1 << 24 };
 
-/* How long a file is, with what was written and is not in the tree. */
+/* The length of a file, with bytes that were written and are not in the tree yet. */
 uint64_t length_of(uint64_t number);
 /* Each answers a count of bytes, 0, or a negative errno. */
 int64_t read_file(uint64_t number, char *out, size_t size, uint64_t offset);
@@ -24,11 +24,11 @@ void announce(uint64_t number);
 void announce_all(void);
 void commit(uint64_t number);
 void commit_all(void);
-/* Who wrote what is not announced: 0 if there is nothing. */
+/* The process whose writes are not announced yet, or 0. */
 pid_t silent_writer(uint64_t number);
 
-/* A file is about to lose the name at this path. If that is its last one and somebody has the file, its bytes are kept.
- * `lost` says whether it did lose it. */
+/* Called before and after a file loses the name at a path. If that is its last one and the file is open, its bytes are
+ * kept. `lost` says whether it lost the name. */
 struct rescue { uint64_t number; struct content *content; };
 struct rescue before_loss(const char *path);
 void after_loss(struct rescue *rescue, bool lost);

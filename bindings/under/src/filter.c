@@ -21,10 +21,10 @@
 
 #define LOAD(field) BPF_STMT(BPF_LD | BPF_W | BPF_ABS, offsetof(struct seccomp_data, field))
 #define RETURN(action) BPF_STMT(BPF_RET | BPF_K, action)
-/* If the number is the value the next instruction runs, else it is passed over. */
+/* Runs the next instruction if the number is the value, and skips it otherwise. */
 #define IF(value) BPF_JUMP(BPF_JMP | BPF_JEQ | BPF_K, value, 0, 1)
 #define ON(value, action) IF(value), RETURN(action)
-/* If the number is not the value, so many instructions are passed over. */
+/* Skips `count` instructions if the number is not the value. */
 #define UNLESS(value, count) BPF_JUMP(BPF_JMP | BPF_JEQ | BPF_K, value, 0, count)
 
 /* The numbers of a 32-bit program. */

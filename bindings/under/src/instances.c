@@ -94,7 +94,7 @@ static void drop_reader(struct instance *it, int i) {
     for (; i < it->reader_count; i++) it->readers[i] = it->readers[i + 1];
 }
 
-/* Takes the first record: as many bytes as it has, or -EINVAL if it has more than so many. */
+/* Takes the first record. Returns its length in bytes, or -EINVAL if that is more than `size`. */
 static int64_t take_record(struct instance *it, char *out, size_t size) {
     enum { STEP = sizeof(struct inotify_event) };
     int64_t count = -EINVAL;
@@ -103,7 +103,7 @@ static int64_t take_record(struct instance *it, char *out, size_t size) {
     return count;
 }
 
-/* Takes as many records as fit, and at most so many: 0 for all. */
+/* Takes as many records as fit, at most `most`; 0 is no limit. */
 static int64_t take_records(struct instance *it, size_t size, uint64_t most) {
     int64_t bytes = wt_bytes_waiting(&tree, it->id), taken = 0;
     if (!most || (uint64_t)waiting_in(it) <= most)
@@ -123,7 +123,7 @@ static void answer_read(struct instance *it, fuse_req_t req, size_t size, uint64
     uint64_t most = most_records(request);
     if (most && (int64_t)most < it->counted) most = (uint64_t)it->counted;     /* they are there, as the program knows */
     int64_t count = take_records(it, size, most);
-    it->waiting = most ? 0 : waiting_in(it);    /* 0: whoever polls is woken again for those that are left */
+    it->waiting = most ? 0 : waiting_in(it);    /* 0: a poll is woken again for those that are left */
     it->counted -= it->counted < before - waiting_in(it) ? it->counted : before - waiting_in(it);
     it->was_asked = false;
     work_count++;
@@ -180,7 +180,7 @@ void poll_instance(fuse_req_t req, struct fuse_file_info *file, struct fuse_poll
 
 /* ---- the supervisor's calls */
 
-/* The reply to a watch outside the mount. Programs say of EACCES that it is for want of a permission, so it is said once why. */
+/* The reply to a watch outside the mount. Programs report EACCES as a permission problem, so explain once. */
 static int64_t watch_outside(struct instance *it) {
     static bool is_said;
     if (options.ignores_outside) return it->next_outside++;

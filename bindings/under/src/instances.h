@@ -16,7 +16,7 @@ void read_instance(fuse_req_t req, size_t size, struct fuse_file_info *file);
 void poll_instance(fuse_req_t req, struct fuse_file_info *file, struct fuse_pollhandle *handle);
 void call_instance(fuse_req_t req, unsigned command, struct fuse_file_info *file, const void *in, size_t in_size);
 
-/* Answers the reads that wait for a record that is there now, and wakes who polls. */
+/* Answers each waiting read for which there is a record now, and wakes each poll. */
 void deliver(void);
 /* While deliveries are held, deliver() does nothing. */
 void hold_deliveries(bool holds);
@@ -29,8 +29,8 @@ struct asking {
 };
 struct asking who_asks(void);
 
-/* How many there are, and ever were; how often records were taken, and of these after a line that stands after the first
- * mark; how often watches and instances were made. */
+/* Counts: the instances that are open, and all that were made; the reads that took records, and those of them after a line
+ * behind the first mark; the calls that made a watch or an instance. */
 struct instance_counts { uint64_t open, made, reads, reads_after_line, calls; };
 extern struct instance_counts instance_counts;
 #endif

@@ -97,14 +97,14 @@ static void make_private_root(const char *here) {
 struct fuse_session *mount_tree(const char *here) {
     char text[256];
     struct stat is;
-    if (options.dir[0] != '/' || !options.dir[1]) fault("--dir: %s is no absolute path below /", options.dir);
+    if (options.dir[0] != '/' || !options.dir[1]) fault("--dir: %s is not an absolute path below /", options.dir);
     uid_t uid = geteuid();
     gid_t gid = getegid();
     enter_namespaces();
     if (stat(options.dir, &is) < 0) {
         if (errno != ENOENT) fail(options.dir);
         make_private_root(here);
-    } else if (!S_ISDIR(is.st_mode)) fault("--dir: %s is no directory", options.dir);
+    } else if (!S_ISDIR(is.st_mode)) fault("--dir: %s is not a directory", options.dir);
     int fd = open("/dev/fuse", O_RDWR | O_CLOEXEC | O_NONBLOCK);
     if (fd < 0) lack_mount("/dev/fuse", errno);
     snprintf(text, sizeof text, "fd=%d,rootmode=40000,user_id=%u,group_id=%u,allow_other", fd, uid, gid);
@@ -116,7 +116,7 @@ struct fuse_session *mount_tree(const char *here) {
     struct fuse_session *session = fuse_session_new(&args, &handlers, sizeof handlers, NULL);
     fuse_opt_free_args(&args);
     snprintf(text, sizeof text, "/dev/fd/%d", fd);
-    if (!session || fuse_session_mount(session, text) < 0) fault("libfuse3 takes no mounted descriptor: 3.3 is needed");
+    if (!session || fuse_session_mount(session, text) < 0) fault("libfuse3 does not take a mounted descriptor: 3.3 is needed");
     return session;
 }
 

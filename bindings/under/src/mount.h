@@ -3,7 +3,7 @@
 #define MOUNT_H
 struct fuse_session;
 
-/* Enters namespaces of its own and mounts the tree. `here` is the working directory, which stays so. */
+/* Enters namespaces of its own and mounts the tree. `here` remains the working directory. */
 struct fuse_session *mount_tree(const char *here);
 void unmount_tree(struct fuse_session *session);
 #endif

@@ -1,4 +1,4 @@
-/* What a run needs of the machine, and what to do where it lacks: one line, and STATUS_FAULT. */
+/* What a run needs of the machine. If something is missing: one line that says how to get it, and STATUS_FAULT. */
 #include "needs.h"
 #include "rest.h"
 #include <errno.h>

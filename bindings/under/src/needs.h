@@ -1,9 +1,9 @@
-/* What a run needs of the machine, and what to do where it lacks. */
+/* What a run needs of the machine, and how to get what is missing. */
 #ifndef NEEDS_H
 #define NEEDS_H
 #include "under.h"
 
-/* Looks for all that can be looked for before a run, and exits with one line if something lacks. */
+/* Checks what can be checked before a run, and exits with one line if something is missing. */
 void check_needs(void);
 /* Each explains why a step failed, by errno, and exits. */
 _Noreturn void lack_namespace(int error);

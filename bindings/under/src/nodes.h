@@ -30,11 +30,11 @@ bool find_file(uint64_t number, char path[PATH_SIZE], struct wt_stat *out);
 int64_t path_of(uint64_t number, char path[PATH_SIZE]);
 /* The path of a name in a directory: 0 or an errno. */
 int path_in(uint64_t directory, const char *name, char path[PATH_SIZE]);
-/* The file of this number stands under this name. */
+/* Notes that the file of this number has this name. */
 void seen_at(uint64_t number, uint64_t directory, const char *name);
-/* The file of this number has no path any more. */
+/* Notes that the file of this number has no path any more. */
 void is_gone(uint64_t number);
-/* Frees what nobody needs: the kernel forgot the file, no descriptor is open, and it is gone. */
+/* Frees the node of a file that is gone, that the kernel has forgotten, and of which no descriptor is open. */
 void drop_if_unused(uint64_t number);
 void free_nodes(void);
 

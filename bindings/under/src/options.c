@@ -27,14 +27,14 @@ static const char usage[] =
     "  --check COMMAND    what decides whether a run of --seeds passed\n"
     "  --outside=ignore   a watch outside the mount is taken and never fires (else EACCES)\n"
     "  --end SIGNAL       how the program is ended after the script: TERM, INT, .., none (TERM)\n"
-    "  --debounce MS      how long quiet is for a line -- (100)\n"
-    "  --settle MS        how long the program is quiet before it is ended (300)\n"
+    "  --debounce MS      quiet time before a line -- is passed (100)\n"
+    "  --settle MS        quiet time before the program is ended (300)\n"
     "  --quick            do not wait for --debounce and --settle if no task has a time limit\n"
-    "  --stall MS         a run without a record or a line for so long is ended (10000)\n"
+    "  --stall MS         end a run after this long without a record or a line (10000)\n"
     "  --one-cpu          keep everything on one CPU\n";
 
 _Noreturn static void refuse(const char *option, const char *value, const char *wanted) {
-    fault("--%s: bad value '%s': it wants %s", option, value, wanted);
+    fault("--%s: bad value '%s': expected %s", option, value, wanted);
 }
 
 static uint64_t number(const char *option, const char *word, uint64_t least, uint64_t most) {
@@ -59,7 +59,7 @@ static int signal_named(const char *word) {
         if (known && !strcmp(known, name)) return i;
     }
     if (!isdigit((unsigned char)*word))
-        refuse("end", word, "the name of a signal, as TERM or INT, a number from 1 to 64, or none");
+        refuse("end", word, "the name of a signal, such as TERM or INT, a number from 1 to 64, or none");
     return (int)number("end", word, 1, 64);
 }
 
@@ -67,7 +67,7 @@ static void seeds(const char *word) {
     char text[64];
     const char *dots = strstr(word, "..");
     if (!dots || dots == word || !dots[2] || (size_t)(dots - word) >= sizeof text)
-        refuse("seeds", word, "A..B, the first seed and the last, as 1..200");
+        refuse("seeds", word, "A..B, the first seed and the last, such as 1..200");
     memcpy(text, word, (size_t)(dots - word));
     text[dots - word] = 0;
     options.seed = number("seeds", text, 0, UINT64_MAX - 1);
@@ -96,7 +96,7 @@ static void vary(const char *list) {
         size_t length = strcspn(at, ",");
         int i = 0;
         while (i < 3 && (strlen(names[i]) != length || memcmp(at, names[i], length))) i++;
-        if (i == 3) refuse("vary", list, "words of lines, reads and queue, as lines,reads");
+        if (i == 3) refuse("vary", list, "words of lines, reads and queue, such as lines,reads");
         options.vary |= 1 << i;
     }
 }

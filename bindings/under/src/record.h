@@ -5,9 +5,9 @@
 
 void open_record(void);
 void close_record(void);
-/* A line happened: before this request, or at rest if it is 0. Lines before the first mark set the tree up. */
+/* Records that a line happened: before this request, or at rest if it is 0. Lines before the first mark set the tree up. */
 void record_line(const char *line, size_t length, uint64_t request);
 void record_mark(void);
-/* The read that is this request handed over so many records, and left others. */
+/* Records that the read of this request handed over `records` records and left others. */
 void record_short_read(uint64_t request, uint64_t records);
 #endif

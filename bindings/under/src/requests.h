@@ -12,13 +12,13 @@ enum { INSTANCE = 1 << 30 };
 
 extern const struct fuse_lowlevel_ops requests;
 
-/* How many requests of the program there were that are more than asking for a record in vain. */
+/* Counts the requests of the program, without those that ask for a record in vain. */
 extern uint64_t work_count;
 
 bool by_supervisor(fuse_req_t req);
 /* The first step of a request: the program works, and by a seed lines of the script happen before it. */
 void begin(fuse_req_t req);
-/* Answers by an error if the reply of the tree is one. */
+/* Answers with an error if the reply of the tree is one. */
 bool is_refused(fuse_req_t req, int64_t reply);
 
 /* attributes.c */

@@ -3,22 +3,22 @@
 #define REST_H
 #include "under.h"
 
-/* Where the tasks below this process stand. */
+/* The state of the tasks below this process. */
 struct tasks {
     bool all_sleep;
-    uint64_t runs;      /* another number whenever one of them ran */
-    uint64_t set;       /* another number whenever one started or ended */
-    uint64_t time;      /* the processor time of the program, in nanoseconds */
+    uint64_t runs;      /* changes whenever one of them ran */
+    uint64_t set;       /* changes whenever one started or ended */
+    uint64_t time;      /* the CPU time of the program, in nanoseconds */
 };
 /* All tasks slept at one moment if two looks in a row say that all sleep, with the same `runs`. */
 struct tasks look_at_tasks(void);
-/* Whether there is such a task among those of the last look, but for the supervisor. */
+/* Whether any task of the last look is such a one, the supervisor excepted. */
 bool any_task(bool (*is_such)(pid_t pid, const char *task));
 /* Reads the start of a file of /proc, and ends it with a zero byte. False if there is nothing. */
 bool read_file_into(const char *name, char *out, size_t size);
 /* Whether a process is below this one. */
 bool is_of_program(pid_t pid);
-/* Sends a signal to every process below this one but one. How many there were. */
+/* Sends a signal to every process below this one except `but`. Returns how many there were. */
 int signal_all(int signal, pid_t but);
 /* Whether the kernel keeps what all_sleep() reads. */
 bool can_tell_rest(void);

@@ -73,8 +73,8 @@ static bool has_idle_processor(void) {
     return is_idle = count > 1 && getloadavg(&load, 1) == 1 && load < count;
 }
 
-/* Whoever was answered often asks again at once. If the program runs on another processor, to look for that a little longer
- * costs less than to sleep and be woken; if it is on this one, it gets it by the yield. */
+/* The program often sends its next request at once. If it runs on another CPU, polling a little longer costs less than
+ * sleeping and being woken; if on this one, the yield lets it run. */
 static void serve_burst(void) {
     enum { BURST_NS = 40000, MOST_REQUESTS = 256 };
     struct timespec start, now;

@@ -22,7 +22,7 @@ static uint64_t draw(enum kind kind) {
     return z ^ z >> 31;
 }
 
-/* One of so many alternatives. */
+/* One of `count` alternatives. */
 static uint64_t choose(enum kind kind, uint64_t count) { return draw(kind) % count; }
 
 static bool drawn_line(uint64_t count) {
@@ -105,8 +105,8 @@ bool is_directive(const char *line, size_t length) {
 
 void expect_directive(const char *line, size_t length, long number, long lines) {
     struct parsed it = parse(line, length);
-    if (!it.kind) fault("line %ld: no directive of a schedule: %.*s", number, (int)length, line);
-    if (it.kind == QUEUE_LIMIT && lines) fault("line %ld: the queue's limit stands above all lines", number);
+    if (!it.kind) fault("line %ld: not a directive of a schedule: %.*s", number, (int)length, line);
+    if (it.kind == QUEUE_LIMIT && lines) fault("line %ld: the queue's limit must come before all lines", number);
     if (it.kind == QUEUE_LIMIT) options.queue = (uint32_t)it.number;
     if (it.kind == SHORT_READ && !it.is_relative) expect_read(it.request, it.number);
 }

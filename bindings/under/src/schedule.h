@@ -6,7 +6,7 @@
 
 /* Whether the run has a schedule. Without one lines happen at rest alone, and reads take all they can. */
 bool has_schedule(void);
-/* Draws the limit of each queue if the seed has to. Before the tree is opened. */
+/* Draws the limit of each queue if the seed decides it. Called before the tree is opened. */
 void draw_queue(void);
 
 /* Does the next line happen before this request? Lines that already did are counted. */
@@ -18,11 +18,11 @@ uint64_t most_records(uint64_t request);
 
 /* Whether a comment is one, of a script that --schedule names. */
 bool is_directive(const char *line, size_t length);
-/* Looks at each directive before the program starts: reads of absolute requests and the queue's limit are kept. A fault
- * if it is none that there is. `lines` lines stand above it. */
+/* Called for each directive before the program starts; it keeps reads of absolute requests and the queue's limit. A fault
+ * if there is no such directive. `lines` lines come before it. */
 void expect_directive(const char *line, size_t length, long number, long lines);
-/* Passes over a directive: it decides where the lines below it happen. */
+/* Passes a directive, which decides where the lines after it happen. */
 void pass_directive(const char *line, size_t length);
-/* A line happened, and this request is the next to be answered: directives count from it. */
+/* Notes that a line happened, and that directives count from this request, the next to be answered. */
 void line_happened(uint64_t next_request);
 #endif

@@ -3,6 +3,6 @@
 #define SUPERVISOR_H
 #include "under.h"
 
-/* Takes the listener from a socket and serves it until nobody is left. `tool` is the process that owns the tree. */
+/* Takes the listener from a socket and serves it until no process is left. `tool` is the process that owns the tree. */
 _Noreturn void supervise(int from, pid_t tool);
 #endif

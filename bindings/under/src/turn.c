@@ -12,7 +12,7 @@
 
 /* After an edge-triggered event and a short read no poll follows, so 'was polled, and is empty' is enough after a while. */
 enum { POLLED_MS = 20 };
-/* Records that nobody takes hold the script up for so long. */
+/* How long records that nobody takes hold the script up. */
 enum { UNREAD_MS = 1000 };
 
 uint64_t line_count;

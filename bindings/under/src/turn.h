@@ -6,18 +6,18 @@
 /* How many lines ran. */
 extern uint64_t line_count;
 
-/* Before a request of the program is answered: by a schedule, lines happen first. The number of the request. */
+/* Called before a request of the program is answered: lets lines happen first, by the schedule. Returns its number. */
 uint64_t run_lines_before_request(void);
 /* The request before which a line happens now: 0 if it happens at rest. */
 uint64_t request_of_line(void);
 /* The request that is answered next. */
 uint64_t next_request(void);
-/* In a trace, the request before which a line happens. */
+/* Traces the request before which a line happens. */
 void trace_point(void);
 
 enum turn { TURN_WAITS, TURN_TAKEN, TURN_OVER };
-/* The program is at rest and has been quiet for so long. */
+/* Takes a turn. The program is at rest and has been quiet for `quiet_ms`. */
 enum turn take_turn(int64_t quiet_ms);
-/* Whether the run can wait for nothing that still comes: a live script may have more lines. */
+/* Whether the run waits for a line of a live script, which may still come. */
 bool is_waiting_for_lines(void);
 #endif

@@ -42,7 +42,7 @@ def flags_of(handle):
 
 
 def instance_calls():
-    """Calls of instances, and of what is none."""
+    """Calls on instances, and on a file that is none."""
     plain, none = asked(LIBRARY.inotify_init1(os.O_NONBLOCK)), os.open("/dev/null", os.O_RDONLY)
     os.mkdir("d")
     make("d/f")

@@ -1,9 +1,9 @@
 #!/usr/bin/python3
-"""Each of ten programs again and again with its script: all traces and outputs are to be one.
+"""Runs each of ten programs again and again with its script. All traces and outputs must be the same.
 
     determinism.py [--count N] [--busy N] [--jobs N] UNDER BIN
 
-BIN has `waits` and `recursive`. --busy starts so many processes that never rest beside the runs. It prints `ok NAME: ..`,
+BIN has `waits` and `recursive`. --busy N starts N processes that never rest beside the runs. It prints `ok NAME: ..`,
 `FAILED NAME: WHY` or `left out NAME: WHY` for each.
 """
 import argparse
@@ -18,7 +18,7 @@ import tempfile
 TESTS = os.path.dirname(os.path.abspath(__file__))
 CLIENTS = os.path.join(TESTS, "clients")
 LIMIT = 300
-# A name, the script, options, the program, and what it wants.
+# A name, the script, options, the program, and what it needs.
 RUNS = (
     ("inotifywait", "clients/scripts/basic", [], "inotifywait -q -m /wt/d"),
     ("inotifywait -r, a seed", "clients/scripts/basic", ["--seed", "5"], "inotifywait -q -m -r /wt/d"),

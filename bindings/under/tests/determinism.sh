@@ -5,7 +5,7 @@ tests=$(dirname -- "$0")
 under=$1
 room=$2
 if ! cc -O1 "$tests/waits.c" -luring -lpthread -o "$room/waits" || ! cc -O1 -static "$tests/recursive.c" -o "$room/recursive"; then
-    echo "left out all of it: it wants a C compiler with liburing (liburing-dev)"
+    echo "left out all of it: it needs a C compiler with liburing (liburing-dev)"
     exit 0
 fi
 /usr/bin/python3 "$tests/determinism.py" --jobs 3 --count 20 "$under" "$room"

@@ -27,7 +27,7 @@ from linux_side.lines import lines_of  # noqa: E402
 
 LIBRARY = ctypes.CDLL(None, use_errno=True)
 PR_SET_CHILD_SUBREAPER, PIDFD_GETFD = 36, 438
-# A program that runs for so little in a quiet while (a JVM does) is quiet all the same.
+# Nanoseconds that a quiet program may run in a quiet while, as a JVM does.
 LITTLE = 5_000_000
 LIMIT = 60
 
@@ -124,7 +124,7 @@ class Run:
         return asleep and again and before == after and waiting == 0 and pids == descendants()
 
     def wait(self, quiet=0.0):
-        """Waits until it rests, and was quiet for so long. False where it has ended."""
+        """Waits until the program rests and was quiet for `quiet` seconds. Returns False if it has ended."""
         while self.child.poll() is None:
             if time.monotonic() > self.end:
                 sys.exit(f"disk.py: the program did not rest within {LIMIT} s")

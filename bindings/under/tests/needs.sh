@@ -94,7 +94,7 @@ expect 'a run within a run' 125 'do not nest|another seccomp listener' \
 
 # ---- the machine
 if [ "$(id -u)" != 0 ] || ! unshare -m true 2>/dev/null || ! command -v setpriv >/dev/null; then
-    echo 'left out what the machine lacks: it wants root, unshare and setpriv'
+    echo 'left out what the machine lacks: it needs root, unshare and setpriv'
     exit 0
 fi
 # Another /dev, that these words alone see, with or without a /dev/fuse of a mode.   with-dev MODE WORDS..

@@ -1,6 +1,6 @@
 #!/bin/sh
-# Ordinary programs on the tree, and on a disk, where all of them work: programs.sh UNDER ROOM. What does not work on the
-# tree stands in programs.known.
+# Ordinary programs on the tree, and on a disk, where all of them work: programs.sh UNDER ROOM. programs.known
+# lists what does not work on the tree.
 set -u
 tests=$(dirname -- "$0")
 under=$1

@@ -103,7 +103,7 @@ done
 setsid "$under" script -- sh -c 'trap "" USR1 ALRM; inotifywait -q -m -e create /wt/d & kill -USR1 0; kill -ALRM 0; wait' >out 2>&1
 status=$?
 [ "$status" = 0 ] && [ "$(cat out)" = '/wt/d/ CREATE f' ]
-check 'a signal to the process group is none to the tool' "status $status: $(cat out)"
+check 'a signal to the process group does not reach the tool' "status $status: $(cat out)"
 
 # ---- two runs side by side
 mkfifo first second
@@ -208,5 +208,5 @@ if [ "$(id -u)" = 0 ] && command -v setpriv >/dev/null; then
     rights 'there EACCES none EACCES' --reuid=65533 --regid=65533 --clear-groups
     rights 'there EACCES none EACCES' --bounding-set=-all --inh-caps=-all
 else
-    echo 'left out the rights of others: it wants root and setpriv'
+    echo 'left out the rights of others: it needs root and setpriv'
 fi

@@ -4,7 +4,7 @@ set -u
 tests=$(dirname -- "$0")
 under=$1
 room=$2
-cc -O1 -Wall -Wextra -Werror "$tests/together.c" -o "$room/together" || { echo "left out all of it: it wants a C compiler"; exit 0; }
+cc -O1 -Wall -Wextra -Werror "$tests/together.c" -o "$room/together" || { echo "left out all of it: it needs a C compiler"; exit 0; }
 echo 'mkdir /d 755' >"$room/directory"
 for what in same watched; do
     rounds=2000

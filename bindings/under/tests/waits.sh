@@ -5,7 +5,7 @@ tests=$(dirname -- "$0")
 under=$1
 room=$2
 if ! cc -O1 -Wall -Wextra -Werror "$tests/waits.c" -luring -lpthread -o "$room/waits" 2>"$room/error"; then
-    echo "left out each way to wait: it wants a C compiler with liburing (liburing-dev)"
+    echo "left out each way to wait: it needs a C compiler with liburing (liburing-dev)"
     exit 0
 fi
 for mode in $("$room/waits" --list); do

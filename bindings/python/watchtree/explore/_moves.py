@@ -7,7 +7,7 @@ from ._plans import Moved
 
 
 def moved(program: Program, moves: int, queue: int) -> Iterator[Outcome]:
-    """Runs every schedule in which at most so many lines happen before an earlier request than they would at rest.
+    """Runs every schedule in which at most `moves` lines happen before an earlier request than they would at rest.
 
     Each schedule is run once, those with fewer moved lines first. Lines keep their order.
     """
@@ -23,7 +23,7 @@ def moved(program: Program, moves: int, queue: int) -> Iterator[Outcome]:
 
 
 def _one_more(counts: Tuple[Tuple[int, int], ...], left: Dict[int, int]) -> Iterator[Tuple[Tuple[int, int], ...]]:
-    """Moves one more line: before the last request that has any, or a later one. `left` is how many each leaves."""
+    """Moves one more line before the last request that has any, or a later one. `left` is how many each leaves."""
     last, count = counts[-1] if counts else (0, 0)
     for request, lines in left.items():
         if lines and request == last:

@@ -52,7 +52,7 @@ def _user_line(error: Optional[BaseException]) -> object:
 
 
 def believed_by(consumer: Consumer, tree: Tree) -> Any:
-    """Runs a consumer to its end. What it believes is what it returns, or, of a generator, what it yielded last."""
+    """Runs a consumer to its end, and returns what it believes: what it returns, or the last value of a generator."""
     believed = None
     try:
         believed = consumer(tree)

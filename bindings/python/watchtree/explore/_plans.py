@@ -13,7 +13,7 @@ class Plan:
     queue: int
 
     def lines(self, request: int, begin: int, end: int) -> int:
-        """How many of the lines from `begin` to `end`, which is at least one, happen before a request is answered."""
+        """Returns how many of the lines from `begin` to `end`, at least one, happen before a request is answered."""
         raise NotImplementedError
 
     def records(self, request: int) -> Optional[int]:
@@ -80,7 +80,7 @@ class Fixed(Plan):
 
 
 class Moved(Plan):
-    """So many lines happen before each of some requests, all others at rest. It notes where more could happen."""
+    """`counts` has how many lines happen before some requests; all others happen at rest. Notes where more could."""
 
     def __init__(self, counts: Mapping[int, int], queue: int) -> None:
         self._counts = counts

@@ -15,7 +15,7 @@ from ._timeline import Timeline
 if TYPE_CHECKING:
     Buffer = ctypes.Array[ctypes.c_char]
 new_buffer = ctypes.create_string_buffer
-# The first number of a fault of a line, the step by which the sizes of records differ, and the size of a first buffer.
+# The first error number for a line, the step between the sizes of records, and the size of the first buffer.
 _FAULTS, _STEP, _LEAST = 1101, 16, 65536
 
 
@@ -74,7 +74,7 @@ class Player:
         count: int = self._library.wtt_line(self._at, self._plan.queue, line, len(line), out, len(out))
         if count < 0:
             if -count >= _FAULTS:
-                raise ValueError(f"{os.fsdecode(line)!r} is no line of a script")
+                raise ValueError(f"{os.fsdecode(line)!r} is not a line of a script")
             fail(-count)
         # (only the beginning of a long text is shown)
         return ctypes.string_at(out, min(count, len(out))) if self.timeline else b""
@@ -113,7 +113,7 @@ class Player:
         return answer
 
     def _rest(self, instance: int, timeout: Optional[float]) -> bool:
-        """The consumer asks an instance in vain. A line happens; False if none does, as the timeout is over first."""
+        """Lets a line happen, as the consumer asks an instance in vain. False if the timeout is over first."""
         self._asks += 1
         if self._asks > self._limit:
             raise TooManyRequests(f"the consumer asked in vain more than {self._limit} times")
@@ -181,7 +181,7 @@ class Player:
         return ctypes.string_at(self.buffer, count)
 
     def _take_records(self, instance: int, size: int, limit: int) -> bytes:
-        """Takes so many records at most: each by the shortest buffer that it fits, which fits no other after it."""
+        """Takes at most `limit` records, each with the shortest buffer that it fits, so that no other follows."""
         taken = b""
         for _ in range(limit):
             if taken and not self._tree._call("wtt_waiting", instance):

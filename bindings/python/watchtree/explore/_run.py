@@ -50,7 +50,7 @@ class FoundFailure(AssertionError):
 
 
 class Result(NamedTuple):
-    """What run() found. `str(result)` says it."""
+    """What run() found. `str(result)` is its text."""
 
     runs: int
     reads: int
@@ -98,11 +98,11 @@ def run(
     consumer raises an exception, or if `check(tree, believed)` raises one or returns False.
 
     A seed takes the limit of all queues from `queues`, and how many records a read returns at most from `batches`; None
-    is without a limit. With `moves` all schedules are run in which so many lines at most happen before an earlier
+    is without a limit. With `moves` all schedules are run in which at most `moves` lines happen before an earlier
     request than at rest; queues then have the first limit of `queues`, and seeds are not used. With `keep_going` all
     schedules are run. A consumer that makes more than `max_requests` requests fails.
 
-    ValueError for a script that is none, or whose set-up is refused; RuntimeError if no read returned a record.
+    ValueError if `script` is no script or its set-up is refused; RuntimeError if no read returned a record.
     """
     program = _program(script, consumer, check, max_requests)
     begin, runs, reads = time.monotonic(), 0, 0
@@ -174,4 +174,4 @@ def _reply(tree: Tree, line: str) -> str:
     try:
         return tree.line(line)
     except OSError as fault:
-        raise ValueError(f"{line!r} is no line of a script: {fault.strerror}") from None
+        raise ValueError(f"{line!r} is not a line of a script: {fault.strerror}") from None

@@ -77,7 +77,7 @@ class _Parser:
         self._is_setup, self._before = True, None  # type: bool, Optional[int]
 
     def _directive(self, words: List[str]) -> bool:
-        """Takes a directive. False if it is none."""
+        """Takes a directive. False if there is no such directive."""
         if words == ["at", "rest"]:
             self._before = None
             return not self._is_setup
@@ -98,7 +98,7 @@ class _Parser:
     def take(self, number: int, line: str) -> None:
         if line.startswith("#@"):
             if not self._directive(line[2:].split()):
-                raise ValueError(f"line {number}: {line!r} is no directive, or not one for this line")
+                raise ValueError(f"line {number}: {line!r} is not a directive, or not one for this line")
         elif is_skipped(line):
             pass
         elif not self._is_setup:

@@ -67,7 +67,7 @@ def _smaller(schedule: Schedule) -> Iterator[Schedule]:
 
 
 class _Search:
-    """Looks for failures of one kind, in so many runs."""
+    """Looks for failures of one kind, in at most `runs` runs."""
 
     def __init__(self, program: Program, found: Outcome, runs: int) -> None:
         self._program, self._kind, self._left = program, found.kind, runs
@@ -101,7 +101,7 @@ class _Search:
 
 
 def shrink(program: Program, found: Outcome, runs: int) -> Outcome:
-    """Returns a failure of the same kind, with as few lines and moves as were found in so many runs."""
+    """Returns the smallest failure of the same kind, by lines and moves, that at most `runs` runs find."""
     search, best = _Search(program, found, runs), found
     while True:
         better = search.by_schedule(_smaller(best.schedule)) or search.by_moves(best.schedule)

@@ -36,7 +36,7 @@ class ExploredInstance(Instance):
         raise io.UnsupportedOperation("an explored instance has no descriptor: read it with a timeout")
 
     def read_bytes(self, size: int = _SIZE, timeout: Optional[float] = 0) -> bytes:
-        """As Instance.read_bytes(), but time does not pass: docs/EXPLORE.md says when a timeout is over."""
+        """Like Instance.read_bytes(), but no time passes: docs/EXPLORE-IN-PROCESS.md says when a timeout is over."""
         if self._ahead:
             return self._rest_of_batch(unsigned("size", size))
         data = self._player.read(self.number, unsigned("size", size), timeout)

@@ -47,10 +47,10 @@ class _Ahead(Fixed):
 
 
 class ExploreMachine(RuleBasedStateMachine):
-    """A state machine with rules by which the consumer goes on. A subclass adds rules that call change().
+    """A state machine with rules that let the consumer go on. A subclass adds rules that call change().
 
-    The run is made anew at each step, as far as it has come, so the consumer has to be deterministic. When the rules
-    are over it is made to its end, and the check is made.
+    Each step repeats the run so far, so the consumer has to be deterministic. After the last rule the run goes to its
+    end, and the check is made.
     """
 
     script = ""
@@ -89,7 +89,7 @@ class ExploreMachine(RuleBasedStateMachine):
 
     @rule(records=st.integers(1, 3))
     def read_at_most(self, records: int) -> None:
-        """The next read returns so many records at most."""
+        """Limits the next read to `records` records."""
         self._limits.append(records)
 
     def _run(self, limit: int) -> None:

@@ -1,8 +1,8 @@
 //! Every order in which it could have happened: runs event code under many schedules, and shrinks one that breaks it.
 //!
-//! A consumer is a function over a [`Tree`]. Each of its calls is a request, before whose answer lines of a script may
-//! happen; a line also happens whenever the consumer waits and no record does. A check then compares what the consumer
-//! believes with what is there.
+//! A consumer is a function over a [`Tree`]. Each of its calls is a request, and lines of a script may happen before it
+//! is answered. A line also happens whenever the consumer waits and there is no record. A check then compares what the
+//! consumer believes with what is there.
 //!
 //! ```
 //! use std::collections::BTreeSet;
@@ -34,7 +34,7 @@
 //! # Ok::<(), watchtree::explore::Fault>(())
 //! ```
 //!
-//! The consumer has to be deterministic. docs/EXPLORE.md says more.
+//! The consumer has to be deterministic. docs/EXPLORE-IN-PROCESS.md says more.
 mod moves;
 mod panics;
 mod plan;
@@ -97,7 +97,7 @@ impl fmt::Display for Failure {
     }
 }
 
-/// What the runs came to.
+/// What the runs found.
 #[derive(Clone, Debug, Default)]
 pub struct Report {
     pub runs: u64,
@@ -174,7 +174,7 @@ impl<'a, B: 'a> Explore<'a, B> {
         self.has_said_something(report)
     }
 
-    /// Runs all schedules in which so many lines at most happen before an earlier request than they would at rest.
+    /// Runs all schedules in which at most `moves` lines happen before an earlier request than they would at rest.
     pub fn moves(&self, moves: usize) -> Result<Report, Fault> {
         let mut report = Report::default();
         moved(&self.program, moves, self.queues[0], |outcome| self.count(&mut report, None, outcome));

@@ -4,8 +4,8 @@ use super::program::{Outcome, Program};
 
 type Counts = Vec<(u32, usize)>;
 
-/// Runs every schedule in which at most so many lines happen before an earlier request than they would at rest, until a
-/// run is not wanted. Each schedule is run once, those with fewer moved lines first. Lines keep their order.
+/// Runs every schedule in which at most `moves` lines happen before an earlier request than they would at rest, until
+/// `each` returns false. Each schedule is run once, those with fewer moved lines first. Lines keep their order.
 pub(crate) fn moved<B>(program: &Program<'_, B>, moves: usize, queue: u32, mut each: impl FnMut(Outcome) -> bool) {
     let mut level: Vec<Counts> = vec![Vec::new()];
     for depth in 0..=moves {
@@ -23,7 +23,7 @@ pub(crate) fn moved<B>(program: &Program<'_, B>, moves: usize, queue: u32, mut e
     }
 }
 
-/// Moves one more line: before the last request that has any, or a later one. `left` is how many each leaves.
+/// Moves one more line before the last request that has any, or a later one. `left` is how many each leaves.
 fn one_more(counts: &Counts, left: &[(u32, usize)]) -> Vec<Counts> {
     let last = counts.last().map_or(0, |it| it.0);
     let can = left.iter().filter(|it| it.1 > 0 && it.0 >= last.max(1));

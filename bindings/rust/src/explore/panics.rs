@@ -16,7 +16,7 @@ pub(crate) struct Panic {
     pub place: String,
 }
 
-/// Installs, once, a hook that is quiet while this module catches the panics of a thread, and else is the one before.
+/// Installs, once, a hook that prints nothing while this module catches a thread's panics. Else it calls the last hook.
 fn install() {
     static HOOK: Once = Once::new();
     HOOK.call_once(|| {

@@ -36,7 +36,7 @@ enum Kind {
         before: Vec<Option<u32>>,
         reads: Vec<(u32, u32)>,
     },
-    /// So many lines before each of some requests. `left` notes how many were left after those before each request.
+    /// `counts` has how many lines happen before some requests. `left` notes how many were left after each.
     Moved {
         counts: Vec<(u32, usize)>,
         left: Vec<(u32, usize)>,
@@ -75,7 +75,7 @@ impl Plan {
         }
     }
 
-    /// How many of the lines from `begin` to `end`, which is at least one, happen before a request is answered.
+    /// How many of the lines from `begin` to `end`, at least one, happen before a request is answered.
     pub fn lines(&mut self, request: u32, begin: usize, end: usize) -> usize {
         match &mut self.kind {
             Kind::Seeded { draws, odds, .. } => {

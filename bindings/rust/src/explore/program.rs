@@ -73,11 +73,11 @@ impl<'a, B> Program<'a, B> {
         }
     }
 
-    /// Looks whether each line is one, and whether what happens first is accepted.
+    /// Checks that each line is a line of a script, and that no line of the set-up is refused.
     pub fn try_script(&self) -> Result<(), Fault> {
         let mut tree = crate::Tree::open().map_err(|error| Fault(error.to_string()))?;
         let mut reply_to = |line: &String| {
-            tree.line(line, crate::QUEUE).map_err(|error| Fault(format!("{line:?} is no line of a script: {error}")))
+            tree.line(line, crate::QUEUE).map_err(|error| Fault(format!("{line:?} is not a line of a script: {error}")))
         };
         for line in &self.setup {
             let reply = reply_to(line)?;

@@ -8,7 +8,7 @@ pub(crate) const PAUSE: &str = "--";
 #[derive(Clone, Debug, PartialEq, Eq, Hash)]
 pub struct Change {
     pub line: String,
-    /// The request before whose answer it happens; at rest if there is none.
+    /// The request that is answered after it; none if it happens at rest.
     pub before: Option<u32>,
 }
 
@@ -49,7 +49,7 @@ impl Schedule {
         let mut parser = Parser::default();
         for (at, line) in text.split('\n').enumerate() {
             if !parser.take(line) {
-                return Err(Fault(format!("line {}: {line:?} is no directive, or not one for this line", at + 1)));
+                return Err(Fault(format!("line {}: {line:?} is not a directive, or not one for this line", at + 1)));
             }
         }
         let mut schedule = parser.schedule;
@@ -80,7 +80,7 @@ impl Default for Parser {
 }
 
 impl Parser {
-    /// Takes a line. False if it is a directive that is none.
+    /// Takes a line. False if it is a directive that does not exist.
     fn take(&mut self, line: &str) -> bool {
         if let Some(words) = line.strip_prefix("#@") {
             return self.directive(&words.split_whitespace().collect::<Vec<_>>());

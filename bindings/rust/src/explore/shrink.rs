@@ -4,7 +4,7 @@ use super::program::{Failed, Outcome, Program};
 use super::schedule::Schedule;
 use crate::QUEUE;
 
-/// What is tried of the schedules of a script: how many lines are moved, and how many runs are made.
+/// How far the schedules of a script are searched: how many lines are moved, and how many runs are made.
 const MOVES: usize = 3;
 const MOVED_RUNS: usize = 300;
 /// How many requests earlier a change is tried when a line before it is dropped.
@@ -73,7 +73,7 @@ fn pairs(schedule: &Schedule) -> impl Iterator<Item = Schedule> + '_ {
     })
 }
 
-/// Looks for failures of one kind, in so many runs.
+/// Looks for failures of one kind, in at most `left` runs.
 struct Search<'s, 'a, B> {
     program: &'s Program<'a, B>,
     kind: Failed,
@@ -115,7 +115,7 @@ impl<B> Search<'_, '_, B> {
     }
 }
 
-/// A failure of the same kind, with as few lines and moves as are found in so many runs.
+/// Returns the smallest failure of the same kind, by lines and moves, that at most `runs` runs find.
 pub(crate) fn shrink<B>(program: &Program<'_, B>, found: Outcome, kind: &Failed, runs: usize) -> Outcome {
     let (mut search, mut best) = (Search { program, kind: kind.clone(), left: runs }, found);
     loop {

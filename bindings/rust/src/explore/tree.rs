@@ -10,7 +10,7 @@ use std::rc::Rc;
 /// The sizes of records differ by this, in bytes.
 const STEP: usize = 16;
 
-/// What a consumer that makes too many requests is ended by.
+/// The panic that ends a consumer which makes too many requests.
 pub(crate) struct TooManyRequests;
 
 /// The tree of a consumer. Its calls are those of [`Tree`](crate::Tree), and each is a request, before whose answer
@@ -117,7 +117,7 @@ impl Tree {
         self.requests
     }
 
-    /// The consumer asks an instance in vain. A line happens; an error if none does.
+    /// Lets a line happen, as the consumer asks an instance in vain. An error if none is left.
     fn rest(&mut self, instance: Instance, waits: bool) -> Result<(), Error> {
         self.asks += 1;
         if self.asks > self.limit {
@@ -166,7 +166,7 @@ impl Tree {
         Ok(Some(events))
     }
 
-    /// Takes so many records at most: each by the shortest buffer that it fits, which fits no other after it.
+    /// Takes at most `records` records, each with the shortest buffer that it fits, so that no other follows.
     fn take_records(&mut self, instance: Instance, bytes: usize, records: u32) -> Result<Events, Error> {
         let mut taken = Vec::new();
         for _ in 0..records {
@@ -193,7 +193,7 @@ impl Tree {
         self.take(instance, 65536, true)
     }
 
-    /// As [`Tree::read`](crate::Tree::read), without waiting: [`Error::AGAIN`] if no record waits. If it is called
+    /// Like [`Tree::read`](crate::Tree::read), without waiting: [`Error::AGAIN`] if no record waits. If it is called
     /// again without another request in between, the consumer polls, so the next line happens first;
     /// [`Error::CLOSED`] if no line is left.
     pub fn read(&mut self, instance: Instance, bytes: usize) -> Result<Events, Error> {
@@ -223,7 +223,7 @@ impl Tree {
         answer
     }
 
-    /// As [`Tree::add_watch`](crate::Tree::add_watch).
+    /// Like [`Tree::add_watch`](crate::Tree::add_watch).
     pub fn add_watch(
         &mut self,
         instance: Instance,
@@ -239,7 +239,7 @@ impl Tree {
         answer
     }
 
-    /// As [`Tree::pread`](crate::Tree::pread).
+    /// Like [`Tree::pread`](crate::Tree::pread).
     pub fn pread(&mut self, path: impl AsRef<Path>, offset: u64, out: &mut [u8]) -> Result<usize, Error> {
         let (request, path) = (self.request(), path.as_ref());
         let answer = self.tree.pread(path, offset, out);
