@@ -367,7 +367,9 @@ fn add_first(
     ensures err_noted { OnErr result ((n q : ℕ) → watch_noted index.new n q ≡ watch_noted index.old n q) }
 {
     // Refused calls add nothing, no capacity either.
-    watches.check_new(mask, is_directory)?;
+    if let Err(refusal) = watches.check_new(mask, is_directory) {
+        return Err(refusal);
+    }
     index.put(number, id, first_watch(watches, mask))?;
     match watches.add(number, mask, is_directory) {
         Ok(wd) => Ok(wd),

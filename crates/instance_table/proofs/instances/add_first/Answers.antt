@@ -15,5 +15,5 @@ returns-in-Ok-clause-noted c n q =
     c.in_ok-put.ensures.ok n q
     ∙ ap (λ (o : Option Watch). cond (eqb n c.args.number && eqb q c.args.id) o (watch_noted c.args.index.now n q)) (sym there)
 
-pub returns-in_err-check_new-clause-refusals : goal.returns-in_err-check_new-clause-refusals
-returns-in_err-check_new-clause-refusals c = inl (c.in_err-check_new.ensures c.args.number c.requires.unwatched)
+pub returns-in-Err-clause-refusals : goal.returns-in-Err-clause-refusals
+returns-in-Err-clause-refusals c = inl (c.in-Err.ensures c.args.number c.requires.unwatched)
