@@ -5,7 +5,7 @@ that it hands on, and each public function of such a type or trait, by its type 
 stands for all of that name). Behind the name, in one list or several, are all clauses of its contract that have a name.
 
 The section about the promise has no crate of its own. What it names is in one of the crates that carry the promise (CARRYING),
-and it names each clause of LAW.
+and it names each clause of LAW, and each function that the crate DOORS hands on.
 """
 
 import re
@@ -16,8 +16,9 @@ CITED = re.compile(r"`([\w:]+)` \(((?:`\w+`(?:, )?)+)\)")
 NAME = re.compile(r"`([A-Za-z_][\w:]*)`")
 USE = re.compile(r"^pub use [\w:]+::(?:\{(.*?)\}|(\w+));", re.MULTILINE | re.DOTALL)
 PROMISE = "The promise, part by part"
-CARRYING = ("tree_core", "shared_tree", "event_sinks")
+CARRYING = ("tree_core", "shared_tree", "event_sinks", "watchtree_script", "watchtree_c")
 LAW = "Held::law"
+DOORS = "watchtree_c"
 
 
 def names_in(text):
@@ -68,9 +69,11 @@ def unknown(name, clauses, carrying):
 
 
 def promised(root):
-    """Yields each name that the section about the promise has, with what is wrong with it; and LAW, with what is not there."""
+    """Yields each name that the section about the promise has, with what is wrong with it; and LAW and each function of DOORS,
+    with what the section lacks of them."""
     names = names_in(promise_of(root))
     carrying = [source_of(root, crate) for crate in CARRYING]
     for name, clauses in names.items():
         yield name, [] if name.isupper() else list(unknown(name, clauses, carrying))
     yield LAW, list(lacks(LAW, set().union(*(it for functions, _ in carrying for it in functions.get(LAW, []))), names))
+    yield from ((function, list(lacks(function, set(), names))) for function, _ in handed_on(root, DOORS))
