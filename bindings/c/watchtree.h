@@ -5,6 +5,9 @@
  * A path is absolute, and is given as a pointer and a length in bytes; it need not end with a zero byte.
  * A struct wt_tree begins as zero bytes, is changed only by these functions, and is never copied while it is open:
  * wt_fork makes a second tree.
+ * The caller passes valid pointers, and to wt_fork two different structs (it returns -EBUSY for the same open tree twice,
+ * and changes nothing). No buffer overlaps a struct wt_tree, and none that a call writes overlaps another buffer of the
+ * call. Buffers that a call only reads may overlap, or be the same.
  * Only one thread may use a tree at a time; it may move between threads. watchtree_threads.h is for threads that share
  * one.
  */

@@ -24,7 +24,8 @@ int64_t wtt_open(struct wtt **tree);
 /* Opens a tree as wt_fork does and stores it in *fork: an independent tree, with a lock of its own, that answers from now
  * on exactly as tree does. Calls of other threads on tree wait only while it is copied. Neither threads that wait nor
  * descriptors are copied: wtt_fd makes a descriptor of an instance of the fork. 0, -EBADF if tree is not open, or the
- * errors of wtt_open; *fork is then NULL. It has nothing to do with fork(2). */
+ * errors of wtt_open; *fork is then NULL. It has nothing to do with fork(2). fork may point to the variable that has
+ * tree: it is lost there, so keep it elsewhere to end it. */
 int64_t wtt_fork(struct wtt *tree, struct wtt **fork);
 /* Ends a tree and its instances, and frees their memory. Every call returns -EBADF from then on, also one that waits in
  * another thread. */

@@ -274,7 +274,30 @@ class Journals(unittest.TestCase):
         tree.chmod("/d", 0o711)
         self.assertEqual([*tree.entries()], [Entry(5, "chmod /d 711", "ok\n")])
         self.assertEqual(tree.line("rmdir /d"), "err ENOTEMPTY 39\n")
-        self.assertEqual(tree.script(), "chmod /d 711\n# ok\nrmdir /d\n# err ENOTEMPTY 39\n")
+        begins = "# The journal begins with call 5: this is no script of an empty tree.\n"
+        self.assertEqual(tree.script(), f"{begins}chmod /d 711\n# ok\nrmdir /d\n# err ENOTEMPTY 39\n")
+        self.assertEqual(fork.script(), f"{begins}chmod /d 700\n# ok\n")
+
+    def test_a_script_of_a_fork_is_for_a_tree_like_it(self):
+        def run(tree, script):
+            return [reply for reply in map(tree.line, script.splitlines()) if reply]
+
+        tree, _ = made()
+        before, like = tree.script(), tree.fork()
+        fork = tree.fork()
+        tree.cut()
+        for it in (tree, fork):
+            it.unlink("/d/f")
+            it.mkdir("/e")
+            entries, script = [*it.entries()], it.script()
+            self.assertEqual(script.partition("\n")[2], "unlink /d/f\n# ok\nmkdir /e 755\n# ok 4\n")
+            # On an empty tree it is another run; behind what was cut off, or on a fork of that moment, the same.
+            with Tree() as empty, Tree() as whole, like.fork() as again:
+                self.assertEqual(run(empty, script), ["err ENOENT 2\n", "ok 2\n"])
+                run(whole, before)
+                for other in (whole, again):
+                    self.assertEqual(run(other, script), [entry.reply for entry in entries])
+                    self.assertEqual(other.line("cut"), "ok 6\n")
 
     def test_a_journal_that_changes_meanwhile(self):
         tree, _ = made()

@@ -256,6 +256,22 @@ def test_program(program, seed):
     print(f"{len(scribe.lines)} calls of seed {seed}, {accepted} of them accepted")
 
 
+def test_long_journal(program):
+    """The program refuses the script of a journal that is too long for it before its first call. Its lines still run."""
+    for size in (500_000, 600_000):
+        with Tree() as tree, Tree() as replay:
+            tree.create("/f")
+            tree.write("/f", b"x" * size)
+            script, wanted = tree.script(), "".join(it.reply for it in tree.entries())
+            ran = subprocess.run([program, "run"], input=script.encode(), capture_output=True, check=False)
+            if len(script) <= 1_048_576:
+                assert (ran.returncode, ran.stdout.decode()) == (0, wanted), ran
+            else:
+                assert (ran.returncode, ran.stdout, ran.stderr) == (2, b"", b"watchtree: script too long\n"), ran
+            assert "".join(replay.line(it) for it in script.splitlines()) == wanted and replay.script() == script
+    assert len(script) > 1_048_576
+
+
 TESTS = [test_session, test_refusals, test_room, test_example]
 
 
@@ -275,6 +291,8 @@ def main():
     for test in TESTS:
         if not asked.names or test.__name__ in asked.names:
             test()
+    if not asked.names or "test_long_journal" in asked.names:
+        test_long_journal(asked.program)
     if not asked.names or "test_program" in asked.names:
         try:
             test_program(asked.program, asked.seed)

@@ -25,6 +25,11 @@ def mask_of(line):
     return int(line.words[2], 16) if line.name == "watch" else 0
 
 
+def is_over_limit(line):
+    """Whether a line writes bytes on both sides of the greatest length of a file."""
+    return line.name == "write" and int(line.words[1]) < MOST_BYTES < end_of(line)
+
+
 def end_of(line):
     """Where the bytes end that a call asks for."""
     if line.name == "write":
@@ -41,6 +46,7 @@ def text_class(line, mine, other):
         "path-text": mine in TEXT_FAULTS and any(map(is_odd, paths_of(line))),
         "mode-bits": mine == "EINVAL" and mode_of(line) > MOST_MODE,
         "offset-sign": other == "EINVAL" and end_of(line) >= SIGNED,
+        "short-write": (mine, other) == ("EFBIG", None) and is_over_limit(line),
         "file-size": (mine, other) == ("EFBIG", None) and end_of(line) > MOST_BYTES,
         "whiteout": mine == "EINVAL" and flags in (4, 5),
         "unknown-mask-bits": other == "EINVAL" and mask & UNKNOWN_BITS,

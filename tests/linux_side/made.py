@@ -74,6 +74,7 @@ SHOWN = {
     "directory-stat": "mkdir /d 755\nstat /d\nstat /",
     "list-order": "create /b 644\ncreate /a 644\ncreate /c 644\nlist /",
     "file-size": "create /f 644\nwrite /f 16777216 61\ntruncate /f 16777217",
+    "short-write": "create /f 644\nwrite /f 16777215 6162\nwrite /f 16777215 61\nwrite /f 16777210 6162636465666768",
     "offset-sign": "create /f 644\nwrite /f 9223372036854775808 61\ncat /f 9223372036854775807 9\n"
                    "truncate /f 9223372036854775808",
     "unlink-directory": "mkdir /d 755\nunlink /d\nunlink /",

@@ -144,9 +144,15 @@ class Tree:
     def script(self) -> str:
         """Returns the journal as a script: each call as its line, and its reply in lines that begin with `# `.
 
-        On a new tree, or on one like this tree where its journal begins, it makes the same calls with the same replies.
+        Run on a new tree it makes the same calls with the same replies. After a cut, and in a fork, the journal begins with
+        a later call, and the script with a comment that says so: it is for a tree as this one was then.
         """
-        return "".join(text for _, text in self._journal(*self._bounds()))
+        lines: List[str] = []
+        for place, text in self._journal(*self._bounds()):
+            if place > 1 and not lines:
+                lines.append(f"# The journal begins with call {place}: this is no script of an empty tree.\n")
+            lines.append(text)
+        return "".join(lines)
 
     def cut(self) -> int:
         """Cuts the journal of calls, and returns the sequence number of the last one."""

@@ -232,10 +232,19 @@ macro_rules! calls {
 
         /// The journal as a script: each call as its line, and its reply in lines that begin with `# `.
         ///
-        /// On a new tree, or on one like this tree where its journal begins, it makes the same calls with the same
-        /// replies.
+        /// Run on a new tree it makes the same calls with the same replies. After a `cut`, and in a fork, the journal
+        /// begins with a later call, and the script with a comment that says so: it is for a tree as this one was then.
         pub fn script($($receiver)+) -> Result<String, Error> {
-            $me.entries()?.map(|it| it.map(|it| it.to_string())).collect()
+            let mut script = String::new();
+            for entry in $me.entries()? {
+                let entry = entry?;
+                if script.is_empty() && entry.place > 1 {
+                    let place = entry.place;
+                    script = format!("# The journal begins with call {place}: this is no script of an empty tree.\n");
+                }
+                script += &entry.to_string();
+            }
+            Ok(script)
         }
     };
 }

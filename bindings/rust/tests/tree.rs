@@ -159,7 +159,8 @@ fn a_journal_is_a_script() -> Result<(), Error> {
     assert_eq!((last.line.as_str(), last.place), ("mkdir /a%20b 755", tree.cut()?));
     assert_eq!(tree.script()?, "");
     tree.chmod("/", 0o700)?;
-    assert_eq!(tree.script()?, "chmod / 700\n# ok\n");
+    let begins = format!("# The journal begins with call {}: this is no script of an empty tree.\n", last.place + 1);
+    assert_eq!(tree.script()?, format!("{begins}chmod / 700\n# ok\n"));
     Ok(())
 }
 

@@ -1,0 +1,40 @@
+/* A cut frees what the entries of the journal held, and the memory for the entries: all bytes of the library are counted.
+ * Linked with --wrap=malloc,--wrap=realloc,--wrap=free. */
+#include "counting.h"
+#include "watchtree.h"
+#include <inttypes.h>
+#include <stdio.h>
+#include <stdlib.h>
+#include <string.h>
+
+#define PATH(s) s, strlen(s)
+#define IS(call, wanted) is(#call, __LINE__, (call), (wanted))
+
+enum { CALLS = 20000, BYTES = 1000 };
+
+/* Ends the test at the first answer that is wrong. */
+static void is(const char *what, int line, int64_t number, int64_t wanted) {
+    if (number == wanted) return;
+    printf("cuts.c:%d: %s is %" PRId64 ", and not %" PRId64 "\n", line, what, number, wanted);
+    exit(1);
+}
+
+/* Calls that leave the tree as it is. The entry of each holds the bytes that it read. */
+static void read_often(struct wt_tree *t, int calls) {
+    static char out[BYTES];
+    for (int i = 0; i < calls; i++) IS(wt_pread(t, PATH("/f"), 0, out, BYTES), BYTES);
+}
+
+int main(void) {
+    struct wt_tree t = WT_TREE_INIT;
+    static const char bytes[BYTES] = "hello";
+    IS(wt_open(&t), 0), IS(wt_create(&t, PATH("/f"), 0644), 2), IS(wt_write(&t, PATH("/f"), 0, bytes, BYTES), BYTES);
+    read_often(&t, 1), IS(wt_cut(&t), 3);
+    size_t least = allocated;
+    read_often(&t, CALLS);
+    size_t held = allocated - least;
+    IS(held >= (size_t)CALLS * BYTES, 1), IS(wt_cut(&t), 3 + CALLS), IS(allocated - least, 0);
+    wt_close(&t);
+    IS(allocated, 0);
+    printf("%zu bytes of %d entries, all of which a cut freed\n", held, CALLS);
+}
