@@ -1,0 +1,27 @@
+#!/bin/sh
+# Calls that wait for a file system or a page of the program's own hold up no others: blocked.sh UNDER
+set -u
+tests=$(dirname -- "$0")
+under=$1
+room=$(mktemp -d)
+trap 'rm -rf "$room"' EXIT
+if [ "$(id -u)" != 0 ] || ! unshare -m true 2>/dev/null; then
+    echo 'left out calls that wait for the program: it wants root and unshare'
+    exit 0
+fi
+if ! cc -O1 -Wall -Wextra -Werror "$tests/blocked.c" -lpthread -o "$room/blocked"; then
+    echo 'left out calls that wait for the program: it wants a C compiler'
+    exit 0
+fi
+: >"$room/empty"
+mkdir "$room/disk" "$room/own"
+timeout -k 5 100 unshare -m sh -c 'mount -t tmpfs tmpfs "$1/disk" && exec "$1/blocked" "$1/disk" "$1/own"' sh "$room" \
+    >"$room/there" 2>&1
+timeout -k 5 100 "$under" "$room/empty" -- "$room/blocked" /wt "$room/own" >"$room/here" 2>"$room/said"
+if ! grep -q 'a call that waited: ENOENT' "$room/there"; then
+    echo "FAILED calls that wait for the program: on a tmpfs: $(tail -n 1 "$room/there")"
+elif cmp -s "$room/there" "$room/here"; then
+    echo 'ok calls that wait for the program hold up no others'
+else
+    echo "FAILED calls that wait for the program: $(diff "$room/there" "$room/here" | head -n 4 | tr '\n' ' ') $(tail -n 1 "$room/said")"
+fi
