@@ -1,6 +1,6 @@
-/* Calls that wait for the program itself, and others that do not: blocked TREE MOUNTPOINT. A thread serves a FUSE mount and a
- * page of memory that comes when it is asked for. Other threads make calls of a path there, and wait. Meanwhile calls of other
- * paths are answered. */
+/* Calls that wait for the program itself, and others that do not: blocked TREE MOUNTPOINT [many]. A thread serves a FUSE
+ * mount and a page of memory that comes when it is asked for. Other threads make calls of a path there, and wait. Meanwhile
+ * calls of other paths are answered. With `many`, threads make calls until one is refused by ENOMEM. */
 #define _GNU_SOURCE
 #include <errno.h>
 #include <fcntl.h>
@@ -23,7 +23,8 @@
 #include <sys/vfs.h>
 #include <unistd.h>
 
-enum { PAGE = 4096, REQUEST = 1 << 17, WAITERS = 12, FILE_NODE = 2 };
+enum { PAGE = 4096, REQUEST = 1 << 17, WAITERS = 12, MOST = 200, FILE_NODE = 2 };
+#define REFUSED UINT64_MAX              /* in place of the number of a request */
 static const char *mountpoint;
 static char *page;
 static int device, faults, instance, is_held[2];
@@ -126,6 +127,7 @@ static void *wait_in_call(void *of) {
     snprintf(path, sizeof path, "%s/none%d", mountpoint, it->kind);
     long result = it->kind == 0 ? watch(page) : it->kind % 2 ? watch(path) : statfs(path, &is);
     it->error = result < 0 ? errno : 0;
+    if (it->error == ENOMEM) hold(REFUSED);
     return NULL;
 }
 
@@ -149,31 +151,54 @@ static void make_calls(void) {
     show("close of the file", close(file));
 }
 
+static struct waiter waiters[MOST];
+static uint64_t held[MOST];
+
+/* Starts a call. Whether it waits now. */
+static bool start_waiter(int i, int kind) {
+    waiters[i].kind = kind;
+    if (pthread_create(&waiters[i].thread, NULL, wait_in_call, waiters + i)) fail("pthread_create");
+    if (read(is_held[0], held + i, 8) != 8) fail("pipe");
+    return held[i] != REFUSED;
+}
+
+static void release(int count) {
+    struct uffdio_copy copy = { .dst = (uintptr_t)page, .src = (uintptr_t)memcpy(malloc(PAGE), "d", 2), .len = PAGE };
+    must(ioctl(faults, UFFDIO_COPY, &copy), "userfaultfd");
+    holds = false;
+    for (int i = 0; i < count; i++) if (held[i] && held[i] != REFUSED) reply(held[i], -ENOENT, NULL, 0);
+    for (int i = 0; i < count; i++) pthread_join(waiters[i].thread, NULL);
+}
+
+static void wait_in_some(void) {
+    for (int i = 0; i < WAITERS; i++) start_waiter(i, i);
+    show("all wait", 0);
+    make_calls();
+    release(WAITERS);
+    for (int i = 0; i < WAITERS; i++) {
+        errno = waiters[i].error;
+        show("a call that waited", errno ? -1 : 0);
+    }
+}
+
+static void wait_in_many(void) {
+    int count = 0;
+    while (count < MOST && start_waiter(count, 2 * count + 1)) count++;
+    if (count == MOST) fail("all wait");
+    show("a further call", watch("d"));
+    release(count + 1);
+    show("a call after them", watch("d"));
+}
+
 int main(int words, char **word) {
-    struct waiter waiters[WAITERS];
-    uint64_t held[WAITERS];
-    if (words != 3) return 2;
+    if (words < 3) return 2;
     mountpoint = word[2];
     must(chdir(word[1]), word[1]);
     must(mkdir("d", 0755), "d");
     instance = must(inotify_init1(0), "inotify_init1");
     start_serving();
-    for (int i = 0; i < WAITERS; i++) {
-        waiters[i].kind = i;
-        if (pthread_create(&waiters[i].thread, NULL, wait_in_call, waiters + i)) fail("pthread_create");
-        if (read(is_held[0], held + i, 8) != 8) fail("pipe");
-    }
-    show("all wait", 0);
-    make_calls();
-    struct uffdio_copy copy = { .dst = (uintptr_t)page, .src = (uintptr_t)memcpy(malloc(PAGE), "d", 2), .len = PAGE };
-    must(ioctl(faults, UFFDIO_COPY, &copy), "userfaultfd");
-    holds = false;
-    for (int i = 1; i < WAITERS; i++) reply(held[i], -ENOENT, NULL, 0);
-    for (int i = 0; i < WAITERS; i++) {
-        pthread_join(waiters[i].thread, NULL);
-        errno = waiters[i].error;
-        show("a call that waited", errno ? -1 : 0);
-    }
+    if (words == 3) wait_in_some();
+    else wait_in_many();
     must(umount2(mountpoint, MNT_DETACH), mountpoint);
     return 0;
 }
