@@ -46,7 +46,8 @@ int read_path(const struct seccomp_notif *call, uint64_t from, char path[PATH_MA
     /* A page that is not there ends what is read before it. */
     size_t first = PAGE - from % PAGE;
     struct iovec to = { path, PATH_MAX };
-    struct iovec pages[] = { { (void *)(uintptr_t)from, first }, { (void *)(uintptr_t)(from + first), PATH_MAX - first } };
+    struct iovec pages[] = { { (void *)(uintptr_t)from, first },
+                             { (void *)(uintptr_t)(from + first), PATH_MAX - first } };
     ssize_t count = process_vm_readv((pid_t)call->pid, &to, 1, pages, first < PATH_MAX ? 2 : 1, 0);
     int error = errno;
     if (!is_valid(call)) return -ESRCH;
@@ -70,10 +71,10 @@ static bool is_writable(FILE *maps, uint64_t at, size_t size) {
     return at >= last && last >= size;
 }
 
-/* Not by process_vm_writev(2): if the call ended between the look and the write, the number could be another task's, whose
- * memory would change. The files in /proc stay the caller's whatever becomes of its number. As one would force the bytes into
- * memory that is only to be read, the other is asked first. If a thread of the caller takes the right to write away between
- * the two, it is as if the bytes had come before. */
+/* Not by process_vm_writev(2): if the call ended between the look and the write, the number could be another task's,
+ * whose memory would change. Files of /proc stay the caller's whatever becomes of its number. /proc/PID/mem forces
+ * bytes into memory that may only be read, so /proc/PID/maps is asked first. If a thread of the caller takes the
+ * right to write away between the two, it is as if the bytes had come before. */
 int write_memory(const struct seccomp_notif *call, uint64_t to, const void *bytes, size_t size) {
     int memory = open_in_proc(call, "mem", O_WRONLY), fd = open_in_proc(call, "maps", O_RDONLY), reply = -EACCES;
     FILE *maps = fd < 0 ? NULL : fdopen(fd, "r");

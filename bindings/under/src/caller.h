@@ -1,5 +1,5 @@
-/* What the supervisor takes from a caller: descriptors and memory. Each by the rules of ptrace(2), so nobody learns more by
- * the supervisor than without it. */
+/* What the supervisor takes from a caller: descriptors and memory. Each by the rules of ptrace(2), so nobody learns
+ * more by the supervisor than without it. */
 #ifndef CALLER_H
 #define CALLER_H
 #include "under.h"

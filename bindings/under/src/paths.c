@@ -1,5 +1,5 @@
-/* What a path is to a caller. The kernel walks it, with the caller's root, working directory and rights, and never with a link
- * on the way: a link of /proc may speak of whoever follows it. A path with links is walked here, name by name. */
+/* What a path is to a caller. The kernel walks it, with the caller's root, working directory and rights, if there is no
+ * link on the way: a link of /proc may speak of whoever follows it. A path with links is walked here, name by name. */
 #include "paths.h"
 #include "caller.h"
 #include "rights.h"
@@ -35,7 +35,7 @@ struct walk {
     const struct seccomp_notif *call;
     const struct identity *who;
     int at;                         /* the directory that is reached */
-    int own;                        /* how deep it is in the caller's own directory of /proc, where the kernel grants it all */
+    int own;                        /* how deep it is in the caller's own directory of /proc, which is open to it */
     int links;
     char left[2 * PATH_MAX];        /* the names that are left */
 };
@@ -65,8 +65,8 @@ static bool has_our_numbers(int fd) {
     return atoi(text) == getpid();
 }
 
-/* How deep a name leads into the caller's own directory of /proc: 0 if it does not. The files of map_files take rights of
- * their own. */
+/* How deep a name leads into the caller's own directory of /proc: 0 if it does not. The files of map_files take further
+ * rights. */
 static int next_own(const struct walk *it, const char *name) {
     char own[32];
     if (!strcmp(name, "map_files")) return 0;
@@ -83,7 +83,8 @@ static int open_name(struct walk *it, const char *name, int flags) {
     return fd;
 }
 
-/* The text of a link: 0 or -errno. Those in the root of /proc that speak of the reader are made to speak of the caller. */
+/* The text of a link: 0 or -errno. Links in the root of /proc that speak of the reader are made to speak of the
+ * caller. */
 static int read_link(const struct walk *it, int link, const char *name, char text[PATH_MAX]) {
     bool is_thread = !strcmp(name, "thread-self");
     if ((is_thread || !strcmp(name, "self")) && is_root_of_proc(it->at)) {
@@ -187,7 +188,8 @@ static int go_to_root(struct walk *it) {
     return 0;
 }
 
-static int walk(const struct seccomp_notif *call, const struct identity *who, int start, const char *path, bool follows) {
+static int walk(const struct seccomp_notif *call, const struct identity *who, int start, const char *path,
+                bool follows) {
     static _Thread_local struct walk it;
     it = (struct walk){ .call = call, .who = who, .at = fcntl(start, F_DUPFD_CLOEXEC, 3) };
     if (it.at < 0) return -errno;

@@ -7,9 +7,11 @@
 
 /* Keeps the root of this process, before the first open_for(). */
 void keep_own_root(void);
-enum { FOLLOWS = 1, READS = 2 };    /* a link that the path ends with; only what the caller may read, outside the tree */
-/* Opens (O_PATH) what the path is to the caller: its descriptor, or -errno. Meanwhile the thread has the caller's root, so it
- * shares its own with no other thread (unshare(2) with CLONE_FS). */
+/* How a path is opened: also through a link at its end; only if the caller may read the file. (It may read the
+ * tree.) */
+enum { FOLLOWS = 1, READS = 2 };
+/* Opens (O_PATH) what the path is to the caller: its descriptor, or -errno. Meanwhile the thread has the caller's
+ * root, so it shares its own with no other thread (unshare(2) with CLONE_FS). */
 int open_for(const struct seccomp_notif *call, const char *path, int how);
 /* What a file is, as far as the kernel knows without asking its file system, which may wait for the program. */
 bool look(int fd, struct statx *out);

@@ -19,7 +19,7 @@ struct identity {
 bool read_identity(const struct seccomp_notif *call, struct identity *out);
 /* Keeps the rights of this process, before the first act_as(). */
 void keep_own_rights(void);
-/* This thread opens as somebody, and as this process again. False if it may not, and then its rights are as they were. */
+/* This thread opens as somebody, and as this process again. False if it may not: then its rights are as they were. */
 bool act_as(const struct identity *who);
 void act_as_self(void);
 #endif

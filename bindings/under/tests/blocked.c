@@ -1,6 +1,6 @@
-/* Calls that wait for the program itself, and others that do not: blocked TREE MOUNTPOINT [many]. A thread serves a FUSE
- * mount and a page of memory that comes when it is asked for. Other threads make calls of a path there, and wait. Meanwhile
- * calls of other paths are answered. With `many`, threads make calls until one is refused by ENOMEM. */
+/* Calls that wait for the program itself, and others that do not: blocked TREE MOUNTPOINT [many]. A thread serves a
+ * FUSE mount and a page of memory that comes when it is asked for. Others make calls of a path there, and wait.
+ * Meanwhile calls of other paths are answered. With `many`, threads make calls until one is refused by ENOMEM. */
 #define _GNU_SOURCE
 #include <errno.h>
 #include <fcntl.h>
@@ -65,7 +65,8 @@ static void serve_request(void) {
     const struct fuse_in_header *head = (const void *)request;
     const char *name = request + sizeof *head;
     if (head->opcode == FUSE_INIT) {
-        struct fuse_init_out out = { .major = FUSE_KERNEL_VERSION, .minor = 31, .max_write = PAGE, .flags = FUSE_PARALLEL_DIROPS };
+        struct fuse_init_out out = { .major = FUSE_KERNEL_VERSION, .minor = 31, .max_write = PAGE,
+                                     .flags = FUSE_PARALLEL_DIROPS };
         reply(head->unique, 0, &out, sizeof out);
     } else if (head->opcode == FUSE_GETATTR && head->nodeid == FUSE_ROOT_ID) {
         struct fuse_attr_out out = { .attr = attributes(head->nodeid) };

@@ -23,12 +23,13 @@ if ! grep -q 'a call that waited: ENOENT' "$room/there"; then
 elif cmp -s "$room/there" "$room/here"; then
     echo 'ok calls that wait for the program hold up no others'
 else
-    echo "FAILED calls that wait for the program: $(diff "$room/there" "$room/here" | head -n 4 | tr '\n' ' ') $(tail -n 1 "$room/said")"
+    echo "FAILED calls that wait for the program: $(diff "$room/there" "$room/here" | head -n 4 | tr '\n' ' ')" \
+        "$(tail -n 1 "$room/said")"
 fi
 
 # Each call that waits takes a thread of the supervisor, and address space for its stack.
-timeout -k 5 100 prlimit --as=200000000: "$under" "$room/empty" -- prlimit --as=unlimited: "$room/blocked" /wt "$room/own" many \
-    >"$room/here" 2>"$room/said"
+timeout -k 5 100 prlimit --as=200000000: "$under" "$room/empty" -- \
+    prlimit --as=unlimited: "$room/blocked" /wt "$room/own" many >"$room/here" 2>"$room/said"
 if [ "$(tr '\n' ' ' <"$room/here")" = 'a further call: ENOMEM a call after them: ok ' ]; then
     echo 'ok a call for which the supervisor has no thread is ENOMEM'
 else

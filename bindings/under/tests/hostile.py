@@ -1,8 +1,8 @@
 #!/usr/bin/python3
 """Names that look like lines of a trace: hostile.py DIRECTORY FILE, or hostile.py check TRACE SCRIPT FILE.
 
-The first makes calls of such names, and leaves in FILE which watches it made and which records it took. The second looks
-whether the trace has these, the lines of the script, requests, and nothing else."""
+The first makes calls of such names, and leaves in FILE which watches it made and which records it took. The second
+looks whether the trace has these, the lines of the script, requests, and nothing else."""
 import collections
 import ctypes
 import os
@@ -11,11 +11,12 @@ import struct
 import sys
 
 LIBRARY = ctypes.CDLL(None, use_errno=True)
-IN_CREATE, IN_MOVED_FROM, IN_MOVED_TO, IN_DELETE = 0x100, 0x40, 0x80, 0x200
-NAMES = [b"a\n# watch 1 :d 0x100: 7", b"a\n> create :x 644\nok 9", b"a\n< 1 wd 1 CREATE name x", b"\n? 7 lookup :x",
-         b"\r@9 > unlink :x", b"@9 > mkdir :x 755", b"> create :x 644", b"? 7 create :x", b"< 1 wd 1 DELETE", b"# ended 0", b"#", b"?", b">", b"@", b"<",
-         b"\x1b[2K\x1b[1A", b"\x08\x08\x7f", b"\xc2\x85\xe2\x80\xa8", b"\xff\xfe", b"name x", b" ", b"\t", b"%0a", b"%", b"\\n",
-         b"gone", b"outside", b"--", b"x 0x100: 7", b"n" * 255]
+EVENTS = {0x40: "MOVED_FROM", 0x80: "MOVED_TO", 0x100: "CREATE", 0x200: "DELETE"}
+NAMES = [b"a\n# watch 1 :d 0x100: 7", b"a\n> create :x 644\nok 9", b"a\n< 1 wd 1 CREATE name x",
+         b"\n? 7 lookup :x", b"\r@9 > unlink :x", b"@9 > mkdir :x 755", b"> create :x 644", b"? 7 create :x",
+         b"< 1 wd 1 DELETE", b"# ended 0", b"#", b"?", b">", b"@", b"<", b"\x1b[2K\x1b[1A", b"\x08\x08\x7f",
+         b"\xc2\x85\xe2\x80\xa8", b"\xff\xfe", b"name x", b" ", b"\t", b"%0a", b"%", b"\\n", b"gone", b"outside",
+         b"--", b"x 0x100: 7", b"n" * 255]
 
 
 def spelled(name):
@@ -29,7 +30,7 @@ def act(directory, out):
     for name in NAMES:
         path = b"d/" + name
         os.mkdir(path)
-        watch = LIBRARY.inotify_add_watch(instance, path, IN_CREATE | IN_MOVED_FROM | IN_MOVED_TO | IN_DELETE)
+        watch = LIBRARY.inotify_add_watch(instance, path, sum(EVENTS))
         print(f"# watch 1 /{spelled(path)} 0x3c0: {watch}", file=out)
         os.close(os.open(path + b"/" + name, os.O_CREAT | os.O_WRONLY))
         os.rename(path + b"/" + name, path + b"/" + name[::-1])
@@ -43,9 +44,9 @@ def act(directory, out):
                 break
         while at < len(stored):
             wd, mask, cookie, size = struct.unpack_from("iIII", stored, at)
-            what = {IN_CREATE: "CREATE", IN_MOVED_FROM: "MOVED_FROM", IN_MOVED_TO: "MOVED_TO", IN_DELETE: "DELETE"}[mask]
             shown = f" cookie {cookie}" if cookie else ""
-            print(f"< 1 wd {wd} {what}{shown} name {spelled(stored[at + 16:at + 16 + size].rstrip(bytes(1)))}", file=out)
+            taken = spelled(stored[at + 16:at + 16 + size].rstrip(bytes(1)))
+            print(f"< 1 wd {wd} {EVENTS[mask]}{shown} name {taken}", file=out)
             at += 16 + size
 
 

@@ -10,7 +10,8 @@ for seed in 1 2; do
         /usr/bin/python3 "$tests/hostile.py" /wt "$room/calls" >"$room/error" 2>&1
     cat "$room/out$seed/stderr" >>"$room/error" 2>/dev/null
     sed -n '/^#@/!p' "$room/out$seed/schedule" >"$room/happened"
-    if what=$(/usr/bin/python3 "$tests/hostile.py" check "$room/out$seed/trace" "$room/happened" "$room/calls" 2>&1); then
+    if what=$(/usr/bin/python3 "$tests/hostile.py" check "$room/out$seed/trace" "$room/happened" "$room/calls" 2>&1)
+    then
         echo "ok names like lines of a trace, seed $seed: $what"
     else
         echo "FAILED names like lines of a trace, seed $seed: $what $(tail -n 3 "$room/error" | tr '\n' ' ')"

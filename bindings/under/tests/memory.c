@@ -1,4 +1,5 @@
-/* What calls make of memory that may not be read or written, or is not there: memory DIRECTORY. A line for each call. */
+/* What calls make of memory that may not be read or written, or is not there: memory DIRECTORY. A line for each
+ * call. */
 #define _GNU_SOURCE
 #include <errno.h>
 #include <stdint.h>

@@ -23,5 +23,6 @@ if [ "$(tail -n 1 there)" != 'statfs at the end of the memory: EFAULT' ]; then
 elif diff there here >differs; then
     echo "ok $(wc -l <here) calls with memory are answered as on a tmpfs"
 else
-    echo "FAILED calls with memory: $(grep -c '^>' differs) of $(wc -l <there) differ: $(head -n 5 differs said | tr '\n' ' ')"
+    echo "FAILED calls with memory: $(grep -c '^>' differs) of $(wc -l <there) differ:" \
+        "$(head -n 5 differs said | tr '\n' ' ')"
 fi

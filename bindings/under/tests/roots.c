@@ -1,6 +1,7 @@
-/* Paths of a program that changes its root, its working directory, its mounts or its user: roots MODE USER DIRECTORY OUTSIDE.
- * Both directories are made ready here. A line for each path: what a watch and statfs(2) of it answer. `roots --list` prints
- * the modes. USER is `same`; `nobody`, after the roots are changed; or `mapped`: root in a user namespace of its own. */
+/* Paths of a program that changes its root, its working directory, its mounts or its user: roots MODE USER TREE
+ * OUTSIDE. Both directories are filled here. A line for each path: what a watch and statfs(2) of it answer. `roots
+ * --list` prints the modes. USER is `same`; `nobody`, after the roots are changed; or `mapped`: root in a user
+ * namespace of its own. */
 #define _GNU_SOURCE
 #include <errno.h>
 #include <fcntl.h>
@@ -47,11 +48,12 @@ static void ask(const char *path) { ask_as(path, path); }
 /* The paths that lead out of a root, and some that do not. */
 static void ask_all(void) {
     static const char *const paths[] = {
-        ".", "..", "/", "/..", "/d", "/d/", "/d/.", "d", "../d", "../../d", "../../../../d", "/../d", "f", "/f", "d/f", "d/f/",
-        "d/f/..", "../jail", "../jail/d", "/jail", "/only", "../only", "../only/f", "d/../../only", "/d/../../only", "/etc/passwd",
-        "../etc/passwd", "../../etc/passwd", "../../../etc/passwd", "../../../../../etc/passwd", "/proc/self/cwd", "/proc/self/cwd/..",
-        "/proc/self/root", "/proc/self/root/d", "/proc/self/root/../only", "/proc/self/../..", "/proc/1/root/etc/passwd",
-        "/dev/fd/0", "/none", "none/..", "t/d", "t/../..", "abs", "abs/f", "up", "up/only", "own", "own/d", "here", "loop", "/etc",
+        ".", "..", "/", "/..", "/d", "/d/", "/d/.", "d", "../d", "../../d", "../../../../d", "/../d", "f", "/f", "d/f",
+        "d/f/", "d/f/..", "../jail", "../jail/d", "/jail", "/only", "../only", "../only/f", "d/../../only",
+        "/d/../../only", "/etc/passwd", "../etc/passwd", "../../etc/passwd", "../../../etc/passwd",
+        "../../../../../etc/passwd", "/proc/self/cwd", "/proc/self/cwd/..", "/proc/self/root", "/proc/self/root/d",
+        "/proc/self/root/../only", "/proc/self/../..", "/proc/1/root/etc/passwd", "/dev/fd/0", "/none", "none/..",
+        "t/d", "t/../..", "abs", "abs/f", "up", "up/only", "own", "own/d", "here", "loop", "/etc",
     };
     for (size_t i = 0; i < sizeof paths / sizeof *paths; i++) ask(paths[i]);
 }
@@ -173,7 +175,8 @@ static void with_numbers(void) {
     ask("/proc/thread-self/cwd/d");
 }
 
-/* Something is mounted in the program's own directory of /proc: a directory that it may not search, and another process. */
+/* Something is mounted in the program's own directory of /proc: a directory that it may not search, and another
+ * process. */
 static void over_proc(void) {
     unshare_mounts();
     must(chdir(outside), outside);
@@ -209,8 +212,9 @@ static void in_proc(void) {
     int at = open("d", O_RDONLY | O_DIRECTORY), file = open("d/f", O_RDONLY);
     if (at < 0 || file < 0) fail("d");
     static const char *const forms[] = {
-        "/proc/self/fd/%d", "//proc/self/fd/%d", "/proc//self/./fd/%d", "/proc/self/../self/fd/%d", "/proc/thread-self/fd/%d",
-        "/dev/fd/%d", "/dev//fd/%d", "/proc/self/fd/%d/", "/proc/self/fd/%d/f", "/proc/self/fd/%d/..", "/proc/self/fd/%d/../only",
+        "/proc/self/fd/%d", "//proc/self/fd/%d", "/proc//self/./fd/%d", "/proc/self/../self/fd/%d",
+        "/proc/thread-self/fd/%d", "/dev/fd/%d", "/dev//fd/%d", "/proc/self/fd/%d/", "/proc/self/fd/%d/f",
+        "/proc/self/fd/%d/..", "/proc/self/fd/%d/../only",
         "/proc/self/task/../fd/%d", "/proc/self/task/../../self/fd/%d", "../../../../../../proc/self/fd/%d",
         "/proc/self/fd/../fd/%d", "/proc/self/root/proc/self/fd/%d",
     };
@@ -257,7 +261,8 @@ static void in_shared(void) {
 static const struct { const char *name; void (*change)(void); } modes[] = {
     { "as-it-is", as_it_is }, { "root", with_root }, { "outside-root", outside_root }, { "deep-in-root", deep_in_root },
     { "root-with-links", root_with_links }, { "root-with-proc", root_with_proc }, { "pivot", with_pivot },
-    { "mounts", with_mounts }, { "over-proc", over_proc }, { "numbers", with_numbers }, { "proc", in_proc }, { "shared", in_shared },
+    { "mounts", with_mounts }, { "over-proc", over_proc }, { "numbers", with_numbers }, { "proc", in_proc },
+    { "shared", in_shared },
 };
 enum { MODES = sizeof modes / sizeof *modes };
 

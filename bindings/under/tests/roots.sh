@@ -18,7 +18,8 @@ fi
 mkdir "$room/tree"
 mknod -m 666 "$room/fuse" c 10 229
 
-# Runs words in a namespace of mounts, after a command that mounts there, beside a new directory.   among OWNER COMMAND WORDS..
+# Runs words in a namespace of mounts, after a command that mounts there, beside a new directory.
+#   among OWNER COMMAND WORDS..
 among() {
     owner=$1 command=$2
     shift 2
@@ -28,7 +29,7 @@ among() {
     (cd "$room" && timeout 100 unshare -m sh -c "$command"' && exec "$@"' sh "$@")
 }
 
-# Compares a mode. Lines that match a pattern may differ, as paths that are refused.   compare OWNER MODE USER REFUSED WORDS..
+# Compares a mode. Paths that match a pattern may be refused.   compare OWNER MODE USER REFUSED WORDS..
 compare() {
     owner=$1 mode=$2 user=$3 refused=$4
     shift 4
@@ -42,7 +43,8 @@ compare() {
     if ! grep -q '^/etc:' "$room/disk"; then
         echo "FAILED $name: on a tmpfs: $(tail -n 1 "$room/disk")"
     elif [ -s "$room/differs" ] || [ "$(wc -l <"$room/disk")" != "$(wc -l <"$room/here")" ]; then
-        echo "FAILED $name: $(wc -l <"$room/differs") of $(wc -l <"$room/disk") paths differ from a tmpfs: $(head -n 3 "$room/differs" "$room/said" | tr '\n' ' ')"
+        echo "FAILED $name: $(wc -l <"$room/differs") of $(wc -l <"$room/disk") paths differ from a tmpfs:" \
+            "$(head -n 3 "$room/differs" "$room/said" | tr '\n' ' ')"
     else
         echo "ok $name: $(wc -l <"$room/here") paths"
     fi
