@@ -65,6 +65,16 @@ compare 0 numbers nobody "(/proc/1/.*|$numbers)"
 # (/proc can be mounted only with the right of its processes)
 for user in same nobody; do compare 0 root-with-proc "$user" "$none"; done
 
+# The supervisor that cannot take the root of a caller refuses its paths.
+among 0 : setpriv --bounding-set=-sys_chroot --inh-caps=-sys_chroot "$room/under" --outside=ignore --dir "$room/tree" \
+    "$room/empty" -- "$room/roots" root mapped "$room/tree" "$room/outside" >"$room/here" 2>"$room/said"
+if [ "$(grep -c ': watch EACCES watch of a link EACCES' "$room/here")" = 51 ]; then
+    echo 'ok without CAP_SYS_CHROOT: no path of another root'
+else
+    echo "FAILED without CAP_SYS_CHROOT: $(grep -v ': watch EACCES' "$room/here" | head -n 3 | tr '\n' ' ')" \
+        "$(tail -n 1 "$room/said")"
+fi
+
 other='setpriv --reuid=65534 --regid=65534 --clear-groups --inh-caps=-all'
 if ! $other unshare -U true 2>/dev/null; then
     echo 'left out the roots of another user: it wants user namespaces'
