@@ -13,7 +13,8 @@ enum { GETPID = 20, FCNTL = 55, FCNTL64 = 221, INOTIFY_INIT = 291, INOTIFY_ADD_W
 
 static void call(const char *name, long number, long a, long b, long c) {
     long result;
-    __asm__ volatile("int $0x80" : "=a"(result) : "a"(number), "b"(a), "c"(b), "d"(c) : "memory", "cc");
+    __asm__ volatile("int $0x80" : "=a"(result) : "a"(number), "b"(a), "c"(b), "d"(c)
+                     : "memory", "cc", "r8", "r9", "r10", "r11");
     printf("%s: %s\n", name, result < 0 ? strerrorname_np((int)-result) : "ok");
     fflush(stdout);
 }
