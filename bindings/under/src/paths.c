@@ -211,11 +211,13 @@ void keep_own_root(void) {
     if ((own_root = open("/", O_PATH | O_DIRECTORY | O_CLOEXEC)) < 0) fail("/");
 }
 
-/* Whether a directory is the root of this thread. (A program may change it with its own, by pivot_root(2).) */
+/* Whether a directory is the root of this thread. (A program may change it with its own, by pivot_root(2).) A mount may
+ * have files of several devices. */
 static bool is_root(int fd) {
     struct statx root, is;
     return look(fd, &is) && statx(AT_FDCWD, "/", AT_STATX_DONT_SYNC, STATX_INO | STATX_MNT_ID, &root) == 0 &&
-           is.stx_mnt_id == root.stx_mnt_id && is.stx_ino == root.stx_ino;
+           is.stx_mnt_id == root.stx_mnt_id && is.stx_ino == root.stx_ino &&
+           is.stx_dev_major == root.stx_dev_major && is.stx_dev_minor == root.stx_dev_minor;
 }
 
 static bool change_root(int fd) { return fchdir(fd) == 0 && chroot(".") == 0; }

@@ -183,6 +183,14 @@ static void take_calls_soon(void) {
     setpriority(PRIO_PROCESS, 0, -20);
 }
 
+/* A call that waits keeps some descriptors. */
+static void allow_descriptors(void) {
+    struct rlimit limit;
+    if (getrlimit(RLIMIT_NOFILE, &limit) < 0) fail("getrlimit");
+    limit.rlim_cur = limit.rlim_max;
+    if (setrlimit(RLIMIT_NOFILE, &limit) < 0) fail("setrlimit");
+}
+
 /* The descriptor that shows when the tool is gone. */
 static int prepare(int from, pid_t tool) {
     struct stat is;
@@ -199,6 +207,7 @@ static int prepare(int from, pid_t tool) {
     device = is.st_dev;
     keep_own_root();
     keep_own_rights();
+    allow_descriptors();
     take_calls_soon();
     if (write(3, "", 1) != 1) fail("socketpair");
     close(3);

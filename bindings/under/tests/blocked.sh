@@ -14,11 +14,13 @@ if ! cc -O1 -Wall -Wextra -Werror "$tests/blocked.c" -lpthread -o "$room/blocked
     exit 0
 fi
 : >"$room/empty"
+# (as on most machines; the supervisor needs some descriptors for each call)
+ulimit -S -n 1024
 mkdir "$room/disk" "$room/own"
 timeout -k 5 100 unshare -m sh -c 'mount -t tmpfs tmpfs "$1/disk" && exec "$1/blocked" "$1/disk" "$1/own"' sh "$room" \
     >"$room/there" 2>&1
 timeout -k 5 100 "$under" "$room/empty" -- "$room/blocked" /wt "$room/own" >"$room/here" 2>"$room/said"
-if ! grep -q 'a call that waited: ENOENT' "$room/there"; then
+if ! grep -q '^of 500 calls that waited 1 are answered, and 499 are ENOENT' "$room/there"; then
     echo "FAILED calls that wait for the program: on a tmpfs: $(tail -n 1 "$room/there")"
 elif cmp -s "$room/there" "$room/here"; then
     echo 'ok calls that wait for the program hold up no others'
