@@ -69,12 +69,19 @@ static int64_t number_for(const struct seccomp_notif *call, const char *path, in
     return number;
 }
 
+/* The kernel looks at the mask before it looks at the path. */
+static bool is_mask(uint32_t mask) {
+    enum { OTHERS = IN_UNMOUNT | IN_Q_OVERFLOW | IN_IGNORED | IN_ONLYDIR | IN_DONT_FOLLOW | IN_EXCL_UNLINK | IN_ISDIR };
+    uint32_t both = IN_MASK_ADD | IN_MASK_CREATE, known = IN_ALL_EVENTS | OTHERS | IN_ONESHOT | both;
+    return (mask & known) && !(mask & ~known) && (mask & both) != both;
+}
+
 static int add_watch(const struct seccomp_notif *call) {
     char path[PATH_MAX];
     struct watch_call watch = { .mask = (uint32_t)call->data.args[2] };
     int mine = borrow_instance(call, (int)call->data.args[0]);
     if (mine < 0) return mine;
-    int64_t number = read_path(call, call->data.args[1], path);
+    int64_t number = is_mask(watch.mask) ? read_path(call, call->data.args[1], path) : -EINVAL;
     if (number == 0) number = number_for(call, path, READS | (watch.mask & IN_DONT_FOLLOW ? 0 : FOLLOWS));
     int reply = (int)number;
     if (number >= 0) {
