@@ -20,6 +20,10 @@ mkdir "$room/disk" "$room/own"
 timeout -k 5 100 unshare -m sh -c 'mount -t tmpfs tmpfs "$1/disk" && exec "$1/blocked" "$1/disk" "$1/own"' sh "$room" \
     >"$room/there" 2>&1
 timeout -k 5 100 "$under" "$room/empty" -- "$room/blocked" /wt "$room/own" >"$room/here" 2>"$room/said"
+if grep -q '^userfaultfd: ' "$room/there"; then
+    echo 'left out calls that wait for the program: it wants a kernel with userfaultfd'
+    exit 0
+fi
 if ! grep -q '^of 500 calls that waited 1 are answered, and 499 are ENOENT' "$room/there"; then
     echo "FAILED calls that wait for the program: on a tmpfs: $(tail -n 1 "$room/there")"
 elif cmp -s "$room/there" "$room/here"; then

@@ -53,19 +53,32 @@ compare() {
 none='-'
 # Of a /proc with other numbers of processes the supervisor does not know the caller's.
 numbers='(/proc/(thread-)?self/.*|/dev/fd/0|own.*|here)'
-for user in same nobody mapped; do
-    for mode in as-it-is root outside-root deep-in-root root-with-links pivot mounts over-proc proc shared; do
-        compare 0 "$mode" "$user" "$none"
-    done
+modes='as-it-is root outside-root deep-in-root root-with-links pivot mounts over-proc proc shared'
+for user in same nobody; do
+    for mode in $modes root-with-proc; do compare 0 "$mode" "$user" "$none"; done
 done
 compare 0 numbers same "$numbers"
-compare 0 numbers mapped "$numbers"
 # (a program that changed its user may read its own directory of /proc, and others of that user may not)
 compare 0 numbers nobody "(/proc/1/.*|$numbers)"
-# (/proc can be mounted only with the right of its processes)
-for user in same nobody; do compare 0 root-with-proc "$user" "$none"; done
 
-# The supervisor that cannot take the root of a caller refuses its paths.
+other='setpriv --reuid=65534 --regid=65534 --clear-groups --inh-caps=-all'
+if ! $other unshare -U true 2>/dev/null; then
+    echo 'left out the roots of other users: it wants user namespaces'
+    exit 0
+fi
+# (the words are several)
+# shellcheck disable=SC2086
+{
+    for mode in $modes; do
+        compare 0 "$mode" mapped "$none"
+        compare 65534 "$mode" mapped "$none" $other
+    done
+    compare 0 numbers mapped "$numbers"
+    compare 65534 numbers mapped "$numbers" $other
+    for mode in as-it-is proc shared; do compare 65534 "$mode" same "$none" $other; done
+}
+
+# A supervisor that cannot take the root of a caller refuses its paths.
 among 0 : setpriv --bounding-set=-sys_chroot --inh-caps=-sys_chroot "$room/under" --outside=ignore --dir "$room/tree" \
     "$room/empty" -- "$room/roots" root mapped "$room/tree" "$room/outside" >"$room/here" 2>"$room/said"
 if [ "$(grep -c ': watch EACCES watch of a link EACCES' "$room/here")" = 51 ]; then
@@ -74,18 +87,3 @@ else
     echo "FAILED without CAP_SYS_CHROOT: $(grep -v ': watch EACCES' "$room/here" | head -n 3 | tr '\n' ' ')" \
         "$(tail -n 1 "$room/said")"
 fi
-
-other='setpriv --reuid=65534 --regid=65534 --clear-groups --inh-caps=-all'
-if ! $other unshare -U true 2>/dev/null; then
-    echo 'left out the roots of another user: it wants user namespaces'
-    exit 0
-fi
-# (the words are several)
-# shellcheck disable=SC2086
-{
-    for mode in as-it-is proc shared; do compare 65534 "$mode" same "$none" $other; done
-    for mode in as-it-is root outside-root deep-in-root root-with-links pivot mounts over-proc proc shared; do
-        compare 65534 "$mode" mapped "$none" $other
-    done
-    compare 65534 numbers mapped "$numbers" $other
-}
