@@ -88,17 +88,23 @@ static bool has_our_ids(const struct identity *who) {
            !memcmp(who->groups, self.groups, (size_t)self.group_count * sizeof *self.groups);
 }
 
+/* The groups last, so that nothing is to be taken back but the other two. */
 static bool take_ids(const struct identity *who) {
-    if (syscall(SYS_setgroups, who->group_count, who->groups) < 0) return false;
     setfsgid(who->gid);
     setfsuid(who->uid);
-    return setfsuid((uid_t)-1) == (int)who->uid && setfsgid((gid_t)-1) == (int)who->gid;
+    return setfsuid((uid_t)-1) == (int)who->uid && setfsgid((gid_t)-1) == (int)who->gid &&
+           syscall(SYS_setgroups, who->group_count, who->groups) == 0;
 }
 
 bool act_as(const struct identity *who) {
     if (!has_our_ids(who)) {
         has_other_ids = take_ids(who);
-        if (!has_other_ids) return false;
+        if (!has_other_ids) {
+            setfsgid(self.gid);
+            setfsuid(self.uid);
+            set_capabilities(self.capabilities);    /* another user of files lost some */
+            return false;
+        }
     }
     has_other_capabilities = has_other_ids || who->capabilities != self.capabilities;
     if (has_other_capabilities) set_capabilities(who->capabilities);
@@ -109,7 +115,7 @@ void act_as_self(void) {
     if (has_other_capabilities) set_capabilities(self.capabilities);
     if (has_other_ids) {
         if (!take_ids(&self)) fail("setgroups");
-        set_capabilities(self.capabilities);    /* another user of files lost some */
+        set_capabilities(self.capabilities);
     }
     has_other_ids = has_other_capabilities = false;
 }
