@@ -52,7 +52,7 @@ void reply_entry(fuse_req_t req, uint64_t number) {
 void on_lookup(fuse_req_t req, fuse_ino_t parent, const char *name) {
     char path[PATH_SIZE];
     struct wt_stat is;
-    if (by_supervisor(req) && parent == ROOT && !strcmp(name, INSTANCE_NAME)) {
+    if (parent == ROOT && !strcmp(name, INSTANCE_NAME) && by_supervisor(req)) {
         reply_entry(req, INSTANCE);
         return;
     }

@@ -147,8 +147,8 @@ static void on_interrupt(fuse_req_t req, void *data) {
 
 void read_instance(fuse_req_t req, size_t size, struct fuse_file_info *file) {
     struct instance *it = instance_of(file);
-    if (!file->lock_owner) {                /* no read(2), but a page of mmap(2) or readahead(2) */
-        fuse_reply_err(req, EIO);
+    if (!file->lock_owner) {                /* no read(2), but splice(2), or a page of mmap(2) or readahead(2) */
+        fuse_reply_err(req, EINVAL);
         return;
     }
     if (waiting_in(it) > 0) {

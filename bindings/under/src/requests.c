@@ -4,10 +4,15 @@
 #include "script.h"
 #include "tree.h"
 #include "turn.h"
+#include <sys/syscall.h>
+#include <unistd.h>
 
 uint64_t work_count;
 
-bool by_supervisor(fuse_req_t req) { return fuse_req_ctx(req)->pid == supervisor_pid; }
+bool by_supervisor(fuse_req_t req) {
+    pid_t task = fuse_req_ctx(req)->pid;
+    return task == supervisor_pid || syscall(SYS_tgkill, supervisor_pid, task, 0) == 0;
+}
 
 void begin(fuse_req_t req) {
     if (by_supervisor(req)) return;

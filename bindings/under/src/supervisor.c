@@ -5,13 +5,18 @@
 #include "filter.h"
 #include "instances.h"
 #include "options.h"
+#include "paths.h"
+#include "rights.h"
 #include <ctype.h>
 #include <dirent.h>
 #include <errno.h>
 #include <fcntl.h>
 #include <linux/magic.h>
 #include <poll.h>
+#include <pthread.h>
+#include <sched.h>
 #include <signal.h>
+#include <stdatomic.h>
 #include <stdio.h>
 #include <stdlib.h>
 #include <sys/inotify.h>
@@ -23,21 +28,21 @@
 #include <unistd.h>
 
 static int root = -1;
-static dev_t device;
 
 /* An answer that is the kernel's own: the call goes on as if nobody had held it. */
 enum { GOES_ON = INT32_MIN, IS_ANSWERED = INT32_MIN + 1 };
 
 /* ---- the calls */
 
-/* The caller's instance; -EINVAL if the descriptor is of another kind. */
+/* The caller's instance; -EINVAL if the descriptor is of another kind, -EBADF if it is one of O_PATH. */
 static int borrow_instance(const struct seccomp_notif *call, int fd) {
-    struct stat is;
+    struct statx is;
     int mine = borrow(call, fd);
     if (mine < 0) return mine;
-    if (fstat(mine, &is) == 0 && is.st_dev == device && is.st_ino == INSTANCE) return mine;
+    bool is_path = fcntl(mine, F_GETFL) & O_PATH;
+    if (!is_path && look(mine, &is) && is_of_tree(&is) && is.stx_ino == INSTANCE) return mine;
     close(mine);
-    return -EINVAL;
+    return is_path ? -EBADF : -EINVAL;
 }
 
 /* A new instance goes into the caller before the call is answered, and is closed here before that too: what the caller does
@@ -55,13 +60,20 @@ static int init(const struct seccomp_notif *call) {
 }
 
 /* The number of the file that a path names: 0 if it is outside the mount; -errno. */
-static int64_t number_for(const struct seccomp_notif *call, const char *path, bool follows) {
-    struct stat is;
-    int fd = open_for(call, path, follows);
+static int64_t number_for(const struct seccomp_notif *call, const char *path, int how) {
+    struct statx is;
+    int fd = open_for(call, path, how);
     if (fd < 0) return fd;
-    int64_t number = fstat(fd, &is) < 0 ? -errno : is.st_dev == device ? (int64_t)is.st_ino : 0;
+    int64_t number = look(fd, &is) && is_of_tree(&is) ? (int64_t)is.stx_ino : 0;
     close(fd);
     return number;
+}
+
+/* The kernel looks at the mask before it looks at the path. */
+static bool is_mask(uint32_t mask) {
+    enum { OTHERS = IN_UNMOUNT | IN_Q_OVERFLOW | IN_IGNORED | IN_ONLYDIR | IN_DONT_FOLLOW | IN_EXCL_UNLINK | IN_ISDIR };
+    uint32_t both = IN_MASK_ADD | IN_MASK_CREATE, known = IN_ALL_EVENTS | OTHERS | IN_ONESHOT | both;
+    return (mask & known) && !(mask & ~known) && (mask & both) != both;
 }
 
 static int add_watch(const struct seccomp_notif *call) {
@@ -69,8 +81,8 @@ static int add_watch(const struct seccomp_notif *call) {
     struct watch_call watch = { .mask = (uint32_t)call->data.args[2] };
     int mine = borrow_instance(call, (int)call->data.args[0]);
     if (mine < 0) return mine;
-    int64_t number = read_path(call, call->data.args[1], path);
-    if (number == 0) number = number_for(call, path, !(watch.mask & IN_DONT_FOLLOW));
+    int64_t number = is_mask(watch.mask) ? read_path(call, call->data.args[1], path) : -EINVAL;
+    if (number == 0) number = number_for(call, path, READS | (watch.mask & IN_DONT_FOLLOW ? 0 : FOLLOWS));
     int reply = (int)number;
     if (number >= 0) {
         watch.number = (uint64_t)number;
@@ -103,11 +115,11 @@ static int bytes_waiting(const struct seccomp_notif *call) {
 static int file_system(const struct seccomp_notif *call) {
     char path[PATH_MAX];
     struct statfs is;
-    struct stat seen;
+    struct statx seen;
     int fd = call->data.nr == SYS_fstatfs ? borrow(call, (int)call->data.args[0])
-           : read_path(call, call->data.args[0], path) == 0 ? open_for(call, path, true) : -1;
+           : read_path(call, call->data.args[0], path) == 0 ? open_for(call, path, FOLLOWS) : -1;
     if (fd < 0) return GOES_ON;
-    bool is_ours = fstat(fd, &seen) == 0 && seen.st_dev == device && fstatfs(fd, &is) == 0;
+    bool is_ours = look(fd, &seen) && is_of_tree(&seen) && fstatfs(fd, &is) == 0;
     close(fd);
     if (!is_ours) return GOES_ON;
     is.f_type = TMPFS_MAGIC;
@@ -178,6 +190,14 @@ static void take_calls_soon(void) {
     setpriority(PRIO_PROCESS, 0, -20);
 }
 
+/* A call that waits keeps some descriptors. */
+static void allow_descriptors(void) {
+    struct rlimit limit;
+    if (getrlimit(RLIMIT_NOFILE, &limit) < 0) fail("getrlimit");
+    limit.rlim_cur = limit.rlim_max;
+    if (setrlimit(RLIMIT_NOFILE, &limit) < 0) fail("setrlimit");
+}
+
 /* The descriptor that shows when the tool is gone. */
 static int prepare(int from, pid_t tool) {
     struct stat is;
@@ -190,38 +210,71 @@ static int prepare(int from, pid_t tool) {
     if (getppid() != tool || (listener = take_fd(3)) < 0) _exit(0);
     if (gone < 0) fail("pidfd_open");
     if ((root = open(options.dir, O_PATH | O_DIRECTORY | O_CLOEXEC)) < 0 || fstat(root, &is) < 0) fail(options.dir);
+    if ((proc_root = open("/proc", O_PATH | O_DIRECTORY | O_CLOEXEC)) < 0) fail("/proc");
     device = is.st_dev;
+    keep_own_root();
+    keep_own_rights();
+    allow_descriptors();
     take_calls_soon();
     if (write(3, "", 1) != 1) fail("socketpair");
     close(3);
     return gone;
 }
 
-static void serve_call(void) {
-    struct seccomp_notif call;
-    struct seccomp_notif_resp reply;
-    memset(&call, 0, sizeof call);
-    memset(&reply, 0, sizeof reply);
-    if (ioctl(listener, SECCOMP_IOCTL_NOTIF_RECV, &call) < 0) {
-        if (errno != EINTR && errno != ENOENT) fail("seccomp");
-        return;                     /* the caller is gone */
-    }
-    int value = answer(&call);
+/* ---- threads: a call may wait for a file system of the program's own, and holds up no other call */
+
+static pthread_mutex_t turn = PTHREAD_MUTEX_INITIALIZER;    /* of the thread that takes the next call */
+static atomic_int idle;                                     /* the threads that wait for it */
+
+/* The next call: false if the caller is gone. */
+static bool take_call(struct seccomp_notif *call) {
+    struct pollfd one = { listener, POLLIN, 0 };
+    if (poll(&one, 1, -1) < 0) fail("poll");
+    while (!(one.revents & POLLIN)) pause();        /* nobody is left to call: the tool ends this process */
+    memset(call, 0, sizeof *call);
+    if (ioctl(listener, SECCOMP_IOCTL_NOTIF_RECV, call) == 0) return true;
+    if (errno != EINTR && errno != ENOENT) fail("seccomp");
+    return false;
+}
+
+static void reply_to(const struct seccomp_notif *call, int value) {
+    struct seccomp_notif_resp reply = { .id = call->id };
     if (value == IS_ANSWERED) return;
-    reply.id = call.id;
     if (value == GOES_ON) reply.flags = SECCOMP_USER_NOTIF_FLAG_CONTINUE;
     else if (value < 0) reply.error = value;
     else reply.val = value;
     ioctl(listener, SECCOMP_IOCTL_NOTIF_SEND, &reply);
 }
 
+static void *serve_calls(void *unused);
+
+/* Whether another thread takes the next call while this one answers its own. */
+static bool has_another(void) {
+    pthread_t thread;
+    if (idle) return true;
+    if (pthread_create(&thread, NULL, serve_calls, NULL)) return false;
+    idle++;
+    return true;
+}
+
+static void *serve_calls(void *unused) {
+    (void)unused;
+    if (unshare(CLONE_FS) < 0) fail("unshare");
+    for (;;) {
+        struct seccomp_notif call;
+        pthread_mutex_lock(&turn);
+        idle--;
+        bool is_taken = take_call(&call), has_other = has_another();
+        pthread_mutex_unlock(&turn);
+        if (is_taken) reply_to(&call, has_other ? answer(&call) : -ENOMEM);
+        idle++;
+    }
+}
+
 void supervise(int from, pid_t tool) {
     int gone = prepare(from, tool);
-    struct pollfd both[] = { { listener, POLLIN, 0 }, { gone, POLLIN, 0 } };
-    for (;;) {
-        if (poll(both, 2, -1) < 0) fail("poll");
-        if (both[1].revents) end_run();
-        if (both[0].revents & POLLIN) serve_call();
-        else if (both[0].revents) both[0].fd = -1;     /* nobody is left to call: the tool ends this process */
-    }
+    struct pollfd one = { gone, POLLIN, 0 };
+    if (!has_another()) fail("pthread_create");
+    if (poll(&one, 1, -1) < 0) fail("poll");
+    end_run();
 }

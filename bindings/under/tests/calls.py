@@ -8,6 +8,7 @@ import errno
 import fcntl
 import mmap
 import os
+import signal
 import socket
 import struct
 import sys
@@ -41,9 +42,23 @@ def flags_of(handle):
     return sorted(name for name, bit in (("nonblock", os.O_NONBLOCK), ("async", 0o20000)) if fcntl.fcntl(handle, fcntl.F_GETFL) & bit)
 
 
+def signal_of(call):
+    """The signal that a call ends a process with."""
+    child = os.fork()
+    if not child:
+        try:
+            call()
+        except OSError as refused:
+            os._exit(refused.errno)
+        os._exit(0)
+    status = os.waitstatus_to_exitcode(os.waitpid(child, 0)[1])
+    return signal.Signals(-status).name if status < 0 else errno.errorcode.get(status)
+
+
 def instance_calls():
     """Calls on instances, and on a file that is none."""
     plain, none = asked(LIBRARY.inotify_init1(os.O_NONBLOCK)), os.open("/dev/null", os.O_RDONLY)
+    pipe = os.pipe()
     os.mkdir("d")
     make("d/f")
     os.symlink(os.path.abspath("d"), os.environ["OUTSIDE"] + "/link")
@@ -74,6 +89,16 @@ def instance_calls():
     line("watch by no instance", lambda: watch(b"d", handle=none))
     line("watch by no descriptor", lambda: watch(b"d", handle=999))
     line("watch without a mask", lambda: watch(b"d", 0))
+    line("watch nothing without a mask", lambda: watch(b"d/none", 0))
+    line("watch nothing with a bad mask", lambda: watch(b"d/none", 0x10000))
+    line("watch nothing with both IN_MASK", lambda: watch(b"d/none", IN_CREATE | IN_MASK_CREATE | IN_MASK_ADD))
+    line("watch with a bad mask", lambda: watch(b"d", IN_CREATE | 0x10000))
+    line("watch by a descriptor of O_PATH", lambda: watch(b"d", handle=os.open("/proc/self/fd/%d" % plain, os.O_PATH)))
+    line("watch by another of O_PATH", lambda: watch(b"d", handle=os.open("d", os.O_PATH)))
+    line("unwatch by one of O_PATH", lambda: asked(LIBRARY.inotify_rm_watch(os.open("d", os.O_PATH), 1)))
+    line("O_ASYNC by one of O_PATH", lambda: fcntl.fcntl(os.open("d", os.O_PATH), fcntl.F_SETFL, 0o20000))
+    line("watch the instance", lambda: asked(LIBRARY.inotify_add_watch(
+        asked(LIBRARY.inotify_init()), b"/proc/self/fd/%d" % plain, IN_CREATE)))
     line("unwatch what is not watched", lambda: asked(LIBRARY.inotify_rm_watch(plain, 77)))
     line("unwatch by no instance", lambda: asked(LIBRARY.inotify_rm_watch(none, 1)))
     line("read nothing", lambda: os.read(plain, 100))
@@ -86,12 +111,17 @@ def instance_calls():
     make("d/more")
     line("pread", lambda: os.pread(plain, 100, 0))
     line("lseek", lambda: os.lseek(plain, 0, os.SEEK_CUR))
+    line("splice", lambda: os.splice(plain, pipe[1], 100))
+    line("sendfile", lambda: os.sendfile(pipe[1], plain, None, 100))
+    line("tee", lambda: asked(LIBRARY.tee(plain, pipe[1], 100, 0)))
     line("write", lambda: os.write(plain, b"x"))
     line("truncate", lambda: os.ftruncate(plain, 0))
     line("read", lambda: os.read(plain, 100).hex())
     line("unwatch", lambda: asked(LIBRARY.inotify_rm_watch(plain, 1)))
     line("read what is ignored", lambda: os.read(plain, 100).hex())
     line("mmap", lambda: mmap.mmap(plain, 4096, prot=mmap.PROT_READ))
+    line("mmap with MAP_PRIVATE", lambda: signal_of(lambda: mmap.mmap(plain, 4096, mmap.MAP_PRIVATE)[0]))
+    line("readahead", lambda: asked(LIBRARY.readahead(plain, ctypes.c_long(0), 4096)))
     line("fsync", lambda: os.fsync(plain))
     line("dup", lambda: LIBRARY.inotify_add_watch(os.dup(plain), b"d", IN_CREATE))
     line("128 instances", lambda: [asked(LIBRARY.inotify_init()) for _ in range(200)] and "more")

@@ -22,3 +22,19 @@ else
     echo "FAILED calls that a tree does not have:"
     cat "$room/unknown" "$room/error"
 fi
+
+if ! cc -O1 -Wall -Wextra -Werror "$tests/entry32.c" -o "$room/entry32"; then
+    echo 'left out calls of a 32-bit program: it wants a C compiler'
+elif ! "$room/entry32" "$room" | grep -q '^getpid: ok'; then
+    echo 'left out calls of a 32-bit program: the kernel has no entry for them'
+else
+    "$under" "$room/empty" -- "$room/entry32" /wt >"$room/here" 2>"$room/error"
+    printf '%s\n' 'getpid: ok' 'inotify_init: ENOSYS' 'inotify_init1: ENOSYS' 'inotify_add_watch: ENOSYS' \
+        'inotify_rm_watch: ENOSYS' 'fanotify_init: ENOSYS' 'fcntl F_NOTIFY: EINVAL' 'fcntl64 F_NOTIFY: EINVAL' \
+        'fcntl F_GETFL: ok' 'then by the other entry: ok' | diff - "$room/here" >"$room/unknown"
+    if [ -s "$room/unknown" ]; then
+        echo "FAILED calls of a 32-bit program: $(cat "$room/unknown" "$room/error" | tr '\n' ' ')"
+    else
+        echo 'ok calls of a 32-bit program are refused as docs/UNDER.md says'
+    fi
+fi

@@ -8,6 +8,6 @@ if ! WATCHTREE_OUT=$(dirname "$1") sh "$tests/../build" sanitized 2>"$room/error
     exit 0
 fi
 export ASAN_OPTIONS=exitcode=99:detect_stack_use_after_return=1 UBSAN_OPTIONS=print_stacktrace=1
-for part in own together waits; do
+for part in own together waits roots memory; do
     sh "$tests/$part.sh" "$1-sanitized" "$room"
 done
