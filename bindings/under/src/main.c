@@ -1,7 +1,11 @@
+#include "keeper.h"
 #include "options.h"
 #include "run.h"
 
 int main(int argc, char **argv) {
+    enum { FOLDER = 2, PROGRAM };
+    /* `watchtree explore` starts itself so, below a keeper, which removes its folder. */
+    if (argc > PROGRAM && !strcmp(argv[1], "--keep")) return keep_program(argv[FOLDER], argv + PROGRAM);
     read_options(argc, argv);
-    return options.many_seeds ? run_seeds() : run();
+    return keep(options.many_seeds ? run_seeds : run, NULL);
 }
