@@ -7,7 +7,7 @@ import sys
 import time
 from typing import List
 
-from tool import MAIN, PATIENCE, ToolTest
+from tool import EXAMPLES, MAIN, PATIENCE, ToolTest
 
 # Opens a pipe that ends with the last process, says where the files of the run are, and waits.
 WAIT = 'exec 7>held; echo "$out" >folder; setsid sleep 84 & touch started; sleep 85 & wait'
@@ -78,6 +78,24 @@ class Ended(ToolTest):
         tool = self.in_check(f"trap 'echo came >{self.room}/came; exit 1' TERM; ")
         self.ends(tool, signal.SIGTERM, 128 + signal.SIGTERM)
         self.assertEqual(self.read("came"), "came\n")
+
+    def test_a_check_that_takes_too_long(self) -> None:
+        # (the first check alone is late: none fails again)
+        os.mkfifo(f"{self.room}/held")
+        self.held = os.open(f"{self.room}/held", os.O_RDONLY | os.O_NONBLOCK)
+        self.addCleanup(os.close, self.held)
+        check = f"cd {self.room}; [ -e late ] || {{ touch late; exec 7>held; sleep 84 & sleep 85; }}"
+        said = self.explore(f"{EXAMPLES}/recursive.script", check, [self.built("recursive"), "/wt/d", "correct"],
+                            "--limit", "6000", "--seeds", "1..1")
+        self.assertEqual(said.returncode, 1, said.stdout + said.stderr)
+        self.assertIn("watchtree explore: a check was not over after 6 seconds, and fails\n", said.stderr)
+        self.assertIn("the check fails", said.stdout)
+        self.assertEqual(os.read(self.held, 1), b"")
+
+    def test_a_run_that_takes_too_long(self) -> None:
+        said = self.explore(f"{EXAMPLES}/recursive.script", "true", ["sleep", "85"], "--limit", "500")
+        self.assertEqual(said.returncode, 125, said.stdout)
+        self.assertIn("nothing was delivered (status 124)", said.stderr)
 
     def test_a_signal_that_is_ignored(self) -> None:
         program = [f"{os.environ['ROOM']}/recursive", "/wt/d"]

@@ -84,9 +84,12 @@ beside() {
     keeper=$(child "$tool")
     worker=$(child "$keeper")
     supervisor=$(child "$worker")
+    # (so that killall(1) of the tool's name leaves it)
+    [ "$(cat "/proc/$keeper/comm")" = wt-keeper ]
+    check "the name of the keeper: $1" "$(cat "/proc/$keeper/comm")"
     # (the words are several)
     # shellcheck disable=SC2046
-    kill -9 $(eval "echo $3")
+    kill -9 $(eval "echo $3") 2>/dev/null
     wait "$tool" 2>/dev/null
     status=$?
     [ "$status" = "$2" ]
@@ -105,7 +108,7 @@ beside() {
 
 # ---- --seeds: where the folders of the runs are is in the name of the program's output, and in the environment of a check
 # shellcheck disable=SC2016
-run='readlink /proc/$$/fd/1 >folder; setsid sleep 84 & touch started; sleep 85'
+run='out=$(readlink /proc/$$/fd/1); echo "$out" >folder; setsid sleep 84 & touch started; sleep 85'
 # shellcheck disable=SC2016
 judge='echo "$WT_OUT/stdout" >folder; setsid sleep 84 & touch started; sleep 85'
 
@@ -127,7 +130,7 @@ seeds() {
     check "$name: the status" "status $status: $(cat out err)"
     ended "$name"
     await test ! -e "$(folder)"
-    check "$name: no folder" "$(ls -R "$(folder)")"
+    check "$name: no folder" "$(ls -R "$(folder)" 2>&1)"
 }
 seeds 'a run of --seeds, and its parent is killed' KILL 137 empty -- sh -c "$run"
 seeds 'a check, and its parent is killed' KILL 137 --check "$judge" empty -- true
@@ -171,6 +174,29 @@ while LAST not in came and None not in came:
     came.append(it and it.si_signo)
 print(came.count(ONE), "" if LAST in came else " and no last one", sep="")
 END
+cat >burst.py <<'END'
+"""Processes send a signal to their group that is not queued, so that two may become one. Prints how many came that nobody sent."""
+import os, signal
+ONE, LAST = signal.SIGUSR1, signal.SIGRTMIN + 2
+signal.pthread_sigmask(signal.SIG_BLOCK, (ONE, LAST))
+open("started", "w").close()
+while not os.path.exists("tool"):
+    os.sched_yield()
+tool, late = int(open("tool").read()), 0
+for _ in range(20):
+    for _ in range(8):
+        if os.fork() == 0:
+            for _ in range(300):
+                os.kill(0, ONE)
+            os._exit(0)
+    for _ in range(8):
+        os.wait()
+    signal.sigtimedwait((ONE,), 0)
+    os.kill(tool, LAST)
+    while signal.sigtimedwait((ONE, LAST), 60).si_signo != LAST:
+        late += 1
+print(late)
+END
 
 # What the counting program prints.   counts NAME WANTED WORDS..
 counts() {
@@ -189,6 +215,7 @@ counts() {
     ended "$name: nothing is left"
 }
 counts 'signals of the run to its process group' 200 empty -- /usr/bin/python3 count.py 0 200
+counts 'signals that become one' 0 empty -- /usr/bin/python3 burst.py
 counts 'signals of the run to the tool' 200 empty -- /usr/bin/python3 count.py tool 200
 
 # Signals from outside, of senders that are gone, and the last one.
