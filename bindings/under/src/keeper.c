@@ -123,7 +123,7 @@ static int be_front(pid_t keeper, int to_keeper) {
 }
 
 /* Signals that end programs end the worker before there is a program. Others are a fault. */
-static int status_of_worker(int status) {
+int status_of_worker(int status) {
     if (WIFEXITED(status)) return WEXITSTATUS(status);
     if (ends_programs(WTERMSIG(status))) return 128 + WTERMSIG(status);
     say("the tool was ended by signal %d", WTERMSIG(status));

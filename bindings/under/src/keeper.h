@@ -18,6 +18,8 @@ int keep(int (*work)(void), const char *folder);
 int keep_program(const char *folder, char **words);
 /* Starts a process that gets SIGTERM if this one ends. 0 in it. */
 pid_t start_child(void);
+/* The exit status of the tool by the status of the process that did the work, and a line where that is a fault. */
+int status_of_worker(int status);
 /* Kills all processes below this one, which is a subreaper, and waits until none is left. */
 void end_all_below(void);
 

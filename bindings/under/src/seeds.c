@@ -51,7 +51,8 @@ static int run_one(uint64_t seed, const char *out) {
         exit(run());
     }
     await(pid, 0, &status);
-    return WIFEXITED(status) ? WEXITSTATUS(status) : 128 + WTERMSIG(status);
+    if (!WIFEXITED(status)) end_all_below();
+    return status_of_worker(status);
 }
 
 /* Whether the command exits with 0. What it started ends with it where it takes too long. */

@@ -140,6 +140,22 @@ check 'SIGTERM goes to the program of --seeds' "$(cat told)"
 seeds 'SIGTERM in a check' TERM 143 --check "trap 'echo check >told; exit 1' TERM; $judge & wait" empty -- true
 [ "$(cat told)" = check ]
 check 'SIGTERM goes to the check' "$(cat told)"
+# shellcheck disable=SC2016
+start "$under" --seeds 1..2 --end none empty -- sh -c 'setsid sleep 84 & echo $! >sleeper; touch started; sleep 85'
+await test -e started
+sleeper=$(cat sleeper)
+rm started
+kill -9 "$(child "$(child "$(child "$tool")")")"
+await test -e started
+! kill -0 "$sleeper" 2>/dev/null
+check 'a worker of --seeds is killed: the next run starts when all of it has ended' "$sleeper"
+kill "$tool"
+wait "$tool"
+above=$(sed -n 's/^seed 1 fails (status 125): //p' out)
+[ -e "$above/trace" ] && grep -q 'the tool was ended by signal 9' err
+check 'the status: a worker of --seeds is killed' "$(cat out err)"
+[ -z "$above" ] || rm -rf "$(dirname "$above")"
+ended 'a worker of --seeds is killed'
 start "$under" --seeds 1..2 empty -- sh -c 'exit 3'
 wait "$tool"
 above=$(sed -n 's/^seed 1 fails (status 3): //p' out)
