@@ -6,7 +6,6 @@ import os
 import signal
 import stat
 import sys
-import tempfile
 import traceback
 from typing import List, NoReturn, Tuple
 
@@ -22,6 +21,8 @@ from schedules import Fault  # noqa: E402
 
 USAGE = "watchtree explore [OPTIONS] SCRIPT --check COMMAND -- PROGRAM [ARGUMENT..]"
 VARIED = ("lines", "reads", "queue")
+# The first word below the keeper, and the folder that the keeper made and removes.
+KEPT, ROOM = "--kept", "WATCHTREE_ROOM"
 
 
 class Words(argparse.ArgumentParser):
@@ -72,7 +73,6 @@ def read_words(words: List[str]) -> Tuple[argparse.Namespace, List[str]]:
         parser.add_argument(f"--{name}", metavar=what, help="as of watchtree under")
     parser.add_argument("--runner", required=True, help=argparse.SUPPRESS)
     parser.add_argument("--command", default="watchtree", help=argparse.SUPPRESS)  # what the user called
-    parser.add_argument("--room", help=argparse.SUPPRESS)  # the folder that the keeper removes
     parser.add_argument("--library", help=argparse.SUPPRESS)  # where Python finds watchtree_trace, if not beside the runner
     if "--" not in words:
         parser.error("there is no -- and program") if not {"-h", "--help"} & set(words) else parser.parse_args(words)
@@ -124,7 +124,8 @@ def explore(said: argparse.Namespace, program: List[str], children: Children) ->
     """Searches, and reports what was found. Returns the exit status."""
     out = Folder(said.out or os.path.basename(said.script) + ".failures", lambda name: report.is_left(name, said.seeds))
     out.check()
-    bench = Bench(said.runner, runner_options(said), said.script, said.check, program, said.room, said.limit, children)
+    bench = Bench(said.runner, runner_options(said), said.script, said.check, program, os.environ.pop(ROOM), said.limit,
+                  children)
     base = base_run(bench)
     report.say_base(base)
     if said.moves:
@@ -170,11 +171,9 @@ def main(words: List[str]) -> int:
 def start_kept(words: List[str]) -> int:
     """Starts this program again below a keeper of the runner: if it is killed, no run, check or folder stays behind."""
     runner = read_words(words)[0].runner
-    room = tempfile.mkdtemp(prefix="watchtree-explore-")
     try:
-        os.execv(runner, [runner, "--keep", room, sys.executable, os.path.abspath(__file__), "--room", room, *words])
+        os.execv(runner, [runner, "--explore", sys.executable, os.path.abspath(__file__), KEPT, *words])
     except OSError as fault:
-        os.rmdir(room)
         print(f"watchtree explore: {runner}: {fault.strerror}", file=sys.stderr)
     return TOOL_FAULT
 
@@ -192,4 +191,4 @@ def flushed(status: int) -> int:
 
 
 if __name__ == "__main__":
-    sys.exit(flushed(main(sys.argv[1:]) if sys.argv[1:2] == ["--room"] else start_kept(sys.argv[1:])))
+    sys.exit(flushed(main(sys.argv[2:]) if sys.argv[1:2] == [KEPT] else start_kept(sys.argv[1:])))

@@ -167,11 +167,10 @@ _Noreturn static void be_keeper(int front, int (*work)(void)) {
     _exit(status);
 }
 
-int keep(int (*work)(void), const char *folder) {
+int keep(int (*work)(void)) {
     int pair[2];
     temporary = mmap(NULL, sizeof *temporary, PROT_READ | PROT_WRITE, MAP_SHARED | MAP_ANONYMOUS, -1, 0);
     if (temporary == MAP_FAILED) fail("mmap");
-    if (folder) snprintf(temporary->folder, sizeof temporary->folder, "%s", folder);
     if (socketpair(AF_UNIX, SOCK_SEQPACKET | SOCK_CLOEXEC, 0, pair) < 0) fail("socketpair");
     block_signals();
     prctl(PR_SET_CHILD_SUBREAPER, 1);       /* for the case that the keeper is killed */
@@ -187,12 +186,16 @@ int keep(int (*work)(void), const char *folder) {
 }
 
 static int become_program(void) {
+    const char *above = getenv("TMPDIR");
+    snprintf(temporary->folder, sizeof temporary->folder, "%s/watchtree-explore-XXXXXX", above && *above ? above : "/tmp");
+    if (!mkdtemp(temporary->folder)) fail(temporary->folder);
+    setenv("WATCHTREE_ROOM", temporary->folder, 1);
     sigprocmask(SIG_SETMASK, &first_mask, NULL);
     execvp(*program, program);
     fail(*program);
 }
 
-int keep_program(const char *folder, char **words) {
+int keep_program(char **words) {
     program = words;
-    return keep(become_program, folder);
+    return keep(become_program);
 }

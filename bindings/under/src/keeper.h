@@ -12,10 +12,10 @@ extern pid_t parent_pid;
 /* Whether it is a signal by which a user ends programs: SIGHUP, SIGINT, SIGQUIT, SIGTERM. */
 bool ends_programs(int number);
 
-/* Does the work in a process below a keeper, which removes a folder at the end, if there is one. The exit status. */
-int keep(int (*work)(void), const char *folder);
-/* The same, where the work is another program. */
-int keep_program(const char *folder, char **words);
+/* Does the work in a process below a keeper. The exit status. */
+int keep(int (*work)(void));
+/* The same, where the work is another program. It has a new temporary folder, which WATCHTREE_ROOM names. */
+int keep_program(char **words);
 /* Starts a process that gets SIGTERM if this one ends. 0 in it. */
 pid_t start_child(void);
 /* The exit status of the tool by the status of the process that did the work, and a line where that is a fault. */

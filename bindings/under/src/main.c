@@ -3,9 +3,8 @@
 #include "run.h"
 
 int main(int argc, char **argv) {
-    enum { FOLDER = 2, PROGRAM };
-    /* `watchtree explore` starts itself so, below a keeper, which removes its folder. */
-    if (argc > PROGRAM && !strcmp(argv[1], "--keep")) return keep_program(argv[FOLDER], argv + PROGRAM);
+    /* `watchtree explore` starts itself so, below a keeper. */
+    if (argc > 2 && !strcmp(argv[1], "--explore")) return keep_program(argv + 2);
     read_options(argc, argv);
-    return keep(options.many_seeds ? run_seeds : run, NULL);
+    return keep(options.many_seeds ? run_seeds : run);
 }
