@@ -140,14 +140,15 @@ static int wait_for_worker(pid_t worker, int front) {
     if (children < 0) fail("signalfd");
     for (;;) {
         struct signalfd_siginfo it;
-        if (poll(both, 2, -1) < 0 && errno != EINTR) fail("poll");
+        if (poll(both, 2, -1) < 0) {
+            if (errno == EINTR) continue;
+            fail("poll");
+        }
         if (both[0].revents & POLLHUP) return STATUS_FAULT;
         if (both[0].revents) answer_front(front, worker);
         while (read(children, &it, sizeof it) > 0) {}
-        for (pid_t pid; (pid = waitpid(-1, &status, WNOHANG)) > 0;) {
-            if (pid != worker) continue;
-            return status_of_worker(status);
-        }
+        for (pid_t pid; (pid = waitpid(-1, &status, WNOHANG)) > 0;)
+            if (pid == worker) return status_of_worker(status);
     }
 }
 
