@@ -3,25 +3,26 @@
 
 import argparse
 import os
-import shutil
 import signal
 import stat
 import sys
-import tempfile
 import traceback
-from typing import List, NoReturn, Optional, Tuple
+from typing import List, NoReturn, Tuple
 
 sys.dont_write_bytecode = True
 sys.path.insert(0, os.path.dirname(os.path.abspath(__file__)))
 import report  # noqa: E402
 import schedules  # noqa: E402
 import search  # noqa: E402
+from children import Children, Ended  # noqa: E402
 from folder import Folder  # noqa: E402
 from runs import NOT_EXECUTABLE, NOT_FOUND, TOOL_FAULT, Bench, Result  # noqa: E402
 from schedules import Fault  # noqa: E402
 
 USAGE = "watchtree explore [OPTIONS] SCRIPT --check COMMAND -- PROGRAM [ARGUMENT..]"
 VARIED = ("lines", "reads", "queue")
+# The first word below the keeper, and the folder that the keeper made and removes.
+KEPT, ROOM = "--kept", "WATCHTREE_ROOM"
 
 
 class Words(argparse.ArgumentParser):
@@ -66,6 +67,7 @@ def read_words(words: List[str]) -> Tuple[argparse.Namespace, List[str]]:
     parser.add_argument("--shrink-runs", type=int, default=1000, metavar="N", help="the most runs that shrinking takes (1000)")
     parser.add_argument("--replays", type=_count, default=20, metavar="N", help="how often the shrunk one is replayed (20)")
     parser.add_argument("--timers", action="store_true", help="always wait for --debounce and --settle")
+    parser.add_argument("--limit", type=_count, metavar="MS", help="the most that a run takes, and a check (none)")
     for name, what in (("queue", "N"), ("settle", "MS"), ("debounce", "MS"), ("stall", "MS"), ("dir", "DIR"),
                        ("end", "SIGNAL"), ("outside", "HOW")):
         parser.add_argument(f"--{name}", metavar=what, help="see watchtree under --help")
@@ -88,7 +90,7 @@ def read_words(words: List[str]) -> Tuple[argparse.Namespace, List[str]]:
 def runner_options(said: argparse.Namespace) -> List[str]:
     """Returns the options of the runner."""
     out = [] if said.timers else ["--quick"]
-    for name in ("queue", "settle", "debounce", "stall", "dir", "end", "outside"):
+    for name in ("queue", "settle", "debounce", "stall", "limit", "dir", "end", "outside"):
         value = getattr(said, name)
         if value is not None:
             out.append(f"--{name}={value}")
@@ -118,11 +120,12 @@ def base_run(bench: Bench) -> Result:
     return base
 
 
-def explore(said: argparse.Namespace, program: List[str], room: str) -> int:
+def explore(said: argparse.Namespace, program: List[str], children: Children) -> int:
     """Searches, and reports what was found. Returns the exit status."""
     out = Folder(said.out or os.path.basename(said.script) + ".failures", lambda name: report.is_left(name, said.seeds))
     out.check()
-    bench = Bench(said.runner, runner_options(said), said.script, said.check, program, room)
+    bench = Bench(said.runner, runner_options(said), said.script, said.check, program, os.environ.pop(ROOM), said.limit,
+                  children)
     base = base_run(bench)
     report.say_base(base)
     if said.moves:
@@ -141,15 +144,14 @@ def explore(said: argparse.Namespace, program: List[str], room: str) -> int:
 def main(words: List[str]) -> int:
     """Runs the tool."""
     signal.signal(signal.SIGPIPE, signal.SIG_DFL)
-    signal.signal(signal.SIGTERM, signal.default_int_handler)
+    children = Children()
+    children.take_signals()
     # Words of the command line may have any bytes, and are printed as they were.
     sys.stdout.reconfigure(errors="surrogateescape")  # type: ignore[union-attr]
     said, program = read_words(words)
-    room: Optional[str] = None
     try:
         check_script(said.script)
-        room = tempfile.mkdtemp(prefix="watchtree-explore-")
-        return explore(said, program, room)
+        return explore(said, program, children)
     except Fault as fault:
         print(f"watchtree explore: {fault}", file=sys.stderr)
         return TOOL_FAULT
@@ -157,16 +159,23 @@ def main(words: List[str]) -> int:
         where = f"{fault.filename}: " if fault.filename else ""
         print(f"watchtree explore: {where}{fault.strerror}", file=sys.stderr)
         return TOOL_FAULT
-    except KeyboardInterrupt:
-        return 130
+    except (KeyboardInterrupt, Ended):
+        return 128 + children.ended_by
     except Exception:  # pylint: disable=broad-except
         # The status of an exception that nobody takes is 1, which means that a schedule fails.
         traceback.print_exc()
         print("watchtree explore: this is a fault of the tool", file=sys.stderr)
         return TOOL_FAULT
-    finally:
-        if room:
-            shutil.rmtree(room, ignore_errors=True)
+
+
+def start_kept(words: List[str]) -> int:
+    """Starts this program again below a keeper of the runner: if it is killed, no run, check or folder stays behind."""
+    runner = read_words(words)[0].runner
+    try:
+        os.execv(runner, [runner, "--explore", sys.executable, os.path.abspath(__file__), KEPT, *words])
+    except OSError as fault:
+        print(f"watchtree explore: {runner}: {fault.strerror}", file=sys.stderr)
+    return TOOL_FAULT
 
 
 def flushed(status: int) -> int:
@@ -182,4 +191,4 @@ def flushed(status: int) -> int:
 
 
 if __name__ == "__main__":
-    sys.exit(flushed(main(sys.argv[1:])))
+    sys.exit(flushed(main(sys.argv[2:]) if sys.argv[1:2] == [KEPT] else start_kept(sys.argv[1:])))

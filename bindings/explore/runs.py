@@ -1,13 +1,14 @@
 """One run of the program under the runner, and what the check says of it."""
 
-import os
 import shutil
 import subprocess
+import sys
 import tempfile
-from dataclasses import dataclass
-from typing import Dict, List, Optional
+from dataclasses import dataclass, field
+from typing import List, Optional
 
 import traces
+from children import Children, Late
 from schedules import Fault, Refused, Schedule, read
 
 # Exit statuses of the runner, and of a shell that cannot run a command.
@@ -15,8 +16,8 @@ NOTHING_DELIVERED, LINES_LEFT, STALLED, TOOL_FAULT = 122, 123, 124, 125
 NOT_EXECUTABLE, NOT_FOUND = 126, 127
 # How the runner reports a set-up that is refused.
 REFUSED = "before `--` is refused: "
-# Seconds. No run takes this long: the runner ends one that stalls.
-LONGEST_RUN = 900
+# Seconds that no run and no check takes without --limit. The runner ends a run that stalls.
+LONGEST = 900
 
 
 @dataclass
@@ -45,6 +46,9 @@ class Bench:
     check: str
     program: List[str]
     room: str
+    limit: Optional[int] = None
+    children: Children = field(default_factory=Children)
+    _is_late_said: bool = False
 
     def seed(self, number: int, vary: str) -> Result:
         """Runs the script by a seed."""
@@ -75,11 +79,12 @@ class Bench:
                 shutil.rmtree(out, ignore_errors=True)
 
     def _program(self, command: List[str]) -> "subprocess.CompletedProcess[bytes]":
+        # (the runner ends a run at its limit, and the program 10 seconds later if it does not end by the signal)
+        most = LONGEST + (self.limit or 0) / 1000
         try:
-            said = subprocess.run(command, stdin=subprocess.DEVNULL, stdout=subprocess.DEVNULL, stderr=subprocess.PIPE,
-                                  timeout=LONGEST_RUN, check=False)
-        except subprocess.TimeoutExpired as late:
-            raise Fault(f"a run was not over after {LONGEST_RUN} seconds") from late
+            said = self.children.run(command, most)
+        except Late as late:
+            raise Fault(f"a run was not over after {most:.0f} seconds") from late
         if said.returncode == TOOL_FAULT:
             why = _last_line(said.stderr, f"status {TOOL_FAULT}")
             raise (Refused if REFUSED in why else Fault)(f"the runner: {why}")
@@ -94,9 +99,15 @@ class Bench:
 
     def _check(self, out: str, status: int, seed: Optional[int]) -> bool:
         """Whether the check fails."""
-        more: Dict[str, str] = {"WT_OUT": out, "WT_STATUS": str(status), "WT_SEED": "" if seed is None else str(seed)}
-        said = subprocess.run(["/bin/sh", "-c", self.check], env={**os.environ, **more}, stdin=subprocess.DEVNULL,
-                              stdout=subprocess.DEVNULL, stderr=subprocess.PIPE, check=False)
+        more = {"WT_OUT": out, "WT_STATUS": str(status), "WT_SEED": "" if seed is None else str(seed)}
+        most = self.limit / 1000 if self.limit else LONGEST
+        try:
+            said = self.children.run(["/bin/sh", "-c", self.check], most, more)
+        except Late:
+            if not self._is_late_said:
+                print(f"watchtree explore: a check was not over after {most:g} seconds, and fails", file=sys.stderr)
+            self._is_late_said = True
+            return True
         if said.returncode in (NOT_EXECUTABLE, NOT_FOUND):
             raise Fault("the check cannot be run: " + _last_line(said.stderr, f"status {said.returncode}"))
         return said.returncode != 0

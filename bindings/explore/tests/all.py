@@ -12,7 +12,7 @@ from typing import List, Optional, Tuple
 
 HERE = os.path.dirname(os.path.abspath(__file__))
 sys.path[:0] = [HERE, os.path.dirname(HERE)]
-MODULES = ("units", "clients", "folders", "replays", "found", "faults", "printed", "quiet")
+MODULES = ("units", "clients", "folders", "replays", "found", "faults", "printed", "quiet", "ended")
 EXAMPLES = ("recursive", "renames", "overflow", "follow", "reload")
 AT_ONCE = 2
 

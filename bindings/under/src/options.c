@@ -25,6 +25,7 @@ static const char usage[] =
     "  --schedule FILE    replay what a run left in DIR/schedule\n"
     "  --seeds A..B       a run for each seed\n"
     "  --check COMMAND    what decides whether a run of --seeds passed\n"
+    "  --limit MS         the most that a run takes, and the COMMAND of --check (none)\n"
     "  --outside=ignore   a watch outside the mount is taken and never fires (else EACCES)\n"
     "  --end SIGNAL       how the program is ended after the script: TERM, INT, .., none (TERM)\n"
     "  --debounce MS      quiet time before a line -- is passed (100)\n"
@@ -111,7 +112,7 @@ void read_options(int argc, char **argv) {
         { "dir", 1, NULL, 'd' }, { "trace", 0, NULL, 't' }, { "out", 1, NULL, 'o' }, { "seed", 1, NULL, 's' },
         { "seeds", 1, NULL, 'S' }, { "check", 1, NULL, 'c' }, { "queue", 1, NULL, 'q' }, { "settle", 1, NULL, 'e' },
         { "debounce", 1, NULL, 'b' }, { "stall", 1, NULL, 'l' }, { "refuse-outside", 0, NULL, 'n' },
-        { "vary", 1, NULL, 'v' }, { "schedule", 1, NULL, 'R' }, { "quick", 0, NULL, 'Q' },
+        { "limit", 1, NULL, 'L' }, { "vary", 1, NULL, 'v' }, { "schedule", 1, NULL, 'R' }, { "quick", 0, NULL, 'Q' },
         { "outside", 1, NULL, 'u' }, { "end", 1, NULL, 'E' }, { "one-cpu", 0, NULL, '1' }, { "help", 0, NULL, 'h' },
         { 0 } };
     argv[0] = "watchtree under";  /* which getopt_long names, and not where the tool is installed */
@@ -128,6 +129,7 @@ void read_options(int argc, char **argv) {
         case 'q': options.queue = (uint32_t)number("queue", optarg, 1, 65535); break;
         case 'e': options.settle_ms = milliseconds("settle", optarg); break;
         case 'b': options.debounce_ms = milliseconds("debounce", optarg); break;
+        case 'L': options.limit_ms = (int)number("limit", optarg, 1, INT_MAX); break;
         case 'l': options.stall_ms = milliseconds("stall", optarg); break;
         case 'n': options.ignores_outside = false; break;
         case 'u': outside(optarg); break;

@@ -22,6 +22,7 @@ struct options {
     uint32_t queue;
     int vary;
     int debounce_ms, settle_ms, stall_ms;
+    int limit_ms;               /* 0: none */
     int end_signal;             /* 0: none */
 };
 extern struct options options;

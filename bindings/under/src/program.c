@@ -4,6 +4,7 @@
 #include "needs.h"
 #include "options.h"
 #include "rest.h"
+#include "serve.h"
 #include "supervisor.h"
 #include <errno.h>
 #include <fcntl.h>
@@ -71,14 +72,14 @@ void start_program(const char *here, const sigset_t *blocked, int mount_fd) {
     close(pair[1]);
 }
 
-void end_processes(void (*serve)(void)) {
+void end_processes(void) {
     enum { POLITE = 20, PATIENT = 400 };
     for (int i = 0; i < PATIENT && signal_all(i < POLITE ? SIGTERM : SIGKILL, supervisor_pid); i++) {
-        serve();
+        serve_all();
         usleep(5000);
         while (waitpid(-1, NULL, WNOHANG) > 0) {}
     }
-    serve();
+    serve_all();
     kill(supervisor_pid, SIGKILL);
-    serve();
+    serve_all();
 }

@@ -1,9 +1,8 @@
 /* Is the program at rest? This process is a subreaper, so that all processes of the program stay below it. */
 #include "rest.h"
+#include "proc.h"
 #include "program.h"
 #include <ctype.h>
-#include <dirent.h>
-#include <fcntl.h>
 #include <signal.h>
 #include <stdio.h>
 #include <stdlib.h>
@@ -19,14 +18,6 @@ static size_t our_count, our_capacity;
 static ino_t *foreign;
 static size_t foreign_count;
 
-bool read_file_into(const char *name, char *out, size_t size) {
-    int fd = open(name, O_RDONLY | O_CLOEXEC);
-    ssize_t count = fd < 0 ? -1 : read(fd, out, size - 1);
-    if (fd >= 0) close(fd);
-    out[count > 0 ? count : 0] = 0;
-    return count > 0;
-}
-
 struct state {
     char letter;
     pid_t parent;
@@ -36,7 +27,7 @@ struct state {
 /* Of a process or a task. */
 static bool read_state(const char *name, struct state *out) {
     char text[1024];
-    if (!read_file_into(name, text, sizeof text)) return false;
+    if (!read_proc_file(name, text, sizeof text)) return false;
     char *end = strrchr(text, ')');
     return end && sscanf(end + 1, " %c %d %*d %*d %*d %*d %*u %*u %llu", &out->letter, &out->parent, &out->faults) == 3;
 }
@@ -69,10 +60,8 @@ static ino_t *foreign_entry(pid_t pid) {
 
 /* The processes that are not known to be foreign. */
 static void read_processes(void) {
-    static DIR *proc;
+    DIR *proc = proc_from_start();
     struct dirent *it;
-    if (!proc && !(proc = opendir("/proc"))) fail("/proc");
-    rewinddir(proc);
     unknown_count = 0;
     while ((it = readdir(proc))) {
         char name[300];
@@ -80,7 +69,7 @@ static void read_processes(void) {
         pid_t pid = isdigit((unsigned char)*it->d_name) ? atoi(it->d_name) : 0;
         if (pid <= 0 || pid == getpid() || *foreign_entry(pid) == it->d_ino) continue;
         *foreign_entry(pid) = 0;
-        snprintf(name, sizeof name, "/proc/%d/stat", pid);
+        snprintf(name, sizeof name, "%d/stat", pid);
         if (!read_state(name, &state)) continue;
         if (unknown_count == unknown_capacity)
             unknown = grow(unknown, &unknown_capacity, unknown_count, sizeof *unknown);
@@ -119,10 +108,10 @@ static void look_at_task(pid_t pid, const char *task, struct tasks *all) {
     char name[400], text[128];
     struct state state;
     unsigned long long ran, waited, count;
-    snprintf(name, sizeof name, "/proc/%d/task/%s/stat", pid, task);
+    snprintf(name, sizeof name, "%d/task/%s/stat", pid, task);
     if (!read_state(name, &state) || state.letter == 'Z' || state.letter == 'X') return;
-    snprintf(name, sizeof name, "/proc/%d/task/%s/schedstat", pid, task);
-    if (!read_file_into(name, text, sizeof text)) return;
+    snprintf(name, sizeof name, "%d/task/%s/schedstat", pid, task);
+    if (!read_proc_file(name, text, sizeof text)) return;
     if (sscanf(text, "%llu %llu %llu", &ran, &waited, &count) != 3 || !strchr("STtI", state.letter)) all->all_sleep = false;
     uint64_t number = strtoull(task, NULL, 10);
     all->runs = mix(mix(all->runs, number), count);
@@ -138,8 +127,8 @@ struct tasks look_at_tasks(void) {
     for (size_t i = 0; i < our_count; i++) {
         char name[64];
         struct dirent *it;
-        snprintf(name, sizeof name, "/proc/%d/task", ours[i]);
-        DIR *tasks = opendir(name);
+        snprintf(name, sizeof name, "%d/task", ours[i]);
+        DIR *tasks = open_proc_folder(name);
         while (tasks && (it = readdir(tasks))) if (*it->d_name != '.') look_at_task(ours[i], it->d_name, &all);
         if (tasks) closedir(tasks);
     }
@@ -153,21 +142,16 @@ bool any_task(bool (*is_such)(pid_t pid, const char *task)) {
         struct state state;
         struct dirent *it;
         if (ours[i] == supervisor_pid) continue;
-        snprintf(name, sizeof name, "/proc/%d/task", ours[i]);
-        DIR *tasks = opendir(name);
+        snprintf(name, sizeof name, "%d/task", ours[i]);
+        DIR *tasks = open_proc_folder(name);
         while (tasks && !is_any && (it = readdir(tasks))) {
             if (*it->d_name == '.') continue;
-            snprintf(name, sizeof name, "/proc/%d/task/%.20s/stat", ours[i], it->d_name);
+            snprintf(name, sizeof name, "%d/task/%.20s/stat", ours[i], it->d_name);
             is_any = read_state(name, &state) && state.letter != 'Z' && state.letter != 'X' && is_such(ours[i], it->d_name);
         }
         if (tasks) closedir(tasks);
     }
     return is_any;
-}
-
-bool is_of_program(pid_t pid) {
-    find_ours();
-    return pid != getpid() && is_ours(pid);
 }
 
 int signal_all(int signal, pid_t but) {
@@ -180,6 +164,6 @@ int signal_all(int signal, pid_t but) {
 bool can_tell_rest(void) {
     char text[128];
     unsigned long long ran, waited, count;
-    return read_file_into("/proc/self/schedstat", text, sizeof text) &&
+    return read_proc_file("self/schedstat", text, sizeof text) &&
            sscanf(text, "%llu %llu %llu", &ran, &waited, &count) == 3 && count;
 }

@@ -14,10 +14,6 @@ struct tasks {
 struct tasks look_at_tasks(void);
 /* Whether any task of the last look is such a one, the supervisor excepted. */
 bool any_task(bool (*is_such)(pid_t pid, const char *task));
-/* Reads the start of a file of /proc, and ends it with a zero byte. False if there is nothing. */
-bool read_file_into(const char *name, char *out, size_t size);
-/* Whether a process is below this one. */
-bool is_of_program(pid_t pid);
 /* Sends a signal to every process below this one except `but`. Returns how many there were. */
 int signal_all(int signal, pid_t but);
 /* Whether the kernel keeps what all_sleep() reads. */

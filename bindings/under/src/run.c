@@ -2,21 +2,23 @@
 #include "run.h"
 #include "files.h"
 #include "instances.h"
+#include "keeper.h"
 #include "mount.h"
 #include "needs.h"
 #include "options.h"
+#include "proc.h"
 #include "program.h"
 #include "record.h"
 #include "rest.h"
 #include "schedule.h"
 #include "script.h"
+#include "serve.h"
 #include "trace.h"
 #include "tree.h"
 #include "turn.h"
 #include <errno.h>
 #include <limits.h>
 #include <poll.h>
-#include <sched.h>
 #include <signal.h>
 #include <stdio.h>
 #include <stdlib.h>
@@ -38,70 +40,36 @@ enum ending { RUNNING, OVER, STALLED, BROKEN };
 
 static struct fuse_session *session;
 static int signals;
-static sigset_t first_mask;         /* what was blocked when the tool started, which the program inherits */
 static enum ending ending;
+static const char *broken;          /* which process of the tool was ended */
 static int64_t ended_at;            /* when the program was asked to end */
 static int64_t worked_at;           /* when it last worked */
 static int64_t progress_at;         /* when a record was taken or a line ran */
 static bool has_ended;
 static int wait_status;
 
-/* ---- what comes in */
+/* ---- signals */
 
-static bool serve_one(void) {
-    static struct fuse_buf buffer;
-    int count = fuse_session_receive_buf(session, &buffer);
-    if (count == -EAGAIN || count == -EINTR) return false;
-    if (count <= 0) fault("/dev/fuse: %s", count ? strerror(-count) : "the mount is gone");
-    fuse_session_process_buf(session, &buffer);
-    return true;
+static void note_broken(const char *what) {
+    ending = BROKEN;
+    broken = what;
 }
 
-static void serve(void) {
-    while (serve_one()) {}
-}
-
-/* Whether another processor is likely to have nothing to do. */
-static bool has_idle_processor(void) {
-    static int64_t asked_at;
-    static bool is_idle;
-    cpu_set_t set;
-    double load;
-    if (asked_at && clock_ms() - asked_at < 1000) return is_idle;
-    asked_at = clock_ms();
-    int count = sched_getaffinity(0, sizeof set, &set) < 0 ? 1 : CPU_COUNT(&set);
-    return is_idle = count > 1 && getloadavg(&load, 1) == 1 && load < count;
-}
-
-/* The program often sends its next request at once. If it runs on another CPU, polling a little longer costs less than
- * sleeping and being woken; if on this one, the yield lets it run. */
-static void serve_burst(void) {
-    enum { BURST_NS = 40000, MOST_REQUESTS = 256 };
-    struct timespec start, now;
-    int count = 0;
-    while (count < MOST_REQUESTS && serve_one()) count++;
-    if (!has_idle_processor()) return;
-    clock_gettime(CLOCK_MONOTONIC, &start);
-    while (count < MOST_REQUESTS) {
-        sched_yield();
-        clock_gettime(CLOCK_MONOTONIC, &now);
-        if (serve_one()) {
-            start = now;
-            count++;
-        } else if ((now.tv_sec - start.tv_sec) * 1000000000 + now.tv_nsec - start.tv_nsec >= BURST_NS) break;
-    }
+/* What was sent to the tool is passed on. What came to the process group came to the program too, if it is still in it. */
+static bool is_for_program(const struct signalfd_siginfo *it) {
+    if (it->ssi_signo == SIGCHLD) return false;
+    if ((pid_t)it->ssi_pid == parent_pid && it->ssi_code == SI_USER) return true;
+    return getpgid(program_pid) != getpgrp() && (pid_t)it->ssi_pid != program_pid;
 }
 
 static void take_signals(void) {
     struct signalfd_siginfo it;
-    while (read(signals, &it, sizeof it) == sizeof it) {
-        /* A terminal signals the program too, and so does a process of the run that signals all of its group. */
-        bool is_for_program = it.ssi_signo != SIGCHLD && it.ssi_code <= 0 && !is_of_program((pid_t)it.ssi_pid);
-        if (is_for_program) kill(program_pid, (int)it.ssi_signo);
-    }
+    while (read(signals, &it, sizeof it) == sizeof it)
+        if (is_for_program(&it)) kill(program_pid, (int)it.ssi_signo);
+    if (getppid() != parent_pid) note_broken("the keeper of the processes");
     int status;
     for (pid_t pid; (pid = waitpid(-1, &status, WNOHANG)) > 0;) {
-        if (pid == supervisor_pid) ending = BROKEN;
+        if (pid == supervisor_pid) note_broken("the supervisor of the system calls");
         if (pid != program_pid) continue;
         wait_status = status;
         has_ended = true;
@@ -199,6 +167,9 @@ static void loop(void) {
         } else if (is_stalled()) {
             say("stalled: for %d ms no record was taken and no line ran", options.stall_ms);
             ask_to_end(STALLED);
+        } else if (options.limit_ms && clock_ms() - started_at >= options.limit_ms) {
+            say("the run was not over after %d ms (--limit)", options.limit_ms);
+            ask_to_end(STALLED);
         } else if (fds[0].revents) wait_us = clock_ms() - started_at < FIRST_LOOK_MS ? FIRST_LOOK_MS * 1000 : REST_US;
         else if (ending) wait_us = 10000;
         else if (is_at_rest(&wait_us)) {
@@ -206,27 +177,21 @@ static void loop(void) {
             if (poll(&request, 1, 0) == 0) give_turn(&wait_us);
         }
     }
-    serve();                        /* its files were closed before its end was known */
+    serve_all();                    /* its files were closed before its end was known */
 }
 
 /* ---- before and after */
 
-/* All but those of faults, those of job control, and SIGPIPE. */
-static int block_signals(void) {
-    static const int others[] = { SIGSEGV, SIGBUS, SIGFPE, SIGILL, SIGABRT, SIGTRAP, SIGSYS, SIGTSTP, SIGTTIN, SIGTTOU,
-                                  SIGCONT, SIGPIPE };
-    sigset_t set;
-    sigfillset(&set);
-    for (size_t i = 0; i < sizeof others / sizeof *others; i++) sigdelset(&set, others[i]);
-    sigprocmask(SIG_BLOCK, &set, &first_mask);
-    int fd = signalfd(-1, &set, SFD_CLOEXEC | SFD_NONBLOCK);
+static int take_over_signals(void) {
+    sigprocmask(SIG_BLOCK, &passed_signals, NULL);
+    int fd = signalfd(-1, &passed_signals, SFD_CLOEXEC | SFD_NONBLOCK);
     if (fd < 0) fail("signalfd");
     return fd;
 }
 
 static int status_of_program(void) {
     if (WIFSIGNALED(wait_status)) {
-        bool was_asked = ending == OVER && (WTERMSIG(wait_status) == options.end_signal || WTERMSIG(wait_status) == SIGKILL);
+        bool was_asked = ending == OVER && WTERMSIG(wait_status) == options.end_signal;
         return was_asked ? 0 : 128 + WTERMSIG(wait_status);
     }
     int status = WEXITSTATUS(wait_status);
@@ -246,7 +211,7 @@ static int status_of_delivery(void) {
 static int exit_status(void) {
     long left = lines_left();
     if (ending == BROKEN && !has_ended) {
-        say("the supervisor of the system calls was ended");
+        say("%s was ended", broken);
         return STATUS_FAULT;
     }
     if (WIFEXITED(wait_status)) trace("# ended %d\n", WEXITSTATUS(wait_status));
@@ -272,23 +237,26 @@ static void prepare_out(void) {
 
 int run(void) {
     char here[PATH_MAX];
+    /* Until there is a program to which they could go, signals end the tool. */
+    sigprocmask(SIG_SETMASK, &first_mask, NULL);
     if (!getcwd(here, sizeof here)) fail("the working directory");
+    open_proc();
     check_needs();
     prepare_out();
     open_script();
     draw_queue();
     open_trace();
     open_record();
-    session = mount_tree(here);
+    serve_session(session = mount_tree(here));
     open_tree();
     make_nursery();
     stamp(ROOT, MODIFIED);
     run_first_lines();
-    signals = block_signals();
+    signals = take_over_signals();
     prctl(PR_SET_CHILD_SUBREAPER, 1);
     start_program(here, &first_mask, fuse_session_fd(session));
     loop();
-    end_processes(serve);
+    end_processes();
     commit_all();
     int status = exit_status();
     if (options.out) write_tree(options.out);

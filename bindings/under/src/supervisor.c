@@ -7,8 +7,6 @@
 #include "options.h"
 #include "paths.h"
 #include "rights.h"
-#include <ctype.h>
-#include <dirent.h>
 #include <errno.h>
 #include <fcntl.h>
 #include <linux/magic.h>
@@ -20,7 +18,6 @@
 #include <stdio.h>
 #include <stdlib.h>
 #include <sys/inotify.h>
-#include <sys/mount.h>
 #include <sys/resource.h>
 #include <sys/stat.h>
 #include <sys/syscall.h>
@@ -147,38 +144,6 @@ static int answer(const struct seccomp_notif *call) {
     }
 }
 
-/* ---- when the tool is gone without its end (SIGKILL), nothing of the run stays */
-
-static bool is_in_namespace(const char *pid, const char *namespace) {
-    char name[300], other[64];
-    snprintf(name, sizeof name, "/proc/%s/ns/mnt", pid);
-    ssize_t length = readlink(name, other, sizeof other - 1);
-    other[length > 0 ? length : 0] = 0;
-    return !strcmp(other, namespace);
-}
-
-_Noreturn static void end_run(void) {
-    enum { ROUNDS = 50 };
-    char namespace[64];
-    ssize_t length = readlink("/proc/self/ns/mnt", namespace, sizeof namespace - 1);
-    umount2(options.dir, MNT_DETACH);
-    if (length <= 0) _exit(STATUS_FAULT);
-    namespace[length] = 0;
-    for (int i = 0, found = 1; i < ROUNDS && found; i++) {
-        DIR *proc = opendir("/proc");
-        struct dirent *it;
-        found = 0;
-        while (proc && (it = readdir(proc))) {
-            pid_t pid = isdigit((unsigned char)*it->d_name) ? atoi(it->d_name) : 0;
-            if (pid <= 0 || pid == getpid() || !is_in_namespace(it->d_name, namespace)) continue;
-            found += kill(pid, SIGKILL) == 0;
-        }
-        if (proc) closedir(proc);
-        usleep(2000);
-    }
-    _exit(STATUS_FAULT);
-}
-
 #ifndef SECCOMP_IOCTL_NOTIF_SET_FLAGS           /* Linux 6.6 */
 #define SECCOMP_USER_NOTIF_FD_SYNC_WAKE_UP (1UL << 0)
 #define SECCOMP_IOCTL_NOTIF_SET_FLAGS SECCOMP_IOW(4, __u64)
@@ -276,5 +241,5 @@ void supervise(int from, pid_t tool) {
     struct pollfd one = { gone, POLLIN, 0 };
     if (!has_another()) fail("pthread_create");
     if (poll(&one, 1, -1) < 0) fail("poll");
-    end_run();
+    _exit(STATUS_FAULT);            /* and the keeper ends the run */
 }

@@ -1,6 +1,7 @@
 /* Does a task of the program wait with a time limit? The kernel shows in which system call a task sleeps, with its
  * arguments. A call that is not known here counts as one with a limit. */
 #include "timers.h"
+#include "proc.h"
 #include "program.h"
 #include "rest.h"
 #include <ctype.h>
@@ -41,8 +42,8 @@ static bool is_limited(pid_t pid, const char *task) {
     unsigned long long a[6];
     long call;
     bool is_number;
-    snprintf(name, sizeof name, "/proc/%d/task/%s/syscall", pid, task);
-    if (!read_file_into(name, text, sizeof text)) return true;
+    snprintf(name, sizeof name, "%d/task/%s/syscall", pid, task);
+    if (!read_proc_file(name, text, sizeof text)) return true;
     if (sscanf(text, "%ld %llx %llx %llx %llx %llx %llx", &call, a, a + 1, a + 2, a + 3, a + 4, a + 5) != 7) return true;
     int at = limit_of(call, &is_number);
     if (at < 0) return at == LIMIT;
@@ -54,13 +55,10 @@ static bool is_limited(pid_t pid, const char *task) {
 static bool is_armed(pid_t pid, const char *descriptor) {
     char name[400], text[1024];
     unsigned long long seconds, nanoseconds;
-    snprintf(name, sizeof name, "/proc/%d/fd/%s", pid, descriptor);
-    ssize_t length = readlink(name, text, sizeof text - 1);
-    if (length < 0) return false;
-    text[length] = 0;
-    if (strcmp(text, "anon_inode:[timerfd]")) return false;
-    snprintf(name, sizeof name, "/proc/%d/fdinfo/%s", pid, descriptor);
-    if (!read_file_into(name, text, sizeof text)) return true;
+    snprintf(name, sizeof name, "%d/fd/%s", pid, descriptor);
+    if (!read_proc_link(name, text, sizeof text) || strcmp(text, "anon_inode:[timerfd]")) return false;
+    snprintf(name, sizeof name, "%d/fdinfo/%s", pid, descriptor);
+    if (!read_proc_file(name, text, sizeof text)) return true;
     const char *value = strstr(text, "it_value: (");
     if (!value || sscanf(value, "it_value: (%llu, %llu)", &seconds, &nanoseconds) != 2) return true;
     return seconds || nanoseconds;
@@ -70,10 +68,10 @@ static bool process_has_timer(pid_t pid) {
     char name[64], text[16];
     bool is_any = false;
     struct dirent *it;
-    snprintf(name, sizeof name, "/proc/%d/timers", pid);
-    if (read_file_into(name, text, sizeof text)) return true;
-    snprintf(name, sizeof name, "/proc/%d/fd", pid);
-    DIR *all = opendir(name);
+    snprintf(name, sizeof name, "%d/timers", pid);
+    if (read_proc_file(name, text, sizeof text)) return true;
+    snprintf(name, sizeof name, "%d/fd", pid);
+    DIR *all = open_proc_folder(name);
     if (!all) return true;
     while (!is_any && (it = readdir(all))) is_any = isdigit((unsigned char)*it->d_name) && is_armed(pid, it->d_name);
     closedir(all);

@@ -87,7 +87,18 @@ expect 'a watcher without lines that ends by itself' 0 'nothing was delivered: n
     "$under" --settle 2000 empty -- sh -c 'inotifywait -q -t 1 /wt || true'
 expect 'records of the program alone' 122 'nothing was delivered: the program took no record' "$under" script -- /usr/bin/python3 own-record.py
 expect 'a program in --out that is not there' 127 'no-such-program: No such file' "$under" --out out-none script -- no-such-program
-expect 'a program that does not heed SIGTERM' 0 'did not end by the signal, and was killed' "$under" script -- sh -c 'trap "" TERM; inotifywait -q -m /wt/d; sleep 30'
+expect 'a program that does not heed SIGTERM' 137 'did not end by the signal, and was killed' "$under" script -- sh -c 'trap "" TERM; inotifywait -q -m /wt/d; sleep 30'
+expect 'a program that is ended by SIGKILL, as it is asked to be' 0 - \
+    "$under" --end KILL script -- sh -c 'trap "" TERM; inotifywait -q -m /wt/d'
+expect 'a program that asks no instance' 124 'the run was not over after 300 ms .--limit.' \
+    "$under" --limit 300 empty -- sleep 1000
+expect 'a program that works on and on' 124 'the run was not over after 300 ms' \
+    "$under" --limit 300 empty -- sh -c 'while :; do :; done'
+expect 'a limit that a run keeps' 0 - "$under" --limit 200000 script -- inotifywait -q -m -e create /wt/d
+expect 'a limit of --seeds' 1 'the run was not over after 300 ms' "$under" --limit 300 --seeds 1..1 --out out-limit empty -- sleep 1000
+expect 'a check that is never over' 1 'seed 1: the check was not over after 300 ms .--limit.' \
+    "$under" --limit 300 --seeds 1..1 --out out-check --check 'sleep 1000 & sleep 1000' empty -- true
+expect 'a bad limit' 125 'limit: bad value .0.: it wants a number from 1' "$under" --limit 0 empty -- true
 expect 'only lines before the first mark' 0 - "$under" first -- ls /wt/d
 expect 'a run within a run' 125 'do not nest|another seccomp listener' \
     sh -c '"$0" empty -- "$0" empty -- true 2>err2; s=$?; cat err2 >&2; exit $s' "$under"

@@ -73,8 +73,8 @@ check 'a tool that was killed at any moment leaves nothing' "$(ps -o pid,args -p
 "$under" --end none script -- sh -c 'inotifywait -q -m /wt/d; sleep 1000' "$room/marker" >out 2>&1 &
 tool=$!
 await grep -q CREATE out
-# (the supervisor is the first child)
-kill -9 "$(below "$tool" | head -n 1)"
+# (below the tool is the keeper, below that one the process with the tree, and its first child is the supervisor)
+kill -9 "$(below "$tool" | sed -n 3p)"
 wait "$tool"
 status=$?
 await unnamed
