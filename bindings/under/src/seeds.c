@@ -1,5 +1,6 @@
 /* A run for each seed, and a check of what each left. */
 #include "options.h"
+#include "out.h"
 #include "run.h"
 #include <errno.h>
 #include <ftw.h>
@@ -51,6 +52,7 @@ int run_seeds(void) {
     if (stat(options.script, &is) < 0) fail(options.script);
     if (!S_ISREG(is.st_mode)) fault("--seeds needs a script that can be read again");
     if (options.out && mkdir(options.out, 0755) < 0 && errno != EEXIST) fail(options.out);
+    hold_out_above(above);
     for (uint64_t seed = options.seed; seed <= options.last_seed; seed++) {
         snprintf(out, sizeof out, "%s/%llu", above, (unsigned long long)seed);
         int status = run_one(seed, out);
