@@ -279,6 +279,7 @@ int run(void) {
     loop();
     end_processes(serve);
     commit_all();
+    end_live_script();
     int status = exit_status();
     if (options.out) write_tree();
     close_trace();
