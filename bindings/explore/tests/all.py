@@ -1,6 +1,6 @@
-"""Runs the tests: all.py [--sanitized] RUNNER [CLASS..]. Two go at once. The last line is 'explore: N passed, M failed'.
+"""Runs the tests: all.py [--sanitized] RUNNER [CLASS..]. Two go at once.
 
-With --sanitized the tests that need no runner are not run once more.
+With --sanitized the tests that need no runner are not run once more. The last line is 'explore: N passed, M failed'.
 """
 
 import importlib
@@ -51,7 +51,7 @@ def run(test: unittest.TestCase) -> Tuple[str, str]:
 
 
 def beside_modules(runner: str, room: str) -> str:
-    """Links a sanitized runner beside the Python modules of the library, where `explore` looks for them. Returns its path."""
+    """Links a sanitized runner beside the Python modules that `explore` looks for. Returns its path."""
     out = os.path.dirname(os.path.dirname(runner))
     for name in os.listdir(out):
         if name.startswith("watchtree"):

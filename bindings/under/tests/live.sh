@@ -53,4 +53,4 @@ END_OF_PROGRAM
 timeout 200 /usr/bin/python3 full.py "$under" --out left script -- true >out 2>err
 status=$?
 [ "$status" = 123 ] && grep -q ': 40 lines did not happen$' err && [ "$(grep -c '^write' left/schedule)" = 40 ]
-check 'lines that came and did not happen' "status $status, $(grep -c '^write' left/schedule) in the schedule: $(cat err)"
+check 'lines that came and did not happen' "status $status, $(grep -c '^write' left/schedule) left: $(cat err)"

@@ -107,7 +107,8 @@ expect 'no /dev/fuse' 125 'no FUSE: load it by .modprobe fuse.' "$with_dev" none
     expect '/dev/fuse of root alone' 125 '/dev/fuse cannot be opened .Permission denied.: make it readable' \
         "$with_dev" 600 dev $other "$under" empty -- true
     expect 'another user than root' 0 - "$with_dev" 666 dev $other "$under" script -- inotifywait -q -m /wt/d
-    expect 'another user has no root' 0 - "$with_dev" 666 dev $other "$under" empty -- sh -c 'touch /wt/f && ! touch /f 2>/dev/null'
+    expect 'another user has no root' 0 - \
+        "$with_dev" 666 dev $other "$under" empty -- sh -c 'touch /wt/f && ! touch /f 2>/dev/null'
     # (in a chroot a user can make no namespaces)
     mkdir root
     expect 'no user namespace' 125 'no user namespace .*: allow them' "$with_dev" 666 dev unshare -m sh -c \

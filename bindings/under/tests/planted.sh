@@ -1,7 +1,7 @@
 #!/bin/sh
-# Links that are planted in the folder of --out: planted.sh UNDER. Nothing is written through one of them, and a line says
-# what is in the way. Where this is root, the program that plants them is once root and once another user, whom the folder
-# belongs to. Prints `ok NAME`, `FAILED NAME: WHY` or `left out NAME: WHY` for each.
+# Links that are planted in the folder of --out: planted.sh UNDER. Nothing is written through one of them, and a line
+# says what is in the way. Where this is root, the program that plants them is once root and once another user, whom the
+# folder belongs to. Prints `ok NAME`, `FAILED NAME: WHY` or `left out NAME: WHY` for each.
 set -u
 under=$1
 room=$(mktemp -d)
@@ -25,7 +25,8 @@ run() {
     shift
     # (the words are several)
     # shellcheck disable=SC2086
-    timeout 60 "$under" --out base/out "$@" script -- $as sh -c "cd '$room/base' && { $program; }" >said 2>err </dev/null
+    timeout 60 "$under" --out base/out "$@" script -- \
+        $as sh -c "cd '$room/base' && { $program; }" >said 2>err </dev/null
     status=$?
 }
 

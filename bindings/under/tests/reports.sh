@@ -1,6 +1,7 @@
 #!/bin/sh
-# What the sanitizers report of the runner is not lost: reports.sh UNDER ROOM. In a copy of the runner there is a fault of
-# each kind, which it makes where the environment says so. Prints `ok NAME`, `FAILED NAME: WHY` or `left out NAME: WHY`.
+# What the sanitizers report of the runner is not lost: reports.sh UNDER ROOM. In a copy of the runner there is a fault
+# of each kind, which it makes where the environment says so. Prints `ok NAME`, `FAILED NAME: WHY` or
+# `left out NAME: WHY`.
 set -u
 tests=$(CDPATH='' cd -- "$(dirname -- "$0")" && pwd)
 out=$(dirname "$1")
