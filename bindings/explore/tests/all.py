@@ -50,14 +50,13 @@ def run(test: unittest.TestCase) -> Tuple[str, str]:
     return name, "FAILED " + wrong[0] if wrong else ""
 
 
-def beside_modules(runner: str, room: str) -> str:
-    """Links a sanitized runner beside the Python modules that `explore` looks for. Returns its path."""
-    out = os.path.dirname(os.path.dirname(runner))
-    for name in os.listdir(out):
-        if name.startswith("watchtree"):
-            os.symlink(f"{out}/{name}", f"{room}/{name}")
-    os.symlink(runner, f"{room}/under")
-    return f"{room}/under"
+def beside_library(runner: str, room: str) -> str:
+    """Links a sanitized runner beside the library, where `explore` looks for Python modules. Returns its path."""
+    folder, out = os.path.dirname(runner), os.path.dirname(os.path.dirname(runner))
+    os.mkdir(f"{room}/out")
+    for path in [runner, *(f"{out}/{name}" for name in os.listdir(out) if name not in ("under", os.path.basename(folder)))]:
+        os.symlink(path, f"{room}/out/{os.path.basename(path)}")
+    return f"{room}/out/under"
 
 
 def chosen(modules: Iterable[str], names: List[str]) -> List[unittest.TestCase]:
@@ -77,7 +76,7 @@ def main() -> int:
     runner, *names = words[is_sanitized:]
     runner, modules = os.path.abspath(runner), WITH_RUNNER if is_sanitized else WITHOUT_RUNNER + WITH_RUNNER
     with tempfile.TemporaryDirectory(prefix="watchtree-explore-test-") as room:
-        os.environ.update(RUNNER=beside_modules(runner, room) if is_sanitized else runner, ROOM=room)
+        os.environ.update(RUNNER=beside_library(runner, room) if is_sanitized else runner, ROOM=room)
         wrong = build(room)
         if wrong:
             print(f"explore: FAILED: not built: {wrong}\nexplore: 0 passed, 1 failed")
