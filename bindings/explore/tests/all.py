@@ -52,10 +52,10 @@ def run(test: unittest.TestCase) -> Tuple[str, str]:
 
 def beside_library(runner: str, room: str) -> str:
     """Links a sanitized runner beside the library, where `explore` looks for Python modules. Returns its path."""
-    folder, out = os.path.dirname(runner), os.path.dirname(os.path.dirname(runner))
+    out = os.path.dirname(os.path.dirname(runner))
     os.mkdir(f"{room}/out")
-    for path in [runner, *(f"{out}/{name}" for name in os.listdir(out) if name not in ("under", os.path.basename(folder)))]:
-        os.symlink(path, f"{room}/out/{os.path.basename(path)}")
+    for name in os.listdir(out):
+        os.symlink(runner if name == "under" else f"{out}/{name}", f"{room}/out/{name}")
     return f"{room}/out/under"
 
 
