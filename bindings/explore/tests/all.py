@@ -1,4 +1,7 @@
-"""Runs the tests: all.py RUNNER [CLASS..]. Two go at once. The last line is 'explore: N passed, M failed'."""
+"""Runs the tests: all.py [--sanitized] RUNNER [CLASS..]. Two go at once.
+
+With --sanitized the tests that need no runner are not run once more. The last line is 'explore: N passed, M failed'.
+"""
 
 import importlib
 import os
@@ -8,11 +11,12 @@ import tempfile
 import traceback
 import unittest
 from concurrent.futures import ThreadPoolExecutor
-from typing import List, Optional, Tuple
+from typing import Iterable, List, Optional, Tuple
 
 HERE = os.path.dirname(os.path.abspath(__file__))
 sys.path[:0] = [HERE, os.path.dirname(HERE)]
-MODULES = ("units", "clients", "folders", "replays", "found", "faults", "printed", "quiet", "ended")
+WITHOUT_RUNNER = ("units", "clients")
+WITH_RUNNER = ("folders", "replays", "found", "faults", "printed", "quiet", "ended")
 EXAMPLES = ("recursive", "renames", "overflow", "follow", "reload")
 AT_ONCE = 2
 
@@ -47,10 +51,19 @@ def run(test: unittest.TestCase) -> Tuple[str, str]:
     return name, "FAILED " + wrong[0] if wrong else ""
 
 
-def chosen(names: List[str]) -> List[unittest.TestCase]:
+def beside_library(runner: str, room: str) -> str:
+    """Links a sanitized runner beside the library, where `explore` looks for Python modules. Returns its path."""
+    out = os.path.dirname(os.path.dirname(runner))
+    os.mkdir(f"{room}/out")
+    for name in os.listdir(out):
+        os.symlink(runner if name == "under" else f"{out}/{name}", f"{room}/out/{name}")
+    return f"{room}/out/under"
+
+
+def chosen(modules: Iterable[str], names: List[str]) -> List[unittest.TestCase]:
     """Returns the tests of some classes, or all."""
     out: List[unittest.TestCase] = []
-    for module in MODULES:
+    for module in modules:
         for suite in unittest.defaultTestLoader.loadTestsFromModule(importlib.import_module(module)):
             out += [it for it in suite if not names or type(it).__name__ in names]
     return out
@@ -59,14 +72,18 @@ def chosen(names: List[str]) -> List[unittest.TestCase]:
 def main() -> int:
     """Runs the tests."""
     passed = failed = 0
+    words = sys.argv[1:]
+    is_sanitized = words[0] == "--sanitized"
+    runner, *names = words[is_sanitized:]
+    runner, modules = os.path.abspath(runner), WITH_RUNNER if is_sanitized else WITHOUT_RUNNER + WITH_RUNNER
     with tempfile.TemporaryDirectory(prefix="watchtree-explore-test-") as room:
-        os.environ.update(RUNNER=os.path.abspath(sys.argv[1]), ROOM=room)
+        os.environ.update(RUNNER=beside_library(runner, room) if is_sanitized else runner, ROOM=room)
         wrong = build(room)
         if wrong:
             print(f"explore: FAILED: not built: {wrong}\nexplore: 0 passed, 1 failed")
             return 1
         with ThreadPoolExecutor(AT_ONCE) as pool:
-            for name, said in pool.map(run, chosen(sys.argv[2:])):
+            for name, said in pool.map(run, chosen(modules, names)):
                 passed += not said
                 failed += said.startswith("FAILED")
                 print(f"explore: {name}" + (f": {said}" if said else ""), flush=True)

@@ -3,13 +3,13 @@
 #include "filter.h"
 #include "needs.h"
 #include "options.h"
+#include "out.h"
 #include "rest.h"
 #include "serve.h"
 #include "supervisor.h"
 #include <errno.h>
 #include <fcntl.h>
 #include <signal.h>
-#include <stdio.h>
 #include <sys/prctl.h>
 #include <sys/socket.h>
 #include <sys/wait.h>
@@ -17,12 +17,7 @@
 
 pid_t supervisor_pid, program_pid;
 
-static void redirect(const char *name, int to) {
-    char path[PATH_SIZE];
-    snprintf(path, sizeof path, "%s/%s", options.out, name);
-    int fd = open(path, O_CREAT | O_WRONLY | O_TRUNC | O_CLOEXEC, 0644);
-    if (fd < 0 || dup2(fd, to) < 0) fail(path);
-}
+static int written[2];              /* what the program writes, of --out */
 
 _Noreturn static void become_program(const char *here, pid_t tool, int to_supervisor, const sigset_t *blocked) {
     prctl(PR_SET_PDEATHSIG, SIGKILL);
@@ -34,10 +29,7 @@ _Noreturn static void become_program(const char *here, pid_t tool, int to_superv
         if (nothing < 0 || dup2(nothing, 0) < 0) fail("/dev/null");
     }
     int tool_error = fcntl(2, F_DUPFD_CLOEXEC, 3);
-    if (options.out) {
-        redirect("stdout", 1);
-        redirect("stderr", 2);
-    }
+    if (options.out && (dup2(written[0], 1) < 0 || dup2(written[1], 2) < 0)) fail("--out");
     int listener = install_filter();
     if (listener < 0) lack_filter(errno);
     send_fd(to_supervisor, listener);
@@ -54,6 +46,10 @@ _Noreturn static void become_program(const char *here, pid_t tool, int to_superv
 
 void start_program(const char *here, const sigset_t *blocked, int mount_fd) {
     int pair[2];
+    if (options.out) {
+        written[0] = make_out_file(OUT_STDOUT);
+        written[1] = make_out_file(OUT_STDERR);
+    }
     if (socketpair(AF_UNIX, SOCK_STREAM | SOCK_CLOEXEC, 0, pair) < 0) fail("socketpair");
     pid_t tool = getpid();
     if ((supervisor_pid = fork()) < 0) fail("fork");

@@ -1,17 +1,15 @@
 /* Writes down the schedule that a run takes. */
 #include "record.h"
 #include "options.h"
-#include <stdio.h>
+#include "out.h"
 
 static FILE *file;
 static uint64_t before;             /* the request of the last directive: 0 at rest */
 
 void open_record(void) {
     enum { USUAL_QUEUE = 16384 };
-    char path[PATH_SIZE];
     if (!options.out) return;
-    snprintf(path, sizeof path, "%s/schedule", options.out);
-    if (!(file = fopen(path, "we"))) fail(path);
+    file = make_out_stream(OUT_SCHEDULE);
     setvbuf(file, NULL, _IOLBF, 0);         /* what ran is kept if the tool is ended */
     if (options.queue != USUAL_QUEUE) fprintf(file, "#@ queue %u\n", options.queue);
 }

@@ -6,6 +6,7 @@
 #include "mount.h"
 #include "needs.h"
 #include "options.h"
+#include "out.h"
 #include "proc.h"
 #include "program.h"
 #include "record.h"
@@ -20,7 +21,6 @@
 #include <limits.h>
 #include <poll.h>
 #include <signal.h>
-#include <stdio.h>
 #include <stdlib.h>
 #include <sys/prctl.h>
 #include <sys/signalfd.h>
@@ -223,18 +223,6 @@ static int exit_status(void) {
     return left ? STATUS_LINES_LEFT : status_of_delivery();
 }
 
-static void prepare_out(void) {
-    char path[PATH_SIZE], dir[PATH_MAX];
-    if (!options.out) return;
-    if (mkdir(options.out, 0755) < 0 && errno != EEXIST) fail(options.out);
-    if (!(options.out = realpath(options.out, NULL))) fail("--out");
-    size_t length = realpath(options.dir, dir) ? strlen(dir) : 0;
-    if (length && !strncmp(options.out, dir, length) && (!options.out[length] || options.out[length] == '/'))
-        fault("--out: %s is below the mount", options.out);
-    if ((size_t)snprintf(path, sizeof path, "%s/tree", options.out) >= sizeof path) fault("--out: the path is too long");
-    if (access(path, F_OK) == 0) fault("--out: %s is there already, of another run", path);
-}
-
 int run(void) {
     char here[PATH_MAX];
     /* Until there is a program to which they could go, signals end the tool. */
@@ -242,9 +230,10 @@ int run(void) {
     if (!getcwd(here, sizeof here)) fail("the working directory");
     open_proc();
     check_needs();
-    prepare_out();
+    open_out();
     open_script();
     draw_queue();
+    remove_old_out();
     open_trace();
     open_record();
     serve_session(session = mount_tree(here));
@@ -258,11 +247,13 @@ int run(void) {
     loop();
     end_processes();
     commit_all();
+    end_live_script();
     int status = exit_status();
-    if (options.out) write_tree(options.out);
+    if (options.out) write_tree();
     close_trace();
     record_rest();
     close_record();
+    check_out();
     unmount_tree(session);
     close_tree();
     free_nodes();

@@ -9,6 +9,7 @@
 #include <fcntl.h>
 #include <poll.h>
 #include <stdlib.h>
+#include <sys/ioctl.h>
 #include <sys/stat.h>
 #include <unistd.h>
 
@@ -18,30 +19,50 @@ static size_t at, end, capacity;
 static long number, refused, happened_after_mark;
 static int fd = -1;
 static bool is_ended, had_mark;
-
-static void read_some(void) {
-    if (at && end == capacity) {
-        memmove(text, text + at, end - at);
-        end -= at;
-        at = 0;
-    }
-    if (end == capacity) {
-        capacity = capacity ? capacity * 2 : 1 << 16;
-        if (capacity > 2 * LONGEST) fault("%s: a line is too long", options.script);
-        if (!(text = realloc(text, capacity))) fail("realloc");
-    }
-    ssize_t count = read(fd, text + end, capacity - end);
-    if (count < 0 && (errno == EINTR || errno == EAGAIN)) return;
-    if (count < 0) fail(options.script);
-    if (count == 0) is_ended = true;
-    end += (size_t)count;
-}
+static bool is_over;                /* nothing more is read */
 
 /* The next line that is whole: its length, or -1. */
 static ssize_t line_length(void) {
     char *stop = at < end ? memchr(text + at, '\n', end - at) : NULL;
     if (stop) return stop - (text + at);
     return is_ended && at < end ? (ssize_t)(end - at) : -1;
+}
+
+/* How many bytes came. */
+static ssize_t read_some(void) {
+    if (at && end == capacity) {
+        memmove(text, text + at, end - at);
+        end -= at;
+        at = 0;
+    }
+    if (end == capacity) {
+        if (capacity >= 2 * LONGEST && line_length() < 0) fault("%s: a line is too long", options.script);
+        capacity = capacity ? capacity * 2 : 1 << 16;
+        if (!(text = realloc(text, capacity))) fail("realloc");
+    }
+    ssize_t count = read(fd, text + end, capacity - end);
+    if (count < 0 && (errno == EINTR || errno == EAGAIN)) return 0;
+    if (count < 0) fail(options.script);
+    if (count == 0) is_ended = true;
+    end += (size_t)count;
+    return count;
+}
+
+static bool has_come(void) {
+    struct pollfd one = { fd, POLLIN, 0 };
+    return !is_ended && !is_over && poll(&one, 1, 0) > 0;
+}
+
+/* While a whole line waits nothing is read, so a writer that is faster than the program waits at the full pipe. */
+void read_live_script(void) {
+    while (line_length() < 0 && has_come()) read_some();
+}
+
+void end_live_script(void) {
+    int waiting = 0;
+    if (!is_ended) ioctl(fd, FIONREAD, &waiting);   /* 0 where there is no such call, as of /dev/zero */
+    for (ssize_t left = waiting; left >= 0 && has_come();) left -= read_some();
+    is_over = true;
 }
 
 static void pass(size_t length) {
@@ -57,6 +78,7 @@ static bool is_empty(const char *line, size_t length) {
 
 enum next next_in_script(void) {
     for (;;) {
+        read_live_script();
         ssize_t length = line_length();
         if (length < 0) return is_ended ? NEXT_END : NEXT_NOT_YET;
         if (length == 2 && !memcmp(text + at, "--", 2)) return NEXT_MARK;
@@ -126,12 +148,7 @@ void record_rest(void) {
 
 long lines_after_first_mark(void) { return happened_after_mark; }
 
-int live_script(void) { return is_ended ? -1 : fd; }
-
-void read_live_script(void) {
-    struct pollfd one = { fd, POLLIN, 0 };
-    while (!is_ended && poll(&one, 1, 0) > 0) read_some();
-}
+int live_script(void) { return is_ended || line_length() >= 0 ? -1 : fd; }
 
 /* A script that is read at once has no fault in its middle. */
 static void try_all(void) {
@@ -161,7 +178,7 @@ void open_script(void) {
         return;
     }
     if (is.st_size > LONGEST) fault("%s: script too long", options.script);
-    while (!is_ended) read_some();
+    while (!is_ended && end <= LONGEST) read_some();
     if (end > LONGEST) fault("%s: script too long", options.script);
     try_all();
 }

@@ -21,9 +21,12 @@ void record_rest(void);
 /* How many lines stood or stand after the first mark and happened so far. */
 long lines_after_first_mark(void);
 
-/* The descriptor that more lines come from: -1 if none do. */
+/* The descriptor that more lines come from: -1 if none do, or a whole line waits. */
 int live_script(void);
+/* Reads until a whole line waits, or nothing more has come. */
 void read_live_script(void);
+/* The program ended: what has come is the rest of the script. */
+void end_live_script(void);
 
 /* line.c: runs and records a line. False if it is no line of a script, which is said. A line of the set-up that is
  * refused is a fault. */

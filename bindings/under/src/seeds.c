@@ -1,6 +1,7 @@
 /* A run for each seed, and a check of what each left. */
 #include "keeper.h"
 #include "options.h"
+#include "out.h"
 #include "proc.h"
 #include "run.h"
 #include <errno.h>
@@ -98,6 +99,7 @@ int run_seeds(void) {
     uint64_t failed = 0;
     prctl(PR_SET_CHILD_SUBREAPER, 1);       /* so that all of a check is below this process */
     open_proc();
+    hold_out_above(above);
     for (uint64_t seed = options.seed; seed <= options.last_seed; seed++) {
         snprintf(out, sizeof out, "%s/%llu", above, (unsigned long long)seed);
         if (!options.out) memcpy(temporary->folder, out, sizeof out);

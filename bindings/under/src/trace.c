@@ -1,17 +1,15 @@
 /* The trace: what happened, in order, to standard error (--trace) and to a file (--out). */
 #include "trace.h"
 #include "options.h"
+#include "out.h"
 #include <stdarg.h>
-#include <stdio.h>
 #include <sys/inotify.h>
 
 static FILE *file;
 
 void open_trace(void) {
-    char path[PATH_SIZE];
     if (!options.out) return;
-    snprintf(path, sizeof path, "%s/trace", options.out);
-    if (!(file = fopen(path, "we"))) fail(path);
+    file = make_out_stream(OUT_TRACE);
     setvbuf(file, NULL, _IOLBF, 0);
 }
 

@@ -14,6 +14,6 @@ void trace_records(uint32_t instance, const char *bytes, size_t size);
  * a zero byte. */
 void spell(const char *name, char *out);
 
-/* DIR/listing has a line for each file of the tree, DIR/tree a copy. */
-void write_tree(const char *directory);
+/* Makes DIR/listing, which has a line for each file of the tree, and DIR/tree, a copy. */
+void write_tree(void);
 #endif

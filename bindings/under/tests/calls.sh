@@ -16,7 +16,11 @@ else
     cat "$room/unknown"
 fi
 "$under" "$room/empty" -- /usr/bin/python3 "$tests/calls.py" /wt refused >"$room/here" 2>"$room/error"
-if diff "$tests/calls.refused" "$room/here" >"$room/unknown"; then
+# (another user than root has no other users in his namespace)
+owner=EPERM
+[ "$(id -u)" = 0 ] || owner=EINVAL
+sed "s/^chown to another: .*/chown to another: $owner/" "$tests/calls.refused" >"$room/refused"
+if diff "$room/refused" "$room/here" >"$room/unknown"; then
     echo "ok $(grep -c . "$room/here") calls that a tree does not have are refused as docs/UNDER.md says"
 else
     echo "FAILED calls that a tree does not have:"

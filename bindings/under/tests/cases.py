@@ -4,11 +4,11 @@ In the words of a start {d} is the watched directory, {root} the directory that 
 the run outside the tree, {here} the folder of the clients' sources, and {bin} that of what was built from them."""
 import collections
 
-Case = collections.namedtuple("Case", "name packages start script tells but varies any_order build settle debounce options")
+Case = collections.namedtuple("Case", "name packages start script tells but varies any_order build settle debounce options root")
 
 
 def case(name, packages, start, script="basic", tells="end", but="", varies=None, any_order=False, build=None, settle=300,
-         debounce=100, options=""):
+         debounce=100, options="", root=False):
     """A client.
 
     packages   Debian's packages; the version is that of the first
@@ -19,9 +19,10 @@ def case(name, packages, start, script="basic", tells="end", but="", varies=None
     any_order  it has threads or processes of its own, whose lines come in any order
     build      how it is built, in words of a shell
     options    of the runner besides
+    root       whether it wants root
     """
     return Case(name, packages.split(), start, script, tells.split(), but.split(), varies, any_order, build, settle, debounce,
-                options.split())
+                options.split(), root)
 
 
 PYTHON = "/usr/bin/python3 {here}/"
@@ -45,7 +46,8 @@ CASES = [
     case("gio monitor", "libglib2.0-bin", "gio monitor {d}"),
     case("direvent", "direvent", "sh {here}/direvent.sh {d} {room}", any_order=True),
     case("lsyncd", "lsyncd rsync", "sh {here}/lsyncd.sh {d} {room}", tells="x end", settle=1500, debounce=1500),
-    case("incrond", "incron", "sh {here}/incrond.sh {d} {room}", any_order=True, options="--outside=ignore"),
+    case("incrond", "incron", "sh {here}/incrond.sh {d} {room}", any_order=True, options="--outside=ignore",
+         root=True),
     case("watchman", "watchman", "sh {here}/watchman.sh {d} {room}", "parted", tells="x end",
          varies=r'^.*"is_fresh_instance":true.*\n|"(clock|since)":"[^"]*",'),
     case("reflex", "reflex", "cd {d} && reflex echo {{}}", any_order=True, settle=1500),

@@ -119,6 +119,8 @@ def run(bench, case):
     found = version(case)
     if found is None:
         return case, None, None, "wants " + " ".join(case.packages)
+    if case.root and os.geteuid() != 0:
+        return case, found, None, "it wants root"
     failed = bench.build(case)
     if failed:
         return case, found, False, failed

@@ -2,6 +2,7 @@
 # What the runner says where something is missing or wrong, and its status: needs.sh UNDER. Prints `ok NAME`,
 # `FAILED NAME: WHY` or `left out NAME: WHY` for each.
 set -u
+with_dev=$(CDPATH='' cd -- "$(dirname -- "$0")" && pwd)/with_dev
 under=$1
 room=$(mktemp -d)
 trap 'rm -rf "$room"' EXIT
@@ -108,31 +109,20 @@ if [ "$(id -u)" != 0 ] || ! unshare -m true 2>/dev/null || ! command -v setpriv 
     echo 'left out what the machine lacks: it needs root, unshare and setpriv'
     exit 0
 fi
-# Another /dev, that these words alone see, with or without a /dev/fuse of a mode.   with-dev MODE WORDS..
-cat >with-dev <<'END'
-#!/bin/sh
-exec unshare -m sh -c '
-    mount -t tmpfs -o mode=755 dev "$1" || exit 99
-    for name in null zero random urandom; do touch "$1/$name"; mount --bind "/dev/$name" "$1/$name" || exit 99; done
-    [ "$2" = none ] || { mknod "$1/fuse" c 10 229 && chmod "$2" "$1/fuse"; } || exit 99
-    mount --move "$1" /dev || exit 99
-    shift 2
-    exec "$@"' sh "$(dirname "$0")/dev" "$@"
-END
-chmod 755 with-dev
 mkdir dev
 other='setpriv --reuid=65534 --regid=65534 --clear-groups --inh-caps=-all'
-expect 'no /dev/fuse' 125 'no FUSE: load it by .modprobe fuse.' ./with-dev none "$under" empty -- true
+expect 'no /dev/fuse' 125 'no FUSE: load it by .modprobe fuse.' "$with_dev" none dev "$under" empty -- true
 # (the words are several)
 # shellcheck disable=SC2086
 {
     expect '/dev/fuse of root alone' 125 '/dev/fuse cannot be opened .Permission denied.: make it readable' \
-        ./with-dev 600 $other "$under" empty -- true
-    expect 'another user than root' 0 - ./with-dev 666 $other "$under" script -- inotifywait -q -m /wt/d
-    expect 'another user has no root' 0 - ./with-dev 666 $other "$under" empty -- sh -c 'touch /wt/f && ! touch /f 2>/dev/null'
+        "$with_dev" 600 dev $other "$under" empty -- true
+    expect 'another user than root' 0 - "$with_dev" 666 dev $other "$under" script -- inotifywait -q -m /wt/d
+    expect 'another user has no root' 0 - \
+        "$with_dev" 666 dev $other "$under" empty -- sh -c 'touch /wt/f && ! touch /f 2>/dev/null'
     # (in a chroot a user can make no namespaces)
     mkdir root
-    expect 'no user namespace' 125 'no user namespace .*: allow them' ./with-dev 666 unshare -m sh -c \
+    expect 'no user namespace' 125 'no user namespace .*: allow them' "$with_dev" 666 dev unshare -m sh -c \
         'mount --rbind / "$1/root" && cd "$1" && exec chroot "$1/root" '"$other"' "$1/under" "$1/empty" -- true' sh "$room"
     expect 'root without CAP_SYS_ADMIN' 125 'no mount namespace .*CAP_SYS_ADMIN' \
         setpriv --bounding-set=-sys_admin --inh-caps=-sys_admin "$under" empty -- true

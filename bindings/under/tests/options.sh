@@ -30,6 +30,10 @@ same '--out: the trace' "$(sed 's/^ok [0-9]*$/ok/' out/trace)" "$(printf '%s\n' 
 "$under" --trace script -- inotifywait -q -m -e create /wt/d >printed 2>trace
 same '--trace is what --out has' "$(cat trace)" "$(cat out/trace)"
 same '--out of an earlier run' "$("$under" --out out script -- true 2>&1 | grep -c 'there already')" 1
+deep=$(printf 'a/%.0s' $(seq 100))
+same '--out: a tree that has more levels than the tool may have descriptors' \
+    "$(prlimit --nofile=64 "$under" --out deep /dev/null -- mkdir -p "/wt/$deep" 2>&1
+       find deep/tree -type d | wc -l)" 101
 same '--dir' "$("$under" --dir /elsewhere script -- inotifywait -q -m -e create /elsewhere/d 2>&1)" '/elsewhere/d/ CREATE f'
 printf '%s\n' 'mkdir /d 755' -- 'create /d/1 644' 'create /d/2 644' 'create /d/3 644' >many
 # (it asks first, and then sleeps while the records of all lines come: they come once it wakes)
