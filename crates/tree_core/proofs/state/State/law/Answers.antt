@@ -1,8 +1,10 @@
+use Rattle.tree_core.specs.Journal.{now}
 use Rattle.tree_core.specs.Law.{RefusedAddsNothing, TiesMoves}
 use Rattle.tree_core.proofs.EachEntry.{at_each}
 use Rattle.tree_core.proofs.state.State.law.Goals as goal
 
 pub returns-clause-told : goal.returns-clause-told
+unfolding now
 returns-clause-told c id =
     let start = c.args.self.now.start in
     let entries = c.args.self.now.entries in
