@@ -115,7 +115,7 @@ void read_options(int argc, char **argv) {
         { "limit", 1, NULL, 'L' }, { "vary", 1, NULL, 'v' }, { "schedule", 1, NULL, 'R' }, { "quick", 0, NULL, 'Q' },
         { "outside", 1, NULL, 'u' }, { "end", 1, NULL, 'E' }, { "one-cpu", 0, NULL, '1' }, { "help", 0, NULL, 'h' },
         { 0 } };
-    argv[0] = "watchtree under";  /* which getopt_long names, and not where the tool is installed */
+    argv[0] = "watchtree under";  /* getopt_long begins its messages with it */
     for (int c; (c = getopt_long(argc, argv, "+h", words, NULL)) >= 0;) switch (c) {
         case 'd': options.dir = optarg; break;
         case 't': options.traces = true; break;

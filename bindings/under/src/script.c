@@ -174,7 +174,7 @@ void open_script(void) {
     fd = strcmp(options.script, "-") ? open(options.script, O_RDONLY | O_CLOEXEC) : fcntl(0, F_DUPFD_CLOEXEC, 3);
     if (fd < 0 || fstat(fd, &is) < 0) fail(options.script);
     if (!S_ISREG(is.st_mode) && strcmp(options.script, "/dev/null")) {
-        if (options.has_schedule) fault("--schedule: %s is no file", options.script);
+        if (options.has_schedule) fault("--schedule: %s is not a file", options.script);
         return;
     }
     if (is.st_size > LONGEST) fault("%s: script too long", options.script);

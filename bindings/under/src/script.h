@@ -28,10 +28,10 @@ void read_live_script(void);
 /* The program ended: what has come is the rest of the script. */
 void end_live_script(void);
 
-/* line.c: runs and records a line. False if it is no line of a script, which is said. A line of the set-up that is
+/* line.c: runs and records a line. False if it is no line of a script, which it reports. A line of the set-up that is
  * refused is a fault. */
 bool run_text(const char *line, size_t length, long number, bool is_setup);
 void free_text(void);
-/* Why a line is none of a script, by a tree of its own that it is tried on: NULL if it is one. */
+/* Returns what is wrong with a line, which it runs on a scratch tree, or NULL if it is a line of a script. */
 const char *fault_of_text(struct wt_tree *scratch, const char *line, size_t length);
 #endif
