@@ -11,7 +11,7 @@ import re
 import stat
 import sys
 from contextlib import contextmanager
-from typing import Callable, Dict, Iterator, Optional, Tuple
+from typing import Callable, Dict, Iterator, Optional, TextIO, Tuple
 from urllib.parse import quote_from_bytes, unquote_to_bytes
 
 from schedules import Fault
@@ -30,10 +30,13 @@ _PIECE = 1 << 20
 
 
 class Folder:
-    """A folder in which nothing is replaced. `is_left` decides whether a search may leave an entry of that name."""
+    """A folder in which nothing is replaced. `is_left` decides whether a search may leave an entry of that name.
 
-    def __init__(self, path: str, is_left: Callable[[str], bool]) -> None:
-        self.path, self._is_left = path, is_left
+    What is kept is reported to `file`, standard error unless given.
+    """
+
+    def __init__(self, path: str, is_left: Callable[[str], bool], file: Optional[TextIO] = None) -> None:
+        self.path, self._is_left, self._file = path, is_left, file or sys.stderr
         self._top = -1
         """Its descriptor, from clear() on."""
 
@@ -64,7 +67,7 @@ class Folder:
         for path in _strangers(self._top, earlier):
             if path in earlier:
                 why = "which was changed since a search left it"
-                print(f"watchtree explore: kept {self.path}/{path}, {why}", file=sys.stderr)
+                print(f"watchtree explore: kept {self.path}/{path}, {why}", file=self._file)
         os.unlink(LIST, dir_fd=self._top)
 
     def write(self, name: str, data: bytes) -> None:

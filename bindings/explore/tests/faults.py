@@ -35,7 +35,7 @@ class Faults(ToolTest):
         self.fails("no line happens after --", self.write("script", "mkdir /d 755"), "true", self.program)
         self.fails("no line happens after --", self.write("script", "mkdir /d 755", "--", "# nothing"), "true", self.program)
         self.fails("No such file", f"{self.room}/nothing", "true", self.program)
-        self.fails("is a file", self.room, "true", self.program)
+        self.fails("must be a file", self.room, "true", self.program)
 
     def test_a_line_that_is_none(self) -> None:
         self.fails("line 3: unknown command", self.write("script", "mkdir /d 755", "--", "fly /d"), "true", self.program)

@@ -1,6 +1,5 @@
 """The folder of --out: a search removes what an earlier one left, and nothing else."""
 
-import contextlib
 import hashlib
 import io
 import os
@@ -18,21 +17,22 @@ class Folders(ToolTest):
     def setUp(self) -> None:
         super().setUp()
         self.path = f"{self.room}/out"
-        self.folder = Folder(self.path, lambda name: report.is_left(name, range(1, 4)))
+        # (two tests go at once in this process, so standard error is not of one alone)
+        self.said = io.StringIO()
+        self.folder = Folder(self.path, lambda name: report.is_left(name, range(1, 4)), self.said)
 
     def search(self, files: Dict[str, str], run: Dict[str, str]) -> str:
         """Does what a search does with its folder. Returns what it says."""
-        said = io.StringIO()
-        with contextlib.redirect_stderr(said):
-            self.folder.check()
-            self.folder.clear()
-            for name, text in files.items():
-                self.folder.write(name, text.encode())
-            with self.folder.directory("run") as path:
-                for name, text in run.items():
-                    os.makedirs(os.path.dirname(f"{path}/{name}"), exist_ok=True)
-                    self.write(f"out/run/{name}", text)
-        return said.getvalue()
+        before = len(self.said.getvalue())
+        self.folder.check()
+        self.folder.clear()
+        for name, text in files.items():
+            self.folder.write(name, text.encode())
+        with self.folder.directory("run") as path:
+            for name, text in run.items():
+                os.makedirs(os.path.dirname(f"{path}/{name}"), exist_ok=True)
+                self.write(f"out/run/{name}", text)
+        return self.said.getvalue()[before:]
 
     def there(self) -> "set[str]":
         """Returns all that is in the folder."""
@@ -83,7 +83,7 @@ class Folders(ToolTest):
         self.write("out/seed-2.schedule", "mine")
         self.stays("seed-2.schedule")
         # (a search of another seed does not write it)
-        self.folder = Folder(self.path, lambda name: report.is_left(name, range(1, 2)))
+        self.folder = Folder(self.path, lambda name: report.is_left(name, range(1, 2)), self.said)
         kept = f"watchtree explore: kept {self.path}/seed-2.schedule, which was changed since a search left it\n"
         self.assertEqual(self.search({"seed-1.schedule": "c"}, {}), kept)
         self.assertEqual(self.read("out/seed-2.schedule"), "mine\n")
@@ -104,8 +104,7 @@ class Folders(ToolTest):
         os.rename(f"{self.path}/seed-1.schedule", f"{self.room}/a")
         os.symlink(f"{self.room}/a", f"{self.path}/seed-1.schedule")
         self.stays(f"seed-1.schedule, {self.path}/run/tree")
-        with contextlib.redirect_stderr(io.StringIO()):
-            self.folder.clear()
+        self.folder.clear()
         self.assertEqual(self.read("elsewhere/d/f"), "a\n")
         self.assertEqual(self.read("a"), "a")
         with self.assertRaisesRegex(Fault, "it is not replaced"):

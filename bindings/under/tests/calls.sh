@@ -9,7 +9,11 @@ mkdir "$room/disk" "$room/one" "$room/two"
 OUTSIDE=$room/one /usr/bin/python3 "$tests/calls.py" "$room/disk" instance >"$room/there" 2>&1
 OUTSIDE=$room/two "$under" "$room/empty" -- /usr/bin/python3 "$tests/calls.py" /wt instance >"$room/here" 2>&1
 diff "$room/there" "$room/here" | grep '^[<>]' >"$room/differs"
-if diff "$tests/calls.known" "$room/differs" >"$room/unknown"; then
+# (Linux lets only root watch an instance by its link in /proc)
+watched=1
+[ "$(id -u)" = 0 ] || watched=EACCES
+sed "s/^< watch the instance: .*/< watch the instance: $watched/" "$tests/calls.known" >"$room/known"
+if diff "$room/known" "$room/differs" >"$room/unknown"; then
     echo "ok $(grep -c . "$room/here") calls of an instance are answered as on a disk, but for $(grep -c '^>' "$room/differs")"
 else
     echo "FAILED other differences from a disk than calls.known has:"

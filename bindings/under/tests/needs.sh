@@ -99,7 +99,7 @@ expect 'a limit that a run keeps' 0 - "$under" --limit 200000 script -- inotifyw
 expect 'a limit of --seeds' 1 'the run was not over after 300 ms' "$under" --limit 300 --seeds 1..1 --out out-limit empty -- sleep 1000
 expect 'a check that is never over' 1 'seed 1: the check was not over after 300 ms .--limit.' \
     "$under" --limit 300 --seeds 1..1 --out out-check --check 'sleep 1000 & sleep 1000' empty -- true
-expect 'a bad limit' 125 'limit: bad value .0.: it wants a number from 1' "$under" --limit 0 empty -- true
+expect 'a bad limit' 125 'limit: bad value .0.: expected a number from 1' "$under" --limit 0 empty -- true
 expect 'only lines before the first mark' 0 - "$under" first -- ls /wt/d
 expect 'a run within a run' 125 'do not nest|another seccomp listener' \
     sh -c '"$0" empty -- "$0" empty -- true 2>err2; s=$?; cat err2 >&2; exit $s' "$under"
