@@ -109,4 +109,4 @@ class Under(ToolTest):
     def test_a_pipe_is_no_schedule(self) -> None:
         said = self.run_tool(["sh", "-c", f"mkfifo pipe; exec 3<>pipe; {self.runner} --schedule pipe -- true"])
         self.assertEqual(said.returncode, 125)
-        self.assertIn("is no file", said.stderr)
+        self.assertIn("is not a file", said.stderr)
