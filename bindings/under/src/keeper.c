@@ -162,6 +162,7 @@ _Noreturn static void be_keeper(int front, int (*work)(void)) {
     }
     prctl(PR_SET_NAME, "wt-keeper");        /* so that killall(1) of the tool's name leaves it */
     int status = wait_for_worker(worker, front);
+    signal_all(SIGKILL, worker);            /* the worker last: it ends the others if this process is killed meanwhile */
     end_all_below();
     if (*temporary->folder) remove_folder(temporary->folder);
     if (*temporary->above) rmdir(temporary->above);
