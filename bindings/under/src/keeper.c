@@ -4,6 +4,7 @@
  * namespace, by a session, or in a chain of processes that fork and end. A PID namespace would do that too, but the program
  * would see other process numbers than everybody else, and another /proc, which cannot be mounted in every container. */
 #include "keeper.h"
+#include "options.h"
 #include "proc.h"
 #include "rest.h"
 #include <errno.h>
@@ -162,7 +163,9 @@ _Noreturn static void be_keeper(int front, int (*work)(void)) {
     }
     prctl(PR_SET_NAME, "wt-keeper");        /* so that killall(1) of the tool's name leaves it */
     int status = wait_for_worker(worker, front);
-    signal_all(SIGKILL, worker);            /* the worker last: it ends the others if this process is killed meanwhile */
+    /* A worker that has a tree goes last: it ends the others if this process is killed meanwhile. One that starts runs and
+     * checks would take their end for a failure. */
+    if (!options.many_seeds && !program) signal_all(SIGKILL, worker);
     end_all_below();
     if (*temporary->folder) remove_folder(temporary->folder);
     if (*temporary->above) rmdir(temporary->above);
