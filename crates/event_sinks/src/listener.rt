@@ -18,7 +18,7 @@ use std::alloc::Global;
 /// What a step did.
 #[derive(Clone, Copy, Debug, PartialEq, Eq)]
 pub enum Step {
-    /// No batch has come.
+    /// Nothing has changed. No batch had come, which no clause says, and a test shows.
     Idle,
     /// A batch was taken: its records were put, or it was the end batch.
     Took,

@@ -10,7 +10,8 @@ use Rattle.std.specs.FinMap.{get-insert, get-remove, same_map, nat_cmp-IsAntisym
 use Rattle.std.specs.Ordering.{nat_cmp}
 use Rattle.std.specs.Cmp.{nat_cmp_total, unsigned_tied}
 use Rattle.event_queue.specs.Backlogs.{Backlog}
-use Rattle.watch_table.specs.Watching.{Watch, Watching, IsSound, watch_of, added, dropped, add_refusal, is_barred, is_taken, is_full}
+use Rattle.watch_table.specs.Watching.{Watch, Watching, IsSound, watch_of, added, wd_added, with_new_watch, dropped, add_refusal}
+use Rattle.watch_table.specs.Watching.{is_barred, is_taken, is_full}
 use Rattle.tree_paths.specs.Rows.{row, first_row}
 use Rattle.tree_paths.specs.declared.refusal.Refusal.TheVariants.{Enotdir, Eexist, Enospc}
 use Rattle.instance_table.specs.declared.index.Index.{Index}
@@ -117,25 +118,42 @@ next-watch w number mask watch there =
     ∙ ap (λ t. cond t (Some (watch.0, Rattle.watch_table.specs.Watching.next_bits mask watch.1)) (watch_of w number))
     (unsigned_tied number number ∙ Rattle.std.proofs.lemmas.Bool.eq-eqb number number refl)
 
--- where it is accepted, a descriptor is left for it
-pub wd-left : (w : Watching) (number mask : ℕ) (is_directory : Bool) → IsSound w → watch_of w number ≡ None
-    → add_refusal w number mask is_directory ≡ None → w.next_wd < 2 ^ 31
+-- so the watches have a new one, under the next descriptor
+pub added-first : (w : Watching) (number mask : ℕ) → watch_of w number ≡ None
+    → added w number mask ≡ with_new_watch w number (Rattle.watch_table.specs.Masks.stored mask)
+unfolding added
+added-first w number mask none = ap (Rattle.watch_table.specs.Watching.added_to w number mask) none
+
+pub wd-first : (w : Watching) (number : ℕ) → watch_of w number ≡ None → wd_added w number ≡ pos w.next_wd
+unfolding wd_added
+wd-first w number none = ap (λ o. Rattle.watch_table.specs.Watching.wd_or o (pos w.next_wd)) none
+
+-- where it is accepted, there is room for it
+pub room-left : (w : Watching) (number mask : ℕ) (is_directory : Bool) → watch_of w number ≡ None
+    → add_refusal w number mask is_directory ≡ None → is_full w ≡ false
 unfolding add_refusal
-wd-left w number mask is_directory sound none accepted =
-    let left = by (is_barred mask is_directory) (is_taken mask None) (nat_le w.most_watches (map.len w.watches)) (nat_lt w.last_wd w.next_wd)
+room-left w number mask is_directory none accepted =
+    by (is_barred mask is_directory) (is_taken mask None) (is_full w)
     (subst (λ o. first_row (row (is_barred mask is_directory) Enotdir
-    ∷ row (is_taken mask o) Eexist ∷ row (is_none o && is_full w) Enospc ∷ []) ≡ None) none accepted) in
-    let within = ltb-false w.last_wd w.next_wd left in
+    ∷ row (is_taken mask o) Eexist ∷ row (is_none o && is_full w) Enospc ∷ []) ≡ None) none accepted)
+  where
+    by : (barred taken full : Bool)
+        → first_row (row barred Enotdir ∷ row taken Eexist ∷ row (true && full) Enospc ∷ []) ≡ None → full ≡ false
+    by true taken full e = absurd (false≢true (sym (ap is_some e)))
+    by false true full e = absurd (false≢true (sym (ap is_some e)))
+    by false false true e = absurd (false≢true (sym (ap is_some e)))
+    by false false false e = refl
+
+-- and a descriptor
+pub wd-left : (w : Watching) → IsSound w → is_full w ≡ false → w.next_wd < 2 ^ 31
+wd-left w sound room =
+    let within = ltb-false w.last_wd w.next_wd (by (nat_le w.most_watches (map.len w.watches)) (nat_lt w.last_wd w.next_wd) room) in
     let last = sound.small in
     omega (arith, within, last)
   where
-    by : (barred taken many past : Bool)
-        → first_row (row barred Enotdir ∷ row taken Eexist ∷ row (true && (many || past)) Enospc ∷ []) ≡ None → past ≡ false
-    by true taken many past e = absurd (false≢true (sym (ap is_some e)))
-    by false true many past e = absurd (false≢true (sym (ap is_some e)))
-    by false false true past e = absurd (false≢true (sym (ap is_some e)))
-    by false false false true e = absurd (false≢true (sym (ap is_some e)))
-    by false false false false e = refl
+    by : (many past : Bool) → (many || past) ≡ false → past ≡ false
+    by true past e = absurd (false≢true (sym e))
+    by false past e = e
 
 -- ---- what waits
 

@@ -370,27 +370,15 @@ fn add_first(
     if let Err(refusal) = watches.check_new(mask, is_directory) {
         return Err(refusal);
     }
-    index.put(number, id, first_watch(watches, mask))?;
-    match watches.add(number, mask, is_directory) {
+    let bits = mask.stored();
+    index.put(number, id, (watches.next_wd() as i32, bits))?;
+    match watches.add_new(number, bits) {
         Ok(wd) => Ok(wd),
-        Err(refusal) => {
+        Err(_) => {
             index.remove(number, id);
-            Err(refusal)
+            Err(Refusal::Enomem)
         }
     }
-}
-
-/// The next new watch. Where all descriptors were given there is none, and any will do.
-#[inline(always)]
-fn first_watch(watches: &Watches, mask: Mask) -> (i32, u32)
-    ensures watch { watches.now.next_wd < 2 ^ 31 → result ≡ (pos watches.now.next_wd, stored mask.0) }
-    ensures sound { IsSound watches.now }
-{
-    let wd = watches.next_wd();
-    if wd > i32::MAX as u32 {
-        return (0, 0);
-    }
-    (wd as i32, mask.stored())
 }
 
 /// Takes the watches of an instance out of the index.

@@ -280,8 +280,8 @@ impl State {
     }
 
     /// Replaces the journal with a snapshot of the tree, and answers the sequence number of the last entry. The tree
-    /// stays as it is, and sequence numbers continue. It takes time and memory in proportion to the tree, and frees all
-    /// memory that the entries held.
+    /// stays as it is, and sequence numbers continue. It takes time and memory in proportion to the tree. It frees all
+    /// memory that the entries held, which no clause says, and a test shows.
     ///
     /// # Errors
     /// `ENOMEM`, where there is no memory for it. The state is then as before.

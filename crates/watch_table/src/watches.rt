@@ -169,10 +169,31 @@ impl Watches {
         if is_barred(mask, is_directory) {
             return Err(Refusal::Enotdir);
         }
-        if self.is_full() {
-            return Err(Refusal::Enospc);
+        if !self.is_full() {
+            return Ok(());
         }
-        Ok(())
+        Err(Refusal::Enospc)
+    }
+
+    /// Watches a file that is not watched, where [`Watches::check_new`] has accepted it, and answers the descriptor of its
+    /// watch. `bits` are those that the watch keeps ([`Mask::stored`]).
+    ///
+    /// `Err` is out of memory.
+    pub fn add_new(&mut self, number: u32, bits: u32) -> Result<i32, AllocError>
+        requires absent { watch_of self.old number ≡ None }
+        requires room { is_full self.old ≡ false }
+        ensures wd { IfOk result (λ wd. wd ≡ pos self.old.next_wd) }
+        ensures watches { OnOk result (self.new ≡ with_new_watch self.old number bits) }
+        ensures err { OnErr result (self.new ≡ self.old) }
+    {
+        let wd = self.next_wd as i32;
+        self.by_wd.insert(wd, number)?;
+        if let Err(refused) = self.by_number.insert(number, (wd, bits)) {
+            self.by_wd.remove(&wd);
+            return Err(AllocError::from(refused));
+        }
+        self.next_wd += 1;
+        Ok(wd)
     }
 
     /// Watches a file, and answers the descriptor of its watch.
@@ -203,7 +224,7 @@ impl Watches {
         if self.is_full() {
             return Err(Refusal::Enospc);
         }
-        Ok(self.insert(number, mask.stored())?)
+        Ok(self.add_new(number, mask.stored())?)
     }
 
     /// Whether the mask asks for a new watch, and the file has one.
@@ -229,24 +250,6 @@ impl Watches {
         ensures { result ≡ is_full self.now }
     {
         self.len() >= self.most_watches as usize || self.next_wd > self.last_wd
-    }
-
-    /// Makes a watch of a file that has none.
-    fn insert(&mut self, number: u32, bits: u32) -> Result<i32, AllocError>
-        requires absent { watch_of self.old number ≡ None }
-        requires room { is_full self.old ≡ false }
-        ensures wd { IfOk result (λ wd. wd ≡ pos self.old.next_wd) }
-        ensures watches { OnOk result (self.new ≡ with_new_watch self.old number bits) }
-        ensures err { OnErr result (self.new ≡ self.old) }
-    {
-        let wd = self.next_wd as i32;
-        self.by_wd.insert(wd, number)?;
-        if let Err(refused) = self.by_number.insert(number, (wd, bits)) {
-            self.by_wd.remove(&wd);
-            return Err(AllocError::from(refused));
-        }
-        self.next_wd += 1;
-        Ok(wd)
     }
 
     /// Ends the watch of a descriptor. `EINVAL` where there is none. It takes no memory.

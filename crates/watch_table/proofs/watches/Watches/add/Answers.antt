@@ -56,8 +56,8 @@ returns-then-is_full-clause-refusals c =
     let full = ap is_full (sym c.in_default.ensures.none) ∙ sym c.is_full.ensures ∙ c.if-is_full.true in
     inl (refused_as_full c.args.self.now c.args.number c.args.mask.0 c.args.is_directory (sym c.is_barred.ensures ∙ c.if-is_barred.false) none full)
 
-pub returns-in_err-insert-clause-refused : goal.returns-in_err-insert-clause-refused
-returns-in_err-insert-clause-refused c =
+pub returns-in_err-add_new-clause-refused : goal.returns-in_err-add_new-clause-refused
+returns-in_err-add_new-clause-refused c =
     let none : wd_of c.args.self.now c.args.number ≡ None = sym c.in_default.ensures.wd in
     let room = ap is_full (sym c.in_default.ensures.none) ∙ sym c.is_full.ensures ∙ c.if-is_full.false in
     let e = not_refused_room c.args.self.now c.args.number c.args.mask.0 c.args.is_directory (sym c.is_barred.ensures ∙ c.if-is_barred.false) none room in
@@ -66,15 +66,15 @@ returns-in_err-insert-clause-refused c =
 pub returns-clause-wd : goal.returns-clause-wd
 returns-clause-wd c =
     let none : wd_of c.args.self.now c.args.number ≡ None = sym c.in_default.ensures.wd in
-    let wd = c.in_ok-insert.field-0 in
+    let wd = c.in_ok-add_new.field-0 in
     let fits : SFits w32 wd = search rules in
-    to_z-of_z w32 wd fits ∙ c.in_ok-insert.ensures.wd ∙ ap (λ w. pos w.next_wd) c.in_default.ensures.none
+    to_z-of_z w32 wd fits ∙ c.in_ok-add_new.ensures.wd ∙ ap (λ w. pos w.next_wd) c.in_default.ensures.none
     ∙ sym (wd_added-new c.args.self.now c.args.number none)
 
 pub returns-clause-watches : goal.returns-clause-watches
 returns-clause-watches c =
     let none : wd_of c.args.self.now c.args.number ≡ None = sym c.in_default.ensures.wd in
-    c.in_ok-insert.ensures.watches
+    c.in_ok-add_new.ensures.watches
     ∙ ap (λ w. with_new_watch w c.args.number c.stored.result) c.in_default.ensures.none
     ∙ ap (with_new_watch c.args.self.now c.args.number) c.stored.ensures
     ∙ sym (added-new c.args.self.now c.args.number c.args.mask.0 none)

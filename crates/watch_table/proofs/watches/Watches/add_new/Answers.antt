@@ -8,7 +8,7 @@ use Rattle.watch_table.specs.Watching.{is_full, watch_of, with_new_watch}
 use Rattle.watch_table.specs.Index.{watching_of}
 use Rattle.watch_table.proofs.Watched.{room_of}
 use Rattle.watch_table.proofs.Indexed.{IsIndexed-same, IsIndexed-new, put_back, watching_of-new}
-use Rattle.watch_table.proofs.watches.Watches.insert.Goals as goal
+use Rattle.watch_table.proofs.watches.Watches.add_new.Goals as goal
 
 pub invariant_of-self : goal.invariant_of-self
 invariant_of-self c =
