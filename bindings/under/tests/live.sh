@@ -2,17 +2,13 @@
 # Scripts that come faster than their lines happen: live.sh UNDER ROOM. Prints `ok NAME`, `FAILED NAME: WHY` or
 # `left out NAME: WHY` for each.
 set -u
+. "$(dirname -- "$0")/checks"
 under=$1
 cd "$2" || exit 1
 if ! command -v inotifywait >/dev/null; then
     echo "left out all of it: there is no inotifywait (inotify-tools)"
     exit 0
 fi
-
-# The last test was right where the status before it was 0.   check NAME WHY
-check() {
-    if [ "$?" = 0 ]; then echo "ok $1"; else echo "FAILED $1: $(printf '%s' "$2" | tr '\n' ' ' | cut -c 1-300)"; fi
-}
 
 # Lines that write BYTES bytes each, COUNT of them.   lines COUNT BYTES
 lines() {

@@ -1,23 +1,11 @@
 #!/bin/sh
 # What the runner leaves alone: safety.sh UNDER. Prints `ok NAME`, `FAILED NAME: WHY` or `left out NAME: WHY` for each.
 set -u
+. "$(dirname -- "$0")/checks"
 under=$1
 room=$(mktemp -d)
 trap 'rm -rf "$room"' EXIT
 cd "$room" || exit 1
-
-# The last test was right where the status before it was 0.   check NAME WHY
-check() {
-    if [ "$?" = 0 ]; then echo "ok $1"; else echo "FAILED $1: $(printf '%s' "$2" | tr '\n' ' ' | cut -c 1-300)"; fi
-}
-
-# Waits until a command is right, for a minute at most. (What it waits for has no other sign.)
-await() {
-    end=$(($(date +%s) + 60))
-    until "$@" >/dev/null 2>&1; do
-        [ "$(date +%s)" -lt "$end" ] || return 1
-    done
-}
 
 # The processes below one.
 below() {

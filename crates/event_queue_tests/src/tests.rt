@@ -169,7 +169,7 @@ fn are_alike(one: &mut Queue, other: &mut Queue) -> bool {
     one.is_empty() && other.is_empty()
 }
 
-/// Whether to drop so many of the oldest records leaves what is left where each is taken.
+/// Whether dropping the `count` oldest records leaves the same as taking `count` records one by one.
 fn drops_as_taken(alloc: Global, which: u32, count: usize) -> Result<bool, Refusal> {
     let mut dropped = queue_of(alloc, which)?;
     let mut taken = queue_of(alloc, which)?;

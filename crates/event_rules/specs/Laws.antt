@@ -41,7 +41,7 @@ abbrev pub moves_in : List Mark → List Mark
 moves_in [] = []
 moves_in (m ∷ ms) = if is_move m then (event_bit m.0, m.1) ∷ moves_in ms else moves_in ms
 
--- so many cookies, from the first one on
+-- a given number of cookies, from `cookie` on
 abbrev pub cookies_from : ℕ → ℕ → List ℕ
 cookies_from cookie zero = []
 cookies_from cookie (suc n) = cookie ∷ cookies_from (cookie + 1) n

@@ -8,7 +8,7 @@ use Rattle.record_codec.specs.Lines.{record_line}
 use Rattle.event_sinks.specs.declared.fault.SinkFault.{SinkFault}
 use Rattle.event_sinks.specs.declared.fault.SinkFault.TheVariants as fault
 
--- a record, and that a sink that took so many records is closed
+-- the line of a record, and the closing line of a sink that took `taken` records
 abbrev pub line_of : Event → List ℕ
 line_of e = record_line e ++ codes "\n"
 

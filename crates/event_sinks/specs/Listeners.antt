@@ -109,7 +109,7 @@ IsTurn passes turn old new =
     (passes old.number turn true × ((s : Step) × Steps old new s))
     ⊎ ((passes old.number turn false ⊎ (old.cause ≢ None)) × (new ≡ old))
 
--- what so many turns lead to, of which the first is 0
+-- what a given number of turns leads to, from turn 0 on
 abbrev pub Reaches : (ℕ → ℕ → Bool → Type 0) → ℕ → ListenerState → ListenerState → Type 0
 Reaches passes zero old new = new ≡ old
 Reaches passes (suc n) old new = (mid : ListenerState) × Reaches passes n old mid × IsTurn passes n mid new

@@ -13,7 +13,7 @@ use Rattle.event_sinks.specs.declared.listener.Cause.TheVariants as cause
 use Rattle.event_sinks.specs.declared.listener.Intake.{Intake}
 
 -- what a sink wrote, where that can be known, and how many of its writes failed; and what it writes for a record, and
--- at its close once it took so many
+-- at its close, given how many records it took
 pub record Page : Type 0 where
   pub bytes : Option (List ℕ)
   pub faults : ℕ
@@ -41,7 +41,7 @@ PutsText old next (Ok _) new = Gains old (old.line next) new
 PutsText old next (Err fault.Write) new = GainsFront old (old.line next) new
 PutsText old next (Err _) new = new ≡ old
 
--- a sink that took so many records is closed. A failing write is passed over
+-- a sink that took `taken` records is closed. A failing write is passed over
 abbrev pub ClosesText : Page → ℕ → Page → Type 0
 ClosesText old taken new = Gains old (old.closing taken) new ⊎ GainsFront old (old.closing taken) new
 

@@ -99,7 +99,7 @@ impl Write for CountingWriter {
     }
 }
 
-/// Puts the record so many times, or until it is refused. Out of memory ends the test.
+/// Puts the record `times` times, or until it is refused. Out of memory ends the test.
 fn put_all<S: Sink>(sink: &mut S, event: &Event, times: u64) -> Result<Option<SinkFault>, Fail>
     requires { S.is_open sink.old ≡ true }
     ensures { S.is_open sink.new ≡ true }
@@ -186,7 +186,7 @@ fn stops(rt: HostRuntime) -> Result<(), Fail> {
     Ok(())
 }
 
-/// The text that a sink writes on such a sheet. It is put the record once, and once more if that was taken.
+/// Puts a record into a line sink over a `ShortWriter`, and closes it. Returns the fault, and how many records it took.
 fn written(
     alloc: Global,
     step: usize,

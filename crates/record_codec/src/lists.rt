@@ -53,7 +53,7 @@ impl Bytes {
         &self.bytes
     }
 
-    /// The same bytes once more.
+    /// A copy of the bytes.
     ///
     /// # Errors
     /// `AllocError`, where there is no memory for them.
@@ -132,7 +132,7 @@ impl Events {
         &self.events
     }
 
-    /// The same events once more.
+    /// A copy of the events.
     ///
     /// # Errors
     /// `AllocError`, where there is no memory for them.

@@ -150,7 +150,7 @@ impl NameBuf {
         back.cmp(&other_back)
     }
 
-    /// The same bytes once more. At most [`NAME_IN_PLACE`] take no memory.
+    /// A copy of the bytes. At most [`NAME_IN_PLACE`] take no memory.
     #[inline(always)]
     pub(crate) fn copy(&self) -> Result<NameBuf, AllocError>
         requires { IsKept self.now }

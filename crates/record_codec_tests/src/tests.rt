@@ -86,7 +86,7 @@ fn writes_and_reads(rt: HostRuntime) {
     reads(&rt, rt.alloc(), b"", &[]);
 }
 
-/// An event whose name has this length has a record of so many bytes, and the length of its name field in two bytes.
+/// An event with `name` has a record of `len` bytes, and the length of its name field in the bytes `low` and `high`.
 fn has_length(rt: &impl Abort, alloc: Global, name: &[u8], len: usize, low: u8, high: u8) {
     let event = named(rt, alloc, 1, IN_CREATE, 0, name);
     holds(rt, "a name", event.name.is_some());

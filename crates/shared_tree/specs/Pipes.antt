@@ -13,7 +13,7 @@ pub record Fed : Type 0 where
 abbrev pub fed : ℕ → List Batch → ℕ → Fed
 fed instance received slots = record { instance = instance; received = received; slots = slots }
 
--- the feed of a new instance, with so many slots
+-- the feed of a new instance, with `slots` slots
 abbrev pub feed_of : Reply → ℕ → Option Fed
 feed_of (reply.Instance id) slots = Some (fed id [] slots)
 feed_of _ slots = None

@@ -32,7 +32,7 @@ enum Step {
     Sits(Result<(), Refusal>),
     /// The seat is given back. Its number, and how many calls it kept.
     Stands(u32, usize),
-    /// An instance with a limit and a pipe of so many slots.
+    /// An instance with a pipe is made: its limit, and how many slots the pipe has.
     Opens(u32, usize, Says),
     /// An instance with no pipe.
     Inits(Says),
@@ -44,7 +44,7 @@ enum Step {
     Creates(&'static str, Says),
     /// A directory is made.
     Mkdirs(&'static str, Says),
-    /// A file gets so many bytes.
+    /// A file gets this length.
     Truncates(&'static str, u64, Says),
     Links(&'static str, &'static str, Says),
     Renames(&'static str, &'static str, Says),
@@ -52,7 +52,7 @@ enum Step {
     Reads(u32, Says),
     Closes(u32, Says),
     Pumps(u32, Says),
-    /// An instance is pumped of what fits into so many bytes.
+    /// An instance is pumped of what fits into this many bytes.
     PumpsAtMost(u32, u32, Says),
     /// A batch that the feed of an instance gives: its sequence number and how many records it has.
     Gives(u32, u64, usize),
@@ -401,7 +401,7 @@ fn unlink(alloc: Global, text: &str) -> Result<Call, Refusal>
     Ok(Call::File(FileCall::Unlink { path }))
 }
 
-/// Whether it is a batch of this instance, with this sequence number and so many records.
+/// Whether it is a batch of this instance, with this sequence number and `records` records.
 fn is_batch(batch: &Option<Batch>, instance: u32, place: u64, records: usize) -> bool {
     match batch {
         Some(batch) => {

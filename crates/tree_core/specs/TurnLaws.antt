@@ -60,7 +60,7 @@ IdsAreInTurn = (t : Tree) (es : List Entry) → IsLawfulFrom t es → AreInTurn 
 
 -- ---- cookies
 
--- so many cookies, from the next one on
+-- `used` cookies, from the next one on
 abbrev pub cookies_taken : ℕ → ℕ → List ℕ
 cookies_taken used next = cookies_from (cookie_now next) used
 

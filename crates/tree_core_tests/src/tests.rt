@@ -104,7 +104,7 @@ fn refuses(rt: &impl Abort, state: &mut State, call: Result<Call, Refusal>, refu
     equal(rt, (state.waiting(1), state.waiting(2)), before);
 }
 
-/// So many records wait for the instance.
+/// `count` records wait for the instance.
 fn waits(rt: &impl Abort, state: &State, instance: u32, count: usize) {
     equal(rt, state.waiting(instance), Some(count));
 }
@@ -114,12 +114,12 @@ fn is_not_open(rt: &impl Abort, state: &State, instance: u32) {
     equal(rt, state.waiting(instance), None);
 }
 
-/// The journal has so many entries.
+/// The journal has `count` entries.
 fn journals(rt: &impl Abort, state: &State, count: usize) {
     equal(rt, state.journal().len(), count);
 }
 
-/// The journal takes so many more entries.
+/// The journal takes `count` more entries.
 fn has_room_for(rt: &impl Abort, state: &State, count: u64) {
     equal(rt, state.free_entries(), count);
 }

@@ -39,7 +39,7 @@ pub record LookupValue : Type 0 where
   pub tree : TableValue
   pub path : ResolvedPath
 
--- the path of a call, or the old one, and the new one, or the path once more
+-- the path of a call, or the old one, and the new one, or the path again
 pub record ResolvedPaths : Type 0 where
   pub path : ResolvedPath
   pub other_path : ResolvedPath

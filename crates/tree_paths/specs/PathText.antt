@@ -54,7 +54,7 @@ is_stop b = not (is_name_byte b)
 abbrev pub stops_in : List ℕ → ℕ
 stops_in bytes = mask_l (map is_stop bytes)
 
--- these are stops of a text and of a slash behind it, for so many bytes of them
+-- these are the stops among the first `window` bytes of a text with a slash behind it
 pub record IsMarked (text : List ℕ) (stops : ℕ) : Type 0 where
   pub window : ℕ
   pub few : window ≤ 64

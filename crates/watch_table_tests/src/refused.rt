@@ -28,7 +28,7 @@ fn number_of(file: u32) -> u32 {
     file.wrapping_mul(7) % 41
 }
 
-/// So many watches, of files whose numbers do not rise.
+/// `count` watches, of files whose numbers do not rise.
 fn watching(alloc: Global, count: u32, limits: &Limits) -> Result<Watches, Refusal> {
     let mut watches = Watches::new(alloc, limits);
     for file in 0..count {

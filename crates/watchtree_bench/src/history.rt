@@ -186,7 +186,7 @@ fn look(paths: &mut Paths, state: &State, digest: &mut Digest) -> Result<(), Ben
     Ok(())
 }
 
-/// So many calls by chance, with looks between them, and reads of what waits.
+/// Makes `calls` calls by chance, with looks between them, and reads of what waits.
 fn go_on(
     paths: &mut Paths,
     state: &mut State,

@@ -107,7 +107,7 @@ pub(crate) fn save_files(desk: &mut Desk) -> Result<(), BenchFault> {
     Ok(())
 }
 
-/// So many times: each instance watches a file for one event, and a write uses all of these watches up.
+/// Does this `times` times: each instance watches a file for one event, and a write uses all of these watches up.
 fn use_up_with(desk: &mut Desk, instances: u32, times: u64) -> Result<(), BenchFault> {
     let mut state = desk.open()?;
     for file in 0..4 {

@@ -85,7 +85,7 @@ bytes_of _ = []
 abbrev pub IsFilled : Reply → List ℕ → List ℕ → Type 0
 IsFilled r old new = new ≡ overlaid (bytes_of r) old
 
--- the bytes of a reply are so many at most
+-- a reply has at most `room` bytes
 abbrev pub Fits : Reply → ℕ → Type 0
 Fits r room = length (bytes_of r) ≤ room
 

@@ -163,7 +163,7 @@ fn script_faults_have_lines(rt: HostRuntime) -> Result<(), Fail> {
     Ok(())
 }
 
-/// What the program writes of a storm of three calls whose sinks take so many records, and its exit status.
+/// What the program writes of a storm of three calls whose sinks take at most `most` records, and its exit status.
 fn told<R: Threads + Wait + Sync>(rt: &R, alloc: Global, most: u64) -> Result<(Vec<u8>, u8), Fail> {
     let mut sinks: Vec<Box<dyn Sink>> = Vec::with_capacity(alloc, 2)?;
     sinks.push_reserved(Box::new(alloc, CountSink::new(alloc, most))?);

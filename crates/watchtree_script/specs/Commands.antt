@@ -74,7 +74,7 @@ instance_command_of word =
 unfoldable pub command_of : List ℕ → Option Command
 command_of word = option_or (file_command_of word) (option_or (path_command_of word) (instance_command_of word))
 
--- words by their number, of which a command takes so many
+-- words by their number, of which a command takes one, none or one, two, or three
 abbrev pub nth : List (List ℕ) → ℕ → List ℕ
 nth words i = slice_index_or words i []
 

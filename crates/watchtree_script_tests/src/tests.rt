@@ -30,7 +30,7 @@ const FIVE: &[u8] = b"mkdir /d 755\ninit\nwatch 1 /d 0x100\ncreate /d/f 644\nhex
 const PRINTED: &[u8] =
     b"ok 2\nok 1\nok 1\nok 3\nok 32\n  0100000000010000000000001000000066000000000000000000000000000000\n";
 
-/// A reader that gives so many bytes at a time, and fails once it was read so often.
+/// A reader that gives at most `step` bytes at a time, and fails after `reads` reads.
 #[derive(Drop)]
 struct Slow<'a> {
     rest: &'a [u8],
@@ -51,7 +51,7 @@ impl Read for Slow<'_> {
     }
 }
 
-/// A writer that takes so many bytes at a time, and fails once it was written to so often.
+/// A writer that takes at most `step` bytes at a time, and fails after `writes` writes.
 #[derive(Drop)]
 struct Narrow {
     taken: Vec<u8>,

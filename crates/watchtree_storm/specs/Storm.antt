@@ -61,13 +61,13 @@ IsCallAt w number c =
 
 -- ---- the gate
 
--- a gate lets a worker through at this turn, one of so many, and at none before. `passes` says what the gate may answer
--- to the worker at a turn
+-- a gate lets a worker through at `turn`, one of `turns` turns, and at none before. `passes` says what the gate may
+-- answer to the worker at a turn
 abbrev pub IsLetThrough : (ℕ → Bool → Type 0) → ℕ → ℕ → Type 0
 IsLetThrough passes turns turn =
     (turn < turns) × passes turn true × ((earlier : ℕ) → earlier < turn → passes earlier false)
 
--- it lets the worker through at none of so many turns
+-- it lets the worker through at none of `turns` turns
 abbrev pub IsHeldBack : (ℕ → Bool → Type 0) → ℕ → Type 0
 IsHeldBack passes turns = (turn : ℕ) → turn < turns → passes turn false
 
@@ -90,12 +90,12 @@ abbrev pub IsTurn : Part → ℕ → Seated → Seated → Type 0
 IsTurn w number old new =
     (between : Seated) × KeepsTurn w number old between × KeepsOrNot (pump_all w.instance) between new
 
--- so many turns of a writer, from number 0 on
+-- a given number of turns of a writer, from turn 0 on
 unfoldable pub AreTurns : Part → ℕ → Seated → Seated → Type 0
 AreTurns w zero old new = new ≡ old
 AreTurns w (suc n) old new = (between : Seated) × AreTurns w n old between × IsTurn w n between new
 
--- what a writer's seat keeps more at a gate of so many turns: the writer's own turns if the gate lets it through, and
+-- what a writer's seat keeps more at a gate of `turns` turns: the writer's own turns if the gate lets it through, and
 -- nothing if not. `passes` says what the gate may answer to a number at a turn
 abbrev pub IsWriting : (ℕ → ℕ → Bool → Type 0) → ℕ → Part → ℕ → Seated → Seated → Type 0
 IsWriting passes turns w calls old new =
@@ -120,7 +120,7 @@ HasBegun s =
     × (made.call ≡ call.File (file.Mkdir path 493)) × IsListening 1 (seated 1 (made ∷ [])) between
     × IsListening 2 between s
 
--- both instances are pumped once more, and closed
+-- both instances are pumped one last time, and closed
 abbrev pub IsClosing : Seated → Seated → Type 0
 IsClosing old new =
     (s : Seated) × (t : Seated) × (u : Seated) × KeepsOrNot (pump_all 1) old s × KeepsOrNot (pump_all 2) s t
@@ -133,7 +133,7 @@ IsWhole s = (begun : Seated) × HasBegun begun × IsClosing begun s
 abbrev pub seat_of : SeatLog → Seated
 seat_of l = seated l.number l.kept
 
--- the logs are those of seats 1, 2 and 3: of the one that begins and ends, and of the writers at a gate of so many
+-- the logs are those of seats 1, 2 and 3: of the one that begins and ends, and of the writers at a gate of `turns`
 -- turns. They keep nothing else
 abbrev pub AreStormLogs : (ℕ → ℕ → Bool → Type 0) → ℕ → ℕ → List SeatLog → Type 0
 AreStormLogs passes turns calls logs =

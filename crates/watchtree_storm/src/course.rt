@@ -84,7 +84,7 @@ fn told_of<S: Sink>(ended: &Ended<S>) -> (u32, Cause, u64)
 
 impl<L: Ledger + Send + Sync, S: Sink> ReadyStorm<L, S> {
     /// Two writers make `calls` calls each and pump after each, while two listeners take what comes, each in a thread
-    /// of its own. Once the writers have ended, both instances are pumped once more and closed. It waits for the
+    /// of its own. Once the writers have ended, both instances are pumped one last time and closed. It waits for the
     /// listeners too, which end at the last by the turns of the gate, and then the tree is dissolved.
     ///
     /// # Errors

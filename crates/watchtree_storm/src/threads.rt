@@ -86,7 +86,7 @@ fn write<L: Ledger, G: Gate>(
 pub(crate) type Left<L, S> = ((Ended<S>, Ended<S>), (Seat<L>, Seat<L>, Seat<L>));
 
 /// Runs both listeners and both writers, each in a thread of its own. Once the writers have ended, both instances are
-/// pumped once more and closed. None begins before all four threads have started; if one cannot be started, none
+/// pumped one last time and closed. None begins before all four threads have started; if one cannot be started, none
 /// begins, and both sinks are closed.
 pub(crate) fn run_four<L: Ledger + Send + Sync, S: Sink, G: Gate, R: Threads + Wait + Sync>(
     rt: &R,

@@ -160,7 +160,7 @@ fn is_let_through<G: Gate>(gate: &G, who: u32) -> bool
     false
 }
 
-/// Pumps both instances once more, and closes them. What wants memory is passed over, but a close is tried up to 16
+/// Pumps both instances one last time, and closes them. What wants memory is passed over, but a close is tried up to 16
 /// times.
 pub fn close_both<L: Ledger>(rt: &impl Wait, tree: &Tree<L>, seat: Seat<L>) -> Seat<L>
     ensures { IsClosing seat result }

@@ -45,7 +45,7 @@ struct Four {
 }
 
 impl Four {
-    /// A gate that nobody has asked yet, of so many turns.
+    /// A gate that nobody has asked yet, of `turns` turns.
     fn closed(turns: u64) -> Four {
         Four {
             turns,
@@ -81,7 +81,7 @@ impl Gate for Four {
     }
 }
 
-/// A storm whose sinks take so many records at most.
+/// A storm whose sinks take at most `most.0` and `most.1` records.
 fn stormed<G: Gate, R: Threads + Wait + Sync>(
     rt: &R,
     alloc: Global,
@@ -100,14 +100,14 @@ fn stormed<G: Gate, R: Threads + Wait + Sync>(
 /// Sinks that are never full.
 const LARGE: (u64, u64) = (1_000_000, 1_000_000);
 
-/// Whether both listeners ended by the end batch, with so many records each.
+/// Whether both listeners ended by the end batch, with `taken` records each.
 fn are_last(listeners: &[(u32, Cause, u64)], taken: u64) -> bool {
     listeners.len() == 2
         && listeners[0] == (1, Cause::Last, taken)
         && listeners[1] == (2, Cause::Last, taken)
 }
 
-/// Whether the book was settled with so many entries, and each listener took so many records.
+/// Whether the book was settled with `entries` entries, and each listener took `taken` records.
 fn is_settled(stormed: &Stormed, entries: u64, taken: u64) -> bool {
     stormed.entries == entries
         && stormed.settled
@@ -214,7 +214,7 @@ const ANOTHER: Writer = Writer {
     moved: "/s/b2",
 };
 
-/// A storm of so many calls each, one after the other.
+/// A storm in which each writer makes `calls` calls, one writer after the other.
 fn quiet<L: Ledger>(
     rt: &impl Wait,
     alloc: Global,

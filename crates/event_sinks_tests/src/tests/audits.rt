@@ -151,7 +151,7 @@ fn story_told<L: Ledger>(
     Ok((held.dissolve(pass), log, feed))
 }
 
-/// The same, with a listener that had so many turns.
+/// The same, with a listener that had at most `steps` turns.
 pub(super) fn heard_out(
     alloc: Global,
     story: &str,
@@ -494,7 +494,7 @@ pub(super) fn create(alloc: Global) -> Result<Call, Refusal>
     Ok(Call::File(FileCall::Create { path, mode: 0o644 }))
 }
 
-/// The book of a tree with so many batches, the log, and the feed.
+/// The book of a tree with `BATCHES` batches, the log, and the feed.
 fn large<L: Ledger>(alloc: Global, blank: Blank) -> Result<(Book, SeatLog, Feed), Refusal>
     requires name { blank.name ≡ L.name }
     requires parts { (blank.parts ≡ L.parts) × (blank.parts ≡ 65537) }

@@ -12,7 +12,7 @@ use tree_core::Call;
 use tree_ops::FileCall;
 use tree_paths::{Limits, Path, Refusal};
 
-/// A tree with its instance, which has a pipe of so many slots.
+/// A tree with its instance, which has a pipe of `slots` slots.
 pub(super) fn opens<L: Ledger>(
     alloc: Global,
     blank: Blank,
@@ -28,7 +28,7 @@ pub(super) fn opens<L: Ledger>(
     Ok((held, seat, feed))
 }
 
-/// Makes the instance of a tree, with such a queue and a pipe of so many slots.
+/// Makes the instance of a tree, with the queue limit `limit` and a pipe of `slots` slots.
 pub(super) fn watches<L: Ledger>(
     alloc: Global,
     held: &mut Held<L>,

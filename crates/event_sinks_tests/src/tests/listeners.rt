@@ -55,7 +55,7 @@ pub(super) fn told<S: Sink>(ended: &Ended<S>) -> Told {
     )
 }
 
-/// Runs a listener through so many turns.
+/// Runs a listener for at most `turns` turns.
 fn ran<S: Sink>(
     alloc: Global,
     story: &str,
@@ -209,7 +209,7 @@ fn gates_hold_turns_back(rt: HostRuntime) -> Result<(), Fail> {
     Ok(())
 }
 
-/// A sheet of which each write takes all, up to so many bytes, where it fails so many times.
+/// A sheet whose writes take all they are given, up to `room` bytes together, and then fail `faults` times.
 fn sheet(text: &mut Vec<u8>, room: usize, faults: usize) -> ShortWriter<'_> {
     ShortWriter {
         text,
@@ -236,7 +236,7 @@ fn a_failed_write_ends_a_listener(rt: HostRuntime) -> Result<(), Fail> {
 }
 
 /// Runs a listener whose sink writes lines. Where it ended by the end batch, and no write failed, the writer got the
-/// line of each record that was handed, and then the closing line of so many.
+/// line of each record that was handed, and then the closing line with their number.
 fn writes_lines<W: Write + Send + Drop>(
     alloc: Global,
     feed: Feed,
@@ -271,7 +271,7 @@ fn a_listener_writes_its_records(rt: HostRuntime) -> Result<(), Fail> {
     Ok(())
 }
 
-/// Drops a listener after so many steps.
+/// Drops a listener after `count` steps.
 fn drops<S: Sink>(mut listener: Listening<S>, count: u32)
     requires { IsSoundListener (state_of_listener S.record_list S.is_open listener) }
 {
@@ -280,7 +280,7 @@ fn drops<S: Sink>(mut listener: Listening<S>, count: u32)
     }
 }
 
-/// Drops a listener after so many steps, in another thread.
+/// Drops a listener after `count` steps, in another thread.
 fn drops_elsewhere<S: Sink, R: Threads>(rt: &R, listener: Listening<S>, count: u32)
     requires { IsSoundListener (state_of_listener S.record_list S.is_open listener) }
 {
@@ -293,7 +293,7 @@ fn drops_elsewhere<S: Sink, R: Threads>(rt: &R, listener: Listening<S>, count: u
     );
 }
 
-/// What a listener at two batches and the end batch wrote that was dropped after so many steps.
+/// What a listener at two batches and the end batch wrote, by the number of steps after which it was dropped.
 const WRITTEN: [&[u8]; 5] = [
     b"closed 0\n",
     b"1 00000100 0 f\nclosed 1\n",

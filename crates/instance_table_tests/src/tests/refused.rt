@@ -155,7 +155,7 @@ fn crowd(alloc: Global) -> Result<Instances, Refusal> {
     Ok(instances)
 }
 
-/// Whether so many records wait in each that watches, and none in the one that does not.
+/// Whether `count` records wait in each instance that watches, and none in the one that does not.
 fn have_heard(instances: &Instances, count: usize) -> bool {
     (1..=CROWD).all(|id| waiting(instances, id) == count) && waiting(instances, CROWD + 1) == 0
 }

@@ -86,7 +86,7 @@ fn is_told(
     Ok(are_all && have_heard(instances, list, file, bits))
 }
 
-/// Watches a file, anew or once more.
+/// Watches a file, for the first time or again.
 fn watches(
     instances: &mut Instances,
     list: &mut Vec<Watch>,

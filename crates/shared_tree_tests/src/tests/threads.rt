@@ -113,7 +113,7 @@ fn writes_once<L: Ledger>(
     held.call(seat, chmod(alloc, mode)?)
 }
 
-/// Makes so many calls.
+/// Makes `count` calls.
 fn writes<L: Ledger>(
     rt: &impl Wait,
     tree: &Tree<L>,
@@ -158,7 +158,7 @@ fn is_entry(book: &Book, caller: u32, kept: &Kept) -> bool {
     }
 }
 
-/// Whether a seat of this number kept so many calls, and each is an entry.
+/// Whether a seat of this number kept `count` calls, and each is an entry.
 fn is_log(book: &Book, log: SeatLog, number: u32, count: usize) -> bool {
     let kept = log.kept.into_vec();
     for call in kept.iter() {

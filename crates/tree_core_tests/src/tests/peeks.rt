@@ -27,7 +27,7 @@ fn reads(rt: &impl Abort, state: &State, path: &Path, offset: u64, wanted: &[u8]
     assert_eq!(rt; state.peek_bytes(path, offset, ALL), Ok(wanted));
 }
 
-/// So many instances have a record waiting, and a buffer for three numbers then has these.
+/// `count` instances have a record waiting, and a buffer for three numbers then has `ids`.
 fn ready(rt: &impl Abort, state: &State, count: usize, ids: [u32; 3]) {
     let mut out = [9; 3];
     equal(rt, state.ready(&mut out), count);

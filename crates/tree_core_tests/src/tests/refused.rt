@@ -107,7 +107,7 @@ fn later_step_of(alloc: Global, which: u32) -> Result<Call, Refusal> {
     }
 }
 
-/// A tree after so many steps.
+/// A tree after `steps` steps.
 fn after(alloc: Global, steps: u32) -> Result<State, Refusal> {
     let mut tree = State::new(alloc, Limits::full())?;
     for which in 0..steps {
@@ -242,7 +242,7 @@ fn refused_at(
     })
 }
 
-/// How many allocations a call makes after so many steps, if all is well when each fails in turn. None if not.
+/// How many allocations a call makes after `steps` steps, if all is well when each fails in turn. None if not.
 fn refused_in_turn(
     alloc: Global,
     steps: u32,
@@ -341,7 +341,7 @@ fn kept_alike(one: &State, other: &State) -> bool {
         && one.next_id == other.next_id
 }
 
-/// A tree after so many steps, which was cut after half of them.
+/// A tree after `steps` steps, which was cut after half of them.
 fn after_a_cut(alloc: Global, steps: u32) -> Result<State, Refusal> {
     let mut tree = after(alloc, steps / 2)?;
     tree.cut()?;
@@ -377,7 +377,7 @@ fn cut_refused_at(
     })
 }
 
-/// How many allocations a cut makes after so many steps, if all is well when each fails in turn. None if not.
+/// How many allocations a cut makes after `steps` steps, if all is well when each fails in turn. None if not.
 fn cut_refused_in_turn(alloc: Global, steps: u32) -> Result<Option<u32>, Refusal> {
     for k in 1..10 * MOST {
         let mut tree = after_a_cut(alloc, steps)?;
@@ -431,7 +431,7 @@ fn fork_refused_at(
     }
 }
 
-/// How many allocations a fork makes after so many steps, if all is well when each fails in turn. None if not.
+/// How many allocations a fork makes after `steps` steps, if all is well when each fails in turn. None if not.
 fn fork_refused_in_turn(alloc: Global, steps: u32) -> Result<Option<u32>, Refusal> {
     for k in 1..10 * MOST {
         let mut tree = after_a_cut(alloc, steps)?;

@@ -52,12 +52,12 @@ pub(super) enum Step {
     Tells(Ask, Gives),
     Does(Ask),
     Refuses(Ask, Refusal),
-    /// So many records wait for the instance.
+    /// This many records wait for the instance.
     Waits(u32, usize),
     IsNotOpen(u32),
-    /// The journal has so many entries.
+    /// The journal has this many entries.
     Journals(usize),
-    /// The journal takes so many more entries.
+    /// The journal takes this many more entries.
     HasRoom(u64),
     /// The instance has just this record to read.
     Hears(u32, Record<'static>),

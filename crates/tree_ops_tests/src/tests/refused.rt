@@ -231,7 +231,7 @@ enum Shape {
     GrownCopy,
 }
 
-/// Calls on a tree of so many nodes.
+/// Calls on a tree of `nodes` nodes.
 fn grown(alloc: Global, nodes: u32, shape: Shape) -> Result<Calls, Refusal> {
     let mut calls = Calls::new(alloc, Limits::full())?;
     for i in 1..nodes {
