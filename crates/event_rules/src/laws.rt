@@ -26,8 +26,9 @@ pub fn notices_tell_one_event()
     ensures { (w : World) (call : FileCall) (cookie : ℕ) → All HasOneEvent (notices_of w call cookie) }
 {}
 
-/// A law: the i-th pair of `IN_MOVED_FROM` and `IN_MOVED_TO` in the notices of a call has the i-th of the cookies that
-/// it uses, and all other events have none. The events that notices raise for an instance are tied as the notices are.
+/// A law: the i-th move of a call has the i-th of the cookies that it uses. The notices of the call are some of the
+/// `IN_MOVED_FROM` and `IN_MOVED_TO` of these moves, in order, each with the cookie of its move, and all others have
+/// cookie 0. The events that notices raise for an instance are tied as the notices are.
 pub fn cookies_tie_moves()
     ensures told { (w : World) (call : FileCall) (cookie : ℕ)
         → AreTied (moves_with (cookies_from cookie (cookies_of w call))) (marks_told (notices_of w call cookie)) }

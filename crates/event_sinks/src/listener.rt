@@ -18,7 +18,7 @@ use std::alloc::Global;
 /// What a step did.
 #[derive(Clone, Copy, Debug, PartialEq, Eq)]
 pub enum Step {
-    /// Nothing has changed. No batch had come, which no clause says, and a test shows.
+    /// Nothing was taken, and the listener goes on. No batch had come, which no clause says, and a test shows.
     Idle,
     /// A batch was taken: its records were put, or it was the end batch.
     Took,
@@ -110,8 +110,8 @@ impl<S: Sink> Listening<S> {
         }
     }
 
-    /// Reserves memory for one more batch, takes a batch if there is one, and puts its records one by one. It never
-    /// waits.
+    /// Reserves memory for one more batch, takes a batch if one has come (a test shows that it does), and puts its
+    /// records one by one. It never waits.
     pub fn step(&mut self) -> Step
         requires { IsSoundListener (state_of_listener S.record_list S.is_open self.old) }
         ensures sound { IsSoundListener (state_of_listener S.record_list S.is_open self.new) }

@@ -1,5 +1,5 @@
 -- The first elements of two arrays, of numbers of instances and of their watches, after one change.
-use Rattle.std.proofs.Common.{◌≡◌, ℕ, suc, ◌+◌, ◌-◌, ◌<◌, ◌≤◌, ◌++◌, ◌∷◌, List, length, take, drop, set}
+use Rattle.std.proofs.Common.{◌≡◌, ℕ, suc, ◌+◌, ◌-◌, ◌<◌, ◌++◌, ◌∷◌, List, length, take, drop, set}
 use Rattle.std.proofs.Common.{sym, ap, ◌∙◌, subst, arith, length-take-le}
 use Rattle.std.proofs.Math.Seq.{paste}
 use Rattle.std.specs.Prelude.{Ok, Err}

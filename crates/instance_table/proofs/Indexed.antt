@@ -128,7 +128,7 @@ pub wd-first : (w : Watching) (number : ℕ) → watch_of w number ≡ None → 
 unfolding wd_added
 wd-first w number none = ap (λ o. Rattle.watch_table.specs.Watching.wd_or o (pos w.next_wd)) none
 
--- where it is accepted, there is room for it
+-- where it is accepted, one more can be watched
 pub room-left : (w : Watching) (number mask : ℕ) (is_directory : Bool) → watch_of w number ≡ None
     → add_refusal w number mask is_directory ≡ None → is_full w ≡ false
 unfolding add_refusal

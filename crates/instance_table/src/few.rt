@@ -122,6 +122,7 @@ impl<const N: usize> Few<N> {
     pub fn as_slices(&self) -> (&[u32], &[(i32, u32)])
         ensures watchers { AreWatchers result.0.now result.1.now }
         ensures map { watchers_map result.0.now result.1.now ≡ self.now }
+        ensures few { length result.0.now ≤ N }
     {
         (&self.ids[..self.len], &self.watches[..self.len])
     }

@@ -202,6 +202,8 @@ impl Instances {
         ensures ok { OnOk result (self.new ≡ changed self.old id (watching number mask.0)) }
         ensures accepted { OnOk result (IfSome (instance_of self.old id)
             (λ i. add_refusal i.watches number mask.0 is_directory ≡ None)) }
+        ensures refused { IfSome (instance_of self.old id) (λ i. (r : Refusal)
+            → add_refusal i.watches number mask.0 is_directory ≡ Some r → result ≡ Err r) }
         ensures refusals { IfErr result (λ r. IfSome (instance_of self.old id)
             (λ i. (add_refusal i.watches number mask.0 is_directory ≡ Some r) ⊎ (r ≡ Enomem))) }
         ensures err { OnErr result (self.new ≡ self.old) }
@@ -326,6 +328,7 @@ fn add_noted(
         → watch_noted index.new n q
         ≡ (if n == number && q == id then watch_of watches.new number else watch_noted index.old n q)) }
     ensures accepted { OnOk result (add_refusal watches.old number mask.0 is_directory ≡ None) }
+    ensures refused { (r : Refusal) → add_refusal watches.old number mask.0 is_directory ≡ Some r → result ≡ Err r }
     ensures refusals { IfErr result (λ r. (add_refusal watches.old number mask.0 is_directory ≡ Some r)
         ⊎ (r ≡ Enomem)) }
     ensures err { OnErr result (watches.new ≡ watches.old) }
@@ -333,11 +336,13 @@ fn add_noted(
     ensures err_noted { OnErr result ((n q : ℕ) → watch_noted index.new n q ≡ watch_noted index.old n q) }
 {
     match watches.of(number) {
-        Some(before) => {
-            let wd = watches.add(number, mask, is_directory)?;
-            index.set(number, id, (before.0, mask.next_bits(before.1)));
-            Ok(wd)
-        }
+        Some(before) => match watches.add(number, mask, is_directory) {
+            Ok(wd) => {
+                index.set(number, id, (before.0, mask.next_bits(before.1)));
+                Ok(wd)
+            }
+            Err(refusal) => Err(refusal),
+        },
         None => add_first(index, watches, id, number, mask, is_directory),
     }
 }
@@ -360,13 +365,14 @@ fn add_first(
         → watch_noted index.new n q
         ≡ (if n == number && q == id then watch_of watches.new number else watch_noted index.old n q)) }
     ensures accepted { OnOk result (add_refusal watches.old number mask.0 is_directory ≡ None) }
+    ensures refused { (r : Refusal) → add_refusal watches.old number mask.0 is_directory ≡ Some r → result ≡ Err r }
     ensures refusals { IfErr result (λ r. (add_refusal watches.old number mask.0 is_directory ≡ Some r)
         ⊎ (r ≡ Enomem)) }
     ensures err { OnErr result (watches.new ≡ watches.old) }
     ensures rows { HasNoEmptyRow index.old → HasNoEmptyRow index.new }
     ensures err_noted { OnErr result ((n q : ℕ) → watch_noted index.new n q ≡ watch_noted index.old n q) }
 {
-    // Refused calls add nothing, no capacity either.
+    // A call that a row refuses allocates nothing.
     if let Err(refusal) = watches.check_new(mask, is_directory) {
         return Err(refusal);
     }

@@ -48,7 +48,8 @@ impl Model for Book {
 impl Book {
     /// What holds of every book. It does nothing.
     ///
-    /// The journal is lawful. Each pipe was sent what the journal hands to its instance, and that are events.
+    /// The journal is lawful. Each pipe was sent what the whole journal hands to its instance, and what was handed
+    /// since the last cut are events.
     pub fn law(&self)
         ensures lawful { IsLawfulFrom self.now.state.start self.now.state.entries }
         ensures counted { self.now.entries ≡ last_place self.now.state }

@@ -254,13 +254,9 @@ impl<L: Ledger> Held<L> {
 
     /// What holds whenever the lock is free. It does nothing.
     ///
-    /// The records that were read of an instance, followed by those that wait, are the events that the journal raises
-    /// for it, in order and each once, except those that are merged into an equal unread neighbour and those that are
-    /// lost after a mark. All of them are events, so that the bytes that were read are the records of these alone. No
-    /// two moves share a cookie. Nothing of a watch follows its `IN_IGNORED`. A refused call adds nothing: what joined,
-    /// what was read and the tree are as before it. An open instance has a pipe exactly if it was made with one. Each
-    /// pipe was sent what the whole journal hands to its instance, which are events. The ledger's total is the sequence
-    /// number of the last entry.
+    /// What [`State::law`] says of the tree and its journal; and an open instance has a pipe exactly if it was made
+    /// with one, each pipe was sent what the whole journal hands to its instance, what was handed since the last cut
+    /// are events, and the ledger's total is the sequence number of the last entry.
     pub fn law(&self)
         ensures lawful { IsLawfulFrom self.now.state.start self.now.state.entries }
         ensures sound { IsSoundTree self.now.state.start }

@@ -18,8 +18,9 @@ abbrev pub AtEach : (Tree → Call → Type 0) → Tree → List Entry → Type 
 AtEach P t [] = ⊤
 AtEach P t (e ∷ es) = P t e.call × AtEach P (after t e.call) es
 
--- the i-th pair of IN_MOVED_FROM and IN_MOVED_TO that a call raises has the i-th of its cookies, and all other events
--- have none
+-- the i-th move of a call has the i-th of its cookies. What the call raises for an instance are some of the
+-- IN_MOVED_FROM and IN_MOVED_TO of these moves, in order, each with the cookie of its move; all other events have
+-- cookie 0
 abbrev pub TiesMoves : Tree → Call → Type 0
 TiesMoves t c = (id : ℕ) → AreTied (moves_with (cookies_used t c)) (marks_of (events (raised_by t c id)))
 
@@ -28,9 +29,10 @@ TiesMoves t c = (id : ℕ) → AreTied (moves_with (cookies_used t c)) (marks_of
 abbrev pub RefusedAddsNothing : Tree → Call → Type 0
 RefusedAddsNothing t c = (refusal : Refusal) → reply_of t c ≡ reply.Refused refusal → AddsNothing t c
 
--- the records that were read of an instance since the cut, followed by those that wait, are those that waited at the
--- cut and the events that the journal raises for it, in order, each once, but for those merged into an equal unread
--- neighbour and those lost behind a mark. The queue that each event found is what had joined and was not read yet
+-- the records that were read of an open instance since the cut, followed by those that wait, are those that waited at
+-- the cut and the events that the journal raises for it, in order, each once, but for those merged into an equal unread
+-- neighbour and those lost behind a mark; those that were read of a closed one are a prefix of them. The queue that
+-- each event found is what had joined and was not read yet
 pub record IsTold (s : Journaled) (id : ℕ) : Type 0 where
   pub order : IsInOrder (read_in s.start s.entries id)
       (waiting_of (instance_of s.start.instances id) ++ joined (raised_in s.start s.entries id))
@@ -39,7 +41,7 @@ pub record IsTold (s : Journaled) (id : ℕ) : Type 0 where
   pub accounted : AreAccountedFor (raised_in s.start s.entries id)
   pub found : FindsTheUnread s.start s.entries id
 
--- no two moves share a cookie, and only the events of a move have one
+-- no two moves share a cookie, and only the events of a move have one other than 0
 pub record HasCookiesInTurn (s : Journaled) : Type 0 where
   pub turn : AreInTurn s.start.next_cookie (cookies_in s.start s.entries)
   pub ties : AtEach TiesMoves s.start s.entries

@@ -75,7 +75,7 @@ pub enum Call {
 impl Call {
     ghost use Rattle.tree_paths.specs.declared.refusal.Refusal.TheVariants.{Enomem};
 
-    /// Whether the call involves no pipe: it is neither a [`Call::Pump`] nor a [`Call::Init`] with a pipe.
+    /// Whether the call is neither a [`Call::Pump`] nor a [`Call::Init`] with a pipe.
     pub fn is_plain(&self) -> bool
         ensures { result ≡ is_plain self.now }
     {

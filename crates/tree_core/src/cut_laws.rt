@@ -24,8 +24,9 @@ pub fn pasts_make_whole()
     trees_are_sound();
 }
 
-/// A law: to the same later calls a state and its fork give the same replies, and both then have the same tree and the
-/// same last sequence number. Only a full journal can refuse a call of one alone, as the fork's is empty at first.
+/// A law: where a state and its fork have entries of the same calls, these have the same replies, and both then have
+/// the same tree and the same last sequence number. A call that is refused for one alone has found its journal full, or
+/// was out of memory.
 pub fn forks_answer_alike()
     ensures { ForksAnswerAlike }
 {}

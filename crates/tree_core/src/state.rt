@@ -268,8 +268,8 @@ impl State {
         self.snapshot.place + self.journal.len() as u64
     }
 
-    /// What the last cut kept of the tree, and the sequence number of the last entry before it. Before any cut it is
-    /// the opening tree, and the sequence number is 0.
+    /// What the last cut kept of the tree, which is all but its limits, and the sequence number of the last entry
+    /// before it. Before any cut it is the opening tree, with the sequence number 0; of a fork, the tree at the fork.
     pub fn snapshot(&self) -> &Snapshot
         ensures tells { IsSnapshotOf self.now.start self.now.place result.now }
         ensures sound { IsSoundTree self.now.start }
@@ -280,8 +280,8 @@ impl State {
     }
 
     /// Replaces the journal with a snapshot of the tree, and answers the sequence number of the last entry. The tree
-    /// stays as it is, and sequence numbers continue. It takes time and memory in proportion to the tree. It frees all
-    /// memory that the entries held, which no clause says, and a test shows.
+    /// stays as it is, and sequence numbers continue. It takes time and memory in proportion to the tree, and frees all
+    /// memory that the entries held: no clause speaks of these, and a test shows the last.
     ///
     /// # Errors
     /// `ENOMEM`, where there is no memory for it. The state is then as before.

@@ -44,8 +44,9 @@ pub fn numbers_are_in_turn()
     other_watches_stay();
 }
 
-/// A law: no two moves share a cookie; the i-th pair of `IN_MOVED_FROM` and `IN_MOVED_TO` that a call raises has the
-/// i-th of its cookies, and all other events have none.
+/// A law: no two moves share a cookie; the i-th move of a call has the i-th of its cookies. What a call raises for an
+/// instance are some of the `IN_MOVED_FROM` and `IN_MOVED_TO` of its moves, in order, each with the cookie of its move;
+/// all other events have cookie 0.
 pub fn cookies_are_in_turn()
     ensures turn { CookiesAreInTurn }
     ensures tie { CookiesTieMoves }

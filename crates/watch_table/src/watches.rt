@@ -175,8 +175,8 @@ impl Watches {
         Err(Refusal::Enospc)
     }
 
-    /// Watches a file that is not watched, where [`Watches::check_new`] has accepted it, and answers the descriptor of its
-    /// watch. `bits` are those that the watch keeps ([`Mask::stored`]).
+    /// Watches a file that is not watched, where [`Watches::check_new`] has accepted it, and answers the descriptor of
+    /// its watch. `bits` are those that the watch keeps ([`Mask::stored`]).
     ///
     /// `Err` is out of memory.
     pub fn add_new(&mut self, number: u32, bits: u32) -> Result<i32, AllocError>

@@ -324,6 +324,28 @@ fn some_open(alloc: Global) -> Result<Instances, Refusal> {
     Ok(instances)
 }
 
+/// Whether a watch that a row refuses makes no allocation, of a file that `count` instances watch.
+fn is_refused_at_once(alloc: Global, count: u32) -> Result<bool, Refusal> {
+    let mut instances = some_open(alloc)?;
+    for id in 1..=count {
+        watch(&mut instances, id, FILE, IN_CREATE)?;
+    }
+    let _ = refuse_from(alloc, 1);
+    let refused = watch(&mut instances, 40, FILE, IN_CREATE | IN_ONLYDIR);
+    let is_refused = was_refused(alloc);
+    Ok(!is_refused && matches!(refused, Err(Refusal::Enotdir)))
+}
+
+#[test]
+fn a_refused_watch_takes_no_memory(rt: HostRuntime) -> Result<(), Fail> {
+    let alloc = rt.alloc();
+    for count in 0..20 {
+        let is_well = is_refused_at_once(alloc, count)?;
+        assert!(rt; is_well, "{count}");
+    }
+    Ok(())
+}
+
 /// Watches the file for an instance of both: on the first each allocation fails in turn. How many there were; none if
 /// one did not go well.
 fn watch_refused(

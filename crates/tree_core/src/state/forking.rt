@@ -8,9 +8,9 @@ use tree_paths::Refusal;
 
 impl State {
     /// An independent state with the same tree, limits and last sequence number, and an empty journal. The two share
-    /// nothing: a call on one leaves the other as it is. To the same later calls both give the same replies, until one
-    /// journal is full (the law [`forks_answer_alike`](crate::forks_answer_alike)). It takes time and memory in
-    /// proportion to the tree.
+    /// nothing: a call on one leaves the other as it is. Entries of the same later calls have the same replies in both
+    /// (the law [`forks_answer_alike`](crate::forks_answer_alike)); a call is refused for one alone only where that
+    /// one's journal is full or its memory is out. It takes time and memory in proportion to the tree.
     ///
     /// # Errors
     /// `ENOMEM`, where there is no memory for it.

@@ -15,12 +15,12 @@ use crate::turn_laws::{cookies_are_in_turn, replies_tell, watches_end_once};
 
 impl State {
     /// A law: what holds of each state, whether it is new, forked or cut, and after any call. Each reply of the journal
-    /// is the one that the tree gives after the calls before. For each instance, what was read of it since the cut,
-    /// followed by what waits, is what waited at the cut and the events that the journal raises for it, in order and
-    /// each once, except those that are merged into an equal unread neighbour and those that are lost after a mark. All
-    /// of them are events, so that the bytes that were read are the records of these alone. No two moves share a
-    /// cookie. Nothing of a watch follows its `IN_IGNORED`. A refused call adds nothing: what joined, what was read and
-    /// the tree are as before it.
+    /// is the one that the tree gives after the calls before. For each open instance, what was read of it since the
+    /// last cut, followed by what waits, is what waited at the cut and the events that the journal raises for it, in
+    /// order and each once, except those that are merged into an equal unread neighbour and those that are lost after a
+    /// mark. For a closed one, what was read is a prefix of these; the rest was given up. All of them are events, so
+    /// that the bytes that were read are the records of these alone. No two moves share a cookie. Nothing of a watch
+    /// follows its `IN_IGNORED`. A refused call adds nothing: what joined, what was read and the tree are as before it.
     pub fn law(&self)
         ensures lawful { IsLawfulFrom self.now.start self.now.entries }
         ensures sound { IsSoundTree self.now.start }

@@ -6,14 +6,14 @@ use Rattle.instance_table.specs.Index.{watch_noted}
 use Rattle.instance_table.proofs.Indexed.{next-watch}
 use Rattle.instance_table.proofs.instances.add_noted.Goals as goal
 
-pub returns-in_ok-wd-in-Some-clause-noted : goal.returns-in_ok-wd-in-Some-clause-noted
-returns-in_ok-wd-in-Some-clause-noted c n q =
+pub returns-in-Ok-clause-noted : goal.returns-in-Ok-clause-noted
+returns-in-Ok-clause-noted c n q =
     let w = c.args.watches.now in
     let before : Watch = c.in-Some.before in
     let bits = c.next_bits.result in
     let fits : SFits w32 before.0 = search rules in
     let there : watch_of c.add.new.self c.args.number ≡ Some (before.0, bits) =
-    ap (λ (x : Watching). watch_of x c.args.number) c.in_ok-wd-in-Some.ensures.watches
+    ap (λ (x : Watching). watch_of x c.args.number) c.in-Ok.ensures.watches
     ∙ next-watch w c.args.number c.args.mask.0 before (sym c.in-Some.ensures) ∙ ap (λ b. Some (before.0, b)) (sym c.next_bits.ensures) in
     c.set.ensures.noted n q
     ∙ ap (λ z. cond (eqb n c.args.number && eqb q c.args.id) (Some (z, bits)) (watch_noted c.args.index.now n q)) (to_z-of_z w32 before.0 fits)

@@ -1,8 +1,9 @@
-use Rattle.std.proofs.Common.{◌≡◌, ap, sym, ◌∙◌, subst, refl, Some, None, IsSome, IfSome, IfErr, IfOk, OnOk}
+use Rattle.std.proofs.Common.{◌≡◌, ap, sym, ◌∙◌, subst, refl, Some, None, Err, IsSome, IfSome, IfErr, IfOk, OnOk}
 use Rattle.std.specs.Prelude.{◌⊎◌}
 use Rattle.std.specs.FinMap as finmap
 use Rattle.std.proofs.lemmas.Result.{on_ok_weaker, on_err_weaker}
 use Rattle.std.proofs.lemmas.Bool.{false≢true}
+use Rattle.tree_paths.specs.declared.refusal.Refusal.{Refusal}
 use Rattle.tree_paths.specs.declared.refusal.Refusal.TheVariants.{Enomem}
 use Rattle.watch_table.specs.Watching.{add_refusal, wd_added}
 use Rattle.instance_table.specs.declared.instance.Instance.{Instance}
@@ -63,6 +64,15 @@ returns-clause-accepted c =
     c.index_mut.result.now c.index_mut.ensures.value in
     subst (λ o. OnOk c.add_noted.result (IfSome o (λ (i : Instance). add_refusal i.watches c.args.number c.args.mask.0 c.args.is_directory ≡ None)))
     (sym was) c.add_noted.ensures.accepted
+
+pub returns-clause-refused : goal.returns-clause-refused
+returns-clause-refused c =
+    let was : instance_of c.args.self.now c.args.id ≡ Some c.index_mut.result.now.instance =
+    ap (λ m. instance_of m c.args.id) (sym c.self.view_is)
+    ∙ there c.self.inside c.self.invariant c.args.id c.deref.result.now c.deref.ensures.value c.in-Ok.found c.in-Ok.ensures
+    c.index_mut.result.now c.index_mut.ensures.value in
+    subst (λ o. IfSome o (λ (i : Instance). (r : Refusal) → add_refusal i.watches c.args.number c.args.mask.0 c.args.is_directory ≡ Some r
+    → c.add_noted.result ≡ Err r)) (sym was) c.add_noted.ensures.refused
 
 pub returns-clause-refusals : goal.returns-clause-refusals
 returns-clause-refusals c =
