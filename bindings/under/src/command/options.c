@@ -107,6 +107,22 @@ _Noreturn static void print_help(void) {
     exit(0);
 }
 
+/* The words behind the options: the script, unless a schedule has it, and the program. */
+static void read_words(int argc, char **argv, int at) {
+    bool is_named = !options.has_schedule && at + 1 < argc;
+    if (is_named) options.script = argv[at++];
+    if (is_named && !strcmp(argv[at], "--")) at++;
+    if (!options.script || at >= argc) {
+        fputs(usage, stderr);
+        exit(STATUS_FAULT);
+    }
+    options.program = argv + at;
+    if (options.check && !options.many_seeds) fault("--check goes with --seeds");
+    if (options.has_schedule && options.has_seed) fault("--schedule and --seed are two schedules");
+    if (options.has_schedule && at + 1 < argc && !strcmp(argv[at + 1], "--"))
+        fault("--schedule has the script: %s is one more", argv[at]);
+}
+
 void read_options(int argc, char **argv) {
     static const struct option words[] = {
         { "dir", 1, NULL, 'd' }, { "trace", 0, NULL, 't' }, { "out", 1, NULL, 'o' }, { "seed", 1, NULL, 's' },
@@ -138,17 +154,5 @@ void read_options(int argc, char **argv) {
         case 'h': print_help();
         default: fputs(usage, stderr); exit(STATUS_FAULT);
     }
-    int at = optind;
-    bool is_named = !options.has_schedule && at + 1 < argc;
-    if (is_named) options.script = argv[at++];
-    if (is_named && !strcmp(argv[at], "--")) at++;
-    if (!options.script || at >= argc) {
-        fputs(usage, stderr);
-        exit(STATUS_FAULT);
-    }
-    options.program = argv + at;
-    if (options.check && !options.many_seeds) fault("--check goes with --seeds");
-    if (options.has_schedule && options.has_seed) fault("--schedule and --seed are two schedules");
-    if (options.has_schedule && at + 1 < argc && !strcmp(argv[at + 1], "--"))
-        fault("--schedule has the script: %s is one more", argv[at]);
+    read_words(argc, argv, optind);
 }

@@ -66,7 +66,7 @@ static void take_signals(void) {
     struct signalfd_siginfo it;
     while (read(signals, &it, sizeof it) == sizeof it)
         if (is_for_program(&it)) kill(program_pid, (int)it.ssi_signo);
-    if (getppid() != parent_pid) note_broken("the keeper of the processes");
+    if (getppid() != parent_pid) note_broken("the process that began the run");
     int status;
     for (pid_t pid; (pid = waitpid(-1, &status, WNOHANG)) > 0;) {
         if (pid == supervisor_pid) note_broken("the supervisor of the system calls");

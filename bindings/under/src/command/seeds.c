@@ -26,8 +26,8 @@ static bool ends_runs(int number) {
     return ends_programs(number) && sigaction(number, NULL, &it) == 0 && it.sa_handler != SIG_IGN;
 }
 
-/* Waits for a child, for so long at most (0: without a limit), and passes on to it what is sent to the tool. False if it did
- * not end. */
+/* Waits for a child, for at most `limit_ms` milliseconds (0: without a limit), and passes on to it what is sent to the tool.
+ * False if it did not end. */
 static bool await(pid_t child, int limit_ms, int *status) {
     int64_t end = clock_ms() + limit_ms;
     while (waitpid(child, status, WNOHANG) != child) {

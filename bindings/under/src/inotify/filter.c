@@ -31,53 +31,56 @@
 enum { I386_FCNTL = 55, I386_FCNTL64 = 221, I386_INOTIFY_INIT = 291, I386_INOTIFY_ADD_WATCH = 292,
        I386_INOTIFY_RM_WATCH = 293, I386_INOTIFY_INIT1 = 332, I386_FANOTIFY_INIT = 338 };
 
+enum { HELD = SECCOMP_RET_USER_NOTIF, NONE = SECCOMP_RET_ERRNO | ENOSYS, INVALID = SECCOMP_RET_ERRNO | EINVAL,
+       X32 = 0x40000000 };
+
+/* What the filter does with each call: it is held for the supervisor, refused, or let through. */
+static struct sock_filter filter[] = {
+    LOAD(arch),
+    UNLESS(AUDIT_ARCH_I386, 17),
+    LOAD(nr),
+    ON(I386_INOTIFY_INIT, NONE),
+    ON(I386_INOTIFY_ADD_WATCH, NONE),
+    ON(I386_INOTIFY_RM_WATCH, NONE),
+    ON(I386_INOTIFY_INIT1, NONE),
+    ON(I386_FANOTIFY_INIT, NONE),
+    BPF_JUMP(BPF_JMP | BPF_JEQ | BPF_K, I386_FCNTL, 1, 0),
+    UNLESS(I386_FCNTL64, 3),
+    LOAD(args[1]),
+    ON(F_NOTIFY, INVALID),
+    RETURN(SECCOMP_RET_ALLOW),
+
+    BPF_JUMP(BPF_JMP | BPF_JEQ | BPF_K, AUDIT_ARCH_X86_64, 1, 0),
+    RETURN(NONE),
+    LOAD(nr),
+    BPF_JUMP(BPF_JMP | BPF_JGE | BPF_K, X32, 0, 1),
+    RETURN(NONE),
+    ON(SYS_inotify_init, HELD),
+    ON(SYS_inotify_init1, HELD),
+    ON(SYS_inotify_add_watch, HELD),
+    ON(SYS_inotify_rm_watch, HELD),
+    ON(SYS_statfs, HELD),
+    ON(SYS_fstatfs, HELD),
+    ON(SYS_fanotify_init, NONE),
+
+    UNLESS(SYS_ioctl, 6),
+    LOAD(args[1]),
+    ON(FIONREAD, HELD),
+    ON(FIOASYNC, HELD),
+    RETURN(SECCOMP_RET_ALLOW),
+
+    UNLESS(SYS_fcntl, 7),
+    LOAD(args[1]),
+    ON(F_NOTIFY, INVALID),
+    UNLESS(F_SETFL, 3),
+    LOAD(args[2]),
+    BPF_JUMP(BPF_JMP | BPF_JSET | BPF_K, O_ASYNC, 0, 1),
+    RETURN(HELD),
+    RETURN(SECCOMP_RET_ALLOW),
+};
+
 int install_filter(void) {
-    enum { HELD = SECCOMP_RET_USER_NOTIF, NONE = SECCOMP_RET_ERRNO | ENOSYS, INVALID = SECCOMP_RET_ERRNO | EINVAL,
-           X32 = 0x40000000 };
-    struct sock_filter code[] = {
-        LOAD(arch),
-        UNLESS(AUDIT_ARCH_I386, 17),
-        LOAD(nr),
-        ON(I386_INOTIFY_INIT, NONE),
-        ON(I386_INOTIFY_ADD_WATCH, NONE),
-        ON(I386_INOTIFY_RM_WATCH, NONE),
-        ON(I386_INOTIFY_INIT1, NONE),
-        ON(I386_FANOTIFY_INIT, NONE),
-        BPF_JUMP(BPF_JMP | BPF_JEQ | BPF_K, I386_FCNTL, 1, 0),
-        UNLESS(I386_FCNTL64, 3),
-        LOAD(args[1]),
-        ON(F_NOTIFY, INVALID),
-        RETURN(SECCOMP_RET_ALLOW),
-
-        BPF_JUMP(BPF_JMP | BPF_JEQ | BPF_K, AUDIT_ARCH_X86_64, 1, 0),
-        RETURN(NONE),
-        LOAD(nr),
-        BPF_JUMP(BPF_JMP | BPF_JGE | BPF_K, X32, 0, 1),
-        RETURN(NONE),
-        ON(SYS_inotify_init, HELD),
-        ON(SYS_inotify_init1, HELD),
-        ON(SYS_inotify_add_watch, HELD),
-        ON(SYS_inotify_rm_watch, HELD),
-        ON(SYS_statfs, HELD),
-        ON(SYS_fstatfs, HELD),
-        ON(SYS_fanotify_init, NONE),
-
-        UNLESS(SYS_ioctl, 6),
-        LOAD(args[1]),
-        ON(FIONREAD, HELD),
-        ON(FIOASYNC, HELD),
-        RETURN(SECCOMP_RET_ALLOW),
-
-        UNLESS(SYS_fcntl, 7),
-        LOAD(args[1]),
-        ON(F_NOTIFY, INVALID),
-        UNLESS(F_SETFL, 3),
-        LOAD(args[2]),
-        BPF_JUMP(BPF_JMP | BPF_JSET | BPF_K, O_ASYNC, 0, 1),
-        RETURN(HELD),
-        RETURN(SECCOMP_RET_ALLOW),
-    };
-    struct sock_fprog program = { sizeof code / sizeof *code, code };
+    struct sock_fprog program = { sizeof filter / sizeof *filter, filter };
     /* Once the supervisor has a call, a signal (Go sends many) does not interrupt and repeat it. */
     unsigned long flags = SECCOMP_FILTER_FLAG_NEW_LISTENER | SECCOMP_FILTER_FLAG_WAIT_KILLABLE_RECV;
     int fd = (int)syscall(SYS_seccomp, SECCOMP_SET_MODE_FILTER, flags, &program);

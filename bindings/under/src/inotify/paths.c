@@ -135,7 +135,7 @@ static int follow(struct walk *it, int link, const struct statx *is, const char 
     return 0;
 }
 
-/* Takes so many bytes, and the slashes after them, off what is left. */
+/* Takes `length` bytes, and the slashes after them, off what is left. */
 static void take(struct walk *it, size_t length) {
     const char *rest = it->left + length + strspn(it->left + length, "/");
     memmove(it->left, rest, strlen(rest) + 1);
