@@ -1,5 +1,5 @@
 /* Checks the words of the runner and runs nothing: read_options ends the process for --help and for a fault. */
-#include "options.h"
+#include "command/options.h"
 
 enum { WORDS_ARE_RIGHT = 3 };
 

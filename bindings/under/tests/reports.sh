@@ -9,7 +9,7 @@ cd "$2" || exit 1
 mkdir copy out
 cp -r "$tests/../build" "$tests/../src" copy
 cp "$out/libwatchtree.a" "$out/watchtree.h" out
-cat >copy/src/fault.c <<'END_OF_SOURCE'
+cat >copy/src/command/fault.c <<'END_OF_SOURCE'
 #include <limits.h>
 #include <stdlib.h>
 #include <string.h>

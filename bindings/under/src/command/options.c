@@ -1,0 +1,158 @@
+/* The command line: words of options, and what each may be. */
+#include "command/options.h"
+#include <ctype.h>
+#include <errno.h>
+#include <getopt.h>
+#include <inttypes.h>
+#include <limits.h>
+#include <sched.h>
+#include <signal.h>
+#include <stdio.h>
+#include <stdlib.h>
+
+struct options options = { .dir = "/wt", .queue = 16384, .debounce_ms = 100, .settle_ms = 300, .stall_ms = 10000,
+                           .end_signal = SIGTERM, .vary = VARY_LINES | VARY_READS };
+
+static const char usage[] =
+    "usage: watchtree under [OPTIONS] SCRIPT -- PROGRAM [ARGUMENT..]\n"
+    "       watchtree under [OPTIONS] --schedule FILE -- PROGRAM [ARGUMENT..]\n"
+    "  --dir DIR          mount the tree at DIR (/wt)\n"
+    "  --trace            print each line, watch and record on standard error\n"
+    "  --out DIR          write trace, schedule, stdout, stderr, listing and tree into DIR\n"
+    "  --queue N          the limit of each queue of records, 1 to 65535 (16384)\n"
+    "  --seed N           lines also happen before requests are answered, by a generator\n"
+    "  --vary WORDS       what a seed decides: lines, reads, queue (lines,reads)\n"
+    "  --schedule FILE    replay what a run left in DIR/schedule\n"
+    "  --seeds A..B       a run for each seed\n"
+    "  --check COMMAND    what decides whether a run of --seeds passed\n"
+    "  --limit MS         the most that a run takes, and the COMMAND of --check (none)\n"
+    "  --outside=ignore   a watch outside the mount is taken and never fires (else EACCES)\n"
+    "  --end SIGNAL       how the program is ended after the script: TERM, INT, .., none (TERM)\n"
+    "  --debounce MS      quiet time before a line -- is passed (100)\n"
+    "  --settle MS        quiet time before the program is ended (300)\n"
+    "  --quick            do not wait for --debounce and --settle if no task has a time limit\n"
+    "  --stall MS         end a run after this long without a record or a line (10000)\n"
+    "  --one-cpu          keep everything on one CPU\n";
+
+_Noreturn static void refuse(const char *option, const char *value, const char *wanted) {
+    fault("--%s: bad value '%s': expected %s", option, value, wanted);
+}
+
+static uint64_t number(const char *option, const char *word, uint64_t least, uint64_t most) {
+    char *end;
+    errno = 0;
+    unsigned long long value = strtoull(word, &end, 0);
+    if (errno || end == word || *end || strchr(word, '-') || value < least || value > most) {
+        char wanted[64];
+        snprintf(wanted, sizeof wanted, "a number from %" PRIu64 " to %" PRIu64, least, most);
+        refuse(option, word, wanted);
+    }
+    return value;
+}
+
+static int milliseconds(const char *option, const char *word) { return (int)number(option, word, 0, INT_MAX); }
+
+static int signal_named(const char *word) {
+    if (!strcmp(word, "none")) return 0;
+    const char *name = strncmp(word, "SIG", 3) ? word : word + 3;
+    for (int i = 1; i < SIGRTMIN; i++) {
+        const char *known = sigabbrev_np(i);
+        if (known && !strcmp(known, name)) return i;
+    }
+    if (!isdigit((unsigned char)*word))
+        refuse("end", word, "the name of a signal, such as TERM or INT, a number from 1 to 64, or none");
+    return (int)number("end", word, 1, 64);
+}
+
+static void seeds(const char *word) {
+    char text[64];
+    const char *dots = strstr(word, "..");
+    if (!dots || dots == word || !dots[2] || (size_t)(dots - word) >= sizeof text)
+        refuse("seeds", word, "A..B, the first seed and the last, such as 1..200");
+    memcpy(text, word, (size_t)(dots - word));
+    text[dots - word] = 0;
+    options.seed = number("seeds", text, 0, UINT64_MAX - 1);
+    options.last_seed = number("seeds", dots + 2, options.seed, UINT64_MAX - 1);
+    options.has_seed = options.many_seeds = true;
+}
+
+static void stay_on_one_cpu(void) {
+    cpu_set_t one;
+    CPU_ZERO(&one);
+    CPU_SET(sched_getcpu(), &one);
+    if (sched_setaffinity(0, sizeof one, &one) < 0) fail("--one-cpu");
+}
+
+static void outside(const char *word) {
+    if (!strcmp(word, "ignore")) options.ignores_outside = true;
+    else if (!strcmp(word, "refuse")) options.ignores_outside = false;
+    else refuse("outside", word, "refuse or ignore");
+}
+
+static void vary(const char *list) {
+    static const char *const names[] = { "lines", "reads", "queue" };
+    options.vary = 0;
+    for (const char *at = list; at; at = strchr(at, ',')) {
+        at += at != list;
+        size_t length = strcspn(at, ",");
+        int i = 0;
+        while (i < 3 && (strlen(names[i]) != length || memcmp(at, names[i], length))) i++;
+        if (i == 3) refuse("vary", list, "words of lines, reads and queue, such as lines,reads");
+        options.vary |= 1 << i;
+    }
+}
+
+_Noreturn static void print_help(void) {
+    fputs(usage, stdout);
+    exit(0);
+}
+
+/* The words behind the options: the script, unless a schedule has it, and the program. */
+static void read_words(int argc, char **argv, int at) {
+    bool is_named = !options.has_schedule && at + 1 < argc;
+    if (is_named) options.script = argv[at++];
+    if (is_named && !strcmp(argv[at], "--")) at++;
+    if (!options.script || at >= argc) {
+        fputs(usage, stderr);
+        exit(STATUS_FAULT);
+    }
+    options.program = argv + at;
+    if (options.check && !options.many_seeds) fault("--check goes with --seeds");
+    if (options.has_schedule && options.has_seed) fault("--schedule and --seed are two schedules");
+    if (options.has_schedule && at + 1 < argc && !strcmp(argv[at + 1], "--"))
+        fault("--schedule has the script: %s is one more", argv[at]);
+}
+
+void read_options(int argc, char **argv) {
+    static const struct option words[] = {
+        { "dir", 1, NULL, 'd' }, { "trace", 0, NULL, 't' }, { "out", 1, NULL, 'o' }, { "seed", 1, NULL, 's' },
+        { "seeds", 1, NULL, 'S' }, { "check", 1, NULL, 'c' }, { "queue", 1, NULL, 'q' }, { "settle", 1, NULL, 'e' },
+        { "debounce", 1, NULL, 'b' }, { "stall", 1, NULL, 'l' }, { "refuse-outside", 0, NULL, 'n' },
+        { "limit", 1, NULL, 'L' }, { "vary", 1, NULL, 'v' }, { "schedule", 1, NULL, 'R' }, { "quick", 0, NULL, 'Q' },
+        { "outside", 1, NULL, 'u' }, { "end", 1, NULL, 'E' }, { "one-cpu", 0, NULL, '1' }, { "help", 0, NULL, 'h' },
+        { 0 } };
+    argv[0] = "watchtree under";  /* getopt_long begins its messages with it */
+    for (int c; (c = getopt_long(argc, argv, "+h", words, NULL)) >= 0;) switch (c) {
+        case 'd': options.dir = optarg; break;
+        case 't': options.traces = true; break;
+        case 'o': options.out = optarg; break;
+        case 's': options.has_seed = true; options.seed = number("seed", optarg, 0, UINT64_MAX); break;
+        case 'S': seeds(optarg); break;
+        case 'c': options.check = optarg; break;
+        case 'v': vary(optarg); break;
+        case 'R': options.has_schedule = true; options.script = optarg; break;
+        case 'Q': options.is_quick = true; break;
+        case 'q': options.queue = (uint32_t)number("queue", optarg, 1, 65535); break;
+        case 'e': options.settle_ms = milliseconds("settle", optarg); break;
+        case 'b': options.debounce_ms = milliseconds("debounce", optarg); break;
+        case 'L': options.limit_ms = (int)number("limit", optarg, 1, INT_MAX); break;
+        case 'l': options.stall_ms = milliseconds("stall", optarg); break;
+        case 'n': options.ignores_outside = false; break;
+        case 'u': outside(optarg); break;
+        case 'E': options.end_signal = signal_named(optarg); break;
+        case '1': stay_on_one_cpu(); break;
+        case 'h': print_help();
+        default: fputs(usage, stderr); exit(STATUS_FAULT);
+    }
+    read_words(argc, argv, optind);
+}

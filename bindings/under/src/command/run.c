@@ -1,0 +1,262 @@
+/* A run: mounts the tree, starts the program, and gives turns until it ends. One thread does it all. */
+#include "command/run.h"
+#include "command/needs.h"
+#include "command/options.h"
+#include "inotify/instances.h"
+#include "output/out.h"
+#include "output/record.h"
+#include "output/trace.h"
+#include "processes/keeper.h"
+#include "processes/proc.h"
+#include "processes/program.h"
+#include "processes/rest.h"
+#include "script/schedule.h"
+#include "script/script.h"
+#include "script/turn.h"
+#include "tree/files.h"
+#include "tree/mount.h"
+#include "tree/serve.h"
+#include "tree/tree.h"
+#include <errno.h>
+#include <limits.h>
+#include <poll.h>
+#include <signal.h>
+#include <stdlib.h>
+#include <sys/prctl.h>
+#include <sys/signalfd.h>
+#include <sys/wait.h>
+#include <unistd.h>
+
+/* A program that wakes for less (a JVM does, 20 times a second) is quiet all the same. */
+enum { QUIET_NS = 3000000 };
+/* After a request more may come soon, and would wait until all tasks were looked at. */
+enum { REST_US = 100, LONGEST_US = 2000 };
+/* The first look reads of every process of the machine, so it waits until the program has started. */
+enum { FIRST_LOOK_MS = 10 };
+/* How long a program may take to end, and how much longer than quiet a stall without rest may be. */
+enum { ENDING_MS = 10000, BUSY_STALLS = 6 };
+
+enum ending { RUNNING, OVER, STALLED, BROKEN };
+
+static struct fuse_session *session;
+static int signals;
+static enum ending ending;
+static const char *broken;          /* which process of the tool was ended */
+static int64_t ended_at;            /* when the program was asked to end */
+static int64_t worked_at;           /* when it last worked */
+static int64_t progress_at;         /* when a record was taken or a line ran */
+static bool has_ended;
+static int wait_status;
+
+/* ---- signals */
+
+static void note_broken(const char *what) {
+    ending = BROKEN;
+    broken = what;
+}
+
+/* What was sent to the tool is passed on. What came to the process group came to the program too, if it is still in it. */
+static bool is_for_program(const struct signalfd_siginfo *it) {
+    if (it->ssi_signo == SIGCHLD) return false;
+    if ((pid_t)it->ssi_pid == parent_pid && it->ssi_code == SI_USER) return true;
+    return getpgid(program_pid) != getpgrp() && (pid_t)it->ssi_pid != program_pid;
+}
+
+static void take_signals(void) {
+    struct signalfd_siginfo it;
+    while (read(signals, &it, sizeof it) == sizeof it)
+        if (is_for_program(&it)) kill(program_pid, (int)it.ssi_signo);
+    if (getppid() != parent_pid) note_broken("the process that began the run");
+    int status;
+    for (pid_t pid; (pid = waitpid(-1, &status, WNOHANG)) > 0;) {
+        if (pid == supervisor_pid) note_broken("the supervisor of the system calls");
+        if (pid != program_pid) continue;
+        wait_status = status;
+        has_ended = true;
+    }
+}
+
+/* ---- the end */
+
+static void ask_to_end(enum ending why) {
+    ending = why;
+    ended_at = clock_ms();
+    if (why == STALLED) kill(program_pid, SIGTERM);
+    else if (options.end_signal) kill(program_pid, options.end_signal);
+}
+
+static bool was_asked_to_end(void) { return ending == STALLED || (ending == OVER && options.end_signal); }
+
+static void insist(void) {
+    static bool is_said;
+    if (clock_ms() - ended_at <= ENDING_MS) return;
+    kill(program_pid, SIGKILL);
+    if (!is_said) say("the program did not end by the signal, and was killed");
+    is_said = true;
+}
+
+static void note_progress(void) {
+    static uint64_t last_work, last_progress;
+    uint64_t progress = line_count + instance_counts.reads + instance_counts.calls;
+    if (work_count != last_work) worked_at = clock_ms();
+    if (progress != last_progress) progress_at = clock_ms();
+    last_work = work_count;
+    last_progress = progress;
+}
+
+/* Nothing happens any more, though lines are left or the program has watched. A program that works goes on: while lines are
+ * left for some time, and without lines for as long as it likes. */
+static bool is_stalled(void) {
+    int64_t now = clock_ms(), since = now - progress_at, quiet = now - worked_at;
+    if (since < options.stall_ms) return false;
+    if (quiet < options.stall_ms && (!lines_left() || since < (int64_t)BUSY_STALLS * options.stall_ms)) return false;
+    if (is_waiting_for_lines()) progress_at = now;
+    return progress_at != now && (instance_counts.made || lines_left());
+}
+
+/* ---- turns */
+
+/* Whether the program is at rest, by two looks of which this is one. Sets how long to wait for the next, in microseconds. */
+static bool is_at_rest(int64_t *wait_us) {
+    static struct tasks last;
+    static uint64_t counted_time, last_work;
+    struct tasks now = look_at_tasks();
+    if (now.time < counted_time) counted_time = now.time;   /* a task ended */
+    if (now.time > counted_time + QUIET_NS || now.set != last.set) {
+        worked_at = clock_ms();
+        counted_time = now.time;
+    }
+    bool is_same = last.all_sleep && now.runs == last.runs && work_count == last_work;
+    last = now;
+    last_work = work_count;
+    if (!now.all_sleep) *wait_us = *wait_us < REST_US ? REST_US : *wait_us * 2 < LONGEST_US ? *wait_us * 2 : LONGEST_US;
+    else if (!is_same) *wait_us = 0;
+    return now.all_sleep && is_same;
+}
+
+/* The program is at rest. Sets how long it may stay so before the next look. */
+static void give_turn(int64_t *wait_us) {
+    uint64_t before = work_count;
+    announce_all();
+    deliver();
+    *wait_us = 0;
+    if (work_count != before) return;
+    int64_t quiet = clock_ms() - worked_at;
+    switch (take_turn(quiet)) {
+    case TURN_WAITS: *wait_us = quiet < 1000 ? 5000 : 20000; break;
+    case TURN_TAKEN: worked_at = clock_ms(); break;
+    case TURN_OVER: ask_to_end(OVER); break;
+    }
+}
+
+static void loop(void) {
+    int64_t wait_us = FIRST_LOOK_MS * 1000, started_at = clock_ms();
+    worked_at = progress_at = started_at;
+    while (!has_ended && ending != BROKEN) {
+        struct timespec limit = { .tv_sec = wait_us / 1000000, .tv_nsec = wait_us % 1000000 * 1000 };
+        struct pollfd fds[] = { { fuse_session_fd(session), POLLIN, 0 }, { signals, POLLIN, 0 },
+                                { live_script(), POLLIN, 0 } };
+        if (ppoll(fds, 3, &limit, NULL) < 0 && errno != EINTR) fail("poll");
+        if (fds[1].revents) take_signals();
+        if (fds[2].revents) read_live_script();
+        if (fds[0].revents) serve_burst();
+        note_progress();
+        if (was_asked_to_end()) {
+            insist();
+            wait_us = 10000;
+        } else if (is_stalled()) {
+            say("stalled: for %d ms no record was taken and no line ran", options.stall_ms);
+            ask_to_end(STALLED);
+        } else if (options.limit_ms && clock_ms() - started_at >= options.limit_ms) {
+            say("the run was not over after %d ms (--limit)", options.limit_ms);
+            ask_to_end(STALLED);
+        } else if (fds[0].revents) wait_us = clock_ms() - started_at < FIRST_LOOK_MS ? FIRST_LOOK_MS * 1000 : REST_US;
+        else if (ending) wait_us = 10000;
+        else if (is_at_rest(&wait_us)) {
+            struct pollfd request = { fuse_session_fd(session), POLLIN, 0 };
+            if (poll(&request, 1, 0) == 0) give_turn(&wait_us);
+        }
+    }
+    serve_all();                    /* its files were closed before its end was known */
+}
+
+/* ---- before and after */
+
+static int take_over_signals(void) {
+    sigprocmask(SIG_BLOCK, &passed_signals, NULL);
+    int fd = signalfd(-1, &passed_signals, SFD_CLOEXEC | SFD_NONBLOCK);
+    if (fd < 0) fail("signalfd");
+    return fd;
+}
+
+static int status_of_program(void) {
+    if (WIFSIGNALED(wait_status)) {
+        bool was_asked = ending == OVER && WTERMSIG(wait_status) == options.end_signal;
+        return was_asked ? 0 : 128 + WTERMSIG(wait_status);
+    }
+    int status = WEXITSTATUS(wait_status);
+    return ending == OVER && options.end_signal && status == 128 + options.end_signal ? 0 : status;
+}
+
+/* Nothing looks like success in which no record was taken. (A program that ends by itself, and to which nothing was to
+ * happen, may have waited for nothing.) */
+static int status_of_delivery(void) {
+    bool has_lines = lines_after_first_mark() > 0, was_asked = ending == OVER && options.end_signal;
+    if (has_lines ? instance_counts.reads_after_line : instance_counts.reads || !instance_counts.made) return 0;
+    say("nothing was delivered: %s%s", has_lines ? "" : "no line stands after a line --, and ",
+        instance_counts.made ? "the program took no record" : "the program made no instance");
+    return has_lines || was_asked ? STATUS_NOTHING_DELIVERED : 0;
+}
+
+static int exit_status(void) {
+    long left = lines_left();
+    if (ending == BROKEN && !has_ended) {
+        say("%s was ended", broken);
+        return STATUS_FAULT;
+    }
+    if (WIFEXITED(wait_status)) trace("# ended %d\n", WEXITSTATUS(wait_status));
+    else trace("# ended by signal %d\n", WTERMSIG(wait_status));
+    if (left) say("%ld line%s did not happen", left, left == 1 ? "" : "s");
+    if (ending == STALLED) return STATUS_STALLED;
+    int status = status_of_program();
+    if (status) return status;
+    return left ? STATUS_LINES_LEFT : status_of_delivery();
+}
+
+int run(void) {
+    char here[PATH_MAX];
+    /* Until there is a program to which they could go, signals end the tool. */
+    sigprocmask(SIG_SETMASK, &first_mask, NULL);
+    if (!getcwd(here, sizeof here)) fail("the working directory");
+    open_proc();
+    check_needs();
+    open_out();
+    open_script();
+    draw_queue();
+    remove_old_out();
+    open_trace();
+    open_record();
+    serve_session(session = mount_tree(here));
+    open_tree();
+    make_nursery();
+    stamp(ROOT, MODIFIED);
+    run_first_lines();
+    signals = take_over_signals();
+    prctl(PR_SET_CHILD_SUBREAPER, 1);
+    start_program(here, &first_mask, fuse_session_fd(session));
+    loop();
+    end_processes();
+    commit_all();
+    end_live_script();
+    int status = exit_status();
+    if (options.out) write_tree();
+    close_trace();
+    record_rest();
+    close_record();
+    check_out();
+    unmount_tree(session);
+    close_tree();
+    free_nodes();
+    close_script();
+    return status;
+}
