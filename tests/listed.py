@@ -1,13 +1,15 @@
 """What docs/PROVED.md lists, and what it has to list: a rule from the code to the page, for tests/proved.
 
 A crate's lib.rt hands functions, types and traits on to other crates (`pub use`). The section of the crate names each function
-that it hands on, and each public function of such a type or trait, by its type (`Held::new`) or without it (`new`, which then
-stands for all of that name). Behind the name, in one list or several, are all clauses of its contract that have a name.
+that it hands on, and each public function of such a type or trait, by its type (`Held::new`) or, if it is the only one of its name
+that the crate hands on, without it (`law`). Behind the name, in one list or several, are all clauses of its contract that have a
+name.
 
 The section about the promise has no crate of its own. What it names is in one of the crates that carry the promise (CARRYING),
 and it names each clause of LAW, and each function that the crate DOORS hands on.
 """
 
+import collections
 import re
 
 from sources import public_functions, source_of
@@ -29,21 +31,28 @@ def names_in(text):
     return found
 
 
+def last(function):
+    """Returns the name of a function without its type."""
+    return function.split("::")[-1]
+
+
 def handed_on(root, crate):
-    """Yields each function with a contract that a crate hands on, with its clauses."""
+    """Yields each function with a contract that a crate hands on, with the names that stand for it on the page, and its clauses."""
     folder = root / "crates" / crate / "src"
     used = USE.findall((folder / "lib.rt").read_text(encoding="utf-8"))
     names = {name for several, one in used for name in re.findall(r"\w+", several or one)}
     functions, _ = source_of(root, crate)
-    for source in sorted(folder.rglob("*.rt")):
-        for function, has_contract in public_functions(source):
-            if has_contract and function.split("::")[0] in names:
-                yield function, set().union(*functions[function])
+    handed = [function for source in sorted(folder.rglob("*.rt")) for function, has_contract in public_functions(source)
+              if has_contract and function.split("::")[0] in names]
+    count = collections.Counter(map(last, handed))
+    for function in handed:
+        stand = {function, last(function)} if count[last(function)] == 1 else {function}
+        yield function, stand, set().union(*functions[function])
 
 
-def lacks(function, clauses, names):
-    """Yields what a page with these names, each with its clauses, lacks of a function with these clauses."""
-    found = [names[it] for it in {function, function.split("::")[-1]} if it in names]
+def lacks(stand, clauses, names):
+    """Yields what a page with these names, each with its clauses, lacks of a function with these clauses, for which some stand."""
+    found = [names[it] for it in stand if it in names]
     if not found:
         yield "docs/PROVED.md does not name this function"
         return
@@ -59,10 +68,9 @@ def promise_of(root):
 
 def unknown(name, clauses, carrying):
     """Yields what is wrong with a name of the section about the promise, given the crates that carry it."""
-    last = name.split("::")[-1]
     contracts = [it for functions, _ in carrying for it in functions.get(name, [])]
-    is_there = any(re.search(rf"\b{last}\b", text) for _, text in carrying)
-    if not (contracts if "::" in name and last.islower() else is_there):
+    is_there = any(re.search(rf"\b{last(name)}\b", text) for _, text in carrying)
+    if not (contracts if "::" in name and last(name).islower() else is_there):
         yield "no crate that carries the promise has it"
     elif clauses and not any(clauses <= it for it in contracts):
         yield f"no contract of it has the clauses {', '.join(sorted(clauses))}"
@@ -75,5 +83,5 @@ def promised(root):
     carrying = [source_of(root, crate) for crate in CARRYING]
     for name, clauses in names.items():
         yield name, [] if name.isupper() else list(unknown(name, clauses, carrying))
-    yield LAW, list(lacks(LAW, set().union(*(it for functions, _ in carrying for it in functions.get(LAW, []))), names))
-    yield from ((function, list(lacks(function, set(), names))) for function, _ in handed_on(root, DOORS))
+    yield LAW, list(lacks({LAW}, set().union(*(it for functions, _ in carrying for it in functions.get(LAW, []))), names))
+    yield from ((function, list(lacks(stand, set(), names))) for function, stand, _ in handed_on(root, DOORS))
