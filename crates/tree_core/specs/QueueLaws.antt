@@ -1,5 +1,4 @@
--- Laws of all lawful journals, from any sound tree on: what is raised for an instance, what joins its queue, and what
--- is read of it.
+-- Laws of journals: what is raised for an instance, what joins its queue, and what is read of it.
 use Rattle.std.specs.Prelude.{◌≡◌, ℕ, ◌+◌, ◌≤◌, not, List, [], ◌∷◌, ◌++◌, Option, Some, None, All, length, count_by}
 use Rattle.std.specs.List.{filter}
 use Rattle.record_codec.specs.declared.event.Event.{Event}

@@ -1,5 +1,4 @@
--- Laws of all lawful journals, from any sound tree on: numbers, descriptors and cookies are given once, and nothing
--- follows the end of a watch.
+-- Laws of journals: numbers, descriptors and cookies are given once, and nothing follows the end of a watch.
 use Rattle.std.specs.Prelude.{◌≡◌, ◌≢◌, ◌⊎◌, ⊤, ℕ, ℤ, pos, ◌≤ℤ◌, ◌<ℤ◌, ◌+◌, ◌≤◌, List, [], ◌∷◌, ◌++◌, Option, Some}
 use Rattle.std.specs.Prelude.{None, All, IsTrue, not}
 use Rattle.record_codec.specs.declared.event.Event.{Event}

@@ -1,5 +1,6 @@
-//! Laws of what is raised for an instance, what joins its queue, and what is read of it, over all lawful journals. Each
-//! is a function that does nothing, and its contract is the law.
+//! Laws of what is raised for an instance, what joins its queue, and what is read of it. Each is a function that does
+//! nothing, and its contract is the law. Some need a sound tree or a lawful journal to begin with, which the contract
+//! says.
 
 ghost use Rattle.tree_core.specs.QueueLaws.{BytesAreOfRecords, ClosedInstancesHearNothing, EventsAreAccountedFor};
 ghost use Rattle.tree_core.specs.QueueLaws.{EventsFindTheUnread, ReadsAreInOrder, UnmadeInstancesHearNothing};

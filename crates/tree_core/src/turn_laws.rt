@@ -1,5 +1,5 @@
-//! Laws of numbers, descriptors and cookies, and of the end of watches, over all lawful journals. Each is a function
-//! that does nothing, and its contract is the law.
+//! Laws of numbers, descriptors and cookies, and of the end of watches. Each is a function that does nothing, and its
+//! contract is the law. Some need a sound tree or a lawful journal to begin with, which the contract says.
 
 ghost use Rattle.tree_core.specs.declared.call.Call.{Call};
 ghost use Rattle.tree_core.specs.Tree.{Tree};
