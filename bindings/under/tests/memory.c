@@ -1,6 +1,7 @@
 /* What calls make of memory that may not be read or written, or is not there: memory DIRECTORY. A line for each
  * call. */
 #define _GNU_SOURCE
+#include "checks.h"
 #include <errno.h>
 #include <stdint.h>
 #include <stdio.h>
@@ -16,16 +17,6 @@
 enum { PAGE = 4096, LONGEST = 4095 };
 static int instance;
 static char *memory;                /* two pages, and none behind them */
-
-_Noreturn static void fail(const char *what) {
-    printf("%s: %s\n", what, strerror(errno));
-    exit(1);
-}
-
-static void show(const char *name, long result) {
-    printf("%s: %s\n", name, result < 0 ? strerrorname_np(errno) : "ok");
-    fflush(stdout);
-}
 
 static void protect(int first, int second) {
     if (mprotect(memory, PAGE, first) < 0 || mprotect(memory + PAGE, PAGE, second) < 0) fail("mprotect");
