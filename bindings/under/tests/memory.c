@@ -26,7 +26,7 @@ static void watch(const char *name, const void *path) { show(name, inotify_add_w
 static void count(const char *name, void *to) { show(name, ioctl(instance, FIONREAD, to)); }
 static void look(const char *name, void *to) { show(name, statfs(".", to)); }
 
-/* A path to `d` of so many bytes, that ends so far in the memory. */
+/* A path to `d` of `length` bytes. Its null byte is the one before offset `end` of the memory. */
 static char *put_path(size_t length, size_t end) {
     char *path = memory + end - length - 1;
     memset(path, '/', length);
