@@ -9,8 +9,6 @@ under=$1
 cd "$room" || exit 1
 mounts='unshare -m'
 [ "$(id -u)" = 0 ] || mounts='unshare -rm'
-# (the words are several)
-# shellcheck disable=SC2086
 if ! $mounts true 2>/dev/null; then
     echo "left out calls with memory: it wants $mounts"
     exit 0
