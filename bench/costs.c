@@ -24,7 +24,7 @@ struct shape {
     int count, name_len, folders, files, watchers;
     int watched;           /* directories that one instance watches; -1: there is no instance */
     int drops;             /* whether each fork is dropped at once */
-    int queue;             /* records that a queue holds; 0: as many as an instance's */
+    int queue;             /* records that a queue holds; 0: WT_QUEUE */
     int beside_others;     /* whether 600 files in 40 folders are there too */
     const char *path;
 };
@@ -284,7 +284,7 @@ static void move_and_save(const struct shape *s) {
     end(4 * ROUNDS);
 }
 
-/* Writes of a file in each of a hundred directories in turn. */
+/* Writes of a file in each of `count` directories in turn. */
 static void in_turn(const struct shape *s) {
     for (int i = 0; i < s->count; i++) {
         sprintf(path, s->path, i);
@@ -300,6 +300,8 @@ static void in_turn(const struct shape *s) {
         for (int i = 0; i < s->count; i++) sprintf(path, s->path, i), must(wt_write(&tree, PATH(path), 0, "ab", 2));
     end(20LL * s->count);
 }
+
+static const char module[] = "/services/module-%d/src/main/resources/application.yaml";
 
 static const struct shape shapes[] = {
     { "save_128", save_over, .count = MOST, .name_len = 1 },
@@ -317,8 +319,8 @@ static const struct shape shapes[] = {
     { "fork_10_instance", small_forks, .files = 10, .watched = 0 },
     { "fork_10_watched", small_forks, .files = 0, .watched = 10 },
     { "fork_10_watched_dropped", small_forks, .files = 0, .watched = 10, .drops = 1 },
-    { "open_close", open_close },
-    { "new_trees", new_trees },
+    { "open_close", .run = open_close },
+    { "new_trees", .run = new_trees },
     { "tree_4_by_10", grow, .folders = 4, .files = 10 },
     { "tree_1_by_600", grow, .folders = 1, .files = 600 },
     { "tree_40_by_15", grow, .folders = 40, .files = 15 },
@@ -349,7 +351,7 @@ static const struct shape shapes[] = {
     { "unwatch_4", unwatch, .watchers = 4 },
     { "unwatch_8", unwatch, .watchers = 8 },
     { "unwatch_16", unwatch, .watchers = 16 },
-    { "rmdir_watched", rmdir_watched },
+    { "rmdir_watched", .run = rmdir_watched },
     { "close_instance_1", close_instance, .watchers = 1 },
     { "close_instance_4", close_instance, .watchers = 4 },
     { "close_instance_8", close_instance, .watchers = 8 },
@@ -359,20 +361,20 @@ static const struct shape shapes[] = {
     { "missing_root", missing, .path = "/a" },
     { "missing_below_nothing", missing, .path = "/a/b" },
     { "missing_below_long_nothing", missing, .path = "/no-such-folder/file" },
-    { "move_in_root", exchange },
-    { "rename_short", rename_short },
-    { "move_and_save", move_and_save },
+    { "move_in_root", .run = exchange },
+    { "rename_short", .run = rename_short },
+    { "move_and_save", .run = move_and_save },
     { "short_folders", in_turn, .path = "/d%d/f", .count = 100 },
-    { "modules", in_turn, .path = "/services/module-%d/src/main/resources/application.yaml", .count = 100 },
-    { "two_modules", in_turn, .path = "/services/module-%d/src/main/resources/application.yaml", .count = 2 },
+    { "modules", in_turn, .path = module, .count = 100 },
+    { "two_modules", in_turn, .path = module, .count = 2 },
     { "missing_root_crowded", missing, .path = "/a", .beside_others = 1 },
     { "missing_below_nothing_crowded", missing, .path = "/a/b", .beside_others = 1 },
     { "missing_below_long_nothing_crowded", missing, .path = "/no-such-folder/file", .beside_others = 1 },
     { "move_in_root_crowded", exchange, .beside_others = 1 },
     { "rename_short_crowded", rename_short, .beside_others = 1 },
     { "move_and_save_crowded", move_and_save, .beside_others = 1 },
-    { "modules_crowded", in_turn, .path = "/services/module-%d/src/main/resources/application.yaml", .count = 100, .beside_others = 1 },
-    { "two_modules_crowded", in_turn, .path = "/services/module-%d/src/main/resources/application.yaml", .count = 2, .beside_others = 1 },
+    { "modules_crowded", in_turn, .path = module, .count = 100, .beside_others = 1 },
+    { "two_modules_crowded", in_turn, .path = module, .count = 2, .beside_others = 1 },
 };
 
 int main(int count, char **words) {

@@ -1,28 +1,15 @@
 /* Two arguments that are the same handle or the same buffer, and what lies beside a buffer that a call writes. Linked
  * with --wrap=malloc,--wrap=realloc,--wrap=free. */
+#include "checks.h"
 #include "counting.h"
 #include "watchtree.h"
 #include <errno.h>
-#include <inttypes.h>
 #include <stdio.h>
 #include <string.h>
 #include <sys/inotify.h>
-#include <unistd.h>
 
-#define PATH(s) s, strlen(s)
-#define IS(call, wanted) is(__FILE__, __LINE__, #call, (call), (wanted))
-#define HOLDS(what) is(__FILE__, __LINE__, #what, !!(what), 1)
 #define TREE struct wt_tree
 #define CALL(name) wt_##name
-
-/* Ends the test at the first answer that is wrong. */
-static void is(const char *file, int line, const char *what, int64_t number, int64_t wanted) {
-    if (number == wanted) return;
-    printf("%s:%d: %s is %" PRId64 ", and not %" PRId64 "\n", file, line, what, number, wanted);
-    fflush(stdout);
-    _exit(1);
-}
-
 #include "one_buffer.h"
 
 /* A tree with the file /d/f, a record that waits, and the text of a line. */

@@ -1,23 +1,11 @@
 /* A cut frees what the entries of the journal held, and the memory for the entries: all bytes of the library are counted.
  * Linked with --wrap=malloc,--wrap=realloc,--wrap=free. */
+#include "checks.h"
 #include "counting.h"
 #include "watchtree.h"
-#include <inttypes.h>
 #include <stdio.h>
-#include <stdlib.h>
-#include <string.h>
-
-#define PATH(s) s, strlen(s)
-#define IS(call, wanted) is(#call, __LINE__, (call), (wanted))
 
 enum { CALLS = 20000, BYTES = 1000 };
-
-/* Ends the test at the first answer that is wrong. */
-static void is(const char *what, int line, int64_t number, int64_t wanted) {
-    if (number == wanted) return;
-    printf("cuts.c:%d: %s is %" PRId64 ", and not %" PRId64 "\n", line, what, number, wanted);
-    exit(1);
-}
 
 /* Calls that leave the tree as it is. The entry of each holds the bytes that it read. */
 static void read_often(struct wt_tree *t, int calls) {

@@ -1,4 +1,4 @@
-/* Each allocation of a run fails in turn. A call that answers -ENOMEM is made once more, and the run then ends as if
+/* Each allocation of a run fails in turn. A call that answers -ENOMEM is made again, and the run then ends as if
  * nothing had happened: the same numbers and bytes. Linked with --wrap=malloc --wrap=realloc. */
 #include "watchtree.h"
 #include <errno.h>

@@ -80,7 +80,7 @@ static void end_listened(struct listened *it) {
 }
 
 /* After a call: each descriptor is readable exactly while records wait, and a thread that waits for them is woken.
- * `has_read` is the instance that the call read: if it left records behind, they are announced once more. */
+ * `has_read` is the instance that the call read: if it left records behind, they are announced again. */
 static void notify(struct wtt *t, uint32_t has_read) NEEDS_LOCK {
     uint32_t ready[INSTANCES];
     if (!t->first) return;

@@ -15,7 +15,7 @@ from search import Found, in_parallel
 from shrink import Shrinker
 from timeline import timeline, write_page
 
-# So many failures are printed; all of them are kept. So many of them are shrunk.
+# The most failures that are printed, and the most that are shrunk. All are kept.
 SHOWN, SHRUNK = 10, 3
 # What a search leaves beside a schedule for each failure.
 OTHERS = ("shrunk.schedule", "timeline.txt", "run", "calls.script", "page.html")

@@ -9,7 +9,7 @@ import traces
 from folder import Folder
 from traces import Asked, Called, Entry, Happened, Told
 
-# So many requests in a row are printed one by one; more are printed as one line.
+# The most requests in a row that are printed one by one; more are printed as one line.
 SHOWN_IN_A_ROW = 6
 # What a request of the program changes: a page of such a run would want these as lines of a script.
 CHANGES = ("mknod", "mkdir", "unlink", "rmdir", "rename", "link", "create", "setattr", "write")

@@ -1,6 +1,7 @@
 /* Shared by the tests of watchtree_threads.h. */
-#ifndef CHECKS_H
-#define CHECKS_H
+#ifndef THREADS_CHECKS_H
+#define THREADS_CHECKS_H
+#include "../checks.h"
 #include "watchtree_threads.h"
 #include <errno.h>
 #include <inttypes.h>
@@ -11,18 +12,6 @@
 #include <string.h>
 #include <sys/inotify.h>
 #include <unistd.h>
-
-#define PATH(s) s, strlen(s)
-#define IS(call, wanted) is(__FILE__, __LINE__, #call, (call), (wanted))
-#define HOLDS(what) is(__FILE__, __LINE__, #what, !!(what), 1)
-
-/* Ends the test at the first answer that is wrong. */
-static inline void is(const char *file, int line, const char *what, int64_t number, int64_t wanted) {
-    if (number == wanted) return;
-    printf("%s:%d: %s is %" PRId64 ", expected %" PRId64 "\n", file, line, what, number, wanted);
-    fflush(stdout);
-    _exit(1);
-}
 
 static inline pthread_t start(void *(*run)(void *), void *of) {
     pthread_t thread;

@@ -1,6 +1,6 @@
 """Runs the tests: all.py [--sanitized] RUNNER [CLASS..]. Two go at once.
 
-With --sanitized the tests that need no runner are not run once more. The last line is 'explore: N passed, M failed'.
+With --sanitized the tests that need no runner are not run again. The last line is 'explore: N passed, M failed'.
 """
 
 import importlib

@@ -66,13 +66,17 @@ class Ended(ToolTest):
     def test_killed_in_a_check(self) -> None:
         self.ends(self.in_check(), signal.SIGKILL, -signal.SIGKILL)
 
-    def test_a_signal_goes_to_the_program(self) -> None:
-        for number in (signal.SIGTERM, signal.SIGINT):
-            with self.subTest(number):
-                self.setUp()
-                tool = self.in_run(f"trap 'echo came >{self.room}/came; exit 1' {number}; ")
-                self.ends(tool, number, 128 + number)
-                self.assertEqual(self.read("came"), "came\n")
+    def goes_to_the_program(self, number: int) -> None:
+        """Sends a signal during a run. The program gets it."""
+        tool = self.in_run(f"trap 'echo came >{self.room}/came; exit 1' {number}; ")
+        self.ends(tool, number, 128 + number)
+        self.assertEqual(self.read("came"), "came\n")
+
+    def test_sigterm_goes_to_the_program(self) -> None:
+        self.goes_to_the_program(signal.SIGTERM)
+
+    def test_sigint_goes_to_the_program(self) -> None:
+        self.goes_to_the_program(signal.SIGINT)
 
     def test_a_signal_goes_to_the_check(self) -> None:
         tool = self.in_check(f"trap 'echo came >{self.room}/came; exit 1' TERM; ")

@@ -2,6 +2,7 @@
  * FUSE mount and a page of memory that comes when it is asked for. Others make calls of a path there, and wait.
  * Meanwhile calls of other paths are answered. With `many`, threads make calls until one is refused by ENOMEM. */
 #define _GNU_SOURCE
+#include "checks.h"
 #include <errno.h>
 #include <fcntl.h>
 #include <linux/fuse.h>
@@ -29,16 +30,6 @@ static const char *mountpoint;
 static char *page;
 static int device, faults, instance, is_held[2];
 static atomic_bool holds = true;
-
-_Noreturn static void fail(const char *what) {
-    printf("%s: %s\n", what, strerror(errno));
-    exit(1);
-}
-
-static int must(int result, const char *what) {
-    if (result < 0) fail(what);
-    return result;
-}
 
 /* ---- the mount */
 
@@ -110,11 +101,6 @@ static void start_serving(void) {
 }
 
 /* ---- calls */
-
-static void show(const char *name, long result) {
-    printf("%s: %s\n", name, result < 0 ? strerrorname_np(errno) : "ok");
-    fflush(stdout);
-}
 
 static long watch(const char *path) { return inotify_add_watch(instance, path, IN_CREATE); }
 

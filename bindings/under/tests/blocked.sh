@@ -1,6 +1,7 @@
 #!/bin/sh
 # Calls that wait for a file system or a page of the program's own hold up no others: blocked.sh UNDER
 set -u
+. "$(dirname -- "$0")/checks"
 tests=$(dirname -- "$0")
 under=$1
 room=$(mktemp -d)
@@ -9,10 +10,7 @@ if [ "$(id -u)" != 0 ] || ! unshare -m true 2>/dev/null; then
     echo 'left out calls that wait for the program: it wants root and unshare'
     exit 0
 fi
-if ! cc -O1 -Wall -Wextra -Werror "$tests/blocked.c" -lpthread -o "$room/blocked"; then
-    echo 'left out calls that wait for the program: it wants a C compiler'
-    exit 0
-fi
+compile 'calls that wait for the program' "$tests/blocked.c" "$room/blocked" -lpthread || exit 0
 : >"$room/empty"
 # (as on most machines; the supervisor needs some descriptors for each call)
 ulimit -S -n 1024

@@ -55,52 +55,53 @@ def signal_of(call):
     return signal.Signals(-status).name if status < 0 else errno.errorcode.get(status)
 
 
-def instance_calls():
-    """Calls on instances, and on a file that is none."""
-    plain, none = asked(LIBRARY.inotify_init1(os.O_NONBLOCK)), os.open("/dev/null", os.O_RDONLY)
-    pipe = os.pipe()
-    os.mkdir("d")
-    make("d/f")
-    os.symlink(os.path.abspath("d"), os.environ["OUTSIDE"] + "/link")
+def watch(handle, path, mask=IN_CREATE):
+    return asked(LIBRARY.inotify_add_watch(handle, path, ctypes.c_uint(mask)))
 
-    def watch(path, mask=IN_CREATE, handle=plain):
-        return asked(LIBRARY.inotify_add_watch(handle, path, ctypes.c_uint(mask)))
 
-    line("init with bad flags", lambda: asked(LIBRARY.inotify_init1(1)))
-    line("flags", lambda: flags_of(plain))
-    line("close on exec", lambda: os.get_inheritable(asked(LIBRARY.inotify_init1(os.O_CLOEXEC))))
-    line("watch", lambda: watch(b"d"))
-    line("watch again", lambda: watch(b"d/."))
-    line("watch a file", lambda: watch(b"d/f"))
-    line("watch by ..", lambda: watch(b"d/../d"))
-    line("watch an absolute path", lambda: watch(os.fsencode(os.path.abspath("d"))))
-    line("watch by a link elsewhere", lambda: watch(os.fsencode(os.environ["OUTSIDE"] + "/link")))
-    line("watch by a descriptor", lambda: watch(b"/proc/self/fd/%d" % os.open("d", os.O_RDONLY)))
-    line("watch by /proc/self/cwd", lambda: watch(b"/proc/self/cwd/d"))
-    line("watch with IN_MASK_CREATE", lambda: watch(b"d", IN_CREATE | IN_MASK_CREATE))
-    line("watch with both IN_MASK", lambda: watch(b"d", IN_CREATE | IN_MASK_CREATE | IN_MASK_ADD))
-    line("watch a file with IN_ONLYDIR", lambda: watch(b"d/f", IN_CREATE | IN_ONLYDIR))
-    line("watch what is not there", lambda: watch(b"d/none"))
-    line("watch below a file", lambda: watch(b"d/f/x"))
-    line("watch no path", lambda: watch(b""))
-    line("watch a path that is too long", lambda: watch(b"x" * 5000))
-    line("watch a name that is too long", lambda: watch(b"x" * 300))
-    line("watch at a bad address", lambda: watch(ctypes.c_void_p(8)))
-    line("watch by no instance", lambda: watch(b"d", handle=none))
-    line("watch by no descriptor", lambda: watch(b"d", handle=999))
-    line("watch without a mask", lambda: watch(b"d", 0))
-    line("watch nothing without a mask", lambda: watch(b"d/none", 0))
-    line("watch nothing with a bad mask", lambda: watch(b"d/none", 0x10000))
-    line("watch nothing with both IN_MASK", lambda: watch(b"d/none", IN_CREATE | IN_MASK_CREATE | IN_MASK_ADD))
-    line("watch with a bad mask", lambda: watch(b"d", IN_CREATE | 0x10000))
-    line("watch by a descriptor of O_PATH", lambda: watch(b"d", handle=os.open("/proc/self/fd/%d" % plain, os.O_PATH)))
-    line("watch by another of O_PATH", lambda: watch(b"d", handle=os.open("d", os.O_PATH)))
+def watch_paths(plain):
+    """Watches by each kind of path."""
+    line("watch", lambda: watch(plain, b"d"))
+    line("watch again", lambda: watch(plain, b"d/."))
+    line("watch a file", lambda: watch(plain, b"d/f"))
+    line("watch by ..", lambda: watch(plain, b"d/../d"))
+    line("watch an absolute path", lambda: watch(plain, os.fsencode(os.path.abspath("d"))))
+    line("watch by a link elsewhere", lambda: watch(plain, os.fsencode(os.environ["OUTSIDE"] + "/link")))
+    line("watch by a descriptor", lambda: watch(plain, b"/proc/self/fd/%d" % os.open("d", os.O_RDONLY)))
+    line("watch by /proc/self/cwd", lambda: watch(plain, b"/proc/self/cwd/d"))
+    line("watch with IN_MASK_CREATE", lambda: watch(plain, b"d", IN_CREATE | IN_MASK_CREATE))
+    line("watch with both IN_MASK", lambda: watch(plain, b"d", IN_CREATE | IN_MASK_CREATE | IN_MASK_ADD))
+    line("watch a file with IN_ONLYDIR", lambda: watch(plain, b"d/f", IN_CREATE | IN_ONLYDIR))
+    line("watch what is not there", lambda: watch(plain, b"d/none"))
+    line("watch below a file", lambda: watch(plain, b"d/f/x"))
+    line("watch no path", lambda: watch(plain, b""))
+    line("watch a path that is too long", lambda: watch(plain, b"x" * 5000))
+    line("watch a name that is too long", lambda: watch(plain, b"x" * 300))
+    line("watch at a bad address", lambda: watch(plain, ctypes.c_void_p(8)))
+
+
+def watch_by_others(plain, none):
+    """Watches with each kind of mask, and by descriptors that are no instances."""
+    line("watch by no instance", lambda: watch(none, b"d"))
+    line("watch by no descriptor", lambda: watch(999, b"d"))
+    line("watch without a mask", lambda: watch(plain, b"d", 0))
+    line("watch nothing without a mask", lambda: watch(plain, b"d/none", 0))
+    line("watch nothing with a bad mask", lambda: watch(plain, b"d/none", 0x10000))
+    line("watch nothing with both IN_MASK", lambda: watch(plain, b"d/none", IN_CREATE | IN_MASK_CREATE | IN_MASK_ADD))
+    line("watch with a bad mask", lambda: watch(plain, b"d", IN_CREATE | 0x10000))
+    line("watch by a descriptor of O_PATH", lambda: watch(os.open("/proc/self/fd/%d" % plain, os.O_PATH), b"d"))
+    line("watch by another of O_PATH", lambda: watch(os.open("d", os.O_PATH), b"d"))
     line("unwatch by one of O_PATH", lambda: asked(LIBRARY.inotify_rm_watch(os.open("d", os.O_PATH), 1)))
     line("O_ASYNC by one of O_PATH", lambda: fcntl.fcntl(os.open("d", os.O_PATH), fcntl.F_SETFL, 0o20000))
     line("watch the instance", lambda: asked(LIBRARY.inotify_add_watch(
         asked(LIBRARY.inotify_init()), b"/proc/self/fd/%d" % plain, IN_CREATE)))
     line("unwatch what is not watched", lambda: asked(LIBRARY.inotify_rm_watch(plain, 77)))
     line("unwatch by no instance", lambda: asked(LIBRARY.inotify_rm_watch(none, 1)))
+
+
+def read_events(plain):
+    """Each way to read."""
+    pipe = os.pipe()
     line("read nothing", lambda: os.read(plain, 100))
     line("FIONREAD of nothing", lambda: struct.unpack("i", fcntl.ioctl(plain, termios.FIONREAD, b"\0\0\0\0"))[0])
     make("d/name")
@@ -117,6 +118,20 @@ def instance_calls():
     line("write", lambda: os.write(plain, b"x"))
     line("truncate", lambda: os.ftruncate(plain, 0))
     line("read", lambda: os.read(plain, 100).hex())
+
+
+def instance_calls():
+    """Calls on instances, and on a file that is none."""
+    plain, none = asked(LIBRARY.inotify_init1(os.O_NONBLOCK)), os.open("/dev/null", os.O_RDONLY)
+    os.mkdir("d")
+    make("d/f")
+    os.symlink(os.path.abspath("d"), os.environ["OUTSIDE"] + "/link")
+    line("init with bad flags", lambda: asked(LIBRARY.inotify_init1(1)))
+    line("flags", lambda: flags_of(plain))
+    line("close on exec", lambda: os.get_inheritable(asked(LIBRARY.inotify_init1(os.O_CLOEXEC))))
+    watch_paths(plain)
+    watch_by_others(plain, none)
+    read_events(plain)
     line("unwatch", lambda: asked(LIBRARY.inotify_rm_watch(plain, 1)))
     line("read what is ignored", lambda: os.read(plain, 100).hex())
     line("mmap", lambda: mmap.mmap(plain, 4096, prot=mmap.PROT_READ))

@@ -1,6 +1,7 @@
 #!/bin/sh
 # Calls of an instance, beside a disk, and calls that a tree does not have: calls.sh UNDER ROOM
 set -u
+. "$(dirname -- "$0")/checks"
 tests=$(dirname -- "$0")
 under=$1
 room=$2
@@ -31,9 +32,8 @@ else
     cat "$room/unknown" "$room/error"
 fi
 
-if ! cc -O1 -Wall -Wextra -Werror "$tests/entry32.c" -o "$room/entry32"; then
-    echo 'left out calls of a 32-bit program: it wants a C compiler'
-elif ! "$room/entry32" "$room" | grep -q '^getpid: ok'; then
+compile 'calls of a 32-bit program' "$tests/entry32.c" "$room/entry32" || exit 0
+if ! "$room/entry32" "$room" | grep -q '^getpid: ok'; then
     echo 'left out calls of a 32-bit program: the kernel has no entry for them'
 else
     "$under" "$room/empty" -- "$room/entry32" /wt >"$room/here" 2>"$room/error"

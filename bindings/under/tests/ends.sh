@@ -154,7 +154,7 @@ ended 'runs that fail'
 
 # ---- each signal that is sent once comes once, and senders are gone
 cat >count.py <<'END'
-"""count.py WHOM COUNT: so many processes send a signal to a process or a group, each one, and are gone. Prints how many came.
+"""count.py WHOM COUNT: COUNT processes send one signal each to a process or a group, and are gone. Prints how many came.
 
 Without COUNT others send it. A second signal to the tool, which is passed on behind all others, is the end."""
 import os, signal, sys

@@ -1,6 +1,7 @@
 /* What calls make of memory that may not be read or written, or is not there: memory DIRECTORY. A line for each
  * call. */
 #define _GNU_SOURCE
+#include "checks.h"
 #include <errno.h>
 #include <stdint.h>
 #include <stdio.h>
@@ -17,16 +18,6 @@ enum { PAGE = 4096, LONGEST = 4095 };
 static int instance;
 static char *memory;                /* two pages, and none behind them */
 
-_Noreturn static void fail(const char *what) {
-    printf("%s: %s\n", what, strerror(errno));
-    exit(1);
-}
-
-static void show(const char *name, long result) {
-    printf("%s: %s\n", name, result < 0 ? strerrorname_np(errno) : "ok");
-    fflush(stdout);
-}
-
 static void protect(int first, int second) {
     if (mprotect(memory, PAGE, first) < 0 || mprotect(memory + PAGE, PAGE, second) < 0) fail("mprotect");
 }
@@ -35,7 +26,7 @@ static void watch(const char *name, const void *path) { show(name, inotify_add_w
 static void count(const char *name, void *to) { show(name, ioctl(instance, FIONREAD, to)); }
 static void look(const char *name, void *to) { show(name, statfs(".", to)); }
 
-/* A path to `d` of so many bytes, that ends so far in the memory. */
+/* A path to `d` of `length` bytes. Its null byte is the one before offset `end` of the memory. */
 static char *put_path(size_t length, size_t end) {
     char *path = memory + end - length - 1;
     memset(path, '/', length);

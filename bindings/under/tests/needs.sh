@@ -2,6 +2,7 @@
 # What the runner says where something is missing or wrong, and its status: needs.sh UNDER. Prints `ok NAME`,
 # `FAILED NAME: WHY` or `left out NAME: WHY` for each.
 set -u
+. "$(dirname -- "$0")/checks"
 with_dev=$(CDPATH='' cd -- "$(dirname -- "$0")" && pwd)/with_dev
 under=$1
 room=$(mktemp -d)
@@ -110,7 +111,6 @@ if [ "$(id -u)" != 0 ] || ! unshare -m true 2>/dev/null || ! command -v setpriv 
     exit 0
 fi
 mkdir dev
-other='setpriv --reuid=65534 --regid=65534 --clear-groups --inh-caps=-all'
 expect 'no /dev/fuse' 125 'no FUSE: load it by .modprobe fuse.' "$with_dev" none dev "$under" empty -- true
 # (the words are several)
 # shellcheck disable=SC2086

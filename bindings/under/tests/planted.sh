@@ -3,13 +3,13 @@
 # says what is in the way. Where this is root, the program that plants them is once root and once another user, whom the
 # folder belongs to. Prints `ok NAME`, `FAILED NAME: WHY` or `left out NAME: WHY` for each.
 set -u
+. "$(dirname -- "$0")/checks"
 under=$1
 room=$(mktemp -d)
 trap 'rm -rf "$room"' EXIT
 chmod 755 "$room"
 cd "$room" || exit 1
 printf '%s\n' 'mkdir /d 755' 'create /d/f 644' >script
-other='setpriv --reuid=65534 --regid=65534 --clear-groups --inh-caps=-all'
 
 # A file and a folder that nothing may be written into, and a folder for --out in a folder of the program's user.
 fresh() {

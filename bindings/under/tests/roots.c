@@ -1,8 +1,8 @@
 /* Paths of a program that changes its root, its working directory, its mounts or its user: roots MODE USER TREE
- * OUTSIDE. Both directories are filled here. A line for each path: what a watch and statfs(2) of it answer. `roots
- * --list` prints the modes. USER is `same`; `nobody`, after the roots are changed; or `mapped`: root in a user
- * namespace of its own. */
+ * OUTSIDE. Both directories are filled here. A line for each path: what a watch and statfs(2) of it answer. USER is
+ * `same`; `nobody`, after the roots are changed; or `mapped`: root in a user namespace of its own. */
 #define _GNU_SOURCE
+#include "checks.h"
 #include <errno.h>
 #include <fcntl.h>
 #include <sched.h>
@@ -22,24 +22,17 @@
 static const char *user, *tree, *outside;
 static int instance;
 
-_Noreturn static void fail(const char *what) {
-    printf("%s: %s\n", what, strerror(errno));
-    exit(1);
-}
-
-static void must(int result, const char *what) { if (result < 0) fail(what); }
-
 /* ---- what a path is */
 
-static void show(const char *call, long result) { printf(" %s %s", call, result < 0 ? strerrorname_np(errno) : "ok"); }
+static void show_answer(const char *call, long result) { printf(" %s %s", call, result < 0 ? strerrorname_np(errno) : "ok"); }
 
 static void ask_as(const char *label, const char *path) {
     struct statfs is;
     printf("%s:", label);
-    show("watch", inotify_add_watch(instance, path, IN_CREATE));
-    show("watch of a link", inotify_add_watch(instance, path, IN_CREATE | IN_DONT_FOLLOW));
+    show_answer("watch", inotify_add_watch(instance, path, IN_CREATE));
+    show_answer("watch of a link", inotify_add_watch(instance, path, IN_CREATE | IN_DONT_FOLLOW));
     int result = statfs(path, &is);
-    show("statfs", result);
+    show_answer("statfs", result);
     printf(result ? "\n" : " %lx\n", (long)is.f_type);
 }
 
@@ -193,9 +186,9 @@ static void over_proc(void) {
     ask("/proc/self/cwd/jail");
 }
 
-/* Links of /proc, each way to write them. */
-static void in_proc(void) {
-    char path[300];
+/* A child whose working directory is `d`, which waits until its parent ends. */
+static pid_t start_child(void) {
+    char byte;
     int ready[2];
     must(pipe(ready), "pipe");
     pid_t child = fork();
@@ -207,10 +200,22 @@ static void in_proc(void) {
         for (;;) pause();
     }
     close(ready[1]);
-    if (read(ready[0], path, 1) != 0) fail("the child");
+    if (read(ready[0], &byte, 1) != 0) fail("the child");
+    return child;
+}
+
+/* A path that a form makes of a number. */
+static void ask_of(const char *form, int number) {
+    char path[300];
+    snprintf(path, sizeof path, form, number);
+    ask_as(form, path);
+}
+
+/* Links of /proc, each way to write them. */
+static void in_proc(void) {
+    pid_t child = start_child();
     leave_user();
-    int at = open("d", O_RDONLY | O_DIRECTORY), file = open("d/f", O_RDONLY);
-    if (at < 0 || file < 0) fail("d");
+    int at = must(open("d", O_RDONLY | O_DIRECTORY), "d"), file = must(open("d/f", O_RDONLY), "d/f");
     static const char *const forms[] = {
         "/proc/self/fd/%d", "//proc/self/fd/%d", "/proc//self/./fd/%d", "/proc/self/../self/fd/%d",
         "/proc/thread-self/fd/%d", "/dev/fd/%d", "/dev//fd/%d", "/proc/self/fd/%d/", "/proc/self/fd/%d/f",
@@ -218,28 +223,15 @@ static void in_proc(void) {
         "/proc/self/task/../fd/%d", "/proc/self/task/../../self/fd/%d", "../../../../../../proc/self/fd/%d",
         "/proc/self/fd/../fd/%d", "/proc/self/root/proc/self/fd/%d",
     };
-    for (size_t i = 0; i < sizeof forms / sizeof *forms; i++) {
-        snprintf(path, sizeof path, forms[i], at);
-        ask_as(forms[i], path);
-        snprintf(path, sizeof path, forms[i], file);
-        ask_as(forms[i], path);
-        snprintf(path, sizeof path, forms[i], 777);
-        ask_as(forms[i], path);
-    }
+    for (size_t i = 0; i < sizeof forms / sizeof *forms; i++)
+        ask_of(forms[i], at), ask_of(forms[i], file), ask_of(forms[i], 777);
     static const char *const numbered[] = { "/proc/%d/cwd", "/proc/%d/cwd/d", "/proc/%d/root", "/proc/%d/cwd/../only/f",
                                             "/proc/self/task/%d", "/proc/self/task/%d/cwd/d", "/proc/%d/none" };
-    for (size_t i = 0; i < sizeof numbered / sizeof *numbered; i++) {
-        snprintf(path, sizeof path, numbered[i], getpid());
-        ask_as(numbered[i], path);
-        snprintf(path, sizeof path, numbered[i], child);
-        ask_as(numbered[i], path);
-    }
+    for (size_t i = 0; i < sizeof numbered / sizeof *numbered; i++) ask_of(numbered[i], getpid()), ask_of(numbered[i], child);
     must(chdir("/proc"), "/proc");
-    snprintf(path, sizeof path, "self/fd/%d", at);
-    ask_as("below /proc: self/fd", path);
+    ask_of("self/fd/%d", at);
     must(chdir("self"), "self");
-    snprintf(path, sizeof path, "fd/%d", at);
-    if (strcmp(user, "nobody")) ask_as("below /proc/self: fd", path);
+    if (strcmp(user, "nobody")) ask_of("fd/%d", at);
     must(chdir(outside), outside);
     must(chdir("jail"), "jail");
 }
@@ -315,8 +307,7 @@ static void make_outside(void) {
 
 int main(int words, char **word) {
     umask(022);
-    if (words == 2 && !strcmp(word[1], "--list")) for (int i = 0; i < MODES; i++) puts(modes[i].name);
-    if (words != 5) return words != 2;
+    if (words != 5) return 2;
     setvbuf(stdout, NULL, _IOLBF, 0);
     user = word[2], tree = word[3], outside = word[4];
     make_outside();

@@ -1,6 +1,7 @@
 #!/bin/sh
 # Paths of programs with another root, working directory, mounts or user, beside a tmpfs: roots.sh UNDER
 set -u
+. "$(dirname -- "$0")/checks"
 tests=$(dirname -- "$0")
 room=$(mktemp -d)
 trap 'rm -rf "$room"' EXIT
@@ -10,10 +11,7 @@ if [ "$(id -u)" != 0 ] || ! unshare -m true 2>/dev/null || ! command -v setpriv 
     echo 'left out the roots of callers: it wants root, unshare and setpriv'
     exit 0
 fi
-if ! cc -O1 -Wall -Wextra -Werror -static "$tests/roots.c" -o "$room/roots"; then
-    echo 'left out the roots of callers: it wants a C compiler'
-    exit 0
-fi
+compile 'the roots of callers' "$tests/roots.c" "$room/roots" -static || exit 0
 : >"$room/empty"
 mkdir "$room/tree"
 mknod -m 666 "$room/fuse" c 10 229
@@ -61,7 +59,6 @@ compare 0 numbers same "$numbers"
 # (a program that changed its user may read its own directory of /proc, and others of that user may not)
 compare 0 numbers nobody "(/proc/1/.*|$numbers)"
 
-other='setpriv --reuid=65534 --regid=65534 --clear-groups --inh-caps=-all'
 if ! $other unshare -U true 2>/dev/null; then
     echo 'left out the roots of other users: it wants user namespaces'
     exit 0

@@ -2,13 +2,11 @@
 # A recursive watcher that only watches new directories loses entries under some seed, and one that also looks into them
 # under none: seeds.sh UNDER ROOM [LONG]
 set -u
+. "$(dirname -- "$0")/checks"
 tests=$(dirname -- "$0")
 under=$1
 room=$2
-if ! cc -O1 -Wall -Wextra -Werror -static "$tests/recursive.c" -o "$room/recursive" 2>"$room/error"; then
-    echo "left out static programs: $(head -n 1 "$room/error")"
-    exit 0
-fi
+compile 'static programs' "$tests/recursive.c" "$room/recursive" -static || exit 0
 last=30
 [ -z "${3-}" ] || last=100
 # (a word or none)

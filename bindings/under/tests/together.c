@@ -2,6 +2,7 @@
  *   together same DIRECTORY ROUNDS       four make, rename and remove the same names; nothing but ENOENT may come of it
  *   together watched DIRECTORY ROUNDS    four change names of their own while four watch, and must get every event */
 #define _GNU_SOURCE
+#include "checks.h"
 #include <errno.h>
 #include <fcntl.h>
 #include <poll.h>
@@ -13,11 +14,6 @@
 #include <unistd.h>
 
 enum { PROCESSES = 4 };
-
-_Noreturn static void fail(const char *what) {
-    printf("%s: %s\n", what, strerror(errno));
-    exit(1);
-}
 
 /* The statuses of all children: 0 where all are 0. */
 static int wait_all(void) {

@@ -1,10 +1,11 @@
 #!/bin/sh
 # Processes that change files at once, and others that watch them: together.sh UNDER ROOM [LONG]
 set -u
+. "$(dirname -- "$0")/checks"
 tests=$(dirname -- "$0")
 under=$1
 room=$2
-cc -O1 -Wall -Wextra -Werror "$tests/together.c" -o "$room/together" || { echo "left out all of it: it needs a C compiler"; exit 0; }
+compile 'all of it' "$tests/together.c" "$room/together" || exit 0
 echo 'mkdir /d 755' >"$room/directory"
 for what in same watched; do
     rounds=2000

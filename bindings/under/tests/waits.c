@@ -1,6 +1,7 @@
 /* Ways to wait for an instance of inotify, most of which no library has: waits MODE DIRECTORY. Each prints its events
  * as `MASK NAME`, and ends after the name "end". `waits --list` prints the modes. */
 #define _GNU_SOURCE
+#include "checks.h"
 #include <aio.h>
 #include <errno.h>
 #include <fcntl.h>
@@ -26,12 +27,7 @@ static int fd;
 static const char *directory;
 static pthread_mutex_t lock = PTHREAD_MUTEX_INITIALIZER;
 
-_Noreturn static void fail(const char *what) {
-    printf("%s: %s\n", what, strerror(errno));
-    exit(1);
-}
-
-static void show(const char *bytes, ssize_t count) {
+static void show_events(const char *bytes, ssize_t count) {
     for (const char *at = bytes; at < bytes + count;) {
         const struct inotify_event *event = (const void *)at;
         printf("%x %s\n", event->mask, event->len ? event->name : "");
@@ -47,7 +43,7 @@ static int take(int from) {
     ssize_t count = read(from, bytes, sizeof bytes);
     if (count < 0) return -errno;
     pthread_mutex_lock(&lock);
-    show(bytes, count);
+    show_events(bytes, count);
     pthread_mutex_unlock(&lock);
     return 1;
 }
@@ -177,7 +173,7 @@ static void by_aio(void) {
         while (aio_error(&call) == EINPROGRESS) aio_suspend(all, 1, NULL);
         ssize_t count = aio_return(&call);
         if (count < 0) fail("aio_return");
-        show(bytes, count);
+        show_events(bytes, count);
     }
 }
 
@@ -209,7 +205,7 @@ static void by_uring(int polls) {
         io_uring_cqe_seen(&ring, done);
         if (result < 0) errno = -result, fail("io_uring");
         if (polls) take(fd);
-        else show(bytes, result);
+        else show_events(bytes, result);
     }
 }
 
@@ -313,7 +309,7 @@ static void by_pipe(void) {
         _exit(1);
     }
     close(ends[1]);
-    for (ssize_t count; (count = read(ends[0], bytes, sizeof bytes)) > 0;) show(bytes, count);
+    for (ssize_t count; (count = read(ends[0], bytes, sizeof bytes)) > 0;) show_events(bytes, count);
 }
 
 static void by_fork(void) {

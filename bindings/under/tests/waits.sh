@@ -1,13 +1,11 @@
 #!/bin/sh
 # Each way to wait for an instance, on the tree and on a disk: waits.sh UNDER ROOM
 set -u
+. "$(dirname -- "$0")/checks"
 tests=$(dirname -- "$0")
 under=$1
 room=$2
-if ! cc -O1 -Wall -Wextra -Werror "$tests/waits.c" -luring -lpthread -o "$room/waits" 2>"$room/error"; then
-    echo "left out each way to wait: it needs a C compiler with liburing (liburing-dev)"
-    exit 0
-fi
+compile 'each way to wait' "$tests/waits.c" "$room/waits" -luring -lpthread || exit 0
 for mode in $("$room/waits" --list); do
     disk=$(mktemp -d -p "$room")
     timeout 300 /usr/bin/python3 "$tests/disk.py" "$tests/waits.script" "$disk" -- "$room/waits" "$mode" "$disk/d" \
