@@ -19,6 +19,7 @@ mod words;
 pub use calls::{append_call_line, append_entry};
 pub use fault::{RunFault, ScriptFault};
 pub use laws::{
-    calls_are_read_back, journals_are_lawful, lines_ask_for_script_calls, texts_are_one,
+    calls_are_read_back, entries_are_read_back, journals_are_lawful, lines_ask_for_script_calls,
+    texts_are_one,
 };
 pub use run::{SCRIPT_MAX, print_line, run_script};
