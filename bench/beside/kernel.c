@@ -36,6 +36,19 @@ static long write_at(const char *where, long offset, const char *hex) {
     return written;
 }
 
+/* Prints bytes of a file. False if it can't be read. */
+static int print_contents(const char *where, long offset, size_t count) {
+    int file = open(where, O_RDONLY);
+    if (file < 0) return 0;
+    long answer = pread(file, buffer, count < sizeof buffer ? count : sizeof buffer, offset);
+    close(file);
+    if (answer < 0) return 0;
+    fputs("ok ", stdout);
+    for (long i = 0; i < answer; i++) printf("%02x", (unsigned char)buffer[i]);
+    puts(answer ? "" : "-");
+    return 1;
+}
+
 static void print_records(long count) {
     printf("ok %ld\n", count);
     for (char *at = buffer; at < buffer + count;) {
@@ -60,7 +73,10 @@ static void call(char **words, int count) {
     if (!strcmp(name, "create")) answer = close_at(open(path(one), O_WRONLY | O_CREAT | O_EXCL, (mode_t)strtol(two, 0, 8)));
     else if (!strcmp(name, "mkdir")) answer = mkdir(path(one), (mode_t)strtol(two, 0, 8));
     else if (!strcmp(name, "write")) answer = write_at(path(one), atol(two), three);
-    else if (!strcmp(name, "truncate")) answer = truncate(path(one), atol(two));
+    else if (!strcmp(name, "cat")) {
+        if (print_contents(path(one), atol(two), (size_t)atol(three))) return;
+        answer = -1;
+    } else if (!strcmp(name, "truncate")) answer = truncate(path(one), atol(two));
     else if (!strcmp(name, "chmod")) answer = chmod(path(one), (mode_t)strtol(two, 0, 8));
     else if (!strcmp(name, "link")) answer = link(path(one), path(two));
     else if (!strcmp(name, "unlink")) answer = unlink(path(one));
