@@ -112,7 +112,7 @@ same() {
     check "$1" "$(cat differs said)"
 }
 
-record --out script --from in -- sh -c 'rm /wt/empty; ls /wt/d >/dev/null; cat /wt/d/one' >said 2>&1
+record --out script --from in -- sh -c 'rmdir /wt/d; rm /wt/empty; ls /wt/d >/dev/null; cat /wt/d/one' >said 2>&1
 same '--from: modes, hard links, names of any bytes' script "chmod / $(stat -c %a in)
 mkdir /a%20name 755
 create /a%20name/100%25 644
@@ -135,10 +135,13 @@ record --out odd.script --from odd -- true 2>said
 [ $? = 125 ] && grep -q 'odd/link is a symbolic link' said && grep -q 'odd/fifo is a FIFO' said &&
     grep -q 'odd/long is longer than 16 MiB' said && grep -q 'cannot hold 3 of the files of odd' said && [ ! -e odd.script ]
 check '--from: what a tree cannot hold is named and refused' "$(cat said)"
-printf '%s\n' 'create /d/f 600' -- 'unlink /d/f' >more
-record --out script --from in more -- sh -c 'mv /wt/d/f /wt/g' >said 2>&1
-[ $? = 123 ] && [ "$(tail -n 3 script)" = "$(printf '%s\n' 'create /d/f 600' -- 'rename2 /d/f /g 1')" ]
-check '--from and a script, whose lines the program does not wait for' "$(cat script said)"
+printf '%s\n' 'create /d/f 600' cut 'create /d/g 600' -- 'unlink /d/f' >set_up
+record --out script --from in set_up -- mv /wt/d/f /wt/h >said 2>&1
+[ $? = 123 ] && [ "$(tail -n 4 script)" = "$(printf '%s\n' 'create /d/f 600' 'create /d/g 600' -- 'rename2 /d/f /h 1')" ]
+check '--from and a script with a cut, whose last line the program does not wait for' "$(tail -n 4 script said)"
+record --out script --limit 20000 --from in --dir "$here/in" -- rm "$here/in/empty" >said 2>&1
+[ $? = 0 ] && [ -e in/empty ] && [ "$(tail -n 1 script)" = 'unlink /empty' ]
+check '--from of the directory at which the tree is mounted' "$(cat said)"
 
 text='echo 12345678 >/wt/f; echo more >>/wt/f; echo 1 >/wt/g; truncate -s 3 /wt/g'
 record --out full -- sh -c "$text" 2>said
@@ -156,12 +159,16 @@ if command -v inotifywait >/dev/null; then
     [ -s full.out/stdout ] && cmp -s full.out/stdout script.out/stdout && cmp -s full.out/listing script.out/listing
     check '--contents: the events and the sizes stay' "$(diff full.out/stdout script.out/stdout; cat said)"
 fi
-record --looks -- sh -c 'cat /wt; echo 1 >/wt/f; cat /wt/f; inotifywait -q -t 1 -e modify /wt/f' >script 2>said
-[ "$(cut -d ' ' -f 1 script | tr '\n' ' ')" = '-- create write cat init watch close ' ]
-check '--looks' "$(cat script said)"
+if command -v inotifywait >/dev/null; then
+    record --looks -- sh -c 'mkdir -p /wt/d/e; rmdir /wt/d; echo 1 >/wt/f; cat /wt/f; inotifywait -q -t 1 -e modify /wt/f' \
+        >script 2>said
+    [ $? = 2 ] && [ "$(cut -d ' ' -f 1 script | tr '\n' ' ')" = '-- mkdir mkdir rmdir create write cat init watch close ' ]
+    check '--looks, of a program that watches and ends by itself' "$(cat script said)"
+fi
 record -- sh -c 'echo printed; echo 1 >/wt/f; exit 7' >script 2>said
 [ $? = 7 ] && grep -qx printed said
-same 'the script on standard output, and the status of the program' script '--
+check 'the status of the program, and what it prints' "$(cat said)"
+same 'the script on standard output' script '--
 create /f 644
 write /f 0 310a'
 export calls='
@@ -199,9 +206,9 @@ text='cd /wt; for i in $(seq 1000); do seq 300 >f$i; done; while :; do :; done'
 if [ "$(id -u)" = 0 ] && unshare -m true 2>/dev/null; then
     mkdir disk
     unshare -m sh -c 'mount -t tmpfs -o size=64k tmpfs disk && timeout 100 "$1" --record --out disk/script -- sh -c "$2"
-        echo "status $?"; cp disk/script .' sh "$under" "$text" >said 2>&1
+        echo "$?" >status; cp disk/script .' sh "$under" "$text" >said 2>&1
     grep -q 'disk/script: No space left on device: the recording ends after [1-9][0-9]* lines$' said &&
-        grep -qx 'status 125' said && [ "$(wc -l <script)" -gt 10 ] && is_whole
+        [ "$(cat status)" = 125 ] && [ "$(wc -l <script)" -gt 10 ] && is_whole
     check 'a full disk: the lines before are whole' "$(cat said said.run; wc script)"
 else
     echo 'left out a full disk: it wants root and unshare'
@@ -226,5 +233,6 @@ await grep -q '^create /f 644' script
 kill -INT "$tool"
 wait "$tool"
 [ $? = 130 ] && grep -q 'signal 2 ended the run before the program started' said
-same 'a signal before the program starts' script 'create /f 644'
+check 'a signal before the program starts' "$(cat said)"
+same 'the lines before that are there' script 'create /f 644'
 exec 3>&-

@@ -139,11 +139,13 @@ static bool is_at_rest(int64_t *wait_us) {
 /* The program is at rest. Sets how long it may stay so before the next look. */
 static void give_turn(int64_t *wait_us) {
     uint64_t before = work_count;
-    announce_all();
+    int64_t quiet = clock_ms() - worked_at;
+    /* Without an instance nobody is notified at once. Then a rest counts if it lasts, as a program may also sleep for a
+     * moment that nobody knows of, such as when the kernel ends it: a recording would have that moment. */
+    if (instance_counts.open || quiet >= options.debounce_ms) announce_all();
     deliver();
     *wait_us = 0;
     if (work_count != before) return;
-    int64_t quiet = clock_ms() - worked_at;
     switch (take_turn(quiet)) {
     case TURN_WAITS: *wait_us = quiet < 1000 ? 5000 : 20000; break;
     case TURN_TAKEN: worked_at = clock_ms(); break;
