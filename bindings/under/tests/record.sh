@@ -145,6 +145,10 @@ record --out script --limit 20000 --from in --dir "$here/in" -- rm "$here/in/emp
 [ $? = 0 ] && [ -e in/empty ] && [ "$(tail -n 1 script)" = 'unlink /empty' ]
 check '--from of the directory at which the tree is mounted' "$(cat said)"
 
+(cd odd && rm -f ./* && record --from . -- true >script 2>../said)
+same '--from of the directory that has the script' odd/script "chmod / $(stat -c %a odd)
+--"
+
 text='echo 12345678 >/wt/f; echo more >>/wt/f; echo 1 >/wt/g; truncate -s 3 /wt/g'
 record --out full -- sh -c "$text" 2>said
 record --out script --contents 4 -- sh -c "$text" 2>>said
@@ -166,6 +170,10 @@ if command -v inotifywait >/dev/null; then
         >script 2>said
     [ $? = 2 ] && [ "$(cut -d ' ' -f 1 script | tr '\n' ' ')" = '-- mkdir mkdir rmdir create write cat init watch close ' ]
     check '--looks, of a program that watches and ends by itself' "$(cat script said)"
+    printf '%s\n' 'mkdir /d 755' -- 'create /d/f 644' 'unlink /d/f' >set_up
+    record --end TERM --out script set_up -- inotifywait -q -m -e create /wt/d >said 2>&1
+    [ $? = 0 ] && [ "$(cat said)" = '/wt/d/ CREATE f' ] && cmp -s set_up script
+    check 'a script, and a watcher that is ended' "$(cat script said)"
 fi
 record -- sh -c 'echo printed; echo 1 >/wt/f; exit 7' >script 2>said
 [ $? = 7 ] && grep -qx printed said

@@ -127,7 +127,7 @@ static const struct option words_of_record[] = {
 
 /* A program that is recorded ends by itself, unless the words say how, and may wait for its user as long as it likes. */
 static void begin_record(void) {
-    options.recording = "-";
+    options.is_record = true;
     options.contents = UINT64_MAX;
     options.end_signal = 0;
     options.stall_ms = INT_MAX;
@@ -135,12 +135,11 @@ static void begin_record(void) {
 
 void read_options(int argc, char **argv) {
     static char under[] = "watchtree under", record[] = "watchtree record";
-    bool is_record = argc > 1 && !strcmp(argv[1], "--record");
-    if (is_record) begin_record();
-    argc -= is_record;
-    argv += is_record;
-    argv[0] = is_record ? record : under;       /* getopt_long begins its messages with it */
-    const struct option *words = is_record ? words_of_record : words_of_under;
+    if (argc > 1 && !strcmp(argv[1], "--record")) begin_record();
+    argc -= options.is_record;
+    argv += options.is_record;
+    argv[0] = options.is_record ? record : under;       /* getopt_long begins its messages with it */
+    const struct option *words = options.is_record ? words_of_record : words_of_under;
     for (int c; (c = getopt_long(argc, argv, "+h", words, NULL)) >= 0;) switch (c) {
         case 'd': options.dir = optarg; break;
         case 't': options.traces = true; break;
@@ -167,6 +166,6 @@ void read_options(int argc, char **argv) {
         case 'C': options.contents = number("contents", optarg, 0, UINT64_MAX); break;
         default: print_usage();
     }
-    if (options.recording) read_words_of_record(argc, argv, optind);
+    if (options.is_record) read_words_of_record(argc, argv, optind);
     else read_words(argc, argv, optind);
 }

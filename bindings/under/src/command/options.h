@@ -11,9 +11,10 @@ struct options {
     const char *script;
     const char *out;            /* NULL: no files */
     const char *check;          /* the command of --check */
-    const char *recording;      /* the file that record writes, "-" for standard output; NULL: the command is under */
+    const char *recording;      /* the file that record writes; NULL: standard output */
     const char *from;           /* the directory that record copies in first; NULL: none */
     char **program;             /* its words, NULL at the end */
+    bool is_record;             /* the command is record, and not under */
     bool traces;
     bool has_seed;
     bool has_schedule;          /* the script is that of --schedule */

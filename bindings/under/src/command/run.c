@@ -197,7 +197,7 @@ static int status_of_program(void) {
     if (WIFSIGNALED(wait_status)) {
         bool was_asked = ending == OVER && WTERMSIG(wait_status) == options.end_signal;
         if (was_asked) return 0;
-        if (options.recording) say("signal %d ended the program: the script has what it did before", WTERMSIG(wait_status));
+        if (options.is_record) say("signal %d ended the program: the script has what it did before", WTERMSIG(wait_status));
         return 128 + WTERMSIG(wait_status);
     }
     int status = WEXITSTATUS(wait_status);
@@ -227,7 +227,7 @@ static int exit_status(void) {
     int status = status_of_program();
     if (status) return status;
     if (left) return STATUS_LINES_LEFT;
-    return options.recording ? 0 : status_of_delivery();
+    return options.is_record ? 0 : status_of_delivery();
 }
 
 /* All that comes before the program starts. */

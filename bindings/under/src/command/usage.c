@@ -34,4 +34,4 @@ static const char of_record[] =
     "  --end SIGNAL       how a program that watches is ended after SCRIPT: TERM, INT, .., none (none)\n"
     "  --one-cpu          keep everything on one CPU\n";
 
-const char *usage(void) { return options.recording ? of_record : of_under; }
+const char *usage(void) { return options.is_record ? of_record : of_under; }

@@ -2,17 +2,15 @@
 #include "output/calls.h"
 #include "command/options.h"
 #include "processes/keeper.h"
+#include "script/script.h"
 #include "tree/nodes.h"
 #include "tree/tree.h"
 #include <errno.h>
 #include <fcntl.h>
 #include <stdio.h>
 #include <stdlib.h>
-#include <sys/stat.h>
 #include <unistd.h>
 
-/* The longest script that `watchtree run` takes. */
-enum { LONGEST_SCRIPT = 1 << 20 };
 static int file = -1;
 static uint64_t next_entry = 1;     /* of the journal */
 static unsigned long long lines, length;
@@ -20,7 +18,7 @@ static unsigned long long shortest; /* the length of the script without contents
 
 /* ---- lines: each is written whole, or not at all */
 
-static const char *name(void) { return strcmp(options.recording, "-") ? options.recording : "standard output"; }
+static const char *name(void) { return options.recording ? options.recording : "standard output"; }
 
 /* Takes back what was written of a line, and ends the run. */
 _Noreturn static void give_up(size_t written) {
@@ -141,10 +139,15 @@ void say_unrecorded(const char *call, const char *path, int error) {
 /* ---- the file */
 
 void open_calls(void) {
-    if (!options.recording) return;
-    bool is_output = !strcmp(options.recording, "-");
-    file = is_output ? fcntl(1, F_DUPFD_CLOEXEC, 3) : open(options.recording, O_WRONLY | O_CREAT | O_TRUNC | O_CLOEXEC, 0644);
+    if (!options.is_record) return;
+    file = options.recording ? open(options.recording, O_WRONLY | O_CREAT | O_TRUNC | O_CLOEXEC, 0644)
+                             : fcntl(STDOUT_FILENO, F_DUPFD_CLOEXEC, 3);
     if (file < 0) fail(name());
+}
+
+bool is_calls_file(const struct stat *it) {
+    struct stat is;
+    return fstat(file, &is) == 0 && is.st_dev == it->st_dev && is.st_ino == it->st_ino;
 }
 
 int close_calls(int status) {

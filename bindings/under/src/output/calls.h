@@ -2,9 +2,12 @@
 #ifndef CALLS_H
 #define CALLS_H
 #include "under.h"
+#include <sys/stat.h>
 
-/* In a run of `watchtree under` each of these does nothing. */
+/* In a run of `watchtree under` these do nothing. */
 void open_calls(void);
+/* Whether a file is the one that is written. */
+bool is_calls_file(const struct stat *it);
 /* Writes what came into the journal since the last time. */
 void write_calls(void);
 /* Writes the line -- behind those that make the tree with which the program begins. */

@@ -7,7 +7,7 @@
 
 static void say_list(const char *format, va_list list) {
     char text[2048];
-    int start = snprintf(text, sizeof text, "watchtree %s: ", options.recording ? "record" : "under");
+    int start = snprintf(text, sizeof text, "watchtree %s: ", options.is_record ? "record" : "under");
     vsnprintf(text + start, sizeof text - (size_t)start - 1, format, list);
     /* One write, so that the program's own lines do not cut it. */
     dprintf(STDERR_FILENO, "%s\n", text);

@@ -127,7 +127,7 @@ static int be_front(pid_t keeper, int to_keeper) {
 int status_of_worker(int status) {
     if (WIFEXITED(status)) return WEXITSTATUS(status);
     if (ends_programs(WTERMSIG(status))) {
-        if (options.recording) say("signal %d ended the run before the program started", WTERMSIG(status));
+        if (options.is_record) say("signal %d ended the run before the program started", WTERMSIG(status));
         return 128 + WTERMSIG(status);
     }
     say("the tool was ended by signal %d", WTERMSIG(status));

@@ -1,6 +1,7 @@
 /* Copies a directory into the tree, by lines of a script in the order of names. */
 #include "script/from.h"
 #include "command/options.h"
+#include "output/calls.h"
 #include "output/trace.h"
 #include "script/script.h"
 #include "tree/files.h"
@@ -149,6 +150,7 @@ static void copy(const FTSENT *it) {
     const struct stat *is = it->fts_statp;
     const char *path = spelled(it), *why = refusal(it), *earlier;
     unsigned mode = is->st_mode & 07777;
+    if (is_calls_file(is)) return;
     if (why) fault("--from: %s is %s now", it->fts_path, why);
     if (it->fts_level == 0) run_printed("chmod / %o", mode);
     else if (S_ISDIR(is->st_mode)) run_printed("mkdir %s %o", path, mode);
