@@ -202,6 +202,10 @@ check 'each call that cannot be recorded is named' "$names $(cat said)"
 
 # ---- a script that is too long, or ends early
 
+{ record -- sh -c 'cd /wt; for i in $(seq 100); do echo 1 >f$i; done' 2>said; echo "$?" >status; } | head -n 1 >script
+[ "$(cat status)" = 125 ] && grep -q 'standard output: Broken pipe: the recording ends after [1-9][0-9]* lines$' said
+check 'a pipe that nobody reads' "$(cat status said)"
+
 text='head -c 600000 /dev/zero >/wt/f'
 record --out script -- sh -c "$text" 2>said
 [ $? = 125 ] && grep -q 'script has 1200029 bytes, .* 1048576: .* with --contents 0 it has 36$' said

@@ -1,12 +1,12 @@
 /* What `watchtree record` writes: the calls of the tree's journal that changed the tree, in order, as lines of a script. */
 #include "output/calls.h"
 #include "command/options.h"
-#include "processes/keeper.h"
 #include "script/script.h"
 #include "tree/nodes.h"
 #include "tree/tree.h"
 #include <errno.h>
 #include <fcntl.h>
+#include <signal.h>
 #include <stdio.h>
 #include <stdlib.h>
 #include <unistd.h>
@@ -31,8 +31,9 @@ _Noreturn static void give_up(size_t written) {
 
 /* No signal comes meanwhile: before the program starts it could end the tool in the middle of the line. */
 static void write_line(const char *line, size_t size) {
-    sigset_t before;
-    sigprocmask(SIG_BLOCK, &passed_signals, &before);
+    sigset_t all, before;
+    sigfillset(&all);
+    sigprocmask(SIG_BLOCK, &all, &before);
     for (size_t done = 0; done < size;) {
         ssize_t count = write(file, line + done, size - done);
         if (count < 0) give_up(done);
