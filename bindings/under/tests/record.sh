@@ -85,9 +85,9 @@ done && git add -A && git commit -qm one && git checkout -qb other && git rm -rq
     git checkout -q main && git gc -q) || echo 'left out a repository: git made none'
 [ -x "$program" ] || echo 'left out replays by run: the program is not built'
 
-# (git and rsync have random names, a clone notes its process number, sqlite3 has random numbers in its journal, and rsync
-# two processes that change files)
-names='sed -E "s/(tmp_[a-z]*_|\.git\/t)[A-Za-z0-9]{6}/\1/g; s/(\.keep 0 ).*/\1/"'
+# (git and rsync have random names, an index of git notes the number of the mount's device and a clone that of its process,
+# sqlite3 has random numbers in its journal, and rsync two processes that change files)
+names='sed -E "s/(tmp_[a-z]*_|\.git\/t)[A-Za-z0-9]{6}/\1/g; s/((\.keep|index\.lock) 0 ).*/\1/"'
 try 'git init and commit' git "$names" 'git -c init.defaultBranch=main init -q r; cd r; cp -r "$here/in" .
     git add -A; git commit -qm one; test -z "$(git status --porcelain)"'
 try 'git clone' git "$names" 'git clone -q "file://$here/repository" r; git clone -q "$here/repository" s'

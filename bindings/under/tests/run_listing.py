@@ -6,6 +6,7 @@ LISTING is a listing of the same tree: its paths are asked for, and each name th
 import hashlib
 import subprocess
 import sys
+import urllib.parse
 
 program, script, listing = sys.argv[1:]
 # (surrogates stand for bytes that are no text)
@@ -43,6 +44,7 @@ for path in paths:
         data = bytes.fromhex(content[1].replace("-", ""))
         sums.append(f"{hashlib.sha256(data).hexdigest()}  .{path}")
     for name in names[1:] if kind == "d" else ():
-        if f"{path.rstrip('/')}/{name}" not in paths:
-            print(f"besides: {path} {name}")
+        inner = f"{path.rstrip('/')}/{urllib.parse.unquote(name, errors='surrogateescape')}"
+        if inner not in paths:
+            print(f"besides: {inner}")
 print(*sums, sep="\n")
