@@ -105,6 +105,13 @@ if command -v python3 >/dev/null && command -v inotifywait >/dev/null; then
         script -- inotifywait -q -m /wt/d >said 2>&1
     check 'a recording is a script of explore' "$(cat said)"
 fi
+if command -v git >/dev/null && command -v inotifywait >/dev/null; then
+    sed -n 's/^    \.\/watchtree \(record\|under\) /\1 /p' "$tests/../../../docs/RECORD.md" |
+        sed "s|^record |'$under' --record |; s|^under |'$under' |" >example
+    sh example >printed 2>said
+    [ "$(wc -l <example)" = 2 ] && grep -qx '/wt/r/.git/ CREATE config.lock' printed
+    check 'the example of docs/RECORD.md' "$(head -n 3 printed said)"
+fi
 
 # ---- the script itself
 
