@@ -198,13 +198,14 @@ def attempt(call, *words):
 attempt(os.pwrite, os.open("f", os.O_WRONLY), b"b", 1 << 24)
 attempt(os.setxattr, "f", "user.a", b"b")
 attempt(socket.socket(socket.AF_UNIX).bind, "s")'
-record -- sh -c 'cd /wt; : >f; ln -s a b; mkfifo c; chown 1 f; fallocate -l 5 f; truncate -s 17000000 f; python3 -c "$calls"' \
+record -- sh -c 'cd /wt; : >f; ln -s a "b
+b"; mkfifo c; chown 1 f; fallocate -l 5 f; truncate -s 17000000 f; python3 -c "$calls"' \
     >script 2>said
 names=$(sed -n 's/^watchtree record: after line [0-9]*: \([a-z]* [^ ]*\): a tree cannot hold it.*/\1/p' said | tr '\n' ',')
 # (of another user than root the kernel refuses the chown, and does not ask)
 owner='chown /f,'
 [ "$(id -u)" = 0 ] || owner=
-[ "$names" = "symlink /b,mknod /c,${owner}fallocate /f,truncate /f,write /f,setxattr /f,bind /s," ]
+[ "$names" = "symlink /b%0ab,mknod /c,${owner}fallocate /f,truncate /f,write /f,setxattr /f,bind /s," ]
 check 'each call that cannot be recorded is named' "$names $(cat said)"
 
 # ---- a script that is too long, or ends early
