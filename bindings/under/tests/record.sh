@@ -66,8 +66,8 @@ try() {
     twice "$@"
 }
 
-files=60
-[ -z "${3-}" ] || files=500
+files=60 seeds=5
+[ -z "${3-}" ] || { files=500; seeds=40; }
 mkdir -p in/d/e 'in/a name' repository
 echo one >in/d/one
 ln in/d/one in/d/e/again
@@ -105,6 +105,15 @@ if command -v python3 >/dev/null && command -v inotifywait >/dev/null; then
         script -- inotifywait -q -m /wt/d >said 2>&1
     check 'a recording is a script of explore' "$(cat said)"
 fi
+wrong=
+for seed in $(seq "$seeds"); do
+    record --out script -- sh -c 'python3 "$1/random_calls.py" /wt "$2" 300 >/dev/null && sh "$listing" /wt >"$here/recorded"' \
+        sh "$tests" "$seed" 2>said && grep -vxe -- script >set_up && "$under" set_up -- sh "$listing" /wt >replayed 2>said &&
+        cmp -s recorded replayed || { wrong=$seed; break; }
+done
+[ -z "$wrong" ]
+check "random calls of $seeds seeds" "seed $wrong: $(diff recorded replayed | head -n 5; cat said)"
+
 if command -v git >/dev/null && command -v inotifywait >/dev/null; then
     sed -n 's/^    \.\/watchtree \(record\|under\) /\1 /p' "$tests/../../../docs/RECORD.md" |
         sed "s|^record |'$under' --record |; s|^under |'$under' |" >example
