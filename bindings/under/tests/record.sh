@@ -198,7 +198,7 @@ same 'the script on standard output' script '--
 create /f 644
 write /f 0 310a'
 export calls='
-import os, socket
+import mmap, os, socket
 def attempt(call, *words):
     try:
         call(*words)
@@ -206,6 +206,8 @@ def attempt(call, *words):
         pass
 attempt(os.pwrite, os.open("f", os.O_WRONLY), b"b", 1 << 24)
 attempt(os.setxattr, "f", "user.a", b"b")
+open("g", "w").write("g")
+attempt(mmap.mmap, os.open("g", os.O_RDWR), 1)
 attempt(socket.socket(socket.AF_UNIX).bind, "s")'
 record -- sh -c 'cd /wt; : >f; ln -s a "b
 b"; mkfifo c; chown 1 f; fallocate -l 5 f; truncate -s 17000000 f; python3 -c "$calls"' \
@@ -216,6 +218,8 @@ owner='chown /f,'
 [ "$(id -u)" = 0 ] || owner=
 [ "$names" = "symlink /b%0ab,mknod /c,${owner}fallocate /f,truncate /f,write /f,setxattr /f,bind /s," ]
 check 'each call that cannot be recorded is named' "$names $(cat said)"
+grep -qx 'watchtree record: mmap /wt/g with MAP_SHARED: a tree has none, .*' said
+check 'a mapping that others would see written is named' "$(cat said)"
 
 # ---- a script that is too long, or ends early
 
