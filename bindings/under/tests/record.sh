@@ -32,7 +32,8 @@ replay() {
     if command -v inotifywait >/dev/null; then
         "$under" --quick script -- sh -c 'trap "sh \"\$listing\" /wt >\"\$here/replayed\"; exit" TERM
             inotifywait -q -m -r /wt >"$here/events" & wait' 2>said
-        [ $? = 0 ] && [ -s events ]
+        # (the listing opens files, and makes none)
+        [ $? = 0 ] && grep -q CREATE events
         check "$1, watched" "$(cat said)"
         same_tree "$1" 'by under at rest'
     fi
