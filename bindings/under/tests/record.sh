@@ -199,7 +199,7 @@ same 'the script on standard output' script '--
 create /f 644
 write /f 0 310a'
 export calls='
-import mmap, os, socket
+import ctypes, mmap, os, socket
 def attempt(call, *words):
     try:
         call(*words)
@@ -209,15 +209,16 @@ attempt(os.pwrite, os.open("f", os.O_WRONLY), b"b", 1 << 24)
 attempt(os.setxattr, "f", "user.a", b"b")
 open("g", "w").write("g")
 attempt(mmap.mmap, os.open("g", os.O_RDWR), 1)
+ctypes.CDLL(None).renameat2(-100, b"g", -100, b"h", 4)
 attempt(socket.socket(socket.AF_UNIX).bind, "s")'
 record -- sh -c 'cd /wt; : >f; ln -s a "b
 b"; mkfifo c; chown 1 f; fallocate -l 5 f; truncate -s 17000000 f; python3 -c "$calls"' \
     >script 2>said
-names=$(sed -n 's/^watchtree record: after line [0-9]*: \([a-z]* [^ ]*\): a tree cannot hold it.*/\1/p' said | tr '\n' ',')
+names=$(sed -n 's/^watchtree record: after line [0-9]*: \([a-z0-9]* [^ ]*\): a tree cannot hold it.*/\1/p' said | tr '\n' ',')
 # (of another user than root the kernel refuses the chown, and does not ask)
 owner='chown /f,'
 [ "$(id -u)" = 0 ] || owner=
-[ "$names" = "symlink /b%0ab,mknod /c,${owner}fallocate /f,truncate /f,write /f,setxattr /f,bind /s," ]
+[ "$names" = "symlink /b%0ab,mknod /c,${owner}fallocate /f,truncate /f,write /f,setxattr /f,renameat2 /g,bind /s," ]
 check 'each call that cannot be recorded is named' "$names $(cat said)"
 grep -qx 'watchtree record: mmap /wt/g with MAP_SHARED: a tree has none, .*' said
 check 'a mapping that others would see written is named' "$(cat said)"
