@@ -13,27 +13,6 @@
 struct options options = { .dir = "/wt", .queue = 16384, .debounce_ms = 100, .settle_ms = 300, .stall_ms = 10000,
                            .end_signal = SIGTERM, .vary = VARY_LINES | VARY_READS };
 
-static const char usage[] =
-    "usage: watchtree under [OPTIONS] SCRIPT -- PROGRAM [ARGUMENT..]\n"
-    "       watchtree under [OPTIONS] --schedule FILE -- PROGRAM [ARGUMENT..]\n"
-    "  --dir DIR          mount the tree at DIR (/wt)\n"
-    "  --trace            print each line, watch and record on standard error\n"
-    "  --out DIR          write trace, schedule, stdout, stderr, listing and tree into DIR\n"
-    "  --queue N          the limit of each queue of records, 1 to 65535 (16384)\n"
-    "  --seed N           lines also happen before requests are answered, by a generator\n"
-    "  --vary WORDS       what a seed decides: lines, reads, queue (lines,reads)\n"
-    "  --schedule FILE    replay what a run left in DIR/schedule\n"
-    "  --seeds A..B       a run for each seed\n"
-    "  --check COMMAND    what decides whether a run of --seeds passed\n"
-    "  --limit MS         the most that a run takes, and the COMMAND of --check (none)\n"
-    "  --outside=ignore   a watch outside the mount is taken and never fires (else EACCES)\n"
-    "  --end SIGNAL       how the program is ended after the script: TERM, INT, .., none (TERM)\n"
-    "  --debounce MS      quiet time before a line -- is passed (100)\n"
-    "  --settle MS        quiet time before the program is ended (300)\n"
-    "  --quick            do not wait for --debounce and --settle if no task has a time limit\n"
-    "  --stall MS         end a run after this long without a record or a line (10000)\n"
-    "  --one-cpu          keep everything on one CPU\n";
-
 _Noreturn static void refuse(const char *option, const char *value, const char *wanted) {
     fault("--%s: bad value '%s': expected %s", option, value, wanted);
 }
@@ -103,8 +82,13 @@ static void vary(const char *list) {
 }
 
 _Noreturn static void print_help(void) {
-    fputs(usage, stdout);
+    fputs(usage(), stdout);
     exit(0);
+}
+
+_Noreturn static void print_usage(void) {
+    fputs(usage(), stderr);
+    exit(STATUS_FAULT);
 }
 
 /* The words behind the options: the script, unless a schedule has it, and the program. */
@@ -112,10 +96,7 @@ static void read_words(int argc, char **argv, int at) {
     bool is_named = !options.has_schedule && at + 1 < argc;
     if (is_named) options.script = argv[at++];
     if (is_named && !strcmp(argv[at], "--")) at++;
-    if (!options.script || at >= argc) {
-        fputs(usage, stderr);
-        exit(STATUS_FAULT);
-    }
+    if (!options.script || at >= argc) print_usage();
     options.program = argv + at;
     if (options.check && !options.many_seeds) fault("--check goes with --seeds");
     if (options.has_schedule && options.has_seed) fault("--schedule and --seed are two schedules");
@@ -123,19 +104,47 @@ static void read_words(int argc, char **argv, int at) {
         fault("--schedule has the script: %s is one more", argv[at]);
 }
 
+/* The same of record, where a -- stands before the program in any case, and a script may stand before that. */
+static void read_words_of_record(int argc, char **argv, int at) {
+    bool is_named = at < argc && strcmp(argv[at - 1], "--");
+    options.script = is_named ? argv[at++] : "/dev/null";
+    if (is_named && (at >= argc || strcmp(argv[at++], "--"))) print_usage();
+    if (at >= argc) print_usage();
+    options.program = argv + at;
+}
+
+static const struct option words_of_under[] = {
+    { "dir", 1, NULL, 'd' }, { "trace", 0, NULL, 't' }, { "out", 1, NULL, 'o' }, { "seed", 1, NULL, 's' },
+    { "seeds", 1, NULL, 'S' }, { "check", 1, NULL, 'c' }, { "queue", 1, NULL, 'q' }, { "settle", 1, NULL, 'e' },
+    { "debounce", 1, NULL, 'b' }, { "stall", 1, NULL, 'l' }, { "refuse-outside", 0, NULL, 'n' },
+    { "limit", 1, NULL, 'L' }, { "vary", 1, NULL, 'v' }, { "schedule", 1, NULL, 'R' }, { "quick", 0, NULL, 'Q' },
+    { "outside", 1, NULL, 'u' }, { "end", 1, NULL, 'E' }, { "one-cpu", 0, NULL, '1' }, { "help", 0, NULL, 'h' },
+    { 0 } };
+static const struct option words_of_record[] = {
+    { "from", 1, NULL, 'f' }, { "out", 1, NULL, 'O' }, { "contents", 1, NULL, 'C' }, { "looks", 0, NULL, 'k' },
+    { "dir", 1, NULL, 'd' }, { "limit", 1, NULL, 'L' }, { "outside", 1, NULL, 'u' }, { "end", 1, NULL, 'E' },
+    { "one-cpu", 0, NULL, '1' }, { "help", 0, NULL, 'h' }, { 0 } };
+
+/* A program that is recorded ends by itself, unless the words say how, and may wait for its user as long as it likes. */
+static void begin_record(void) {
+    options.is_record = true;
+    options.contents = UINT64_MAX;
+    options.end_signal = 0;
+    options.stall_ms = INT_MAX;
+}
+
 void read_options(int argc, char **argv) {
-    static const struct option words[] = {
-        { "dir", 1, NULL, 'd' }, { "trace", 0, NULL, 't' }, { "out", 1, NULL, 'o' }, { "seed", 1, NULL, 's' },
-        { "seeds", 1, NULL, 'S' }, { "check", 1, NULL, 'c' }, { "queue", 1, NULL, 'q' }, { "settle", 1, NULL, 'e' },
-        { "debounce", 1, NULL, 'b' }, { "stall", 1, NULL, 'l' }, { "refuse-outside", 0, NULL, 'n' },
-        { "limit", 1, NULL, 'L' }, { "vary", 1, NULL, 'v' }, { "schedule", 1, NULL, 'R' }, { "quick", 0, NULL, 'Q' },
-        { "outside", 1, NULL, 'u' }, { "end", 1, NULL, 'E' }, { "one-cpu", 0, NULL, '1' }, { "help", 0, NULL, 'h' },
-        { 0 } };
-    argv[0] = "watchtree under";  /* getopt_long begins its messages with it */
+    static char under[] = "watchtree under", record[] = "watchtree record";
+    if (argc > 1 && !strcmp(argv[1], "--record")) begin_record();
+    argc -= options.is_record;
+    argv += options.is_record;
+    argv[0] = options.is_record ? record : under;       /* getopt_long begins its messages with it */
+    const struct option *words = options.is_record ? words_of_record : words_of_under;
     for (int c; (c = getopt_long(argc, argv, "+h", words, NULL)) >= 0;) switch (c) {
         case 'd': options.dir = optarg; break;
         case 't': options.traces = true; break;
         case 'o': options.out = optarg; break;
+        case 'O': options.recording = optarg; break;
         case 's': options.has_seed = true; options.seed = number("seed", optarg, 0, UINT64_MAX); break;
         case 'S': seeds(optarg); break;
         case 'c': options.check = optarg; break;
@@ -152,7 +161,11 @@ void read_options(int argc, char **argv) {
         case 'E': options.end_signal = signal_named(optarg); break;
         case '1': stay_on_one_cpu(); break;
         case 'h': print_help();
-        default: fputs(usage, stderr); exit(STATUS_FAULT);
+        case 'f': options.from = optarg; break;
+        case 'k': options.keeps_looks = true; break;
+        case 'C': options.contents = number("contents", optarg, 0, UINT64_MAX); break;
+        default: print_usage();
     }
-    read_words(argc, argv, optind);
+    if (options.is_record) read_words_of_record(argc, argv, optind);
+    else read_words(argc, argv, optind);
 }

@@ -3,6 +3,7 @@
 #include "command/needs.h"
 #include "command/options.h"
 #include "inotify/instances.h"
+#include "output/calls.h"
 #include "output/out.h"
 #include "output/record.h"
 #include "output/trace.h"
@@ -10,6 +11,7 @@
 #include "processes/proc.h"
 #include "processes/program.h"
 #include "processes/rest.h"
+#include "script/from.h"
 #include "script/schedule.h"
 #include "script/script.h"
 #include "script/turn.h"
@@ -137,11 +139,13 @@ static bool is_at_rest(int64_t *wait_us) {
 /* The program is at rest. Sets how long it may stay so before the next look. */
 static void give_turn(int64_t *wait_us) {
     uint64_t before = work_count;
-    announce_all();
+    int64_t quiet = clock_ms() - worked_at;
+    /* Without an instance nobody is notified at once. Then a rest counts if it lasts, as a program may also sleep for a
+     * moment that nobody knows of, such as when the kernel ends it: a recording would have that moment. */
+    if (instance_counts.open || quiet >= options.debounce_ms) announce_all();
     deliver();
     *wait_us = 0;
     if (work_count != before) return;
-    int64_t quiet = clock_ms() - worked_at;
     switch (take_turn(quiet)) {
     case TURN_WAITS: *wait_us = quiet < 1000 ? 5000 : 20000; break;
     case TURN_TAKEN: worked_at = clock_ms(); break;
@@ -192,7 +196,9 @@ static int take_over_signals(void) {
 static int status_of_program(void) {
     if (WIFSIGNALED(wait_status)) {
         bool was_asked = ending == OVER && WTERMSIG(wait_status) == options.end_signal;
-        return was_asked ? 0 : 128 + WTERMSIG(wait_status);
+        if (was_asked) return 0;
+        if (options.is_record) say("signal %d ended the program: the script has what it did before", WTERMSIG(wait_status));
+        return 128 + WTERMSIG(wait_status);
     }
     int status = WEXITSTATUS(wait_status);
     return ending == OVER && options.end_signal && status == 128 + options.end_signal ? 0 : status;
@@ -220,32 +226,33 @@ static int exit_status(void) {
     if (ending == STALLED) return STATUS_STALLED;
     int status = status_of_program();
     if (status) return status;
-    return left ? STATUS_LINES_LEFT : status_of_delivery();
+    if (left) return STATUS_LINES_LEFT;
+    return options.is_record ? 0 : status_of_delivery();
 }
 
-int run(void) {
-    char here[PATH_MAX];
-    /* Until there is a program to which they could go, signals end the tool. */
-    sigprocmask(SIG_SETMASK, &first_mask, NULL);
-    if (!getcwd(here, sizeof here)) fail("the working directory");
+/* All that comes before the program starts. */
+static void begin_run(const char *here) {
     open_proc();
     check_needs();
+    check_from();
     open_out();
     open_script();
     draw_queue();
     remove_old_out();
     open_trace();
     open_record();
-    serve_session(session = mount_tree(here));
+    open_calls();
     open_tree();
     make_nursery();
     stamp(ROOT, MODIFIED);
+    copy_from();                    /* while the mount hides nothing of it */
+    serve_session(session = mount_tree(here));
     run_first_lines();
-    signals = take_over_signals();
-    prctl(PR_SET_CHILD_SUBREAPER, 1);
-    start_program(here, &first_mask, fuse_session_fd(session));
-    loop();
-    end_processes();
+    write_calls_mark();
+}
+
+/* All that comes after its end. The exit status. */
+static int end_run(void) {
     commit_all();
     end_live_script();
     int status = exit_status();
@@ -253,10 +260,25 @@ int run(void) {
     close_trace();
     record_rest();
     close_record();
+    status = close_calls(status);
     check_out();
     unmount_tree(session);
     close_tree();
     free_nodes();
     close_script();
     return status;
+}
+
+int run(void) {
+    char here[PATH_MAX];
+    /* Until there is a program to which they could go, signals end the tool. */
+    sigprocmask(SIG_SETMASK, &first_mask, NULL);
+    if (!getcwd(here, sizeof here)) fail("the working directory");
+    begin_run(here);
+    signals = take_over_signals();
+    prctl(PR_SET_CHILD_SUBREAPER, 1);
+    start_program(here, &first_mask, fuse_session_fd(session));
+    loop();
+    end_processes();
+    return end_run();
 }

@@ -1,6 +1,6 @@
 /* The filter of the program's system calls. Handed to the supervisor are those of inotify, FIONREAD, what asks for SIGIO,
- * and statfs(2), as programs look there whether inotify works. fanotify and dnotify are refused: they would see no line of
- * the script. A 32-bit program runs without inotify. */
+ * mmap(2) of a file that others see written, which a recording names, and statfs(2), as programs look there whether inotify
+ * works. fanotify and dnotify are refused: they would see no line of the script. A 32-bit program runs without inotify. */
 #include "inotify/filter.h"
 #include "under.h"
 #include <errno.h>
@@ -10,6 +10,7 @@
 #include <linux/seccomp.h>
 #include <stddef.h>
 #include <sys/ioctl.h>
+#include <sys/mman.h>
 #include <sys/prctl.h>
 #include <sys/socket.h>
 #include <sys/syscall.h>
@@ -26,6 +27,9 @@
 #define ON(value, action) IF(value), RETURN(action)
 /* Skips `count` instructions if the number is not the value. */
 #define UNLESS(value, count) BPF_JUMP(BPF_JMP | BPF_JEQ | BPF_K, value, 0, count)
+/* Skips `count` instructions if the number has the bit, and if it does not. */
+#define WITH(bit, count) BPF_JUMP(BPF_JMP | BPF_JSET | BPF_K, bit, count, 0)
+#define WITHOUT(bit, count) BPF_JUMP(BPF_JMP | BPF_JSET | BPF_K, bit, 0, count)
 
 /* The numbers of a 32-bit program. */
 enum { I386_FCNTL = 55, I386_FCNTL64 = 221, I386_INOTIFY_INIT = 291, I386_INOTIFY_ADD_WATCH = 292,
@@ -69,12 +73,21 @@ static struct sock_filter filter[] = {
     ON(FIOASYNC, HELD),
     RETURN(SECCOMP_RET_ALLOW),
 
+    UNLESS(SYS_mmap, 7),
+    LOAD(args[2]),
+    WITHOUT(PROT_WRITE, 4),
+    LOAD(args[3]),
+    WITH(MAP_ANONYMOUS, 2),
+    WITHOUT(MAP_SHARED, 1),
+    RETURN(HELD),
+    RETURN(SECCOMP_RET_ALLOW),
+
     UNLESS(SYS_fcntl, 7),
     LOAD(args[1]),
     ON(F_NOTIFY, INVALID),
     UNLESS(F_SETFL, 3),
     LOAD(args[2]),
-    BPF_JUMP(BPF_JMP | BPF_JSET | BPF_K, O_ASYNC, 0, 1),
+    WITHOUT(O_ASYNC, 1),
     RETURN(HELD),
     RETURN(SECCOMP_RET_ALLOW),
 };

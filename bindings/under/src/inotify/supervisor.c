@@ -7,6 +7,7 @@
 #include "inotify/instances.h"
 #include "inotify/paths.h"
 #include "inotify/rights.h"
+#include "output/trace.h"
 #include <errno.h>
 #include <fcntl.h>
 #include <linux/magic.h>
@@ -131,6 +132,23 @@ static int refuse_signals(const struct seccomp_notif *call) {
     return -EINVAL;
 }
 
+/* The kernel refuses to map a file of the tree so that others see what is written, and asks nobody: a recording names it. */
+static int map_shared(const struct seccomp_notif *call) {
+    char link[32], path[PATH_MAX], shown[3 * PATH_MAX];
+    struct statx is;
+    int mine = options.is_record ? borrow(call, (int)call->data.args[4]) : -1;
+    if (mine < 0) return GOES_ON;
+    snprintf(link, sizeof link, "self/fd/%d", mine);
+    ssize_t length = look(mine, &is) && is_of_tree(&is) ? readlinkat(proc_root, link, path, sizeof path - 1) : -1;
+    if (length > 0) {
+        path[length] = 0;
+        spell(path, shown);
+        say("mmap %s with MAP_SHARED: a tree has none, so it is refused (%s) and not recorded", shown, strerror(ENODEV));
+    }
+    close(mine);
+    return GOES_ON;
+}
+
 static int answer(const struct seccomp_notif *call) {
     switch (call->data.nr) {
     case SYS_inotify_init:
@@ -140,6 +158,7 @@ static int answer(const struct seccomp_notif *call) {
     case SYS_statfs:
     case SYS_fstatfs: return file_system(call);
     case SYS_fcntl: return refuse_signals(call);
+    case SYS_mmap: return map_shared(call);
     default: return (unsigned)call->data.args[1] == FIONREAD ? bytes_waiting(call) : refuse_signals(call);
     }
 }

@@ -1,5 +1,5 @@
 /* What the tool says on standard error, and the clock that its waits go by. */
-#include "under.h"
+#include "command/options.h"
 #include <errno.h>
 #include <stdarg.h>
 #include <stdio.h>
@@ -7,7 +7,7 @@
 
 static void say_list(const char *format, va_list list) {
     char text[2048];
-    int start = snprintf(text, sizeof text, "watchtree under: ");
+    int start = snprintf(text, sizeof text, "watchtree %s: ", options.is_record ? "record" : "under");
     vsnprintf(text + start, sizeof text - (size_t)start - 1, format, list);
     /* One write, so that the program's own lines do not cut it. */
     dprintf(STDERR_FILENO, "%s\n", text);

@@ -126,7 +126,10 @@ static int be_front(pid_t keeper, int to_keeper) {
 /* Signals that end programs end the worker before there is a program. Others are a fault. */
 int status_of_worker(int status) {
     if (WIFEXITED(status)) return WEXITSTATUS(status);
-    if (ends_programs(WTERMSIG(status))) return 128 + WTERMSIG(status);
+    if (ends_programs(WTERMSIG(status))) {
+        if (options.is_record) say("signal %d ended the run before the program started", WTERMSIG(status));
+        return 128 + WTERMSIG(status);
+    }
     say("the tool was ended by signal %d", WTERMSIG(status));
     return STATUS_FAULT;
 }

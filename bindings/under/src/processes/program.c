@@ -30,6 +30,8 @@ _Noreturn static void become_program(const char *here, pid_t tool, int to_superv
     }
     int tool_error = fcntl(2, F_DUPFD_CLOEXEC, 3);
     if (options.out && (dup2(written[0], 1) < 0 || dup2(written[1], 2) < 0)) fail("--out");
+    /* The standard output has the script. */
+    if (options.is_record && !options.recording && dup2(2, 1) < 0) fail("standard error");
     int listener = install_filter();
     if (listener < 0) lack_filter(errno);
     send_fd(to_supervisor, listener);

@@ -13,7 +13,6 @@
 #include <sys/stat.h>
 #include <unistd.h>
 
-enum { LONGEST = 1 << 20 };
 static char *text;
 static size_t at, end, capacity;
 static long number, refused, happened_after_mark;
@@ -36,7 +35,7 @@ static ssize_t read_some(void) {
         at = 0;
     }
     if (end == capacity) {
-        if (capacity >= 2 * LONGEST && line_length() < 0) fault("%s: a line is too long", options.script);
+        if (capacity >= 2 * LONGEST_SCRIPT && line_length() < 0) fault("%s: a line is too long", options.script);
         capacity = capacity ? capacity * 2 : 1 << 16;
         if (!(text = realloc(text, capacity))) fail("realloc");
     }
@@ -177,9 +176,9 @@ void open_script(void) {
         if (options.has_schedule) fault("--schedule: %s is not a file", options.script);
         return;
     }
-    if (is.st_size > LONGEST) fault("%s: script too long", options.script);
-    while (!is_ended && end <= LONGEST) read_some();
-    if (end > LONGEST) fault("%s: script too long", options.script);
+    if (is.st_size > LONGEST_SCRIPT) fault("%s: script too long", options.script);
+    while (!is_ended && end <= LONGEST_SCRIPT) read_some();
+    if (end > LONGEST_SCRIPT) fault("%s: script too long", options.script);
     try_all();
 }
 

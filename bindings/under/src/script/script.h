@@ -3,6 +3,9 @@
 #define SCRIPT_H
 #include "under.h"
 
+/* The longest script that is a file, here and of `watchtree run`. */
+enum { LONGEST_SCRIPT = 1 << 20 };
+
 enum next { NEXT_LINE, NEXT_MARK, NEXT_NOT_YET, NEXT_END };
 
 void open_script(void);

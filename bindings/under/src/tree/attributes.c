@@ -142,6 +142,10 @@ void on_setattr(fuse_req_t req, fuse_ino_t number, struct stat *wanted, int whic
              ((which & FUSE_SET_ATTR_GID) && wanted->st_gid != is.st_gid)) reply = -EPERM;
     else if (which & FUSE_SET_ATTR_SIZE) reply = resize_file(number, (uint64_t)wanted->st_size);
     else reply = alter(number, &is, wanted, which);
+    if (reply == -EPERM || reply == -EFBIG) {
+        refuse(req, reply == -EPERM ? "chown" : "truncate", number, NULL, (int)-reply);
+        return;
+    }
     if (is_refused(req, reply)) return;
     attributes_of(number, &is);
     fuse_reply_attr(req, &is, 0);

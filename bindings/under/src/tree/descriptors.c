@@ -115,6 +115,10 @@ void on_write(fuse_req_t req, fuse_ino_t number, const char *bytes, size_t size,
     }
     if (file->flags & O_APPEND) offset = is.st_size;
     int64_t count = write_file(number, bytes, size, (uint64_t)offset, fuse_req_ctx(req)->pid);
+    if (count == -EFBIG) {
+        refuse(req, "write", number, NULL, EFBIG);
+        return;
+    }
     if (is_refused(req, count)) return;
     if (file->flags & (O_SYNC | O_DSYNC)) announce(number);
     fuse_reply_write(req, (size_t)count);

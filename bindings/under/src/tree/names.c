@@ -11,7 +11,7 @@
  * file raises the latter when it is closed. So it is made in a directory that nobody can watch, and linked to its path,
  * which raises only IN_CREATE. */
 
-static const char nursery[] = "/" NURSERY, newborn[] = "/" NURSERY "/new";
+static const char nursery[] = "/" NURSERY, newborn[] = "/" NEWBORN;
 
 void make_nursery(void) {
     must(CALL(0, wt_mkdir(&tree, PATH(nursery), 0700)), nursery);
@@ -53,16 +53,11 @@ static void make(fuse_req_t req, fuse_ino_t parent, const char *name, mode_t mod
 void on_mknod(fuse_req_t req, fuse_ino_t parent, const char *name, mode_t mode, dev_t device) {
     (void)device;
     if (S_ISREG(mode)) make(req, parent, name, mode, false);
-    else fuse_reply_err(req, EPERM);
+    else refuse(req, S_ISSOCK(mode) ? "bind" : "mknod", parent, name, EPERM);
 }
 
 void on_mkdir(fuse_req_t req, fuse_ino_t parent, const char *name, mode_t mode) {
     make(req, parent, name, mode, true);
-}
-
-void on_symlink(fuse_req_t req, const char *target, fuse_ino_t parent, const char *name) {
-    (void)target, (void)parent, (void)name;
-    fuse_reply_err(req, EPERM);
 }
 
 void on_link(fuse_req_t req, fuse_ino_t number, fuse_ino_t parent, const char *name) {
@@ -113,6 +108,10 @@ void on_rename(fuse_req_t req, fuse_ino_t parent, const char *name, fuse_ino_t t
     char from[PATH_SIZE], to[PATH_SIZE];
     struct wt_stat old = { 0 }, new = { 0 };
     begin(req);
+    if (flags & RENAME_WHITEOUT) {
+        refuse(req, "renameat2", parent, name, EINVAL);
+        return;
+    }
     int error = path_in(parent, name, from);
     if (!error) error = path_in(to_parent, to_name, to);
     if (error) {

@@ -7,6 +7,8 @@
 enum { ROOT = 1 };
 /* The runner's own directory in the root, which the program neither sees nor replaces (names.c). */
 #define NURSERY ".watchtree-new"
+/* Where a new file is made, before it is linked to its path. */
+#define NEWBORN NURSERY "/new"
 
 struct content;                     /* files.h */
 

@@ -38,5 +38,5 @@ const struct fuse_lowlevel_ops requests = {
     .symlink = on_symlink, .unlink = on_unlink, .rmdir = on_rmdir, .rename = on_rename, .link = on_link,
     .open = on_open, .create = on_create, .read = on_read, .write = on_write, .release = on_release, .fsync = on_fsync,
     .opendir = on_opendir, .readdir = on_readdir, .releasedir = on_releasedir, .fsyncdir = on_fsync, .poll = on_poll,
-    .ioctl = on_ioctl,
+    .ioctl = on_ioctl, .setxattr = on_setxattr, .fallocate = on_fallocate,
 };

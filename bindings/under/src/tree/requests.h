@@ -21,6 +21,13 @@ void begin(fuse_req_t req);
 /* Answers with an error if the reply of the tree is one. */
 bool is_refused(fuse_req_t req, int64_t reply);
 
+/* refused.c */
+/* Refuses a call on a file, or on a name in a directory, that would make what a tree cannot hold. */
+void refuse(fuse_req_t req, const char *call, uint64_t number, const char *name, int error);
+void on_symlink(fuse_req_t req, const char *target, fuse_ino_t parent, const char *name);
+void on_setxattr(fuse_req_t req, fuse_ino_t number, const char *name, const char *value, size_t size, int flags);
+void on_fallocate(fuse_req_t req, fuse_ino_t number, int mode, off_t offset, off_t length, struct fuse_file_info *file);
+
 /* attributes.c */
 bool attributes_of(uint64_t number, struct stat *out);
 /* Answers a lookup. */
@@ -40,7 +47,6 @@ int64_t make_file(uint64_t parent, const char *name, const char *path, mode_t mo
 void make_nursery(void);
 void on_mknod(fuse_req_t req, fuse_ino_t parent, const char *name, mode_t mode, dev_t device);
 void on_mkdir(fuse_req_t req, fuse_ino_t parent, const char *name, mode_t mode);
-void on_symlink(fuse_req_t req, const char *target, fuse_ino_t parent, const char *name);
 void on_unlink(fuse_req_t req, fuse_ino_t parent, const char *name);
 void on_rmdir(fuse_req_t req, fuse_ino_t parent, const char *name);
 void on_rename(fuse_req_t req, fuse_ino_t parent, const char *name, fuse_ino_t to_parent, const char *to_name,

@@ -1,5 +1,6 @@
 /* The tree, and its journal, which is cut before it is full. */
 #include "tree/tree.h"
+#include "output/calls.h"
 #include <errno.h>
 #include <stdlib.h>
 
@@ -10,6 +11,7 @@ enum { MOST_CALLS = 900000, MOST_BYTES = 128 << 20 };
 static uint64_t calls, held;
 
 void reserve_entry(uint64_t bytes) {
+    write_calls();
     if (++calls < MOST_CALLS && (held += bytes) < MOST_BYTES) return;
     int64_t reply = wt_cut(&tree);
     if (reply < 0) fault("wt_cut: %s", strerror(errno_of(reply)));

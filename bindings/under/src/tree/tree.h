@@ -5,7 +5,7 @@
 
 extern struct wt_tree tree;
 
-/* Cuts the journal if it cannot take an entry of `bytes` more bytes. */
+/* Cuts the journal if it cannot take an entry of `bytes` more bytes. A recording has all of it first. */
 void reserve_entry(uint64_t bytes);
 /* A call of the tree that its journal keeps. */
 #define CALL(bytes, call) (reserve_entry(bytes), (call))
