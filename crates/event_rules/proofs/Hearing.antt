@@ -1,5 +1,5 @@
 -- The notices of the files that are watched alone.
-use Rattle.std.proofs.Common.{◌≡◌, ℕ, Bool, true, false, cond, if◌then◌else◌, ◌==◌, List, [], ◌∷◌, ◌++◌, Option, Some, None, append_assoc, refl, sym, ap, ◌∙◌}
+use Rattle.std.proofs.Common.{◌≡◌, ℕ, Bool, true, false, cond, if◌then◌else◌, ◌==◌, List, [], ◌∷◌, ◌++◌, Option, Some, None, refl, sym, ap, ◌∙◌}
 use Rattle.std.specs.List.{AllByRecursion, last_or}
 use Rattle.std.proofs.lemmas.List.Elements.{filter-append}
 use Rattle.inode_table.specs.declared.seen.Seen.{Seen}
@@ -103,19 +103,8 @@ module _ (watches : ℕ → Bool) where
 
   -- ---- lines one after the other
 
-  pub heard-two : (none one two a b : List Notice) → none ≡ [] → one ≡ none ++ heard watches a → two ≡ one ++ heard watches b
-      → two ≡ heard watches (a ++ b)
-  heard-two none one two a b opens first second =
-      second ∙ ap (λ l. l ++ heard watches b) (first ∙ ap (λ l. l ++ heard watches a) opens) ∙ sym (heard-append a b)
+  pub heard-first : (none one a : List Notice) → none ≡ [] → one ≡ none ++ heard watches a → one ≡ heard watches a
+  heard-first none one a opens first = first ∙ ap (λ l. l ++ heard watches a) opens
 
-  pub heard-three : (none one two three a b c : List Notice) → none ≡ [] → one ≡ none ++ heard watches a → two ≡ one ++ heard watches b
-      → three ≡ two ++ heard watches c → three ≡ heard watches (a ++ b ++ c)
-  heard-three none one two three a b c opens first second third =
-      third ∙ ap (λ l. l ++ heard watches c) (heard-two none one two a b opens first second)
-      ∙ sym (heard-append (a ++ b) c) ∙ ap (heard watches) (append_assoc a b c)
-
-  pub heard-four : (none one two three four a b c d : List Notice) → none ≡ [] → one ≡ none ++ heard watches a → two ≡ one ++ heard watches b
-      → three ≡ two ++ heard watches c → four ≡ three ++ heard watches d → four ≡ heard watches (a ++ b ++ c ++ d)
-  heard-four none one two three four a b c d opens first second third fourth =
-      fourth ∙ ap (λ l. l ++ heard watches d) (heard-three none one two three a b c opens first second third)
-      ∙ sym (heard-append (a ++ b ++ c) d) ∙ ap (heard watches) (append_assoc a (b ++ c) d ∙ ap (λ l. a ++ l) (append_assoc b c d))
+  pub heard-more : (all more xs b : List Notice) → all ≡ heard watches xs → more ≡ all ++ heard watches b → more ≡ heard watches (xs ++ b)
+  heard-more all more xs b before next = next ∙ ap (λ l. l ++ heard watches b) before ∙ sym (heard-append xs b)

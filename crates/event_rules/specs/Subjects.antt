@@ -6,10 +6,10 @@ use Rattle.inode_table.specs.TableWorld.{world_of}
 use Rattle.inode_table.specs.World.{look}
 use Rattle.tree_ops.specs.CallPaths.{LookupValue}
 
--- a path, and which files are watched
-pub record SubjectValue : Type 0 where
+-- a path, and who knows which files are watched
+pub record SubjectValue (A : Type 0) : Type 0 where
   pub at : LookupValue
-  pub watches : ℕ → Bool
+  pub audience : A
 
 -- what is seen, if it is watched
 abbrev pub seen_watched : (ℕ → Bool) → Option Seen → Option Seen
@@ -17,7 +17,7 @@ seen_watched watches None = None
 seen_watched watches (Some s) = if watches s.number then Some s else None
 
 -- what stands at the path; the same, if it is watched; and the directory of the path's last name, if that is
-pub record IsSubjectOf (s : SubjectValue) (object watched directory : Option Seen) : Type 0 where
-  pub stands : object ≡ look (world_of s.at.tree) s.at.path.names
-  pub notified : watched ≡ seen_watched s.watches object
-  pub holds : directory ≡ seen_watched s.watches (look (world_of s.at.tree) (parent_of s.at.path.names))
+pub record IsSubjectOf (at : LookupValue) (watches : ℕ → Bool) (object watched directory : Option Seen) : Type 0 where
+  pub stands : object ≡ look (world_of at.tree) at.path.names
+  pub notified : watched ≡ seen_watched watches object
+  pub holds : directory ≡ seen_watched watches (look (world_of at.tree) (parent_of at.path.names))

@@ -30,19 +30,18 @@ pub(crate) struct Subject<'a, A: Audience> {
 impl<'a, A: Audience> Model for Subject<'a, A> {
     ghost use Rattle.event_rules.specs.Subjects.{IsSubjectOf, SubjectValue};
 
-    ghost Value = { SubjectValue };
+    ghost Value = { SubjectValue A };
 
-    ghost view = { λ s. record { at = s.path; watches = A.watches s.audience.now } };
+    ghost view = { λ s. record { at = s.path; audience = s.audience.now } };
 
-    ghost invariant = { λ s.
-        IsSubjectOf (record { at = s.path; watches = A.watches s.audience.now }) s.object s.watched s.directory };
+    ghost invariant = { λ s. IsSubjectOf s.path (A.watches s.audience.now) s.object s.watched s.directory };
 }
 
 impl<'a, A: Audience> Subject<'a, A> {
     #[inline(always)]
     fn new(path: Lookup<'a>, audience: &'a A) -> Subject<'a, A>
         ensures at { result.at ≡ path.entry }
-        ensures watches { result.watches ≡ A.watches audience.now }
+        ensures audience { result.audience ≡ audience.now }
     {
         let object = path.seen();
         let directory = path.find_parent().ok();
@@ -60,7 +59,7 @@ impl<'a, A: Audience> Subject<'a, A> {
     pub(crate) fn at_path(ready: &'a Ready, audience: &'a A) -> Subject<'a, A>
         ensures tree { result.at.tree ≡ ready.now.tree }
         ensures names { result.at.path.names ≡ path_of ready.now.plan.call }
-        ensures watches { result.watches ≡ A.watches audience.now }
+        ensures audience { result.audience ≡ audience.now }
     {
         Subject::new(ready.path(), audience)
     }
@@ -70,7 +69,7 @@ impl<'a, A: Audience> Subject<'a, A> {
     pub(crate) fn at_other_path(ready: &'a Ready, audience: &'a A) -> Subject<'a, A>
         ensures tree { result.at.tree ≡ ready.now.tree }
         ensures names { result.at.path.names ≡ other_path_of ready.now.plan.call }
-        ensures watches { result.watches ≡ A.watches audience.now }
+        ensures audience { result.audience ≡ audience.now }
     {
         Subject::new(ready.other_path(), audience)
     }
@@ -89,14 +88,15 @@ impl<'a, A: Audience> Subject<'a, A> {
 
     /// The object, if it is watched.
     pub(crate) fn watched(&self) -> Option<Seen>
-        ensures { result ≡ seen_watched self.now.watches (look (world_of self.now.at.tree) self.now.at.path.names) }
+        ensures { result ≡ seen_watched (A.watches self.now.audience)
+            (look (world_of self.now.at.tree) self.now.at.path.names) }
     {
         self.watched
     }
 
     /// The directory of the path's last name, if it is watched.
     pub(crate) fn watched_directory(&self) -> Option<Seen>
-        ensures { result ≡ seen_watched self.now.watches
+        ensures { result ≡ seen_watched (A.watches self.now.audience)
             (look (world_of self.now.at.tree) (parent_of self.now.at.path.names)) }
     {
         self.directory

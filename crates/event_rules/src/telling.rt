@@ -9,8 +9,9 @@ ghost use Rattle.tree_ops.specs.Moves.{cookies_of, moves_of};
 ghost use Rattle.tree_ops.specs.declared.call.FileCall.TheVariants.{ReadFile};
 ghost use Rattle.event_rules.specs.Raised.{heard};
 ghost use Rattle.event_rules.specs.Table.{about, answers_byte, chmod_told, create_told, kind_seen, mkdir_told};
-ghost use Rattle.event_rules.specs.Table.{move_told, no_counts, notices_of, path_lost, read_told, rmdir_told};
-ghost use Rattle.event_rules.specs.Table.{swap_told, to_both, to_dir, to_self, truncate_told, unlink_told, write_told};
+ghost use Rattle.event_rules.specs.Table.{link_told, move_told, no_counts, notices_of, path_lost, read_told};
+ghost use Rattle.event_rules.specs.Table.{rmdir_told, swap_told, to_both, to_dir, to_self, truncate_told, unlink_told};
+ghost use Rattle.event_rules.specs.Table.{write_told};
 
 use crate::audience::Audience;
 use crate::notice::{NO_COOKIE, Notice, Notices};
@@ -50,7 +51,7 @@ impl Notices {
         event: u32,
         cookie: u32,
     ) -> Result<(), AllocError>
-        ensures { OnOk result (self.new ≡ self.old ++ heard at.now.watches
+        ensures { OnOk result (self.new ≡ self.old ++ heard (A.watches at.now.audience)
             (to_dir (look (world_of at.now.at.tree)) at.now.at.path.names kind event cookie)) }
     {
         let Some(directory) = at.watched_directory() else {
@@ -85,7 +86,7 @@ impl Notices {
     /// Notifies both.
     #[tactic(auto, unfolding(crate::specs::Table::to_both))]
     fn notify_both<A: Audience>(&mut self, at: &Subject<A>, event: u32) -> Result<(), AllocError>
-        ensures { OnOk result (self.new ≡ self.old ++ heard at.now.watches
+        ensures { OnOk result (self.new ≡ self.old ++ heard (A.watches at.now.audience)
             (to_both (look (world_of at.now.at.tree)) at.now.at.path.names event)) }
     {
         let kind = kind_seen(at.object());
@@ -118,7 +119,7 @@ impl Notices {
 fn create<A: Audience>(told: &mut Notices, at: &Subject<A>) -> Result<(), AllocError>
     requires { told.old ≡ [] }
     ensures { OnOk result (told.new
-        ≡ heard at.now.watches (create_told (look (world_of at.now.at.tree)) at.now.at.path.names)) }
+        ≡ heard (A.watches at.now.audience) (create_told (look (world_of at.now.at.tree)) at.now.at.path.names)) }
 {
     told.notify_directory(at, Kind::Regular, bits::IN_CREATE, NO_COOKIE)?;
     told.notify_directory(at, Kind::Regular, bits::IN_OPEN, NO_COOKIE)?;
@@ -130,7 +131,7 @@ fn create<A: Audience>(told: &mut Notices, at: &Subject<A>) -> Result<(), AllocE
 fn mkdir<A: Audience>(told: &mut Notices, at: &Subject<A>) -> Result<(), AllocError>
     requires { told.old ≡ [] }
     ensures { OnOk result (told.new
-        ≡ heard at.now.watches (mkdir_told (look (world_of at.now.at.tree)) at.now.at.path.names)) }
+        ≡ heard (A.watches at.now.audience) (mkdir_told (look (world_of at.now.at.tree)) at.now.at.path.names)) }
 {
     told.notify_directory(at, Kind::Directory, bits::IN_CREATE, NO_COOKIE)?;
     Ok(())
@@ -139,8 +140,8 @@ fn mkdir<A: Audience>(told: &mut Notices, at: &Subject<A>) -> Result<(), AllocEr
 #[tactic(auto, unfolding(crate::specs::Table::write_told))]
 fn write<A: Audience>(told: &mut Notices, at: &Subject<A>, is_given: bool) -> Result<(), AllocError>
     requires { told.old ≡ [] }
-    ensures { OnOk result (told.new
-        ≡ heard at.now.watches (write_told (look (world_of at.now.at.tree)) at.now.at.path.names is_given)) }
+    ensures { OnOk result (told.new ≡ heard (A.watches at.now.audience)
+        (write_told (look (world_of at.now.at.tree)) at.now.at.path.names is_given)) }
 {
     told.notify_both(at, bits::IN_OPEN)?;
     if is_given {
@@ -168,8 +169,8 @@ fn read<A: Audience>(
     is_answered: bool,
 ) -> Result<(), AllocError>
     requires { told.old ≡ [] }
-    ensures { OnOk result (told.new
-        ≡ heard at.now.watches (read_told (look (world_of at.now.at.tree)) at.now.at.path.names is_answered)) }
+    ensures { OnOk result (told.new ≡ heard (A.watches at.now.audience)
+        (read_told (look (world_of at.now.at.tree)) at.now.at.path.names is_answered)) }
 {
     told.notify_both(at, bits::IN_OPEN)?;
     if is_answered {
@@ -183,7 +184,7 @@ fn read<A: Audience>(
 fn truncate<A: Audience>(told: &mut Notices, at: &Subject<A>) -> Result<(), AllocError>
     requires { told.old ≡ [] }
     ensures { OnOk result (told.new
-        ≡ heard at.now.watches (truncate_told (look (world_of at.now.at.tree)) at.now.at.path.names)) }
+        ≡ heard (A.watches at.now.audience) (truncate_told (look (world_of at.now.at.tree)) at.now.at.path.names)) }
 {
     told.notify_both(at, bits::IN_MODIFY)?;
     Ok(())
@@ -193,7 +194,7 @@ fn truncate<A: Audience>(told: &mut Notices, at: &Subject<A>) -> Result<(), Allo
 fn chmod<A: Audience>(told: &mut Notices, at: &Subject<A>) -> Result<(), AllocError>
     requires { told.old ≡ [] }
     ensures { OnOk result (told.new
-        ≡ heard at.now.watches (chmod_told (look (world_of at.now.at.tree)) at.now.at.path.names)) }
+        ≡ heard (A.watches at.now.audience) (chmod_told (look (world_of at.now.at.tree)) at.now.at.path.names)) }
 {
     told.notify_both(at, bits::IN_ATTRIB)?;
     Ok(())
@@ -207,8 +208,8 @@ fn link<A: Audience>(
 ) -> Result<(), AllocError>
     requires empty { told.old ≡ [] }
     requires same { new.now.at.tree ≡ old.now.at.tree }
-    requires watches { new.now.watches ≡ old.now.watches }
-    ensures { OnOk result (told.new ≡ heard old.now.watches
+    requires audience { new.now.audience ≡ old.now.audience }
+    ensures { OnOk result (told.new ≡ heard (A.watches old.now.audience)
         (link_told (look (world_of old.now.at.tree)) old.now.at.path.names new.now.at.path.names)) }
 {
     told.notify_file(old.watched(), bits::IN_ATTRIB)?;
@@ -220,7 +221,7 @@ fn link<A: Audience>(
 fn unlink<A: Audience>(told: &mut Notices, at: &Subject<A>) -> Result<(), AllocError>
     requires { told.old ≡ [] }
     ensures { OnOk result (told.new
-        ≡ heard at.now.watches (unlink_told (look (world_of at.now.at.tree)) at.now.at.path.names)) }
+        ≡ heard (A.watches at.now.audience) (unlink_told (look (world_of at.now.at.tree)) at.now.at.path.names)) }
 {
     told.notify_path_lost(at.watched())?;
     told.notify_directory(at, Kind::Regular, bits::IN_DELETE, NO_COOKIE)?;
@@ -231,7 +232,7 @@ fn unlink<A: Audience>(told: &mut Notices, at: &Subject<A>) -> Result<(), AllocE
 fn rmdir<A: Audience>(told: &mut Notices, at: &Subject<A>) -> Result<(), AllocError>
     requires { told.old ≡ [] }
     ensures { OnOk result (told.new
-        ≡ heard at.now.watches (rmdir_told (look (world_of at.now.at.tree)) at.now.at.path.names)) }
+        ≡ heard (A.watches at.now.audience) (rmdir_told (look (world_of at.now.at.tree)) at.now.at.path.names)) }
 {
     told.notify_path_lost(at.watched())?;
     told.notify_directory(at, Kind::Directory, bits::IN_DELETE, NO_COOKIE)?;
@@ -247,8 +248,8 @@ fn rename<A: Audience>(
 ) -> Result<(), AllocError>
     requires empty { told.old ≡ [] }
     requires same { new.now.at.tree ≡ old.now.at.tree }
-    requires watches { new.now.watches ≡ old.now.watches }
-    ensures { OnOk result (told.new ≡ heard old.now.watches
+    requires audience { new.now.audience ≡ old.now.audience }
+    ensures { OnOk result (told.new ≡ heard (A.watches old.now.audience)
         (move_told (look (world_of old.now.at.tree)) old.now.at.path.names new.now.at.path.names cookie)) }
 {
     let kind = kind_seen(old.object());
@@ -268,9 +269,9 @@ fn exchange<A: Audience>(
 ) -> Result<(), AllocError>
     requires empty { told.old ≡ [] }
     requires same { new.now.at.tree ≡ old.now.at.tree }
-    requires watches { new.now.watches ≡ old.now.watches }
+    requires audience { new.now.audience ≡ old.now.audience }
     requires next { cookie + 1 < 2 ^ 32 }
-    ensures { OnOk result (told.new ≡ heard old.now.watches
+    ensures { OnOk result (told.new ≡ heard (A.watches old.now.audience)
         (swap_told (look (world_of old.now.at.tree)) old.now.at.path.names new.now.at.path.names cookie)) }
 {
     let next = cookie + 1;
