@@ -62,7 +62,8 @@ module _ (watches other_watches : ℕ → Bool) (at other_at : Look) (old new : 
   move_told-lines none from to lost all opens begins arrives loses ends =
       let a = to_dir at old (kind_seen (at old)) IN_MOVED_FROM cookie in
       let b = to_dir at new (kind_seen (at old)) IN_MOVED_TO cookie in
-      let one : from ≡ heard watches a = heard-first watches none from a opens (begins ∙ (λ i. none ++ heard watches (to_dir at old (is_kind i) IN_MOVED_FROM cookie))) in
+      let one : from ≡ heard watches a = heard-first watches none from a opens
+      (begins ∙ (λ i. none ++ heard watches (to_dir at old (is_kind i) IN_MOVED_FROM cookie))) in
       let two = heard-more watches from to a b one (arrives ∙ (λ i. from ++ heard (alike i) (to_dir (same i) new (is_kind i) IN_MOVED_TO cookie))) in
       let three = heard-more watches to lost (a ++ b) (path_lost (at new)) two
       (lost-told watches lost to replaced (at new) loses (is_replaced ∙ (λ i. seen_watched (alike i) (same i new)))) in
@@ -91,7 +92,8 @@ module _ (watches other_watches : ℕ → Bool) (at other_at : Look) (old new : 
       let d = to_dir at new l IN_MOVED_FROM (cookie + 1) in
       let e = to_dir at old l IN_MOVED_TO (cookie + 1) in
       let f = to_self (at new) IN_MOVE_SELF in
-      let first : from ≡ heard watches a = heard-first watches none from a opens (begins ∙ (λ i. none ++ heard watches (to_dir at old (is_kind i) IN_MOVED_FROM cookie))) in
+      let first : from ≡ heard watches a = heard-first watches none from a opens
+      (begins ∙ (λ i. none ++ heard watches (to_dir at old (is_kind i) IN_MOVED_FROM cookie))) in
       let second = heard-more watches from to a b first (arrives ∙ (λ i. from ++ heard (alike i) (to_dir (same i) new (is_kind i) IN_MOVED_TO cookie))) in
       let third = heard-more watches to itself (a ++ b) c second (self-told watches itself to one (at old) IN_MOVE_SELF turns is_one) in
       let fourth = heard-more watches itself back_from ((a ++ b) ++ c) d third

@@ -28,11 +28,11 @@ returns-in-Rename g c =
     let w = world_of c.args.ready.now.tree in
     elim c.in-Rename.is [
       | inl of ↦
-          rename-none (g.A.Audience.watches c.args.audience.now) w c.args.ready.now.plan.call c.call.result.now c.args.told.now c.args.cookie of.0 of.1 c.requires.empty
-          c.requires.still c.call.ensures of.2
+          rename-none (g.A.Audience.watches c.args.audience.now) w c.args.ready.now.plan.call c.call.result.now c.args.told.now c.args.cookie of.0
+          of.1 c.requires.empty c.requires.still c.call.ensures of.2
       | inr of ↦
-          rename2-none (g.A.Audience.watches c.args.audience.now) w c.args.ready.now.plan.call c.call.result.now c.args.told.now c.args.cookie of.0 of.1 of.2
-          c.requires.empty c.requires.still c.call.ensures of.3
+          rename2-none (g.A.Audience.watches c.args.audience.now) w c.args.ready.now.plan.call c.call.result.now c.args.told.now c.args.cookie of.0
+          of.1 of.2 c.requires.empty c.requires.still c.call.ensures of.3
     ]
 
 pub returns-in-Rename-2 : goal.returns-in-Rename-2
@@ -40,9 +40,9 @@ returns-in-Rename-2 g c =
     let w = world_of c.args.ready.now.tree in
     elim c.in-Rename.is [
       | inl of ↦
-          rename-none (g.A.Audience.watches c.args.audience.now) w c.args.ready.now.plan.call c.call.result.now c.args.told.now c.args.cookie of.0 of.1 c.requires.empty
-          c.requires.still c.call.ensures of.2
+          rename-none (g.A.Audience.watches c.args.audience.now) w c.args.ready.now.plan.call c.call.result.now c.args.told.now c.args.cookie of.0
+          of.1 c.requires.empty c.requires.still c.call.ensures of.2
       | inr of ↦
-          rename2-none (g.A.Audience.watches c.args.audience.now) w c.args.ready.now.plan.call c.call.result.now c.args.told.now c.args.cookie of.0 of.1 of.2
-          c.requires.empty c.requires.still c.call.ensures of.3
+          rename2-none (g.A.Audience.watches c.args.audience.now) w c.args.ready.now.plan.call c.call.result.now c.args.told.now c.args.cookie of.0
+          of.1 of.2 c.requires.empty c.requires.still c.call.ensures of.3
     ]

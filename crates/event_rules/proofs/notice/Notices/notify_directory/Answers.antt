@@ -11,6 +11,6 @@ returns g c =
     let seen_at = look (world_of c.args.at.now.at.tree) in
     let name = c.in-Some-last_place.name in
     let parts : p ≡ parent_of p ++ name ∷ [] = subst (λ q. q ≡ parent_of q ++ name ∷ []) c.as_path.ensures c.in-Some-last_place.ensures.parts in
-    let there = to_dir-there (g.A.Audience.watches c.args.at.now.audience) seen_at p (parent_of p) name c.in-Some.directory c.args.kind c.args.event c.args.cookie
-    parts refl (sym c.watched_directory.ensures ∙ c.in-Some.is) in
+    let there = to_dir-there (g.A.Audience.watches c.args.at.now.audience) seen_at p (parent_of p) name c.in-Some.directory c.args.kind
+    c.args.event c.args.cookie parts refl (sym c.watched_directory.ensures ∙ c.in-Some.is) in
     rw (there, ← c.about.ensures, ← c.in_ok-to_name.ensures.same) c.push.ensures
