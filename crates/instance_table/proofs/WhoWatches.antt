@@ -1,5 +1,5 @@
 -- The instances that the index notes for a file are those that watch it.
-use Rattle.std.proofs.Common.{◌≡◌, ℕ, Bool, true, false, cond, eqb, T, ◌||◌, ◌&&◌, Option, Some, None, is_some, List, [], ◌∷◌, map, refl, sym, ap, ◌∙◌}
+use Rattle.std.proofs.Common.{◌≡◌, ℕ, Bool, true, false, cond, eqb, T, ◌||◌, ◌&&◌, Option, Some, None, is_some, List, [], ◌∷◌, map, refl, sym, ap, ◌∙◌, arith}
 use Rattle.std.specs.Prelude.{not, length, ◌==◌}
 use Rattle.std.specs.FinMap as finmap
 use Rattle.std.specs.FinMap.{is_sorted, entries, entries_sorted, contains_key-keys}
@@ -94,7 +94,11 @@ watchers-noted a whole number =
 
 no-length : (xs : List ℕ) → not (length xs == 0) ≡ false → xs ≡ []
 no-length [] h = refl
-no-length (x ∷ xs) h = absurd (Rattle.std.proofs.lemmas.Bool.false≢true (sym h))
+no-length (x ∷ xs) h = absurd (let e = Rattle.instance_table.proofs.Indexed.is-same (length (x ∷ xs)) 0 (denied (length (x ∷ xs) == 0) h) in omega (arith, e))
+  where
+    denied : (b : Bool) → not b ≡ false → b ≡ true
+    denied true h = refl
+    denied false h = sym h
 
 -- no instance watches a file that is not watched
 pub unwatched-by-none : (m : Instances) (number q : ℕ) → is_watched m number ≡ false → watches_file number (instance_of m q) ≡ false
