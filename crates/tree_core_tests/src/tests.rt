@@ -14,10 +14,15 @@ use tree_core::{Call, Entry, Kept, Receipt, Reply, State};
 use tree_ops::{Answer, FileCall, RENAME_EXCHANGE};
 use tree_paths::{Limits, Names, Path, Refusal};
 
-/// What was got is what is wanted. Tests assert in this function, and the helpers end the test where a call fails: a
-/// macro or a `?` in a long body costs seconds to prove.
+/// What was got is what is wanted. Tests assert in these two functions, and the helpers end the test where a call
+/// fails: a macro or a `?` in a long body costs seconds to prove.
 fn equal<T: PartialEq + Debug + Drop>(rt: &impl Abort, got: T, wanted: T) {
     assert_eq!(rt; got, wanted);
+}
+
+/// It is so in this case.
+fn holds<C: Debug + Drop>(rt: &impl Abort, case: C, is_so: bool) {
+    assert!(rt; is_so, "{case:?}");
 }
 
 /// Who makes the calls.
@@ -280,6 +285,6 @@ fn is_done(tree: &State) -> bool {
 fn does(rt: &impl Abort, alloc: Global, tree: &mut State, asks: &[Ask]) {
     for ask in asks {
         let made = tree.record(CALLER, call(rt, alloc, *ask));
-        assert!(rt; made.is_ok() && is_done(tree), "{ask:?}");
+        holds(rt, *ask, made.is_ok() && is_done(tree));
     }
 }

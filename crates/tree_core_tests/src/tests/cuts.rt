@@ -10,7 +10,7 @@ type Trees = (State, State);
 fn both_read(rt: &impl Abort, alloc: Global, trees: &mut Trees, ask: Ask) -> bool {
     let one = trees.0.apply(CALLER, call(rt, alloc, ask));
     let other = trees.1.apply(CALLER, call(rt, alloc, ask));
-    assert!(rt; one == other, "{ask:?} answers the same");
+    holds(rt, ask, one == other);
     matches!(
         one,
         Ok(Receipt {
@@ -88,7 +88,7 @@ const DRAWN: [Ask<'static>; 64] = [
     Ask::Close(4),
 ];
 
-/// The call, with the number of its instance where `opened` were opened.
+/// The call, where `opened` instances were opened.
 fn of_last(ask: Ask<'static>, opened: u32) -> Ask<'static> {
     match ask {
         Ask::Watch(back, text, mask) => Ask::Watch(opened.saturating_sub(back), text, mask),
@@ -100,9 +100,8 @@ fn of_last(ask: Ask<'static>, opened: u32) -> Ask<'static> {
     }
 }
 
-/// Makes 3,000 calls on both trees, and cuts the second after every seventh. How many gave records, and how many
-/// opened an instance.
-fn draws(rt: &impl Abort, alloc: Global, trees: &mut Trees) -> (u32, u32) {
+/// Makes 3,000 calls on both trees, and cuts the second after every seventh. How many gave records.
+fn draws(rt: &impl Abort, alloc: Global, trees: &mut Trees) -> u32 {
     // Each number is 1664525 times the one before it and 1013904223, modulo 2^32.
     let mut at = 48u32;
     let mut reads = 0u32;
@@ -120,7 +119,7 @@ fn draws(rt: &impl Abort, alloc: Global, trees: &mut Trees) -> (u32, u32) {
             equal(rt, trees.1.cut(), Ok(turn));
         }
     }
-    (reads, opened)
+    reads
 }
 
 #[test]
@@ -128,10 +127,10 @@ fn cuts_change_no_answer(rt: HostRuntime) {
     let alloc = rt.alloc();
     let tree = opened(&rt, alloc, Limits::full());
     let mut trees = (tree, opened(&rt, alloc, Limits::full()));
-    let (reads, opened) = draws(&rt, alloc, &mut trees);
+    let reads = draws(&rt, alloc, &mut trees);
     equal(&rt, trees.0.cut(), Ok(3_000));
     let mut rest = 0u32;
-    for id in 1..opened {
+    for id in 1..trees.0.snapshot().next_id {
         for ask in [Ask::Read(id, ALL), Ask::Pump(id, ALL)] {
             if both_read(&rt, alloc, &mut trees, ask) {
                 rest = rest.saturating_add(1);
@@ -139,16 +138,6 @@ fn cuts_change_no_answer(rt: HostRuntime) {
         }
     }
     equal(&rt, (reads > 20, rest > 20), (true, true));
-}
-
-/// A directory, a file with two paths, an instance of two records with an overflow mark, and one with a pipe. Nine of
-/// the twelve calls were cut off.
-fn grown(rt: &impl Abort, alloc: Global) -> State {
-    let mut tree = opened(rt, alloc, Limits::full());
-    does(rt, alloc, &mut tree, &NINE);
-    equal(rt, tree.cut(), Ok(9));
-    does(rt, alloc, &mut tree, &THREE);
-    tree
 }
 
 // The queue of two records is offered four: the last two are lost.
@@ -169,6 +158,16 @@ const THREE: [Ask<'static>; 3] = [
     Ask::Write("/b", 0, "abc"),
     Ask::Rename("/d/b", "/d/e"),
 ];
+
+/// A directory, a file with two paths, an instance of two records with an overflow mark, and one with a pipe. Nine of
+/// the twelve calls were cut off.
+fn grown(rt: &impl Abort, alloc: Global) -> State {
+    let mut tree = opened(rt, alloc, Limits::full());
+    does(rt, alloc, &mut tree, &NINE);
+    equal(rt, tree.cut(), Ok(9));
+    does(rt, alloc, &mut tree, &THREE);
+    tree
+}
 
 #[test]
 fn a_cut_keeps_what_waits(rt: HostRuntime) {
@@ -216,11 +215,6 @@ fn a_fork_answers_alike_and_apart(rt: HostRuntime) {
     let tree = grown(&rt, alloc);
     let fork = tree.fork().expect(&rt, "a fork");
     let mut apart = tree.fork().expect(&rt, "a fork");
-    equal(
-        &rt,
-        (fork.journal().len(), fork.last_place(), fork.waiting(1)),
-        (0, 12, Some(3)),
-    );
     let mut trees = (tree, fork);
     let mut reads = 0u32;
     for ask in TWENTY {

@@ -216,17 +216,17 @@ fn tells(rt: &impl Abort, alloc: Global, tree: &mut State, place: u64, way: Way,
         (way, ask, wanted),
         (Way::Keep, Ask::Pump(_, _), Gives::Records(_))
     );
-    equal(
-        rt,
-        (given.place, is_given, given.events.is_some()),
-        (place, true, is_pumped),
-    );
+    let are_records = given.events.is_some() == is_pumped;
     let is_last = tree.last_entry() == Some(&entry) && tree.entry(place) == Some(&entry);
-    let is_refused = matches!(wanted, Gives::Refused(_));
-    let is_as_before = !is_refused || both_wait(tree) == before;
-    equal(rt, (place, is_last, is_as_before), (place, true, true));
+    let is_as_before = !matches!(wanted, Gives::Refused(_)) || both_wait(tree) == before;
     let is_plain = !matches!(ask, Ask::InitPiped(_) | Ask::Pump(_, _));
     let is_copied = entry.reply.copy().expect(rt, "memory") == entry.reply;
+    equal(
+        rt,
+        (given.place, is_given, are_records),
+        (place, true, true),
+    );
+    equal(rt, (place, is_last, is_as_before), (place, true, true));
     equal(
         rt,
         (place, entry.call.is_plain(), is_copied),

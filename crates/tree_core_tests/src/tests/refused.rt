@@ -178,7 +178,7 @@ fn are_alike(rt: &impl Abort, alloc: Global, one: &mut State, other: &mut State)
     are_alike && look_alike(one, other)
 }
 
-/// Makes the act. A fork takes the place of the tree. Gives the sequence number of the last entry.
+/// Makes the act. A fork replaces the tree. Gives the sequence number of the last entry.
 fn acts(tree: &mut State, call: Call, act: Act) -> Result<u64, Refusal> {
     match act {
         Act::Call(way) => Ok(made(tree, call, way)?.place),
@@ -209,7 +209,7 @@ fn fails_at(rt: &impl Abort, alloc: Global, steps: u32, (ask, act): (Ask, Act), 
         );
         made = acts(&mut tree, again, act);
     } else {
-        equal(rt, (steps, k, is_done(&tree)), (steps, k, true));
+        holds(rt, (steps, k), is_done(&tree));
     }
     let wanted = match act {
         Act::Call(_) => acts(&mut control, call(rt, alloc, ask), Act::Call(Way::Apply)),
@@ -220,56 +220,36 @@ fn fails_at(rt: &impl Abort, alloc: Global, steps: u32, (ask, act): (Ask, Act), 
     is_refused
 }
 
-/// How many allocations an act makes after `steps` steps, each of which fails in turn.
-fn fails_in_turn(rt: &impl Abort, alloc: Global, steps: u32, act: (Ask, Act)) -> u32 {
+/// Makes an act after `steps` steps, each of whose allocations fails in turn. There are `least` or more.
+fn fails_in_turn(rt: &impl Abort, alloc: Global, steps: u32, act: (Ask, Act), least: u32) {
     for k in 1..MOST {
         if !fails_at(rt, alloc, steps, act, k) {
-            return k - 1;
+            holds(rt, (steps, act, k), k > least);
+            return;
         }
     }
-    MOST
-}
-
-/// Whether allocations can be made to fail.
-fn has_refuser(alloc: Global) -> bool {
-    let has = refuse(alloc, MOST);
-    let _ = was_refused(alloc);
-    has
+    holds(rt, (steps, act, MOST), false);
 }
 
 /// Each kind of call, in each way, where the journal has no capacity left, so that each makes at least one allocation.
-/// Then each step of a story, so that each container outgrows its first capacity.
+/// Each step of a story, so that each container outgrows its first capacity. Cuts and forks.
 #[test]
-fn each_allocation_of_each_call(rt: HostRuntime) {
+fn each_allocation_fails_in_turn(rt: HostRuntime) {
     let alloc = rt.alloc();
-    let has_refuser = has_refuser(alloc);
+    let least = if refuse(alloc, MOST) { 1 } else { 0 };
+    let _ = was_refused(alloc);
     for way in WAYS {
         for ask in CALLS {
-            let count = fails_in_turn(&rt, alloc, 16, (ask, Act::Call(way)));
-            assert!(rt;
-                count < MOST && (count > 0) == has_refuser,
-                "{way:?} {ask:?}: {count}"
-            );
+            fails_in_turn(&rt, alloc, 16, (ask, Act::Call(way)), least);
         }
     }
     for steps in 0..STEPS {
-        let act = Act::Call(WAYS[steps as usize % 3]);
-        let count = fails_in_turn(&rt, alloc, steps, (step_of(steps), act));
-        equal(&rt, (steps, count < MOST), (steps, true));
+        let way = WAYS[steps as usize % 3];
+        fails_in_turn(&rt, alloc, steps, (step_of(steps), Act::Call(way)), 0);
     }
-}
-
-#[test]
-fn each_allocation_of_a_cut_and_a_fork(rt: HostRuntime) {
-    let alloc = rt.alloc();
-    let has_refuser = has_refuser(alloc);
     for act in [Act::Cut, Act::Fork] {
         for steps in [0, 16, STEPS] {
-            let count = fails_in_turn(&rt, alloc, steps, (Ask::Close(0), act));
-            assert!(rt;
-                count < MOST && (count > 0) == has_refuser,
-                "{act:?} after {steps}: {count}"
-            );
+            fails_in_turn(&rt, alloc, steps, (Ask::Close(0), act), least);
         }
     }
 }
@@ -342,6 +322,6 @@ fn two_hundred_growths_do(rt: HostRuntime) {
         let _ = refuse_from(alloc, 201);
         let made = tree.record(CALLER, call);
         let _ = was_refused(alloc);
-        assert!(rt; made.is_ok() && is_done(&tree), "{ask:?}");
+        holds(&rt, ask, made.is_ok() && is_done(&tree));
     }
 }

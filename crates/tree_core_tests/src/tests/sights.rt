@@ -31,7 +31,7 @@ enum Step {
 }
 
 /// What a tree says of itself.
-const SAYS: [Step; 51] = [
+const SAYS: [Step; 53] = [
     Step::Entries(0, 1_000_000),
     Step::Leads(1, Some("/")),
     Step::Does(&[
@@ -83,7 +83,9 @@ const SAYS: [Step; 51] = [
     Step::Cuts(17),
     Step::Snapshot(17, 4, 2, 4, 3),
     Step::Entries(0, 1_000_000),
-    Step::Does(&[Ask::Create("/f"), Ask::Close(1)]),
+    Step::Does(&[Ask::Create("/f"), Ask::Close(3)]),
+    Step::Watchers(1, &[]),
+    Step::Waits(3, None, None),
     Step::Entry(0, None),
     Step::Entry(1, None),
     Step::Entry(17, None),
@@ -96,7 +98,10 @@ const SAYS: [Step; 51] = [
 /// Whether it is seen.
 fn is_seen(rt: &impl Abort, alloc: Global, tree: &State, step: Step) -> bool {
     match step {
-        Step::Entries(count, free) => tree.journal().len() == count && tree.free_entries() == free,
+        Step::Entries(count, free) => {
+            let has_last = tree.last_entry().is_some();
+            tree.journal().len() == count && tree.free_entries() == free && has_last == (count > 0)
+        }
         Step::Entry(place, wanted) => match (tree.entry(place), wanted) {
             (Some(entry), Some(gives)) => entry.reply == reply(rt, alloc, gives),
             (None, None) => true,
@@ -157,7 +162,7 @@ fn what_a_tree_says_of_itself(rt: HostRuntime) {
         match *step {
             Step::Does(asks) => does(&rt, alloc, &mut tree, asks),
             Step::Cuts(place) => equal(&rt, tree.cut(), Ok(place)),
-            step => equal(&rt, (at, is_seen(&rt, alloc, &tree, step)), (at, true)),
+            step => holds(&rt, at, is_seen(&rt, alloc, &tree, step)),
         }
     }
 }
