@@ -120,11 +120,11 @@ fn is_seen(rt: &impl Abort, alloc: Global, tree: &State, step: Step) -> bool {
             (Ok(None), None) => true,
             _ => false,
         },
-        Step::Snapshot(place, next_number, next_cookie, next_id, open) => {
+        Step::Snapshot(place, next_number, next_cookie, next_id, count) => {
             let kept = tree.snapshot();
             (kept.place, kept.next_number) == (place, next_number)
                 && (kept.next_cookie, kept.next_id) == (next_cookie, next_id)
-                && kept.instances.len() == open
+                && kept.instances.len() == count
         }
         step => is_peeked(rt, alloc, tree, step),
     }
