@@ -79,7 +79,7 @@ fn stage_refused(
 }
 
 #[test]
-fn each_allocation_of_each_call(rt: HostRuntime) -> Result<(), Fail> {
+fn each_allocation_of_notices_and_events(rt: HostRuntime) -> Result<(), Fail> {
     let alloc = rt.alloc();
     let has_refuser = refuse(alloc, MOST);
     let _ = was_refused(alloc);
