@@ -14,7 +14,7 @@ pub(crate) enum Step {
     /// The records that wait, the name of each one byte.
     Waits(&'static str),
     Ends,
-    /// How many records fit into so many bytes, and how many bytes these take.
+    /// A number of bytes, how many records fit into them, and how many bytes these take.
     Fits(usize, usize, usize),
 }
 

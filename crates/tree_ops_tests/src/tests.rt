@@ -345,7 +345,7 @@ fn are_alike(one: &Table, other: &Table) -> Result<bool, Refusal> {
     Ok(are_same && files.len() == others.len() && one.flat()? == other.flat()?)
 }
 
-/// The table has so many files, each with one path.
+/// The table has `count` files, each with one path.
 fn counts(rt: &impl Abort, table: &Table, count: usize) -> Result<(), Refusal> {
     let (files, paths) = (table.files()?.len(), table.flat()?.len());
     assert!(rt;

@@ -124,7 +124,7 @@ pub(crate) fn watch(
     watches.add(number, mask, is_directory)
 }
 
-/// Whether there are so many watches, by rising numbers of files, and this descriptor is next.
+/// Whether there are `len` watches, by rising numbers of files, and `next_wd` is the next descriptor.
 fn are_counted(watches: &Watches, len: usize, next_wd: u32) -> bool {
     let (mut least, mut count) = (0, 0_usize);
     for number in watches.numbers() {
