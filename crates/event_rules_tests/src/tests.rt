@@ -52,7 +52,7 @@ const WATCHED: [(u32, u32); 6] = [
 ];
 
 // A call there, and the events that it raises.
-const CALLS: [(Ask, &str); 26] = [
+const CALLS: [(Ask, &str); 27] = [
     (
         Ask::Create("/n", 0o644),
         "1 00000100 0 n\n1 00000020 0 n\n1 00000008 0 n\n",
@@ -109,6 +109,10 @@ const CALLS: [(Ask, &str); 26] = [
     (
         Ask::Rename("/d", "/e"),
         "1 40000040 1 d\n1 40000080 1 e\n4 00000400 0\n4 00008000 0\n",
+    ),
+    (
+        Ask::Rename("/h", "/e/n"),
+        "1 00000040 1 h\n4 00000080 1 n\n5 00000800 0\n",
     ),
     (Ask::Rename("/g", "/d/f"), ""),
     (Ask::Rename("/g", "/g"), ""),
@@ -245,9 +249,10 @@ fn watching(alloc: Global) -> Result<Watches, Refusal> {
     let mut watches = Watches::new(alloc, &Limits::full());
     for (number, bits) in WATCHED {
         let mask = Mask::of(bits);
-        if mask.fault().is_none() {
-            watches.add(number, mask, false)?;
+        if let Some(refusal) = mask.fault() {
+            return Err(refusal);
         }
+        watches.add(number, mask, false)?;
     }
     Ok(watches)
 }
@@ -286,7 +291,8 @@ fn calls_raise_events(rt: HostRuntime) -> Result<(), Fail> {
     let calls = Calls::prepared(alloc)?;
     let watches = watching(alloc)?;
     for (ask, lines) in CALLS {
-        let told = calls.noticed(&call_of(alloc, ask)?)?;
+        let call = call_of(alloc, ask)?;
+        let told = calls.noticed(&call)?;
         let mut staged = Staged::new(alloc);
         stage(ID, &watches, told.as_slice(), &mut staged)?;
         let is_right = lines_of(alloc, &staged)?.as_slice() == lines.as_bytes();

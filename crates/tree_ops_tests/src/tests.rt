@@ -43,8 +43,14 @@ enum Gives {
     Refused(Refusal),
 }
 
+// A name of 255 bytes.
+const LONGEST: &str =
+    "/nnnnnnnnnnnnnnnnnnnnnnnnnnnnnnnnnnnnnnnnnnnnnnnnnnnnnnnnnnnnnnnnnnnnnnnnnnnnnnnnnnnnn\
+    nnnnnnnnnnnnnnnnnnnnnnnnnnnnnnnnnnnnnnnnnnnnnnnnnnnnnnnnnnnnnnnnnnnnnnnnnnnnnnnnnnnnn\
+    nnnnnnnnnnnnnnnnnnnnnnnnnnnnnnnnnnnnnnnnnnnnnnnnnnnnnnnnnnnnnnnnnnnnnnnnnnnnnnnnnnnnn";
+
 // Below, `/d` is directory 2 and `/d/f` file 3. More of such calls are in scripts.
-const STORY: [(Ask, Gives); 42] = [
+const STORY: [(Ask, Gives); 44] = [
     (Ask::Stat("/"), Gives::Directory(1, 0o755)),
     (Ask::List("/"), Gives::Names("")),
     (Ask::Mkdir("/d", 0o750), Gives::Number(2)),
@@ -87,6 +93,8 @@ const STORY: [(Ask, Gives); 42] = [
     (Ask::Rmdir("/x"), Gives::Refused(Refusal::Enotempty)),
     (Ask::Unlink("/x/y"), Gives::Done),
     (Ask::Rmdir("/x"), Gives::Done),
+    (Ask::Create(LONGEST, 0o644), Gives::Number(8)),
+    (Ask::Stat(LONGEST), Gives::File(8, 0o644, 1, 0)),
 ];
 
 // Of a table for files up to number 3, of 4 bytes and 2 paths, and for one cookie.
@@ -256,6 +264,11 @@ impl Calls {
         Ok(answer)
     }
 
+    /// Says that all cookies are spent.
+    fn spend_cookies(&mut self) {
+        self.counts.next_cookie = 0;
+    }
+
     fn path(&self, text: &str) -> Result<Path, Refusal> {
         Path::parse(self.alloc, text.as_bytes())
     }
@@ -361,7 +374,7 @@ fn calls_give_their_answers(rt: HostRuntime) -> Result<(), Fail> {
     counts(&rt, &calls.table, 1)?;
     plays(&rt, &mut calls, &STORY)?;
     // Of the files that lost their last paths nothing is left.
-    counts(&rt, &calls.table, 3)?;
+    counts(&rt, &calls.table, 4)?;
     let mut limits = Limits::full();
     limits.numbers = 3;
     limits.file_bytes = 4;
@@ -446,8 +459,7 @@ fn calls_and_answers_are_copied(rt: HostRuntime) -> Result<(), Fail> {
     let copy = answer.copy()?;
     let is_same = copy.is_same(&answer) && !copy.is_same(&Answer::Done);
     assert!(rt; is_same, "the answer");
-    // All cookies are spent.
-    calls.counts.next_cookie = 0;
+    calls.spend_cookies();
     plays(&rt, &mut calls, &SPENT)?;
     Ok(())
 }

@@ -192,3 +192,30 @@ fn what_a_fork_remembers_is_what_a_walk_finds(rt: HostRuntime) -> Result<(), Fai
     assert!(rt; MANY < count, "{count} paths");
     Ok(())
 }
+
+/// Whether a path is resolved as by a walk before a call, and after it.
+fn is_as_walked_after(calls: &mut Calls, ask: Ask) -> Result<bool, Refusal> {
+    let path = calls.path("/d1/inner3/f")?;
+    let is_alike = is_as_walked(&mut calls.table, &path);
+    let call = call_of(calls.alloc, ask)?;
+    calls.made(&call)?;
+    Ok(is_as_walked(&mut calls.table, &path) && is_alike)
+}
+
+/// The directory of the path, or one above it, moves or is removed.
+#[test]
+fn a_directory_that_moves_is_forgotten(rt: HostRuntime) -> Result<(), Fail> {
+    for ask in [
+        Ask::Rename("/d1/inner3", "/moved"),
+        Ask::Rename("/d1", "/moved"),
+        Ask::Rename("/d2/inner5", "/d1/inner3"),
+        Ask::Exchange("/d1/inner3", "/d2"),
+        Ask::Exchange("/d2", "/d1"),
+        Ask::Rmdir("/d1/inner3"),
+    ] {
+        let mut calls = prepared(rt.alloc())?;
+        let is_alike = is_as_walked_after(&mut calls, ask)?;
+        assert!(rt; is_alike, "{ask:?}");
+    }
+    Ok(())
+}

@@ -114,8 +114,8 @@ fn each_allocation_of_each_call(rt: HostRuntime) -> Result<(), Fail> {
     Ok(())
 }
 
-/// The kinds of trees: that of the prepared calls, of files or of directories in the root, a copy of the latter, and one
-/// that was copied with half of its directories.
+/// The kinds of trees: that of the prepared calls, of files or of directories in the root, a copy of the latter, and
+/// one that was copied with half of its directories.
 #[derive(Clone, Copy, Debug)]
 enum Shape {
     Prepared,
