@@ -242,6 +242,7 @@ impl Calls {
 }
 
 /// Each file is watched.
+#[derive(Drop)]
 struct Everybody;
 
 impl Audience for Everybody {
@@ -255,6 +256,7 @@ impl Audience for Everybody {
 }
 
 /// The files of these watches are watched.
+#[derive(Drop)]
 struct Watchers<'a>(&'a Watches);
 
 impl<'a> Audience for Watchers<'a> {
