@@ -126,7 +126,7 @@ const MOST: [(u64, [Option<SinkFault>; 5]); 6] = [
     (5, [TAKEN, TAKEN, TAKEN, TAKEN, TAKEN]),
 ];
 
-/// A sink that takes some records, one that passes some on to a sink that takes all of them, and one in a box that
+/// A sink that takes some records, also in a box; one that passes some on to a sink that takes all of them; and one that
 /// passes all on to a sink that takes some.
 #[test]
 fn sinks_take(rt: HostRuntime) {
@@ -138,7 +138,9 @@ fn sinks_take(rt: HostRuntime) {
         let stop = StopSink::new(MemorySink::new(alloc), *most);
         takes(&rt, stop, &event, faults, *most);
         let stop = StopSink::new(CountSink::new(alloc, *most), 9);
-        let boxed: Box<dyn Sink> = Box::new(alloc, stop).expect(&rt, "memory");
+        takes(&rt, stop, &event, faults, *most);
+        let count = CountSink::new(alloc, *most);
+        let boxed: Box<dyn Sink> = Box::new(alloc, count).expect(&rt, "memory");
         takes(&rt, boxed, &event, faults, *most);
     }
     // What the other sink took before does not count.
