@@ -220,33 +220,40 @@ fn quiet_storm<G: Gate, R: Wait + Abort>(
     quiet::<Brand, G, R>(rt, alloc, Blank::new(65537), gate, are_listeners_first)
 }
 
+/// The lines of the calls that no line of a script makes.
+const INIT: &str = "# init 16384 for a pipe (no line of a script makes this call)\n";
+
+const PUMP_1: &str = "# pump 1 1048576 (no line of a script makes this call)\n";
+
+const PUMP_2: &str = "# pump 2 1048576 (no line of a script makes this call)\n";
+
 /// The calls of a storm of four calls each whose second writer comes after the first, as lines, and the seat of each.
 const FOUR_EACH: [(u32, &str); 25] = [
-    (1, "mkdir /s 755"),
-    (1, "# init 16384 for a pipe"),
-    (1, "watch 1 /s 0xfff"),
-    (1, "# init 16384 for a pipe"),
-    (1, "watch 2 /s 0xfff"),
-    (2, "create /s/a1 644"),
-    (2, "# pump 1 1048576"),
-    (2, "write /s/a1 0 78"),
-    (2, "# pump 1 1048576"),
-    (2, "rename /s/a1 /s/b1"),
-    (2, "# pump 1 1048576"),
-    (2, "unlink /s/b1"),
-    (2, "# pump 1 1048576"),
-    (3, "create /s/a2 644"),
-    (3, "# pump 2 1048576"),
-    (3, "write /s/a2 0 78"),
-    (3, "# pump 2 1048576"),
-    (3, "rename /s/a2 /s/b2"),
-    (3, "# pump 2 1048576"),
-    (3, "unlink /s/b2"),
-    (3, "# pump 2 1048576"),
-    (1, "# pump 1 1048576"),
-    (1, "# pump 2 1048576"),
-    (1, "close 1"),
-    (1, "close 2"),
+    (1, "mkdir /s 755\n"),
+    (1, INIT),
+    (1, "watch 1 /s 0xfff\n"),
+    (1, INIT),
+    (1, "watch 2 /s 0xfff\n"),
+    (2, "create /s/a1 644\n"),
+    (2, PUMP_1),
+    (2, "write /s/a1 0 78\n"),
+    (2, PUMP_1),
+    (2, "rename /s/a1 /s/b1\n"),
+    (2, PUMP_1),
+    (2, "unlink /s/b1\n"),
+    (2, PUMP_1),
+    (3, "create /s/a2 644\n"),
+    (3, PUMP_2),
+    (3, "write /s/a2 0 78\n"),
+    (3, PUMP_2),
+    (3, "rename /s/a2 /s/b2\n"),
+    (3, PUMP_2),
+    (3, "unlink /s/b2\n"),
+    (3, PUMP_2),
+    (1, PUMP_1),
+    (1, PUMP_2),
+    (1, "close 1\n"),
+    (1, "close 2\n"),
 ];
 
 #[test]
@@ -258,11 +265,8 @@ fn a_journal_has_the_calls_of_a_storm(rt: HostRuntime) {
     for (entry, (caller, line)) in entries.iter().zip(&FOUR_EACH) {
         let mut text = Vec::new(alloc);
         append_call_line(&entry.call, &mut text).expect(&rt, "memory");
-        // A call that no line of a script makes has a remark behind it.
-        let call = text.strip_suffix(b" (no line of a script makes this call)\n");
-        let call = call.or(text.strip_suffix(b"\n"));
-        let wanted = (*caller, Some(line.as_bytes()));
-        equal(&rt, (entry.caller, call), wanted);
+        let got = (entry.caller, text.as_slice());
+        equal(&rt, got, (*caller, line.as_bytes()));
     }
 }
 
