@@ -126,8 +126,8 @@ const MOST: [(u64, [Option<SinkFault>; 5]); 6] = [
     (5, [TAKEN, TAKEN, TAKEN, TAKEN, TAKEN]),
 ];
 
-/// A sink that takes some records, also in a box; one that passes some on to a sink that takes all of them; and one that
-/// passes all on to a sink that takes some.
+/// A sink that takes some records, also in a box; one that passes some on to a sink that takes all of them; and one
+/// that passes all on to a sink that takes some.
 #[test]
 fn sinks_take(rt: HostRuntime) {
     let alloc = rt.alloc();

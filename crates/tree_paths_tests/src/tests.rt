@@ -61,8 +61,8 @@ fn next_name(rt: &impl Abort, names: &mut PathNames<'_>, bytes: &[u8]) -> Name {
     name.as_name().copy().expect(rt, "memory")
 }
 
-/// Compares the path of a text: it has these names, is what comes of one after another from the root on, and is equal to
-/// its copy. Compares its text, and that of its directory, which it has where no name is long.
+/// Compares the path of a text: it has these names, is what comes of one after another from the root on, and is equal
+/// to its copy. Compares its text, and that of its directory, which it has where no name is long.
 fn parses(rt: &impl Abort, alloc: Global, text: &[u8], names: &[&[u8]]) {
     let path = path(rt, alloc, text);
     let mut left = path.names();
@@ -166,7 +166,7 @@ fn refuses(rt: &impl Abort, alloc: Global, text: &[u8], refusal: Refusal) {
     equal(rt, (text, got), (text, Some(refusal)));
 }
 
-/// Also refused are a name of 256 bytes, behind which another fault comes first, and a text of 4,096 bytes; one of 4,095
+/// Also refused are a name of 256 bytes, before which a fault behind it comes, and a text of 4,096 bytes; one of 4,095
 /// bytes is a path.
 #[test]
 fn refused_texts(rt: HostRuntime) {

@@ -97,9 +97,9 @@ fn changed(log: SeatLog, change: Change) -> SeatLog {
     SeatLog { number, kept }
 }
 
-/// Two stories, of which the first leaves a book; the logs that it is settled with, and how the last one is changed; the
-/// listeners, and how many turns each has; and the answer. Digits choose the logs and the listeners among those of both
-/// stories, the first story's first.
+/// Two stories, of which the first leaves a book; the logs that it is settled with, and how the last one is changed;
+/// the listeners, and how many turns each has; and the answer. Digits choose the logs and the listeners among those of
+/// both stories, the first story's first.
 type Case<'a> = (&'a str, &'a str, &'a str, Change, &'a str, u64, Answer);
 
 /// Settles a book, and compares the answer.
@@ -230,8 +230,8 @@ fn takes_turn<L: Ledger, S: Sink>(
     makes(rt, alloc, held, seat, (1, byte))
 }
 
-/// Plays a story on a new tree of one instance, whose listener makes a step at each tilde. Returns what the seat and the
-/// listener leave, and how many pumps found the pipe full.
+/// Plays a story on a new tree of one instance, whose listener makes a step at each tilde. Returns what the seat and
+/// the listener leave, and how many pumps found the pipe full.
 fn interleaved<L: Ledger, S: Sink>(
     rt: &impl Abort,
     alloc: Global,
@@ -259,8 +259,8 @@ fn interleaved<L: Ledger, S: Sink>(
     (held.dissolve(pass), log, listener.finish(), full)
 }
 
-/// Plays a story so, with a sink that takes `most` records. Compares what is known of the listener, how many pumps found
-/// the pipe full, how many records its batches have, and what its book comes to.
+/// Plays a story so, with a sink that takes `most` records. Compares what is known of the listener, how many pumps
+/// found the pipe full, how many records its batches have, and what its book comes to.
 fn settles_interleaved(
     rt: &impl Abort,
     alloc: Global,

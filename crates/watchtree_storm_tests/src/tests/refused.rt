@@ -23,7 +23,8 @@ enum Asking {
     Thread(u32),
 }
 
-/// A storm of four calls, both sinks of which are closed. Returns whether something failed, and what the storm comes to.
+/// A storm of four calls, both sinks of which are closed. Returns whether something failed, and what the storm comes
+/// to.
 fn refused_at<R: Threads + Wait + Abort + Sync>(
     rt: &R,
     alloc: Global,
