@@ -58,7 +58,7 @@ fn writes_and_reads(rt: HostRuntime) {
     equal(&rt, bytes.get(48..), Some(SPELLED.as_slice()));
 }
 
-/// Lists are equal to their copies, and events to theirs.
+/// Lists of bytes and of events are equal to their copies.
 #[test]
 fn lists(rt: HostRuntime) {
     let alloc = rt.alloc();
@@ -121,9 +121,7 @@ fn names_that_differ_in_the_last_byte(rt: HostRuntime) {
     low[254] = b'a';
     let mut high = [b'm'; 255];
     high[254] = b'z';
-    for start in [
-        254, 248, 247, 246, 245, 240, 239, 238, 225, 224, 223, 222, 215, 0,
-    ] {
+    for start in [254, 248, 247, 246, 232, 231, 230, 225, 224, 223, 215, 0] {
         equal(&rt, is_name(&rt, rt.alloc(), &high[start..]), true);
         is_lower(&rt, rt.alloc(), &low[start..], &high[start..]);
     }
@@ -134,6 +132,7 @@ fn names_that_differ_in_the_last_byte(rt: HostRuntime) {
 
 #[test]
 fn sizes(rt: HostRuntime) {
+    let alloc = rt.alloc();
     let sizes = [
         size_of::<Name>(),
         size_of::<Option<Name>>(),
@@ -143,8 +142,9 @@ fn sizes(rt: HostRuntime) {
     equal(&rt, [NAME_IN_PLACE, NAME_MAX], [31, 255]);
     let name = [b'n'; 255];
     for (name_len, len) in [(0, 16), (15, 32), (16, 48), (255, 272)] {
-        let event = named(&rt, rt.alloc(), 1, IN_CREATE, 0, &name[..name_len]);
-        equal(&rt, record_len(&event), len);
+        let events = [named(&rt, alloc, 1, IN_CREATE, 0, &name[..name_len])];
+        let bytes = encode(alloc, &events).expect(&rt, "memory");
+        equal(&rt, (record_len(&events[0]), bytes.len()), (len, len));
     }
 }
 
