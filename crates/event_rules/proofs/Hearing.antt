@@ -61,7 +61,7 @@ module _ (watches : ℕ → Bool) where
   heard-none number is (n ∷ ns) h =
       ap (λ b. cond b (n ∷ heard watches ns) (heard watches ns)) (ap watches h.0 ∙ is) ∙ heard-none number is ns h.1
 
-  -- what is told of an object is told where it is watched
+  -- the notices of an object are made where it is watched
   heard-of : (told : Option Seen → List Notice) → told None ≡ []
       → ((s : Seen) → AllByRecursion (λ n. told_number n ≡ s.number) (told (Some s)))
       → (o : Option Seen) → heard watches (told o) ≡ told (seen_watched watches o)

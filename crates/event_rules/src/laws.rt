@@ -46,7 +46,7 @@ pub fn unwatched_files_raise_nothing()
         → watches_after w ns ≡ w }
 {}
 
-/// A law: notices of files that an instance does not watch can be left out. The others raise what all of them do.
+/// A law: notices of files that an instance does not watch change nothing among others.
 pub fn unwatched_files_need_no_notices()
     ensures events { (w : Watching) (watches : ℕ → Bool) (ns : List Notice)
         → ((number : ℕ) → watches number ≡ false → watch_of w number ≡ None)
