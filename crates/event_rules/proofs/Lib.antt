@@ -10,4 +10,3 @@ pub mod Others
 pub mod Followed
 pub mod Lost
 mod Moving
-mod Hearing
