@@ -15,8 +15,8 @@ from typing import Iterable, List, Optional, Tuple
 
 HERE = os.path.dirname(os.path.abspath(__file__))
 sys.path[:0] = [HERE, os.path.dirname(HERE)]
-WITHOUT_RUNNER = ("units", "clients")
-WITH_RUNNER = ("folders", "replays", "found", "faults", "printed", "quiet", "ended")
+WITHOUT_RUNNER = ("units", "parts", "reported", "clients")
+WITH_RUNNER = ("folders", "replays", "found", "faults", "printed", "quiet", "ended", "many", "recipes")
 EXAMPLES = ("recursive", "renames", "overflow", "follow", "reload")
 AT_ONCE = 2
 

@@ -12,6 +12,17 @@ EXAMPLES = os.path.join(HERE, "../examples")
 MAIN = os.path.join(HERE, "../main.py")
 # Seconds after which a test hangs.
 PATIENCE = 300
+# The one that has the modules of Debian's packages.
+DEBIAN_PYTHON = "/usr/bin/python3"
+
+
+def has_module(name: str) -> bool:
+    """Whether a Debian package of a module for Python is installed."""
+    try:
+        said = subprocess.run([DEBIAN_PYTHON, "-c", f"import {name}"], capture_output=True, check=False)
+    except FileNotFoundError:
+        return False
+    return said.returncode == 0
 
 
 class ToolTest(unittest.TestCase):
