@@ -87,7 +87,7 @@ class Parts(unittest.TestCase):
         bench = Seeded()
         found = self.search(bench, identity)
         self.assertTrue(found.is_complete)
-        self.assertGreater(len(found.failures), 5)
+        self.assertGreater(len(found.failures), 3)
         self.assertGreater(len(bench.ran) - len(found.failures), 5)
         return bench, found
 
