@@ -25,9 +25,14 @@ class Parts(ToolTest):
 
     def search(self, status: int, *options: str, check: str = "") -> "subprocess.CompletedProcess[str]":
         """Runs the search, which ends with this status."""
-        said = self.explore(self.script, check or self.check, self.program, "--replays", "5", *options)
+        said = self.tool(check or self.check, "--replays", "5", *options)
         self.assertEqual(said.returncode, status, said.stdout + said.stderr)
         return said
+
+    def tool(self, check: str, *options: str) -> "subprocess.CompletedProcess[str]":
+        """Runs watchtree explore. The options come last, as --merge takes all words that follow."""
+        words = ["--runner", self.runner, self.script, "--check", check, *options]
+        return self.run_tool([sys.executable, MAIN, *words, "--", *self.program])
 
     def schedules(self, folder: str) -> Dict[str, str]:
         """Returns the failing schedules of a folder, by seed, or by their text."""
@@ -53,8 +58,7 @@ class Shards(Parts):
         """Makes all shards. Returns their folders, and how many runs they made."""
         folders, runs = [], 0
         for number in range(1, count + 1):
-            said = self.explore(self.script, self.check, self.program, *options, "--shard", f"{number}/{count}",
-                                "--report", f"json={number}.json")
+            said = self.tool(self.check, *options, "--shard", f"{number}/{count}", "--report", f"json={number}.json")
             folders.append(f"recursive.script.shard-{number}-of-{count}")
             it = self.report(f"{number}.json")
             self.assertEqual(said.returncode, 1 if it["failures"] else 0, said.stdout + said.stderr)
@@ -107,7 +111,7 @@ class Shards(Parts):
     def test_what_is_no_shard_of_the_search(self) -> None:
         folders, _ = self.shards("--seeds", "1..4", count=2)
         of_it = ["--seeds", "1..4", "--report", "json=said.json", "--report", "junit=said.xml"]
-        self.refused(f"not all shards are there: 2/2 is missing", *of_it, "--merge", folders[0])
+        self.refused("not all shards are there: 2/2 is missing", *of_it, "--merge", folders[0])
         self.assertEqual(self.report("said.json")["fault"], "not all shards are there: 2/2 is missing")
         self.assertIn('<error type="fault" message="not all shards are there: 2/2 is missing"', self.read("said.xml"))
         self.refused("with other check", *of_it, "--merge", *folders, check="true")
@@ -131,13 +135,13 @@ class Stops(Parts):
         # The second run starts with the first; the third would start when the time is over.
         check = f'echo $WT_SEED >>{self.room}/ran; sleep 0.2; {self.check}'
         of_it = ["--seeds", SEEDS, "--jobs", "1", "--out", "out"]
-        said = self.search(self.status(0, 2), *of_it, "--minutes", "0.002", "--report", "json=1.json", check=check)
+        said = self.search(self.status(2), *of_it, "--minutes", "0.002", "--report", "json=1.json", check=check)
         self.assertIn("2 runs, ", said.stdout)
         self.assertIn("  stopped before its end, with 22 seeds left: --resume goes on\n", said.stdout)
         self.assertEqual(self.ran(), [1, 2])
         self.assertEqual((self.report("1.json")["complete"], self.report("1.json")["runs"]), (False, 2))
         self.refused("out: the search of shard 1/1 is not over", "--seeds", SEEDS, "--merge", "out", check=check)
-        said = self.search(self.status(0, 4), *of_it, "--minutes", "0.002", "--resume", check=check)
+        said = self.search(self.status(4), *of_it, "--minutes", "0.002", "--resume", check=check)
         self.assertIn("4 runs, ", said.stdout)
         self.assertEqual(sorted(self.ran()), [1, 2, 3, 4])
         of_it[3] = "2"
@@ -150,9 +154,8 @@ class Stops(Parts):
             self.assertEqual(self.report("all.json")[name], self.report("one.json")[name], name)
         self.assertEqual(self.read("out/shrunk.schedule"), self.read("one/shrunk.schedule"))
 
-    def status(self, first: int, count: int) -> int:
+    def status(self, count: int) -> int:
         """Returns the status of a search of the first seeds: one of them fails or not."""
-        del first
         if not hasattr(self, "failing"):
             said = self.search(1, "--seeds", "1..8", "--out", "first", "--shrink-runs", "3")
             self.assertIn("8 runs", said.stdout)
@@ -166,7 +169,7 @@ class Stops(Parts):
         runs, parts = 0, 0
         for minutes in ("0.002", "0.01", "100"):
             more = ["--resume"] if parts else []
-            said = self.explore(self.script, check, self.program, *of_it, "--minutes", minutes, *more, "--report", "json=it.json")
+            said = self.tool(check, *of_it, "--minutes", minutes, *more, "--report", "json=it.json")
             self.assertIn(said.returncode, (0, 1), said.stdout + said.stderr)
             it, parts = self.report("it.json"), parts + 1
             self.assertGreater(it["runs"], runs)
@@ -188,11 +191,14 @@ class Stops(Parts):
 
     def test_what_is_no_search_to_go_on_with(self) -> None:
         self.refused("/search.json: there is none", "--resume")
-        self.search(1, "--seeds", "1..6", "--shard", "1/2", "--out", "out")
-        self.refused("out: it is shard 1/2 of this search, not 2/2", "--seeds", "1..6", "--shard", "2/2", "--out", "out", "--resume")
-        self.refused("with other seeds", "--seeds", "1..7", "--shard", "1/2", "--out", "out", "--resume")
-        self.write("out/seed-3.schedule", "mine")
-        self.refused("seed-3.schedule: ", "--seeds", "1..6", "--shard", "1/2", "--out", "out", "--resume")
+        of_it = ["--seeds", "1..16", "--out", "out"]
+        self.search(1, *of_it, "--shard", "1/2")
+        self.refused("out: it is shard 1/2 of this search, not 2/2", *of_it, "--shard", "2/2", "--resume")
+        self.refused("with other seeds", "--seeds", "1..17", "--out", "out", "--shard", "1/2", "--resume")
+        name = min(self.schedules("out"))
+        self.write(f"out/{name}", "mine")
+        self.refused(f"{name}: it was changed since", *of_it, "--shard", "1/2", "--resume")
+        self.assertEqual(self.read(f"out/{name}"), "mine\n")
 
     def test_a_signal_keeps_what_ran(self) -> None:
         check = f'test ! -e {self.room}/armed || [ -z "$WT_SEED" ] || [ "$WT_SEED" -lt 6 ] || kill -TERM $TOOL; {self.check}'

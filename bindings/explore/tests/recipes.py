@@ -152,8 +152,8 @@ class Parallel(Recipe):
         self.assertEqual(said.count("at rest: "), 4)
         self.assertIn("200 runs, ", said)
         self.assertIn(" failed (of 3 shards)\n", said)
-        left = [name for _, _, names in os.walk(f"{self.room}/remote") for name in names]
-        self.assertEqual(left, [], "the machine was not cleaned up")
+        shards = {f"script.shard-{number}-of-3" for number in (1, 2, 3)}
+        self.assertEqual(set(os.listdir(f"{self.room}/remote")), {"script", "search.sh", *shards})
         self.found_all("script.failures")
 
 
