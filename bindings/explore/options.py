@@ -68,7 +68,7 @@ def _add_search(parser: argparse.ArgumentParser) -> None:
     parser.add_argument("--vary", type=_vary, default="lines,reads", metavar="WORDS", help="lines, reads, queue (lines,reads)")
     parser.add_argument("--first", action="store_true", help="stop at the first failure")
     parser.add_argument("--shard", type=_shard, metavar="K/N", help="search part K of N: no other part has its runs")
-    parser.add_argument("--merge", nargs="+", metavar="DIR", help="search nothing: shrink and report what all N parts found")
+    parser.add_argument("--merge", nargs="+", metavar="DIR", help="behind SCRIPT: shrink and report what all N parts found")
     parser.add_argument("--minutes", type=_minutes, metavar="M", help="stop after M minutes; --resume goes on")
     parser.add_argument("--resume", action="store_true", help="go on with the search that stopped in --out")
 

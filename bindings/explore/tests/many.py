@@ -245,6 +245,17 @@ class Reports(Parts):
         self.refused("--report json=none/it.json: No such file", "--report", "json=none/it.json")
 
 
+    def test_a_search_that_is_killed(self) -> None:
+        both = ["--report", "json=it.json", "--report", "junit=it.xml"]
+        self.program.append("correct")
+        self.search(0, "--seeds", "1..1", *both)
+        words = ["--runner", self.runner, "--seeds", "1..3", *both, self.script, "--check", "kill -KILL $TOOL", "--", *self.program]
+        said = self.run_tool(["sh", "-c", 'TOOL=$$; export TOOL; exec "$@"', "sh", sys.executable, MAIN, *words])
+        self.assertEqual(said.returncode, -signal.SIGKILL, said.stderr)
+        self.assertEqual(self.report("it.json")["fault"], "the search did not come to its end")
+        self.assertIn('errors="1"', self.read("it.xml"))
+
+
 class Words(Parts):
     """Wrong words."""
 

@@ -10,9 +10,9 @@ from typing import Any, Dict, List, Optional, Tuple
 import merge
 import state
 from deadline import Deadline
-from moves import by_moves
+from moves import Moved, by_moves
 from runs import Result
-from schedules import USUAL_QUEUE, Fault, Line, Schedule, ShortRead
+from schedules import USUAL_QUEUE, Fault, Line, Mark, Schedule, ShortRead
 from search import Found, by_seeds
 from shards import Shard
 from state import STATE, State
@@ -203,6 +203,15 @@ class Kept(Parts):
             numbers = sorted(dice.sample(range(99), count))
             self.assertEqual(state.numbers(state.ranges(numbers)), numbers)
         self.assertEqual(state.ranges(list(range(2, 200, 4))), [[2, 198, 4]])
+
+    def test_the_moves_that_are_left(self) -> None:
+        base = Schedule(7, ("mkdir /d 755",), (Line("a", 2), Mark(), Line("b"), ShortRead(3, 1)))
+        items = (Line("a"), Mark(), Line("b", 4), ShortRead(9, 2), ShortRead(11, 1))
+        moved = Moved(Schedule(7, base.setup, items), 2, (9, 1, 2), 1, "line 2 before request 4, read 9 of at most 2")
+        packed = json.loads(json.dumps(state.pack(moved, base)))
+        self.assertEqual(state.unpack(packed, base), moved)
+        with self.assertRaisesRegex(Fault, "left other lines"):
+            state.pack(moved, Schedule(7, base.setup, (Line("a"),)))
 
     def refused(self, why: str, folder: str, identity: Dict[str, Any] = SEEDS) -> None:
         """A folder is not taken."""

@@ -6,6 +6,8 @@ import time
 from typing import TYPE_CHECKING, Any, Callable, Dict, Optional
 from xml.etree import ElementTree
 
+from ._scripts import AnyFile
+
 if TYPE_CHECKING:
     from ._run import Failure, Result
 
@@ -75,7 +77,7 @@ def as_junit(result: "Result", name: str) -> bytes:
 WRITERS: Dict[str, Callable[["Result", str], bytes]] = {"junit": as_junit, "json": as_json}
 
 
-def write(result: "Result", name: str, paths: Dict[str, "Optional[os.PathLike[str] | str]"]) -> None:
+def write(result: "Result", name: str, paths: Dict[str, "Optional[AnyFile]"]) -> None:
     """Writes the reports that have a path. A file is replaced when the new one is whole."""
     for kind, path in paths.items():
         if path is not None:

@@ -1,6 +1,5 @@
 """run() and replay(): many schedules, and one."""
 
-import os
 import time
 from typing import Iterable, Iterator, List, NamedTuple, Optional, Sequence, Tuple, Union
 
@@ -10,7 +9,7 @@ from ._moves import moved
 from ._once import Check, Consumer, Outcome, Program
 from ._plans import Seeded
 from ._schedule import AnySchedule, Schedule, parse_schedule
-from ._scripts import AnyScript, name_of, read
+from ._scripts import AnyFile, AnyScript, name_of, read
 from ._shards import WHOLE, Shard, parse_shard
 from ._shrink import shrink
 
@@ -75,9 +74,7 @@ class Result(NamedTuple):
             raise FoundFailure(str(self)) from self.failures[0].error
         return self
 
-    def report(
-        self, *, junit: "Optional[Union[str, os.PathLike[str]]]" = None, json: "Optional[Union[str, os.PathLike[str]]]" = None
-    ) -> "Result":
+    def report(self, *, junit: "Optional[AnyFile]" = None, json: "Optional[AnyFile]" = None) -> "Result":
         """Writes reports to files, which are replaced: JUnit's XML and JSON. Returns the result."""
         _reports.write(self, self.name, {"junit": junit, "json": json})
         return self
@@ -106,15 +103,16 @@ def run(
 ) -> Result:
     """Runs a consumer under one schedule for each seed, until one fails.
 
-    `script` is text, or the path of a file, such as a recording: a `pathlib.Path`, or any other `os.PathLike`. The lines of `script` before `--` happen first, the others are changes; a further `--` ends a timeout.
+    `script` is text, or the path of a file, such as a recording: a `pathlib.Path`, or any other `os.PathLike`. Its lines
+    before `--` happen first, the others are changes; a further `--` ends a timeout.
     `consumer(tree)` is a function, which returns what it believes, or a generator, which yields it. A run fails if the
     consumer raises an exception, or if `check(tree, believed)` raises one or returns False.
 
     A seed takes the limit of all queues from `queues`, and how many records a read returns at most from `batches`; None
     is without a limit. With `moves` all schedules are run in which at most `moves` lines happen before an earlier
     request than at rest; queues then have the first limit of `queues`, and seeds are not used. With `keep_going` all
-    schedules are run. A consumer that makes more than `max_requests` requests fails. With `shard`, such as `2/4`, a part
-    of the seeds or moves is run: all parts together are the whole, and no two have a schedule in common.
+    schedules are run. A consumer that makes more than `max_requests` requests fails. With `shard`, such as `2/4`, a
+    part of the seeds or moves is run: all parts together are the whole, and no two have a schedule in common.
 
     ValueError if `script` is no script or its set-up is refused; RuntimeError if no read returned a record.
     """

@@ -7,7 +7,9 @@ from .._library import default_library
 from .._tree import Tree
 from ._schedule import PAUSE, parse_script
 
-AnyScript = Union[str, "os.PathLike[str]"]
+AnyFile = Union[str, "os.PathLike[str]"]
+AnyScript = AnyFile
+"""The text of a script, or a path that is no text."""
 
 
 def text_of(script: AnyScript) -> str:
