@@ -54,13 +54,13 @@ class Found:
 def by_seeds(bench: Bench, seeds: range, vary: str, jobs: int, first: bool, found: Optional[Found] = None,
              deadline: Optional[Deadline] = None) -> Found:
     """Runs each seed that did not run yet. With `first` it stops at a failure."""
-    found, deadline = found or Found(), deadline or Deadline()
+    found, stop = found or Found(), deadline or Deadline()
     left = [it for it in seeds if it not in found.seeds]
     progress = Progress("explore", len(left))
-    steps = ((lambda seed=seed: bench.seed(seed, vary)) for seed in takewhile(lambda _: not deadline.is_over(), left))
+    steps = ((lambda seed=seed: bench.seed(seed, vary)) for seed in takewhile(lambda _: not stop.is_over(), left))
     try:
         for result in in_parallel(steps, jobs):
-            with deadline.whole():
+            with stop.whole():
                 found.add(result)
             progress.add(result.fails)
             if first and result.fails:

@@ -130,7 +130,8 @@ class Reports(unittest.TestCase):
         self.junit, self.json = self.folder / "it.xml", self.folder / "it.json"
 
     def result(self, consumer=naive_recursive.naive, check=naive_recursive.check, **more):
-        result = explore.run(naive_recursive.SCRIPT, consumer, check, seeds=SEEDS, keep_going=True, **more)
+        words = naive_recursive.SCRIPT, consumer, check
+        result = explore.run(*words, seeds=SEEDS, keep_going=True, queues=(QUEUE,), **more)
         self.assertIs(result.report(junit=self.junit, json=str(self.json)), result)
         return result
 

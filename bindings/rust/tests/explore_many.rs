@@ -197,7 +197,7 @@ fn a_report_in_json() -> Result<(), Fault> {
 
 #[test]
 fn a_report_without_a_failure() -> Result<(), Fault> {
-    let report = Explore::new(SCRIPT, corrected, check)?.seeds(0..20)?;
+    let report = Explore::new(SCRIPT, corrected, check)?.queues(&[QUEUE]).seeds(0..20)?;
     assert!(report.junit().contains("tests=\"1\" failures=\"0\" errors=\"0\""), "{}", report.junit());
     assert!(report.json().contains("\"failures\": []"), "{}", report.json());
     Ok(())

@@ -21,10 +21,14 @@ fn clean(text: &str) -> String {
     })
 }
 
-/// A text as the content of an element or of an attribute.
+/// A text as the content of an element.
 fn xml(text: &str) -> String {
-    let text = clean(text).replace('&', "&amp;").replace('<', "&lt;").replace('>', "&gt;");
-    text.replace('"', "&quot;").replace('\n', "&#10;").replace('\t', "&#9;")
+    clean(text).replace('&', "&amp;").replace('<', "&lt;").replace('>', "&gt;")
+}
+
+/// A text as the value of an attribute.
+fn attribute(text: &str) -> String {
+    xml(text).replace('"', "&quot;").replace('\n', "&#10;").replace('\t', "&#9;")
 }
 
 /// A text as a string of JSON.
@@ -41,9 +45,9 @@ impl Report {
     /// The report as JUnit's XML, with a test case for each schedule that fails and one for all that pass.
     pub fn junit(&self) -> String {
         let mut cases = String::new();
-        let script = xml(&self.name);
+        let script = attribute(&self.name);
         for (number, it) in self.failures.iter().enumerate() {
-            let (case, message) = (name(number, it), xml(&format!("{} failed: {}", it.part, it.message)));
+            let (case, message) = (name(number, it), attribute(&format!("{} failed: {}", it.part, it.message)));
             let text = xml(&it.to_string());
             let failure = format!("<failure type=\"{}\" message=\"{message}\">{text}</failure>", it.part.word());
             cases += &format!("<testcase classname=\"{script}\" name=\"{case}\">{failure}</testcase>\n");
