@@ -27,19 +27,20 @@ class Explorer:
     """What a search has: its words, its folder and its reports."""
 
     def __init__(self, said: argparse.Namespace, program: List[str], children: Children) -> None:
-        self.said, self.children, self.shard = said, children, said.shard or Shard()
+        self.said, self.program, self.children, self.shard = said, program, children, said.shard or Shard()
         self.seeds = self.shard.seeds(said.seeds or range(0))
         # A state is kept for --resume and --merge.
         self.is_kept = bool(said.shard or said.minutes or said.resume)
         self.out = Folder(said.out, lambda name: report.is_left(name, None if said.moves else said.seeds))
-        self.bench = Bench(said.runner, runner_options(said), said.script, said.check, program, os.environ.pop(ROOM),
-                           said.limit, children)
         self.reports = Reports(said.report)
         self.report = Report(said.script, {}, str(said.shard) if said.shard else None)
 
     def explore(self) -> int:
         """Searches, and reports what was found. Returns the exit status."""
-        self.report.identity = identity = identity_of(self.said, self.bench.program, self.bench.options)
+        said, options = self.said, runner_options(self.said)
+        self.bench = Bench(said.runner, options, said.script, said.check, self.program, os.environ.pop(ROOM), said.limit,
+                           self.children)
+        self.report.identity = identity = identity_of(said, self.program, options)
         state = self.begin(identity)
         was_over = state.found.is_complete
         self.out.check(STATE if self.said.resume else "")

@@ -139,7 +139,9 @@ class Files(unittest.TestCase):
 
     def test_what_cannot_be_written(self) -> None:
         self.refused("json=.*/none/report: No such file", f"{self.room}/none/report")
-        self.refused("/dev/full: it is not a file", "/dev/full")
+        # (a pipe of the test's own: a mistake would replace a device)
+        os.mkfifo(f"{self.room}/pipe")
+        self.refused("/pipe: it is not a file", f"{self.room}/pipe")
         self.refused("it is not a file", self.room)
         names: List[str] = os.listdir(self.room)
-        self.assertEqual(names, [])
+        self.assertEqual(names, ["pipe"])
