@@ -102,6 +102,24 @@ class Shards(Parts):
         self.assertIn("5 runs, 0 failed (of 2 shards)", said.stdout)
         self.assertFalse(os.path.exists(f"{self.room}/recursive.script.failures"))
 
+    def test_a_check_that_always_fails(self) -> None:
+        self.check = "false"
+        of_it = ["--seeds", "1..4", "--shrink-runs", "3"]
+        self.search(1, *of_it, "--out", "one")
+        folders, runs = self.shards("--seeds", "1..4", count=2)
+        self.assertEqual(runs, 4)
+        merged = self.search(1, *of_it, "--out", "merged", "--merge", *folders)
+        self.assertEqual(self.schedules("merged"), self.schedules("one"))
+        self.assertEqual(len(self.schedules("one")), 5)
+        self.assertEqual(merged.stderr, "")
+
+    def test_a_check_that_is_not_what_it_was(self) -> None:
+        self.check = f"! test -e {self.room}/broken"
+        folders, _ = self.shards("--seeds", "1..2", count=1)
+        self.write("broken")
+        said = self.search(1, "--seeds", "1..2", "--shrink-runs", "3", "--merge", *folders)
+        self.assertIn("at rest the check fails here, unlike when the search began", said.stderr)
+
     def test_more_shards_than_seeds(self) -> None:
         self.program.append("correct")
         folders, runs = self.shards("--seeds", "1..2", count=3)

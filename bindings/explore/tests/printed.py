@@ -90,6 +90,7 @@ class Pages(ToolTest):
     def test_git_ignores_it(self) -> None:
         if not os.path.exists(f"{TOP}/.git") or not shutil.which("git"):
             self.skipTest("this is no git checkout, or there is no git")
-        for path in ("script", "script.failures/shrunk.schedule", "script.failures/explore.files"):
+        for path in ("script", "script.failures/shrunk.schedule", "script.failures/explore.files",
+                     "script.shard-1-of-4/search.json"):
             said = subprocess.run(["git", "-C", TOP, "check-ignore", "-q", path], check=False)
             self.assertEqual(said.returncode, 0, path)
