@@ -149,36 +149,37 @@ class Stops(Parts):
         """Returns the seeds whose check ran."""
         return [int(it) for it in self.read("ran").split()]
 
+    def first_failure(self) -> int:
+        """Returns the first seed that fails."""
+        self.search(1, "--seeds", "1..99", "--first", "--jobs", "1", "--shrink-runs", "3", "--out", "first")
+        return int(next(iter(self.schedules("first")))[len("seed-"):-len(".schedule")])
+
     def test_it_stops_and_goes_on(self) -> None:
         # The second run starts with the first; the third would start when the time is over.
         check = f'echo $WT_SEED >>{self.room}/ran; sleep 0.2; {self.check}'
-        of_it = ["--seeds", SEEDS, "--jobs", "1", "--out", "out"]
-        said = self.search(self.status(2), *of_it, "--minutes", "0.002", "--report", "json=1.json", check=check)
+        first = self.first_failure()
+        seeds = f"{first}..{first + 23}"
+        of_it = ["--seeds", seeds, "--jobs", "1", "--out", "out"]
+        said = self.search(1, *of_it, "--minutes", "0.002", "--report", "json=1.json", check=check)
         self.assertIn("2 runs, ", said.stdout)
         self.assertIn("  stopped before its end, with 22 seeds left: --resume goes on\n", said.stdout)
-        self.assertEqual(self.ran(), [1, 2])
+        self.assertNotIn("shrunk", said.stdout)
+        self.assertEqual(self.ran(), [first, first + 1])
         self.assertEqual((self.report("1.json")["complete"], self.report("1.json")["runs"]), (False, 2))
-        self.refused("out: the search of shard 1/1 is not over", "--seeds", SEEDS, "--merge", "out", check=check)
-        said = self.search(self.status(4), *of_it, "--minutes", "0.002", "--resume", check=check)
+        self.refused("out: the search of shard 1/1 is not over", "--seeds", seeds, "--merge", "out", check=check)
+        said = self.search(1, *of_it, "--minutes", "0.002", "--resume", check=check)
         self.assertIn("4 runs, ", said.stdout)
-        self.assertEqual(sorted(self.ran()), [1, 2, 3, 4])
+        self.assertEqual(sorted(self.ran()), list(range(first, first + 4)))
+        self.assertEqual(self.schedules("out").keys() & {f"seed-{first}.schedule"}, {f"seed-{first}.schedule"})
         of_it[3] = "2"
         self.search(1, *of_it, "--resume", "--report", "json=all.json", check=check)
         # (what shrinking and replaying runs has a seed too, and came after all seeds)
-        self.assertEqual(sorted(self.ran()[:24]), list(range(1, 25)))
-        self.search(1, "--seeds", SEEDS, "--out", "one", "--report", "json=one.json", check=check)
+        self.assertEqual(sorted(self.ran()[:24]), list(range(first, first + 24)))
+        self.search(1, "--seeds", seeds, "--out", "one", "--report", "json=one.json", check=self.check)
         self.assertEqual(self.schedules("out"), self.schedules("one"))
         for name in ("runs", "failed", "complete", "failures"):
             self.assertEqual(self.report("all.json")[name], self.report("one.json")[name], name)
         self.assertEqual(self.read("out/shrunk.schedule"), self.read("one/shrunk.schedule"))
-
-    def status(self, count: int) -> int:
-        """Returns the status of a search of the first seeds: one of them fails or not."""
-        if not hasattr(self, "failing"):
-            said = self.search(1, "--seeds", "1..8", "--out", "first", "--shrink-runs", "3")
-            self.assertIn("8 runs", said.stdout)
-            self.failing = [int(it[5:-9]) for it in self.schedules("first")]
-        return 1 if any(it <= count for it in self.failing) else 0
 
     def test_moves_go_on(self) -> None:
         check = f'grep -e "^#@" $WT_OUT/schedule | tr "\\n" , >$WT_OUT/now; echo >>$WT_OUT/now; cat $WT_OUT/now >>{self.room}/ran; ' \
