@@ -11,7 +11,7 @@ from typing import Any, Dict, List, Tuple
 from state import STATE
 from tool import EXAMPLES, MAIN, ToolTest
 
-SEEDS = "1..24"
+SEEDS = "1..16"
 
 
 class Parts(ToolTest):
@@ -158,11 +158,11 @@ class Stops(Parts):
         # The second run starts with the first; the third would start when the time is over.
         check = f'echo $WT_SEED >>{self.room}/ran; sleep 0.2; {self.check}'
         first = self.first_failure()
-        seeds = f"{first}..{first + 23}"
-        of_it = ["--seeds", seeds, "--jobs", "1", "--out", "out"]
+        seeds = f"{first}..{first + 11}"
+        of_it = ["--seeds", seeds, "--jobs", "1", "--shrink-runs", "9", "--out", "out"]
         said = self.search(1, *of_it, "--minutes", "0.002", "--report", "json=1.json", check=check)
         self.assertIn("2 runs, ", said.stdout)
-        self.assertIn("  stopped before its end, with 22 seeds left: --resume goes on\n", said.stdout)
+        self.assertIn("  stopped before its end, with 10 seeds left: --resume goes on\n", said.stdout)
         self.assertNotIn("shrunk", said.stdout)
         self.assertEqual(self.ran(), [first, first + 1])
         self.assertEqual((self.report("1.json")["complete"], self.report("1.json")["runs"]), (False, 2))
@@ -174,12 +174,11 @@ class Stops(Parts):
         of_it[3] = "2"
         self.search(1, *of_it, "--resume", "--report", "json=all.json", check=check)
         # (what shrinking and replaying runs has a seed too, and came after all seeds)
-        self.assertEqual(sorted(self.ran()[:24]), list(range(first, first + 24)))
-        self.search(1, "--seeds", seeds, "--out", "one", "--report", "json=one.json", check=self.check)
+        self.assertEqual(sorted(self.ran()[:12]), list(range(first, first + 12)))
+        self.search(1, "--seeds", seeds, "--shrink-runs", "9", "--out", "one", "--report", "json=one.json")
         self.assertEqual(self.schedules("out"), self.schedules("one"))
         for name in ("runs", "failed", "complete", "failures"):
             self.assertEqual(self.report("all.json")[name], self.report("one.json")[name], name)
-        self.assertEqual(self.read("out/shrunk.schedule"), self.read("one/shrunk.schedule"))
 
     def test_moves_go_on(self) -> None:
         check = f'grep -e "^#@" $WT_OUT/schedule | tr "\\n" , >$WT_OUT/now; echo >>$WT_OUT/now; cat $WT_OUT/now >>{self.room}/ran; ' \
@@ -233,7 +232,7 @@ class Stops(Parts):
         self.search(1, "--seeds", SEEDS, "--out", "out", "--report", "json=out.json", "--resume", check=check)
         self.search(1, "--seeds", SEEDS, "--out", "one", "--report", "json=one.json")
         self.assertEqual(self.schedules("out"), self.schedules("one"))
-        self.assertEqual(self.report("out.json")["runs"], 24)
+        self.assertEqual(self.report("out.json")["runs"], 16)
 
 
 class Reports(Parts):
