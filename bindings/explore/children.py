@@ -4,8 +4,9 @@ import os
 import signal
 import subprocess
 import threading
+from contextlib import contextmanager
 from types import FrameType
-from typing import Dict, List, Optional, Set
+from typing import Dict, Iterator, List, Optional, Set
 
 # Signals that end a search.
 ENDING = (signal.SIGHUP, signal.SIGINT, signal.SIGQUIT, signal.SIGTERM)
@@ -27,6 +28,7 @@ class Children:
         self._lock = threading.RLock()
         self._going: Set["subprocess.Popen[bytes]"] = set()
         self.ended_by = 0
+        self._is_whole = False
 
     def run(self, command: List[str], seconds: float, more: Optional[Dict[str, str]] = None) -> "subprocess.CompletedProcess[bytes]":
         """Runs a command, with more in its environment, and returns its status and what it wrote on standard error."""
@@ -53,7 +55,19 @@ class Children:
             self.ended_by = number
             for child in self._going:
                 child.send_signal(number)
-        raise KeyboardInterrupt
+        if not self._is_whole:
+            raise KeyboardInterrupt
+
+    @contextmanager
+    def whole(self) -> Iterator[None]:
+        """A part of the main thread that no signal breaks off: the search ends after it."""
+        self._is_whole = True
+        try:
+            yield
+        finally:
+            self._is_whole = False
+        if self.ended_by:
+            raise KeyboardInterrupt
 
     def take_signals(self) -> None:
         """Ends the search by each signal that ends it, unless it is ignored, as under nohup(1)."""

@@ -38,15 +38,17 @@ class Folder:
     def __init__(self, path: str, is_left: Callable[[str], bool], file: Optional[TextIO] = None) -> None:
         self.path, self._is_left, self._file = path, is_left, file or sys.stderr
         self._top = -1
-        """Its descriptor, from clear() on."""
+        """Its descriptor, from clear() or go_on() on."""
+        self._ours: Dict[str, str] = {}
+        """What the search that goes on has left before."""
 
-    def check(self) -> None:
-        """A fault if something is in the way of what a search leaves. It removes nothing."""
+    def check(self, but: str = "") -> None:
+        """A fault if something is in the way of what a search leaves, but for one name. It removes nothing."""
         try:
             top = os.open(self.path, _OPEN_FOLDER)
         except FileNotFoundError:
             return
-        taken = [it for it in _strangers(top, self._earlier(top) or {}) if self._is_left(it.split("/")[0])]
+        taken = [it for it in _strangers(top, self._earlier(top) or {}) if it != but and self._is_left(it.split("/")[0])]
         os.close(top)
         if taken:
             paths = ", ".join(f"{self.path}/{it}" for it in taken)
@@ -61,6 +63,24 @@ class Folder:
             self._remove_all(earlier)
         self._create(LIST, HEAD.encode())
 
+    def go_on(self) -> None:
+        """Goes on with what an earlier part of this search left, and with its list."""
+        self._top = os.open(self.path, _OPEN_FOLDER)
+        self._ours = self._earlier(self._top) or {}
+        if not self._ours:
+            self._create(LIST, HEAD.encode())
+
+    def replace(self, name: str, data: bytes) -> None:
+        """Writes a file that says by itself whether it is whole. Another one of that name is there until it is."""
+        new = f".{name}.{os.getpid()}"
+        try:
+            self._create(new, data)
+            os.rename(new, name, src_dir_fd=self._top, dst_dir_fd=self._top)
+        except OSError:
+            os.unlink(new, dir_fd=self._top)
+            raise
+        self._note(name, hashlib.sha256(data).hexdigest())
+
     def _remove_all(self, earlier: Dict[str, str]) -> None:
         for path, what in reversed(list(earlier.items())):
             _remove(self._top, path, what)
@@ -71,7 +91,9 @@ class Folder:
         os.unlink(LIST, dir_fd=self._top)
 
     def write(self, name: str, data: bytes) -> None:
-        """Writes a file."""
+        """Writes a file. One that this search left before is replaced."""
+        if name in self._ours:
+            _remove(self._top, name, self._ours[name])
         self._create(name, data)
         self._note(name, hashlib.sha256(data).hexdigest())
 

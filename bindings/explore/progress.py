@@ -45,9 +45,9 @@ class Progress:
             self.out.write("\r\x1b[K")
             self.out.flush()
 
-    def rate(self) -> float:
-        """Returns how many runs a second there were."""
-        return self.runs / max(time.monotonic() - self._start, 1e-9)
+    def seconds(self) -> float:
+        """Returns the seconds since the first line."""
+        return time.monotonic() - self._start
 
 
 def _time(seconds: float) -> str:

@@ -5,6 +5,7 @@ import os
 import re
 import shlex
 import sys
+from dataclasses import dataclass
 from typing import List, Optional
 
 import traces
@@ -13,12 +14,25 @@ from runs import NOTHING_DELIVERED, Bench, Result
 from schedules import Schedule
 from search import Found, in_parallel
 from shrink import Shrinker
+from state import STATE, Failing
 from timeline import timeline, write_page
 
 # The most failures that are printed, and the most that are shrunk. All are kept.
 SHOWN, SHRUNK = 10, 3
 # What a search leaves beside a schedule for each failure.
-OTHERS = ("shrunk.schedule", "timeline.txt", "run", "calls.script", "page.html")
+OTHERS = ("shrunk.schedule", "timeline.txt", "run", "calls.script", "page.html", STATE)
+
+
+@dataclass
+class Shrunk:
+    """The smallest failing schedule, how it was found, and how often it failed again."""
+
+    schedule: Schedule
+    runs: int
+    replays: int
+    failed: int
+    timeline: str
+    command: str
 
 
 def many(count: int, what: str) -> str:
@@ -33,13 +47,17 @@ def say_base(base: Result) -> None:
     sys.stdout.flush()
 
 
-def say_found(found: Found, jobs: int) -> None:
+def say_found(found: Found, said: argparse.Namespace, seeds: int) -> None:
     """Says how many runs failed, and what else a reader has to know of them."""
-    print(f"{many(found.runs, 'run')}, {len(found.failures)} failed ({found.rate:.0f} a second, {jobs} at once)")
+    how = f"of {many(len(said.merge), 'shard')}" if said.merge else f"{found.rate():.0f} a second, {said.jobs} at once"
+    print(f"{many(found.runs, 'run')}, {len(found.failures)} failed ({how})")
     for count, what in ((found.undelivered, "delivered nothing: every line happened before the first watch"),
                         (found.unfinished, "ended before every line had happened"), (found.stalled, "stalled")):
         if count:
             print(f"  {many(count, 'run')} {what}")
+    if not found.is_complete:
+        left = len(found.left or ()) if said.moves else seeds - len(found.seeds)
+        print(f"  stopped before its end, with {many(left, 'schedule' if said.moves else 'seed')} left: --resume goes on")
     sys.stdout.flush()
 
 
@@ -53,17 +71,25 @@ def is_left(name: str, seeds: Optional[range]) -> bool:
     return seeds is None or found[2] == "1"
 
 
-def keep(failures: List[Result], out: Folder) -> None:
-    """Leaves the schedule of each failing run in a folder, once what an earlier search left there is removed."""
-    out.clear()
-    for number, it in enumerate(failures, 1):
-        name = f"seed-{it.seed}" if it.seed is not None else f"failure-{number}"
-        out.write(f"{name}.schedule", it.schedule.encoded())
+def named(failures: List[Result]) -> List[Failing]:
+    """Returns the name of the file of each failing schedule, and its run."""
+    return [(f"seed-{it.seed}.schedule" if it.seed is not None else f"failure-{number}.schedule", it)
+            for number, it in enumerate(failures, 1)]
+
+
+def keep(failing: List[Failing], out: Folder) -> None:
+    """Leaves the schedule of each failing run in a folder."""
+    for number, (name, it) in enumerate(failing, 1):
+        out.write(name, it.schedule.encoded())
         if number <= SHOWN:
-            moved = many(it.schedule.moved(), "line") + " moved, " + many(it.schedule.short_reads(), "short read")
-            print(f"  {out.path}/{name}.schedule: status {it.status}, {moved}")
-    if len(failures) > SHOWN:
-        print(f"  and {len(failures) - SHOWN} more")
+            print(f"  {out.path}/{name}: {what_failed(it)}")
+    if len(failing) > SHOWN:
+        print(f"  and {len(failing) - SHOWN} more")
+
+
+def what_failed(it: Result) -> str:
+    """Returns a failing run in words."""
+    return f"status {it.status}, {many(it.schedule.moved(), 'line')} moved, {many(it.schedule.short_reads(), 'short read')}"
 
 
 def simplest(failures: List[Result]) -> List[Result]:
@@ -71,20 +97,29 @@ def simplest(failures: List[Result]) -> List[Result]:
     return sorted(failures, key=lambda it: (it.status == NOTHING_DELIVERED, it.schedule.changes()))[:SHRUNK]
 
 
-def shrink_one(bench: Bench, failures: List[Result], is_race: bool, out: Folder, said: argparse.Namespace) -> None:
-    """Shrinks a few failing schedules, replays the smallest, and prints its timeline."""
+def shrink_one(bench: Bench, failures: List[Result], is_race: bool, out: Folder, said: argparse.Namespace) -> Optional[Shrunk]:
+    """Shrinks a few failing schedules, replays the smallest, and prints its timeline. None if none fails again."""
     shrinkers = [Shrinker(bench, it, is_race, said.jobs, said.shrink_runs // SHRUNK) for it in simplest(failures)]
     shrunk = [it for it in (one.shrink() for one in shrinkers) if it]
     if not shrunk:
         print("no failing schedule that was tried fails again: the program or the check does not do the same in each run")
         print("(several checks run at once: each has its own files in $WT_OUT)")
-        return
+        return None
     best = min(shrunk, key=lambda it: it.schedule.size())
     lines, changes, _ = best.schedule.size()
     out.write("shrunk.schedule", best.schedule.encoded())
-    print(f"shrunk by {many(sum(it.runs for it in shrinkers), 'run')}: {many(lines, 'line')}, {many(changes, 'move')}")
+    runs = sum(it.runs for it in shrinkers)
+    print(f"shrunk by {many(runs, 'run')}: {many(lines, 'line')}, {many(changes, 'move')}")
     failed = replay(bench, best, said.replays, said.jobs)
     print(f"replayed {many(said.replays, 'time')}, failed {many(failed, 'time')}")
+    command = [said.command, "under", *bench.options, "--schedule", f"{out.path}/shrunk.schedule", "--", *bench.program]
+    last = show(bench, best, out, said)
+    print(f"again: {shlex.join(command)}")
+    return Shrunk(best.schedule, runs, said.replays, failed, timeline(last.trace), shlex.join(command))
+
+
+def show(bench: Bench, best: Result, out: Folder, said: argparse.Namespace) -> Result:
+    """Leaves the files of one more run of a schedule, and prints its timeline. Returns the run."""
     with out.directory("run") as run:
         last = bench.replay(best.schedule, best.seed, run)
     out.write("timeline.txt", timeline(last.trace, is_whole=True).encode("utf-8", "surrogateescape"))
@@ -93,8 +128,7 @@ def shrink_one(bench: Bench, failures: List[Result], is_race: bool, out: Folder,
     print("\n" + timeline(last.trace), end="")
     page = f"no page: {why}" if why else f"{out.path}/page.html its records"
     print(f"\n{out.path}/timeline.txt has every request, {out.path}/run the files of the run; {page}")
-    command = [said.command, "under", *bench.options, "--schedule", f"{out.path}/shrunk.schedule", "--", *bench.program]
-    print(f"again: {shlex.join(command)}")
+    return last
 
 
 def replay(bench: Bench, best: Result, times: int, jobs: int) -> int:

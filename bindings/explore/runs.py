@@ -30,6 +30,13 @@ class Result:
     delivered: bool
     schedule: Schedule
     trace: List[traces.Entry]
+    """Empty if it is not known: of a run of another machine, or of an earlier search."""
+    name: str = ""
+    """The moves in words, of a search by moves."""
+
+    def title(self) -> str:
+        """Returns the name of the run for a reader."""
+        return f"seed {self.seed}" if self.seed is not None else self.name or "at rest"
 
     def places(self) -> List[int]:
         """Returns, for each line after the first mark, the request that was next when it had happened."""

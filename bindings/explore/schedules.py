@@ -66,6 +66,11 @@ class Schedule:
         """Counts what makes it another schedule than the script alone."""
         return self.moved() + self.short_reads() + (self.queue != USUAL_QUEUE)
 
+    def order(self) -> List[Tuple[int, int, int]]:
+        """Returns what is moved, by request: a line, or a read that is short. Schedules of one script sort by it."""
+        lines = [(it.before, 0, at) for at, it in enumerate(self.lines()) if it.before is not None]
+        return sorted(lines + [(it.request, 1, it.records) for it in self.items if isinstance(it, ShortRead)])
+
     def size(self) -> Tuple[int, int, int]:
         """Returns what shrinking makes less: the lines, the changes, the marks."""
         marks = sum(isinstance(it, Mark) for it in self.items)

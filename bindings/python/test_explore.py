@@ -97,7 +97,7 @@ def fine(tree, believed):
 
 
 def program(script=SMALL, consumer=small, check=fine):
-    setup, changes = explore._run.parse_script(script)
+    setup, changes = explore._schedule.parse_script(script)
     return Program(setup, changes, consumer, check, 1000)
 
 

@@ -15,8 +15,10 @@ from typing import Iterable, List, Optional, Tuple
 
 HERE = os.path.dirname(os.path.abspath(__file__))
 sys.path[:0] = [HERE, os.path.dirname(HERE)]
-WITHOUT_RUNNER = ("units", "clients")
-WITH_RUNNER = ("folders", "replays", "found", "faults", "printed", "quiet", "ended")
+WITHOUT_RUNNER = ("units", "parts", "reported", "clients")
+WITH_RUNNER = ("folders", "replays", "found", "faults", "printed", "quiet", "ended", "many")
+# (the sanitized runner is slow, and they test no part of it)
+ONCE = ("recipes",)
 EXAMPLES = ("recursive", "renames", "overflow", "follow", "reload")
 AT_ONCE = 2
 
@@ -75,7 +77,7 @@ def main() -> int:
     words = sys.argv[1:]
     is_sanitized = words[0] == "--sanitized"
     runner, *names = words[is_sanitized:]
-    runner, modules = os.path.abspath(runner), WITH_RUNNER if is_sanitized else WITHOUT_RUNNER + WITH_RUNNER
+    runner, modules = os.path.abspath(runner), WITH_RUNNER if is_sanitized else WITHOUT_RUNNER + WITH_RUNNER + ONCE
     with tempfile.TemporaryDirectory(prefix="watchtree-explore-test-") as room:
         os.environ.update(RUNNER=beside_library(runner, room) if is_sanitized else runner, ROOM=room)
         wrong = build(room)

@@ -10,7 +10,7 @@ import sys
 from tool import EXAMPLES, HERE, MAIN, ToolTest
 
 TOP = os.path.abspath(f"{HERE}/../../..")
-LAUNCH, CLONE, WORDS = f"{TOP}/bindings/launch", f"{TOP}/watchtree", f"{TOP}/bindings/words"
+CLONE, WORDS = f"{TOP}/watchtree", f"{TOP}/bindings/words"
 
 
 class Counts(ToolTest):
@@ -47,15 +47,7 @@ class Commands(ToolTest):
         return again[0]
 
     def test_the_installed_one(self) -> None:
-        parts = f"{self.room}/prefix/libexec/watchtree"
-        os.makedirs(f"{self.room}/prefix/bin")
-        os.makedirs(parts)
-        shutil.copy(LAUNCH, f"{self.room}/prefix/bin/watchtree")
-        os.chmod(f"{self.room}/prefix/bin/watchtree", 0o755)
-        shutil.copy(WORDS, f"{parts}/words")
-        shutil.copy(self.runner, f"{parts}/under")
-        others = shutil.ignore_patterns("tests", "examples", "explored")
-        shutil.copytree(os.path.dirname(MAIN), f"{parts}/explore", ignore=others)
+        self.install()
         self.assertEqual(self.again("watchtree", f"{self.room}/prefix/bin", self.room), "watchtree")
         shutil.rmtree(f"{self.room}/recursive.script.failures")
         self.assertEqual(self.again("prefix/bin/watchtree", "/nonexistent", self.room), "prefix/bin/watchtree")
@@ -98,6 +90,7 @@ class Pages(ToolTest):
     def test_git_ignores_it(self) -> None:
         if not os.path.exists(f"{TOP}/.git") or not shutil.which("git"):
             self.skipTest("this is no git checkout, or there is no git")
-        for path in ("script", "script.failures/shrunk.schedule", "script.failures/explore.files"):
+        for path in ("script", "script.failures/shrunk.schedule", "script.failures/explore.files",
+                     "script.shard-1-of-4/search.json"):
             said = subprocess.run(["git", "-C", TOP, "check-ignore", "-q", path], check=False)
             self.assertEqual(said.returncode, 0, path)

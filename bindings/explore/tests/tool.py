@@ -1,6 +1,7 @@
 """What the tests share: the tool and the runner as a user starts them, in a folder of its own."""
 
 import os
+import shutil
 import subprocess
 import sys
 import tempfile
@@ -10,8 +11,20 @@ from typing import List, Optional
 HERE = os.path.dirname(os.path.abspath(__file__))
 EXAMPLES = os.path.join(HERE, "../examples")
 MAIN = os.path.join(HERE, "../main.py")
+BINDINGS = os.path.abspath(os.path.join(HERE, "../.."))
 # Seconds after which a test hangs.
 PATIENCE = 300
+# The one that has the modules of Debian's packages.
+DEBIAN_PYTHON = "/usr/bin/python3"
+
+
+def has_module(name: str) -> bool:
+    """Whether a Debian package of a module for Python is installed."""
+    try:
+        said = subprocess.run([DEBIAN_PYTHON, "-c", f"import {name}"], capture_output=True, check=False)
+    except FileNotFoundError:
+        return False
+    return said.returncode == 0
 
 
 class ToolTest(unittest.TestCase):
@@ -36,6 +49,19 @@ class ToolTest(unittest.TestCase):
         """Reads a file of the folder."""
         with open(f"{self.room}/{name}", encoding="utf-8") as file:
             return file.read()
+
+    def install(self) -> str:
+        """Installs the tool below a prefix in the folder. Returns the folder of the command."""
+        parts = f"{self.room}/prefix/libexec/watchtree"
+        os.makedirs(f"{self.room}/prefix/bin")
+        os.makedirs(parts)
+        shutil.copy(f"{BINDINGS}/launch", f"{self.room}/prefix/bin/watchtree")
+        os.chmod(f"{self.room}/prefix/bin/watchtree", 0o755)
+        shutil.copy(f"{BINDINGS}/words", f"{parts}/words")
+        shutil.copy(self.runner, f"{parts}/under")
+        others = shutil.ignore_patterns("tests", "examples", "explored", "recipes")
+        shutil.copytree(os.path.dirname(MAIN), f"{parts}/explore", ignore=others)
+        return f"{self.room}/prefix/bin"
 
     def explore(self, script: str, check: str, program: List[str], *options: str) -> "subprocess.CompletedProcess[str]":
         """Runs watchtree explore."""

@@ -7,10 +7,10 @@ from typing import Callable, List, Optional
 
 import progress
 import schedules
-import search
 import shrink
 import timeline
 import traces
+from moves import Moved, by_moves, read_moves
 from runs import Result
 from schedules import Line, Mark, Schedule, ShortRead
 
@@ -102,7 +102,7 @@ class Moves(unittest.TestCase):
         base = model.replay(script(*"abcdef"[:lines]))
         seen = []
         model.judge = lambda result: seen.append(result.schedule) or False
-        found = search.by_moves(model, base, moves, "lines", 3, False)
+        found = by_moves(model, base, moves, "lines", 3, False)
         self.assertEqual(found.runs, len(seen))
         self.assertEqual(len(set(seen)), len(seen), "a schedule ran twice")
         self.assertTrue(all(1 <= it.moved() <= moves for it in seen))
@@ -121,9 +121,9 @@ class Moves(unittest.TestCase):
         told = [traces.Told(1, 1, ["CREATE"], 0, "a")] * 3
         trace = [traces.Happened("--", None, 1), traces.Asked(4, "read 1"), *told, traces.Asked(5, "read 1"), told[0]]
         result = Result(None, 0, False, True, script("a"), trace)
-        moves = list(search.read_moves(search.Moved(result.schedule, 0, (0, 0, -1), -1), result))
+        moves = list(read_moves(Moved(result.schedule, 0, (0, 0, -1), -1), result))
         self.assertEqual([it.schedule.items[-1] for it in moves], [ShortRead(4, 1), ShortRead(4, 2)])
-        later = list(search.read_moves(search.Moved(result.schedule, 1, (4, 1, 1), -1), result))
+        later = list(read_moves(Moved(result.schedule, 1, (4, 1, 1), -1), result))
         self.assertEqual([it.schedule.items[-1] for it in later], [ShortRead(4, 2)])
 
 

@@ -24,13 +24,14 @@
     explore.run(SCRIPT, consumer, check, seeds=range(200)).check()
 
 Each call of the consumer is a request. Before it is answered the schedule says which lines happen; a line also happens
-whenever the consumer asks for events in vain. docs/EXPLORE.md says more.
+whenever the consumer asks for events in vain. docs/EXPLORE-IN-PROCESS.md says more.
 """
 
 from ._once import Check, Consumer
 from ._player import EndOfRun, TooManyRequests
 from ._run import BATCHES, QUEUES, Failure, FoundFailure, NotDeterministic, Result, replay, run
 from ._schedule import Change, Schedule, parse_schedule
+from ._shards import Shard
 from ._tree import ExploredInstance, ExploredTree, paths
 
 __all__ = [
@@ -47,6 +48,7 @@ __all__ = [
     "QUEUES",
     "Result",
     "Schedule",
+    "Shard",
     "TooManyRequests",
     "parse_schedule",
     "paths",

@@ -1,14 +1,16 @@
 """run() and replay(): many schedules, and one."""
 
 import time
-from typing import Iterable, Iterator, List, NamedTuple, Optional, Sequence, Tuple
+from typing import Iterable, Iterator, List, NamedTuple, Optional, Sequence, Tuple, Union
 
-from .._library import QUEUE, default_library
-from .._tree import Tree
+from .._library import QUEUE
+from . import _reports
 from ._moves import moved
 from ._once import Check, Consumer, Outcome, Program
 from ._plans import Seeded
-from ._schedule import PAUSE, AnySchedule, Schedule, parse_schedule, parse_script
+from ._schedule import AnySchedule, Schedule, parse_schedule
+from ._scripts import AnyFile, AnyScript, name_of, read
+from ._shards import WHOLE, Shard, parse_shard
 from ._shrink import shrink
 
 QUEUES: Tuple[int, ...] = (QUEUE, QUEUE, 1, 2, 3, 5)
@@ -58,6 +60,8 @@ class Result(NamedTuple):
     seconds: float
     failures: List[Failure]
     """The first is shrunk, and so are others if they were asked for."""
+    name: str = "script"
+    """The file of the script, for reports."""
 
     @property
     def failure(self) -> Optional[Failure]:
@@ -70,6 +74,11 @@ class Result(NamedTuple):
             raise FoundFailure(str(self)) from self.failures[0].error
         return self
 
+    def report(self, *, junit: "Optional[AnyFile]" = None, json: "Optional[AnyFile]" = None) -> "Result":
+        """Writes reports to files, which are replaced: JUnit's XML and JSON. Returns the result."""
+        _reports.write(self, self.name, {"junit": junit, "json": json})
+        return self
+
     def __str__(self) -> str:
         head = f"{self.runs} schedules, {self.reads} reads, {len(self.failures)} failed"
         return "\n".join([head, *map(str, self.failures[:1])])
@@ -80,7 +89,7 @@ class NotDeterministic(RuntimeError):
 
 
 def run(
-    script: str,
+    script: AnyScript,
     consumer: Consumer,
     check: Check,
     *,
@@ -90,24 +99,28 @@ def run(
     batches: Sequence[Optional[int]] = BATCHES,
     keep_going: bool = False,
     max_requests: int = REQUESTS,
+    shard: Union[str, Shard] = WHOLE,
 ) -> Result:
     """Runs a consumer under one schedule for each seed, until one fails.
 
-    The lines of `script` before `--` happen first, the others are changes; a further `--` ends a timeout.
+    `script` is text, or the path of a file, such as a recording: a `pathlib.Path`, or any other `os.PathLike`. Its lines
+    before `--` happen first, the others are changes; a further `--` ends a timeout.
     `consumer(tree)` is a function, which returns what it believes, or a generator, which yields it. A run fails if the
     consumer raises an exception, or if `check(tree, believed)` raises one or returns False.
 
     A seed takes the limit of all queues from `queues`, and how many records a read returns at most from `batches`; None
     is without a limit. With `moves` all schedules are run in which at most `moves` lines happen before an earlier
     request than at rest; queues then have the first limit of `queues`, and seeds are not used. With `keep_going` all
-    schedules are run. A consumer that makes more than `max_requests` requests fails.
+    schedules are run. A consumer that makes more than `max_requests` requests fails. With `shard`, such as `2/4`, a
+    part of the seeds or moves is run: all parts together are the whole, and no two have a schedule in common.
 
     ValueError if `script` is no script or its set-up is refused; RuntimeError if no read returned a record.
     """
-    program = _program(script, consumer, check, max_requests)
+    part = parse_shard(shard)
+    program = Program(*read(script), consumer, check, max_requests)
     begin, runs, reads = time.monotonic(), 0, 0
     failures: List[Failure] = []
-    for seed, outcome in _outcomes(program, seeds, moves, queues, batches):
+    for seed, outcome in _outcomes(program, part, seeds, moves, queues, batches):
         runs, reads = runs + 1, reads + outcome.reads
         if outcome.error:
             failures.append(failure_of(program, seed, outcome))
@@ -115,7 +128,7 @@ def run(
                 break
     if runs and not reads and not failures:
         raise RuntimeError(f"no read returned a record in {runs} runs, so the check saw nothing")
-    return Result(runs, reads, time.monotonic() - begin, failures)
+    return Result(runs, reads, time.monotonic() - begin, failures, name_of(script))
 
 
 def replay(
@@ -131,16 +144,17 @@ def replay(
 
 def _outcomes(
     program: Program,
+    shard: Shard,
     seeds: Iterable[int],
     moves: Optional[int],
     queues: Sequence[int],
     batches: Sequence[Optional[int]],
 ) -> Iterator[Tuple[Optional[int], Outcome]]:
     if moves is not None:
-        for outcome in moved(program, moves, queues[0]):
+        for outcome in moved(program, moves, queues[0], shard):
             yield None, outcome
         return
-    for seed in seeds:
+    for seed in shard.part(seeds):
         yield seed, program.run(Seeded(seed, queues, batches))
 
 
@@ -156,22 +170,3 @@ def failure_of(program: Program, seed: Optional[int], found: Outcome) -> Failure
         seed, outcome.schedule, outcome.error, outcome.where, outcome.timeline, found.schedule, outcome.script
     )
 
-
-def _program(script: str, consumer: Consumer, check: Check, limit: int) -> Program:
-    setup, changes = parse_script(script)
-    with Tree(default_library()) as tree:
-        for line in setup:
-            reply = _reply(tree, line)
-            if reply.startswith("err"):
-                raise ValueError(f"the line {line!r} before `--` is refused: {reply.strip()}")
-        for line in changes:
-            if line != PAUSE:
-                _reply(tree, line)
-    return Program(setup, changes, consumer, check, limit)
-
-
-def _reply(tree: Tree, line: str) -> str:
-    try:
-        return tree.line(line)
-    except OSError as fault:
-        raise ValueError(f"{line!r} is not a line of a script: {fault.strerror}") from None

@@ -15,13 +15,13 @@
 
     TestWatching = Watching.TestCase
 
-Hypothesis draws which rules run, and shrinks those that fail.
+Hypothesis draws which rules run, and shrinks those that fail. RecordedMachine has rules that draw from a recording.
 """
 
 from typing import Any, List, Optional
 
 from hypothesis import strategies as st
-from hypothesis.stateful import RuleBasedStateMachine, rule
+from hypothesis.stateful import RuleBasedStateMachine, precondition, rule
 
 from .._library import QUEUE
 from .._tree import Tree
@@ -30,6 +30,7 @@ from ._plans import Fixed
 from ._player import Player, TooManyRequests, encode
 from ._run import REQUESTS, FoundFailure, replay
 from ._schedule import PAUSE, Change, Schedule, parse_script
+from ._scripts import AnyScript, read
 from ._tree import ExploredTree
 
 
@@ -115,4 +116,46 @@ class ExploreMachine(RuleBasedStateMachine):
             raise FoundFailure(str(failure)) from failure.error
 
 
-__all__ = ["ExploreMachine"]
+class RecordedMachine(ExploreMachine):
+    """A state machine whose rules draw from the calls of a recording, or of any script.
+
+    The calls happen in their order, some of them are skipped, and some happen when it is not their turn. The tree that
+    the recorded program began with is there first. A subclass may add rules of its own.
+    """
+
+    recording: AnyScript = ""
+    """The text of the script, or the path of its file."""
+
+    def __init__(self) -> None:
+        setup, lines = read(self.recording)
+        self.calls = [it for it in lines if it != PAUSE]
+        if not self.calls:
+            raise ValueError("the recording has no call behind its line `--`")
+        self.script = "\n".join(setup)
+        self._next = 0
+        super().__init__()
+
+    def _are_left(self) -> bool:
+        return self._next < len(self.calls)
+
+    @precondition(_are_left)
+    @rule(count=st.integers(1, 8))
+    def make_calls(self, count: int) -> None:
+        """The next calls of the recording happen."""
+        for line in self.calls[self._next : self._next + count]:
+            self.change(line)
+        self._next += count
+
+    @precondition(_are_left)
+    @rule(count=st.integers(1, 4))
+    def skip_calls(self, count: int) -> None:
+        """The next calls of the recording do not happen."""
+        self._next += count
+
+    @rule(data=st.data())
+    def make_another_call(self, data: Any) -> None:
+        """A call of the recording happens when it is not its turn."""
+        self.change(data.draw(st.sampled_from(self.calls)))
+
+
+__all__ = ["ExploreMachine", "RecordedMachine"]

@@ -39,7 +39,9 @@ mod moves;
 mod panics;
 mod plan;
 mod program;
+mod report;
 mod schedule;
+mod shard;
 mod shrink;
 mod timeline;
 mod tree;
@@ -52,9 +54,13 @@ use crate::{Error, QUEUE};
 use moves::moved;
 use plan::Plan;
 use program::{Outcome, Program};
+use shard::Shard;
 use shrink::shrink;
 use std::fmt;
+use std::fs;
+use std::path::Path;
 use std::rc::Rc;
+use std::time::{Duration, Instant};
 
 /// The limits of queues that a seed chooses from.
 pub const QUEUES: [u32; 6] = [QUEUE, QUEUE, 1, 2, 3, 5];
@@ -69,6 +75,8 @@ pub struct Explore<'a, B> {
     queues: Vec<u32>,
     batches: Rc<[Option<u32>]>,
     keeps_going: bool,
+    name: String,
+    shard: Shard,
 }
 
 /// A failing schedule, shrunk. It is printed as what happened in it.
@@ -104,6 +112,9 @@ pub struct Report {
     /// How many reads returned records, in all runs.
     pub reads: u64,
     pub failures: Vec<Failure>,
+    /// The file of the script, for [`junit`](Report::junit) and [`json`](Report::json).
+    pub name: String,
+    pub elapsed: Duration,
 }
 
 impl Report {
@@ -126,7 +137,21 @@ impl<'a, B: 'a> Explore<'a, B> {
         let (consumer, check) = (Rc::new(consumer), Rc::new(check));
         let program = Program { setup: schedule.setup, lines, consumer, check, limit: REQUESTS };
         program.try_script()?;
-        Ok(Explore { program, queues: QUEUES.to_vec(), batches: Rc::new(BATCHES), keeps_going: false })
+        let (queues, batches, name) = (QUEUES.to_vec(), Rc::new(BATCHES), "script".into());
+        Ok(Explore { program, queues, batches, keeps_going: false, name, shard: Shard::WHOLE })
+    }
+
+    /// Takes the file of a script, such as a recording of `watchtree record`.
+    pub fn from_file(
+        path: impl AsRef<Path>,
+        consumer: impl Fn(&mut Tree) -> Result<B, Error> + 'a,
+        check: impl Fn(&mut crate::Tree, &B) -> Result<(), String> + 'a,
+    ) -> Result<Explore<'a, B>, Fault> {
+        let path = path.as_ref();
+        let bytes = fs::read(path).map_err(|error| Fault(format!("{}: {error}", path.display())))?;
+        // (only comments may have other bytes)
+        let explore = Explore::new(&String::from_utf8_lossy(&bytes), consumer, check)?;
+        Ok(Explore { name: path.display().to_string(), ..explore })
     }
 
     /// The limits of queues that a seed chooses from, [`QUEUES`] unless they are set. [`moves`](Explore::moves) takes
@@ -156,6 +181,16 @@ impl<'a, B: 'a> Explore<'a, B> {
         self
     }
 
+    /// Runs part `number` of `count` of the seeds or moves, from 1 on. All parts together are the whole, and no two have
+    /// a schedule in common.
+    ///
+    /// # Panics
+    /// If there is no such part.
+    pub fn shard(mut self, number: usize, count: usize) -> Self {
+        self.shard = Shard::new(number, count);
+        self
+    }
+
     /// How many requests a consumer may make in a run: 10,000 unless it is set.
     pub fn max_requests(mut self, requests: u32) -> Self {
         self.program.limit = requests;
@@ -164,21 +199,21 @@ impl<'a, B: 'a> Explore<'a, B> {
 
     /// Runs one schedule for each seed, until one fails. An error if no read of any run returned a record.
     pub fn seeds(&self, seeds: impl IntoIterator<Item = u64>) -> Result<Report, Fault> {
-        let mut report = Report::default();
-        for seed in seeds {
+        let (mut report, start) = (Report::default(), Instant::now());
+        for seed in self.shard.part(seeds) {
             let plan = Plan::seeded(seed, &self.queues, &self.batches);
             if !self.count(&mut report, Some(seed), self.program.run(plan, false)) {
                 break;
             }
         }
-        self.has_said_something(report)
+        self.ended(report, start)
     }
 
     /// Runs all schedules in which at most `moves` lines happen before an earlier request than they would at rest.
     pub fn moves(&self, moves: usize) -> Result<Report, Fault> {
-        let mut report = Report::default();
-        moved(&self.program, moves, self.queues[0], |outcome| self.count(&mut report, None, outcome));
-        self.has_said_something(report)
+        let (mut report, start) = (Report::default(), Instant::now());
+        moved(&self.program, moves, self.queues[0], self.shard, |outcome| self.count(&mut report, None, outcome));
+        self.ended(report, start)
     }
 
     /// Runs the consumer under one schedule, and returns how it failed if it did.
@@ -211,10 +246,11 @@ impl<'a, B: 'a> Explore<'a, B> {
         }
     }
 
-    fn has_said_something(&self, report: Report) -> Result<Report, Fault> {
+    /// The report of a search that has run. An error if the check saw nothing.
+    fn ended(&self, report: Report, start: Instant) -> Result<Report, Fault> {
         if report.runs > 0 && report.reads == 0 && report.failures.is_empty() {
             return Err(Fault(format!("no read returned a record in {} runs, so the check saw nothing", report.runs)));
         }
-        Ok(report)
+        Ok(Report { name: self.name.clone(), elapsed: start.elapsed(), ..report })
     }
 }

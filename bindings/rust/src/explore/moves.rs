@@ -1,12 +1,20 @@
 //! All schedules in which a few lines are moved.
 use super::plan::Plan;
 use super::program::{Outcome, Program};
+use super::shard::Shard;
 
 type Counts = Vec<(u32, usize)>;
 
 /// Runs every schedule in which at most `moves` lines happen before an earlier request than they would at rest, until
-/// `each` returns false. Each schedule is run once, those with fewer moved lines first. Lines keep their order.
-pub(crate) fn moved<B>(program: &Program<'_, B>, moves: usize, queue: u32, mut each: impl FnMut(Outcome) -> bool) {
+/// `each` returns false. Each schedule is run once, those with fewer moved lines first. Lines keep their order. A shard
+/// has those that begin with a first move of its own; the first shard has the schedule without a move, too.
+pub(crate) fn moved<B>(
+    program: &Program<'_, B>,
+    moves: usize,
+    queue: u32,
+    shard: Shard,
+    mut each: impl FnMut(Outcome) -> bool,
+) {
     let mut level: Vec<Counts> = vec![Vec::new()];
     for depth in 0..=moves {
         let mut deeper = Vec::new();
@@ -15,11 +23,11 @@ pub(crate) fn moved<B>(program: &Program<'_, B>, moves: usize, queue: u32, mut e
             if depth < moves {
                 deeper.extend(one_more(&counts, outcome.plan.left()));
             }
-            if !each(outcome) {
+            if (depth > 0 || shard.is_first()) && !each(outcome) {
                 return;
             }
         }
-        level = deeper;
+        level = if depth == 0 { shard.part(deeper).collect() } else { deeper };
     }
 }
 

@@ -17,12 +17,18 @@ pub enum Part {
     Check,
 }
 
+impl Part {
+    pub(crate) fn word(self) -> &'static str {
+        match self {
+            Part::Consumer => "consumer",
+            Part::Check => "check",
+        }
+    }
+}
+
 impl fmt::Display for Part {
     fn fmt(&self, f: &mut fmt::Formatter<'_>) -> fmt::Result {
-        f.write_str(match self {
-            Part::Consumer => "the consumer",
-            Part::Check => "the check",
-        })
+        write!(f, "the {}", self.word())
     }
 }
 

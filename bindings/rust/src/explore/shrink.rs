@@ -2,6 +2,7 @@
 use super::moves::moved;
 use super::program::{Failed, Outcome, Program};
 use super::schedule::Schedule;
+use super::shard::Shard;
 use crate::QUEUE;
 
 /// How far the schedules of a script are searched: how many lines are moved, and how many runs are made.
@@ -100,7 +101,7 @@ impl<B> Search<'_, '_, B> {
             let short = if schedule.queue == 1 { None } else { Some(1) };
             for queue in short.into_iter().chain([schedule.queue]) {
                 let (mut found, mut runs) = (None, 0);
-                moved(&program, MOVES, queue, |outcome| {
+                moved(&program, MOVES, queue, Shard::WHOLE, |outcome| {
                     runs += 1;
                     self.left = self.left.saturating_sub(1);
                     found = outcome.is_like(&self.kind).then_some(outcome);
