@@ -1,0 +1,90 @@
+/* The turns of the second program. Its requests wait (waiting.h) whenever it has none. */
+#include "script/second.h"
+#include "command/options.h"
+#include "inotify/instances.h"
+#include "output/asked.h"
+#include "processes/program.h"
+#include "processes/rest.h"
+#include "tree/serve.h"
+#include "tree/waiting.h"
+#include <stdio.h>
+#include <sys/wait.h>
+
+/* How many requests that only look a turn has at most: a program may ask again and again for what the client is to do. */
+enum { MOST_LOOKS = 10000 };
+/* After a request more may come soon. And how long a turn is at most without a request. */
+enum { FIRST_WAIT_US = 50, LONGEST_WAIT_US = 2000, LONGEST_MS = 1000 };
+
+static enum second how;
+static int status;
+
+void note_second(void) { how = how_second_is(&status); }
+
+bool second_is_ready(void) { return second_waits(); }
+bool second_goes_on(void) { return options.second && (how == NO_SECOND || how == SECOND_GOES_ON || second_waits()); }
+bool second_is_broken(void) { return how == SECOND_NOT_STARTED || how == SECOND_IS_LOST; }
+
+/* ---- a turn */
+
+/* Takes what came, and answers what only looks while there are looks left. Whether anything came. */
+static bool take_and_look(uint64_t *looks) {
+    bool is_any = take_all();
+    uint64_t count = serve_looks(*looks);
+    *looks -= count;
+    return is_any || count;
+}
+
+/* Waits until it is at rest: all its tasks slept at one moment, or those that do not have waited for a lock for a while, which
+ * the client has. It counts as at rest too if it works for long without a request. */
+static void await_rest(uint64_t looks) {
+    struct tasks last = { 0 };
+    int64_t asked_at = clock_ms(), same_since = asked_at, wait_us = FIRST_WAIT_US;
+    while (clock_ms() - asked_at < LONGEST_MS) {
+        if (take_and_look(&looks)) {
+            asked_at = clock_ms();
+            last = (struct tasks){ 0 };
+            wait_us = FIRST_WAIT_US;
+        } else {
+            struct tasks now = look_at_tasks(SECOND);
+            bool is_same = now.runs == last.runs && now.none_runs;
+            if (!is_same) same_since = clock_ms();
+            last = now;
+            if (is_same && (now.all_sleep || clock_ms() - same_since >= BLOCKED_MS)) {
+                if (!take_and_look(&looks)) break;
+                asked_at = clock_ms();
+            } else if (now.all_sleep) continue;
+            wait_us = wait_us * 2 < LONGEST_WAIT_US ? wait_us * 2 : LONGEST_WAIT_US;
+        }
+        await_request(wait_us);
+    }
+    note_second();
+}
+
+bool second_goes(void) {
+    await_rest(MOST_LOOKS);
+    bool has_changed = serve_change();
+    if (has_changed) await_rest(0);
+    return has_changed;
+}
+
+bool second_is_at_rest(void) { return look_at_tasks(SECOND).none_runs; }
+
+/* ---- its end */
+
+static int say_end(void) {
+    const char *name = *options.second;
+    if (second_goes_on()) say("the second program, %s, was not over", name);
+    else if (WIFSIGNALED(status)) say("the second program, %s, was ended by signal %d", name, WTERMSIG(status));
+    else if (WEXITSTATUS(status)) say("the second program, %s, ended with status %d", name, WEXITSTATUS(status));
+    else return 0;
+    return STATUS_LINES_LEFT;
+}
+
+int status_of_second(void) {
+    if (!options.second) return 0;
+    switch (how) {
+    case SECOND_NOT_STARTED: return status;
+    case SECOND_IS_LOST: say("the keeper of the second program was ended"); return STATUS_FAULT;
+    default: return say_end();
+    }
+}

@@ -1,0 +1,155 @@
+/* Requests that wait for their turn, in a run of two programs. Each is kept as it came from the mount. */
+#include "tree/waiting.h"
+#include "processes/program.h"
+#include "tree/requests.h"
+#include <errno.h>
+#include <fcntl.h>
+#include <linux/fuse.h>
+#include <stdlib.h>
+#include <sys/syscall.h>
+#include <unistd.h>
+
+struct request {
+    struct request *next;
+    enum side side;
+    bool is_change;                 /* it changes the tree, or raises events */
+    uint64_t started;               /* when its task started: 0 of a closed file, which is of no task */
+    pid_t task;
+    size_t size;
+    union { struct fuse_in_header head; char bytes[1]; };
+};
+
+enum side served;
+static struct request *all[SIDES];  /* those that wait, in the order in which they came */
+static bool refuses;
+
+/* ---- what a message is */
+
+/* The words behind its head. */
+static const void *arguments(const struct request *it) { return it->bytes + sizeof it->head; }
+
+/* Nobody waits for an answer, and nothing changes by it. */
+static bool is_note(uint32_t opcode) {
+    switch (opcode) {
+    case FUSE_FORGET: case FUSE_BATCH_FORGET: case FUSE_INTERRUPT: case FUSE_INIT: case FUSE_DESTROY: case FUSE_RELEASEDIR:
+        return true;
+    default: return false;
+    }
+}
+
+static bool is_change(const struct request *it) {
+    switch (it->head.opcode) {
+    case FUSE_MKNOD: case FUSE_MKDIR: case FUSE_UNLINK: case FUSE_RMDIR: case FUSE_RENAME: case FUSE_RENAME2: case FUSE_LINK:
+    case FUSE_CREATE: case FUSE_SETATTR: case FUSE_WRITE: case FUSE_FSYNC: case FUSE_RELEASE: return true;
+    case FUSE_OPEN: return ((const struct fuse_open_in *)arguments(it))->flags & O_TRUNC;
+    default: return false;
+    }
+}
+
+/* A closed file is of the side that opened it, as the kernel names no task. */
+static void find_side(struct request *it) {
+    it->task = (pid_t)it->head.pid;
+    it->started = 0;
+    if (it->head.opcode == FUSE_RELEASE) {
+        uint64_t file = ((const struct fuse_release_in *)arguments(it))->fh;
+        it->side = it->head.nodeid != INSTANCE && is_opened_by_second(file) ? SECOND : CLIENT;
+    } else if (it->task == second_supervisor_pid || syscall(SYS_tgkill, second_supervisor_pid, it->task, 0) == 0)
+        it->side = SECOND;
+    else it->side = side_of(it->task, &it->started);
+    it->is_change = is_change(it);
+}
+
+/* ---- answers */
+
+static void answer(struct fuse_session *session, struct request *it) {
+    enum side before = served;
+    struct fuse_buf buffer = { .mem = it->bytes, .size = it->size };
+    served = it->side;
+    fuse_session_process_buf(session, &buffer);
+    served = before;
+    free(it);
+}
+
+/* A file that is closed is closed all the same, as nobody would do it later. */
+static void refuse_one(struct fuse_session *session, struct request *it) {
+    if (it->head.opcode == FUSE_RELEASE) {
+        answer(session, it);
+        return;
+    }
+    struct fuse_out_header out = { .len = sizeof out, .error = -EIO, .unique = it->head.unique };
+    /* (where the kernel does not wait for it any more, nobody does) */
+    if (write(fuse_session_fd(session), &out, sizeof out) < 0 && errno != ENOENT) fail("/dev/fuse");
+    free(it);
+}
+
+static void append(struct request *it) {
+    struct request **end = &all[it->side];
+    while (*end) end = &(*end)->next;
+    *end = it;
+}
+
+static struct request *take(struct request **at) {
+    struct request *it = *at;
+    *at = it->next;
+    return it;
+}
+
+bool take_request(struct fuse_session *session) {
+    static struct fuse_buf buffer;
+    int count = fuse_session_receive_buf(session, &buffer);
+    if (count == -EAGAIN || count == -EINTR) return false;
+    if (count <= 0) fault("/dev/fuse: %s", count ? strerror(-count) : "the mount is gone");
+    if (is_note(((struct fuse_in_header *)buffer.mem)->opcode)) {
+        fuse_session_process_buf(session, &buffer);
+        return true;
+    }
+    struct request *it = malloc(sizeof *it + (size_t)count);
+    if (!it) fail("malloc");
+    it->next = NULL;
+    it->size = (size_t)count;
+    memcpy(it->bytes, buffer.mem, it->size);
+    find_side(it);
+    if (refuses && it->side == SECOND) refuse_one(session, it);
+    else append(it);
+    return true;
+}
+
+bool client_waits(void) { return all[CLIENT]; }
+bool second_waits(void) { return all[SECOND]; }
+
+bool answer_client(struct fuse_session *session) {
+    if (!all[CLIENT]) return false;
+    answer(session, take(&all[CLIENT]));
+    return true;
+}
+
+uint64_t answer_looks(struct fuse_session *session, uint64_t most) {
+    uint64_t count = 0;
+    for (struct request **at = &all[SECOND]; *at && count < most;) {
+        if ((*at)->is_change) at = &(*at)->next;
+        else {
+            answer(session, take(at));
+            count++;
+            at = &all[SECOND];      /* others may have come */
+        }
+    }
+    return count;
+}
+
+static bool is_before(const struct request *one, const struct request *other) {
+    return one->started != other->started ? one->started < other->started : one->task < other->task;
+}
+
+bool answer_change(struct fuse_session *session) {
+    struct request **first = NULL;
+    for (struct request **at = &all[SECOND]; *at; at = &(*at)->next)
+        if ((*at)->is_change && (!first || is_before(*at, *first))) first = at;
+    if (!first) return false;
+    answer(session, take(first));
+    return true;
+}
+
+void refuse_waiting(struct fuse_session *session) {
+    refuses = true;
+    while (all[SECOND]) refuse_one(session, take(&all[SECOND]));
+}

@@ -1,0 +1,27 @@
+/* Requests that wait for their turn. In a run of two programs the tree answers one program at a time: what the other one asks
+ * waits here. */
+#ifndef WAITING_H
+#define WAITING_H
+#include "processes/rest.h"
+#define FUSE_USE_VERSION 35
+#include <fuse3/fuse_lowlevel.h>
+
+/* Whose request is answered now. */
+extern enum side served;
+
+/* Takes one request from the mount, which waits then. A message that nobody waits for is answered at once. False if there is
+ * none. */
+bool take_request(struct fuse_session *session);
+/* Answers the first request of the client that waits. False if none does. */
+bool answer_client(struct fuse_session *session);
+/* Whether the client has a request that waits, and whether the second program has. */
+bool client_waits(void);
+bool second_waits(void);
+/* Answers the requests of the second program that wait and only look, at most `most` of them. How many there were. */
+uint64_t answer_looks(struct fuse_session *session, uint64_t most);
+/* Answers one that changes the tree or raises events: first what was closed, then those of the task that started first. False
+ * if none waits. */
+bool answer_change(struct fuse_session *session);
+/* From now on requests of the second program are refused, those that wait too. */
+void refuse_waiting(struct fuse_session *session);
+#endif
