@@ -19,7 +19,8 @@ from folder import Folder  # noqa: E402
 from runs import NOT_EXECUTABLE, NOT_FOUND, TOOL_FAULT, Bench, Result  # noqa: E402
 from schedules import Fault  # noqa: E402
 
-USAGE = "watchtree explore [OPTIONS] SCRIPT --check COMMAND -- PROGRAM [ARGUMENT..]"
+USAGE = """watchtree explore [OPTIONS] SCRIPT --check COMMAND -- PROGRAM [ARGUMENT..]
+       watchtree explore [OPTIONS] SCRIPT --check COMMAND -- CLIENT [ARGUMENT..] --and PROGRAM [ARGUMENT..]"""
 VARIED = ("lines", "reads", "queue")
 # The first word below the keeper, and the folder that the keeper made and removes.
 KEPT, ROOM = "--kept", "WATCHTREE_ROOM"
@@ -97,8 +98,8 @@ def runner_options(said: argparse.Namespace) -> List[str]:
     return out
 
 
-def check_script(path: str) -> None:
-    """Looks at the script before anything runs."""
+def check_script(path: str, has_second: bool) -> None:
+    """Looks at the script before anything runs. Without lines to move there has to be a second program."""
     try:
         mode = os.stat(path).st_mode
         if not stat.S_ISREG(mode):
@@ -106,7 +107,7 @@ def check_script(path: str) -> None:
         schedule = schedules.read(path)
     except OSError as fault:
         raise Fault(f"{path}: {fault.strerror}") from fault
-    if not schedule.lines():
+    if not schedule.lines() and not has_second:
         raise Fault(f"{path}: no line happens after --")
 
 
@@ -150,7 +151,7 @@ def main(words: List[str]) -> int:
     sys.stdout.reconfigure(errors="surrogateescape")  # type: ignore[union-attr]
     said, program = read_words(words)
     try:
-        check_script(said.script)
+        check_script(said.script, "--and" in program)
         return explore(said, program, children)
     except Fault as fault:
         print(f"watchtree explore: {fault}", file=sys.stderr)

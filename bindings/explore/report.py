@@ -28,8 +28,9 @@ def many(count: int, what: str) -> str:
 
 def say_base(base: Result) -> None:
     """Says what a run without a schedule is."""
-    lines, requests = len(base.schedule.lines()), traces.requests(base.trace)
-    print(f"at rest: {many(lines, 'line')}, {many(requests, 'request')}, the check {'fails' if base.fails else 'passes'}")
+    lines, turns, requests = len(base.schedule.lines()), len(base.schedule.turns()), traces.requests(base.trace)
+    what = f"{many(turns, 'turn')} of the second program" if turns else many(lines, "line")
+    print(f"at rest: {what}, {many(requests, 'request')}, the check {'fails' if base.fails else 'passes'}")
     sys.stdout.flush()
 
 
@@ -60,7 +61,7 @@ def keep(failures: List[Result], out: Folder) -> None:
         name = f"seed-{it.seed}" if it.seed is not None else f"failure-{number}"
         out.write(f"{name}.schedule", it.schedule.encoded())
         if number <= SHOWN:
-            moved = many(it.schedule.moved(), "line") + " moved, " + many(it.schedule.short_reads(), "short read")
+            moved = many(it.schedule.moved(), "turn" if it.schedule.turns() else "line") + " moved, " + many(it.schedule.short_reads(), "short read")
             print(f"  {out.path}/{name}.schedule: status {it.status}, {moved}")
     if len(failures) > SHOWN:
         print(f"  and {len(failures) - SHOWN} more")

@@ -32,7 +32,7 @@ class Result:
     trace: List[traces.Entry]
 
     def places(self) -> List[int]:
-        """Returns, for each line after the first mark, the request that was next when it had happened."""
+        """Returns, for each line after the first mark and each turn, the request that was next when it had happened."""
         return traces.places(self.trace)
 
 
