@@ -211,7 +211,7 @@ class Shrinking(unittest.TestCase):
 
     def test_turns_are_not_dropped(self) -> None:
         model = Model(lambda it: it.schedule.turns()[1].before is not None)
-        turns = (Line(None, 2), Line(None, 3), Line(None, 4), Line(None))
+        turns = (Line(None), Line(None, 6), Line(None, 6), Line(None))
         best = self.shrink(model, Schedule(schedules.USUAL_QUEUE, (), turns))
         self.assertEqual([it.before is None for it in best.schedule.turns()], [True, False, True, True])
 
