@@ -106,7 +106,7 @@ while True:
     print(*new, flush=True)
     os.read(fd, 65536)
 END_OF_PROGRAM
-# Two options, as the tool tells them apart: what is below the directory that is locked, and the words of the second program.
+# (names without a slash: the directory is locked while the call waits)
 # shellcheck disable=SC2016
 relative='cd /wt/d && for i in 1 2 3 4 5 6; do mkdir $i || exit; done'
 for seed in '' 1 2 3 4 5 6 7 8; do
