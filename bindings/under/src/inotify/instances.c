@@ -10,7 +10,6 @@
 #include "script/turn.h"
 #include "tree/nodes.h"
 #include "tree/tree.h"
-#include "tree/waiting.h"
 #include <errno.h>
 #include <fcntl.h>
 #include <linux/fuse.h>
@@ -41,22 +40,10 @@ static int64_t waiting_in(const struct instance *it) { return wt_waiting(&tree, 
 
 /* ---- open and close */
 
-/* Only the client watches: the turns of the second program follow its records, and nobody would know whose turn is next. */
-static void refuse_second_watcher(fuse_req_t req) {
-    static bool is_said;
-    if (!is_said) say("the second program has no inotify: inotify_init is refused (%s)", strerror(ENOSYS));
-    is_said = true;
-    fuse_reply_err(req, ENOSYS);
-}
-
 void open_instance(fuse_req_t req, struct fuse_file_info *file) {
     (void)file;
     if (!by_supervisor(req)) {              /* by /proc/self/fd */
         fuse_reply_err(req, ENXIO);
-        return;
-    }
-    if (served == SECOND) {
-        refuse_second_watcher(req);
         return;
     }
     work_count++;

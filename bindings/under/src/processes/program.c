@@ -52,7 +52,7 @@ _Noreturn static void become_program(const struct start *it, pid_t parent) {
     if (options.out && (dup2(it->written[0], 1) < 0 || dup2(it->written[1], 2) < 0)) fail("--out");
     /* The standard output has the script. */
     if (options.is_record && !options.recording && dup2(2, 1) < 0) fail("standard error");
-    int listener = install_filter();
+    int listener = install_filter(it->report >= 0);
     if (listener < 0) lack_filter(errno);
     send_fd(it->supervisor, listener);
     close(listener);
@@ -115,7 +115,7 @@ static pid_t start(struct start *it, pid_t *supervisor, int mount_fd) {
     if ((*supervisor = fork()) < 0) fail("fork");
     if (*supervisor == 0) {
         close(pair[1]);
-        supervise(pair[0], tool);
+        supervise(pair[0], tool, it->report >= 0);
     }
     if ((pid = fork()) < 0) fail("fork");
     if (pid == 0) {

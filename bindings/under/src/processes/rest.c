@@ -125,6 +125,7 @@ static void look_at_task(pid_t pid, const char *task, struct tasks *all) {
     bool is_known = sscanf(text, "%llu %llu %llu", &ran, &waited, &count) == 3;
     if (!is_known || !strchr("STtI", state.letter)) all->all_sleep = false;
     if (!is_known || !strchr("STtID", state.letter)) all->none_runs = false;
+    all->blocked += state.letter == 'D';
     uint64_t number = strtoull(task, NULL, 10);
     all->runs = mix(mix(all->runs, number), count);
     if (is_supervisor(pid)) return;

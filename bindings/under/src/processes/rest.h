@@ -12,7 +12,8 @@ enum side { CLIENT, SECOND, SIDES };
 /* The state of the tasks of a side below this process. */
 struct tasks {
     bool all_sleep;
-    bool none_runs;     /* those that do not sleep wait for a lock or a disk */
+    bool none_runs;     /* those that do not sleep wait for a lock, a disk or the supervisor */
+    uint64_t blocked;   /* how many these are */
     uint64_t runs;      /* changes whenever one of them ran */
     uint64_t set;       /* changes whenever one started or ended */
     uint64_t time;      /* the CPU time of the program, in nanoseconds */

@@ -49,10 +49,11 @@ static void await_rest(uint64_t looks) {
             bool is_same = now.runs == last.runs && now.none_runs;
             if (!is_same) same_since = clock_ms();
             last = now;
-            if (is_same && (now.all_sleep || clock_ms() - same_since >= BLOCKED_MS)) {
+            bool all_wait = now.none_runs && now.blocked <= supervised();
+            if (is_same && (all_wait || clock_ms() - same_since >= BLOCKED_MS)) {
                 if (!take_and_look(&looks)) break;
                 asked_at = clock_ms();
-            } else if (now.all_sleep) continue;
+            } else if (all_wait) continue;
             wait_us = wait_us * 2 < LONGEST_WAIT_US ? wait_us * 2 : LONGEST_WAIT_US;
         }
         await_request(wait_us);

@@ -20,12 +20,14 @@ uint64_t line_count;
 static uint64_t request_count;
 static uint64_t answered_next;      /* the request before which lines happen now: 0 at rest */
 
-uint64_t run_lines_before_request(void) {
+uint64_t run_lines_before_request(void) { return run_steps_before_request(true); }
+
+uint64_t run_steps_before_request(bool may_turn) {
     uint64_t request = ++request_count, lines = 0;
     if (!has_schedule()) return request;
     answered_next = request;
     hold_deliveries(true);
-    for (enum next next; (next = next_in_script()) == NEXT_LINE || next == NEXT_TURN; lines++) {
+    for (enum next next; (next = next_in_script()) == NEXT_LINE || (next == NEXT_TURN && may_turn); lines++) {
         if (!line_comes_before(request, lines)) break;
         if (next == NEXT_LINE) run_line();
         else run_turn();

@@ -21,7 +21,7 @@ void count_work(void) { work_count += served == CLIENT; }
 void begin(fuse_req_t req) {
     if (served == SECOND || by_supervisor(req)) return;
     work_count++;
-    run_lines_before_request();
+    run_steps_before_request(!client_has_lock());
 }
 
 bool is_refused(fuse_req_t req, int64_t reply) {

@@ -1,7 +1,9 @@
 /* Requests that wait for their turn, in a run of two programs. Each is kept as it came from the mount. */
 #include "tree/waiting.h"
 #include "processes/program.h"
+#include "tree/nodes.h"
 #include "tree/requests.h"
+#include "tree/tree.h"
 #include <errno.h>
 #include <fcntl.h>
 #include <linux/fuse.h>
@@ -13,6 +15,7 @@ struct request {
     struct request *next;
     enum side side;
     bool is_change;                 /* it changes the tree, or raises events */
+    bool is_of_supervisor;          /* of the second program */
     uint64_t started;               /* when its task started: 0 of a closed file, which is of no task */
     pid_t task;
     size_t size;
@@ -21,6 +24,7 @@ struct request {
 
 enum side served;
 static struct request *all[SIDES];  /* those that wait, in the order in which they came */
+static const struct request *answered;  /* the client's that is answered now */
 static bool refuses;
 
 /* ---- what a message is */
@@ -50,12 +54,14 @@ static bool is_change(const struct request *it) {
 static void find_side(struct request *it) {
     it->task = (pid_t)it->head.pid;
     it->started = 0;
+    it->is_of_supervisor = false;
     if (it->head.opcode == FUSE_RELEASE) {
         uint64_t file = ((const struct fuse_release_in *)arguments(it))->fh;
         it->side = it->head.nodeid != INSTANCE && is_opened_by_second(file) ? SECOND : CLIENT;
-    } else if (it->task == second_supervisor_pid || syscall(SYS_tgkill, second_supervisor_pid, it->task, 0) == 0)
+    } else if (it->task == second_supervisor_pid || syscall(SYS_tgkill, second_supervisor_pid, it->task, 0) == 0) {
         it->side = SECOND;
-    else it->side = side_of(it->task, &it->started);
+        it->is_of_supervisor = true;
+    } else it->side = side_of(it->task, &it->started);
     it->is_change = is_change(it);
 }
 
@@ -65,7 +71,9 @@ static void answer(struct fuse_session *session, struct request *it) {
     enum side before = served;
     struct fuse_buf buffer = { .mem = it->bytes, .size = it->size };
     served = it->side;
+    if (it->side == CLIENT) answered = it;
     fuse_session_process_buf(session, &buffer);
+    if (it->side == CLIENT) answered = NULL;
     served = before;
     free(it);
 }
@@ -114,8 +122,32 @@ bool take_request(struct fuse_session *session) {
     return true;
 }
 
+/* The kernel looks a name up again that it knows, and has no lock then. */
+static bool is_known(uint64_t directory, const char *name) {
+    char path[PATH_SIZE];
+    struct wt_stat is;
+    if (path_in(directory, name, path) || wt_peek_stat(&tree, PATH(path), &is) < 0) return false;
+    const struct node *it = known_node(is.number);
+    return it && it->lookups;
+}
+
+bool client_has_lock(void) {
+    if (!answered) return false;
+    switch (answered->head.opcode) {
+    case FUSE_LOOKUP: return !is_known(answered->head.nodeid, arguments(answered));
+    case FUSE_READDIR: case FUSE_READDIRPLUS: return true;
+    default: return answered->is_change;
+    }
+}
+
 bool client_waits(void) { return all[CLIENT]; }
 bool second_waits(void) { return all[SECOND]; }
+
+uint64_t supervised(void) {
+    uint64_t count = 0;
+    for (const struct request *it = all[SECOND]; it; it = it->next) count += it->is_of_supervisor;
+    return count;
+}
 
 bool answer_client(struct fuse_session *session) {
     if (!all[CLIENT]) return false;

@@ -14,9 +14,14 @@ extern enum side served;
 bool take_request(struct fuse_session *session);
 /* Answers the first request of the client that waits. False if none does. */
 bool answer_client(struct fuse_session *session);
+/* Whether the kernel has a lock during the request of the client that is answered now: that of a directory which is listed or
+ * changed, or in which a name is new to the kernel. The second program could not change that directory. */
+bool client_has_lock(void);
 /* Whether the client has a request that waits, and whether the second program has. */
 bool client_waits(void);
 bool second_waits(void);
+/* How many tasks of the second program wait as their supervisor has a request here. */
+uint64_t supervised(void);
 /* Answers the requests of the second program that wait and only look, at most `most` of them. How many there were. */
 uint64_t answer_looks(struct fuse_session *session, uint64_t most);
 /* Answers one that changes the tree or raises events: first what was closed, then those of the task that started first. False
