@@ -151,7 +151,7 @@ every() {
     wrong=
     for i in $(seq "$runs"); do
         rm -rf out
-        timeout 300 "$under" --out out "$@" script -- inotifywait -q -m -r /wt/d --and sh -ec "cd /wt/d; $text" 2>said
+        timeout 300 "$under" --quick --out out "$@" script -- inotifywait -q -m -r /wt/d --and sh -ec "cd /wt/d; $text" 2>said
         status=$?
         sed -E "$random" out/trace >trace
         [ -e first ] || cp trace first

@@ -27,6 +27,7 @@
 
 static int root = -1;
 static bool serves_second;
+static int turns = -1;              /* of the second program: the root, to ask for turns by */
 
 /* An answer that is the kernel's own: the call goes on as if nobody had held it. */
 enum { GOES_ON = INT32_MIN, IS_ANSWERED = INT32_MIN + 1 };
@@ -156,15 +157,15 @@ static int map_shared(const struct seccomp_notif *call) {
     return GOES_ON;
 }
 
-/* The tool answers statfs(2) when the second program has a turn. */
-static int wait_for_turn(void) {
-    struct statfs is;
-    fstatfs(root, &is);
+/* The tool answers when it is the caller's turn. */
+static int wait_for_turn(const struct seccomp_notif *call) {
+    int32_t task = (int32_t)call->pid;
+    ioctl(turns, CALL_TURN, &task);         /* refused at the end of the run, when no turn comes any more */
     return GOES_ON;
 }
 
 static int answer(const struct seccomp_notif *call) {
-    if (waits_for_turn(call->data.nr)) return wait_for_turn();
+    if (waits_for_turn(call->data.nr)) return wait_for_turn(call);
     switch (call->data.nr) {
     case SYS_inotify_init:
     case SYS_inotify_init1: return init(call);
@@ -210,6 +211,7 @@ static int prepare(int from, pid_t tool) {
     if (gone < 0) fail("pidfd_open");
     if ((root = open(options.dir, O_PATH | O_DIRECTORY | O_CLOEXEC)) < 0 || fstat(root, &is) < 0) fail(options.dir);
     if ((proc_root = open("/proc", O_PATH | O_DIRECTORY | O_CLOEXEC)) < 0) fail("/proc");
+    if (serves_second && (turns = open(options.dir, O_RDONLY | O_DIRECTORY | O_CLOEXEC)) < 0) fail(options.dir);
     device = is.st_dev;
     keep_own_root();
     keep_own_rights();

@@ -183,6 +183,7 @@ int signal_all(int signal, pid_t but) {
 static pid_t parent_of(pid_t task, unsigned long long *started) {
     char name[32], text[1024];
     pid_t parent = 0;
+    *started = 0;
     snprintf(name, sizeof name, "%d/stat", task);
     if (!read_proc_file(name, text, sizeof text)) return 0;
     const char *end = strrchr(text, ')');
@@ -191,12 +192,26 @@ static pid_t parent_of(pid_t task, unsigned long long *started) {
     return parent;
 }
 
-enum side side_of(pid_t task, uint64_t *started) {
-    unsigned long long first = 0, other;
-    pid_t above = parent_of(task, &first);
-    *started = first;
-    while (above > 1 && above != getpid() && above != second_keeper_pid) above = parent_of(above, &other);
-    return above && above == second_keeper_pid ? SECOND : CLIENT;
+enum side side_of(pid_t task, struct descent *out) {
+    out->count = 0;
+    while (task > 1 && task != getpid() && task != second_keeper_pid) {
+        unsigned long long started;
+        pid_t above = parent_of(task, &started);
+        if (out->count < MOST_ANCESTORS) {
+            out->of[out->count].started = started;
+            out->of[out->count++].task = task;
+        }
+        task = above;
+    }
+    return task && task == second_keeper_pid ? SECOND : CLIENT;
+}
+
+bool is_before(const struct descent *one, const struct descent *other) {
+    for (int i = one->count - 1, j = other->count - 1; i >= 0 && j >= 0; i--, j--) {
+        if (one->of[i].started != other->of[j].started) return one->of[i].started < other->of[j].started;
+        if (one->of[i].task != other->of[j].task) return one->of[i].task < other->of[j].task;
+    }
+    return one->count < other->count;
 }
 
 bool can_tell_rest(void) {

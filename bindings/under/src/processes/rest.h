@@ -20,8 +20,13 @@ struct tasks {
 };
 /* All tasks slept at one moment if two looks in a row say that all sleep, with the same `runs`. */
 struct tasks look_at_tasks(enum side side);
-/* Of which side a task is, and when it started. */
-enum side side_of(pid_t task, uint64_t *started);
+/* Where a task stands: itself first, and then its ancestors up to the program, each with the time at which it started. */
+enum { MOST_ANCESTORS = 64 };
+struct descent { int count; struct { unsigned long long started; pid_t task; } of[MOST_ANCESTORS]; };
+/* Of which side a task is, and its descent. */
+enum side side_of(pid_t task, struct descent *out);
+/* Whether a task is before another one: the first one of a parent's children, with all that is below it, is before the next. */
+bool is_before(const struct descent *one, const struct descent *other);
 /* Whether any task of the last look is such a one, the supervisors excepted. */
 bool any_task(bool (*is_such)(pid_t pid, const char *task));
 /* Sends a signal to every process below this one, except `but` and the supervisor of the second program. Returns how many

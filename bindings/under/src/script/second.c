@@ -10,8 +10,9 @@
 #include <stdio.h>
 #include <sys/wait.h>
 
-/* How many requests that only look a turn has at most: a program may ask again and again for what the client is to do. */
-enum { MOST_LOOKS = 10000 };
+/* How many requests that only look, and calls that begin, a turn has at most: a program may ask again and again for what the
+ * client is to do. */
+enum { MOST_LOOKS = 10000, MOST_CALLS = 100 };
 /* After a request more may come soon. And how long a turn is at most without a request. */
 enum { FIRST_WAIT_US = 50, LONGEST_WAIT_US = 2000, LONGEST_MS = 1000 };
 
@@ -61,11 +62,16 @@ static void await_rest(uint64_t looks) {
     note_second();
 }
 
+/* Calls may begin that change nothing, such as one that makes a directory which is there. */
 bool second_goes(void) {
-    await_rest(MOST_LOOKS);
-    bool has_changed = serve_change();
-    if (has_changed) await_rest(0);
-    return has_changed;
+    enum step step = CALL_BEGAN;
+    for (int i = 0; i < MOST_CALLS && step == CALL_BEGAN; i++) {
+        await_rest(MOST_LOOKS);
+        step = serve_step();
+    }
+    if (step == NOTHING_WAITS) return false;
+    await_rest(0);
+    return step == TREE_CHANGED;
 }
 
 bool second_is_at_rest(void) { return look_at_tasks(SECOND).none_runs; }

@@ -182,5 +182,6 @@ void on_ioctl(fuse_req_t req, fuse_ino_t number, unsigned command, void *argumen
               unsigned flags, const void *in, size_t in_size, size_t out_size) {
     (void)argument, (void)flags, (void)out_size;
     if (number == INSTANCE && by_supervisor(req)) call_instance(req, command, file, in, in_size);
+    else if (number == ROOT && command == CALL_TURN && by_supervisor(req)) fuse_reply_ioctl(req, 0, NULL, 0);
     else fuse_reply_err(req, ENOTTY);
 }

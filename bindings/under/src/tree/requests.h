@@ -4,11 +4,15 @@
 #include "under.h"
 #define FUSE_USE_VERSION 35
 #include <fuse3/fuse_lowlevel.h>
+#include <sys/ioctl.h>
 #include <sys/stat.h>
 
 /* The inode number of every inotify instance, and the name by which the supervisor opens a new one. */
 enum { INSTANCE = 1 << 30 };
 #define INSTANCE_NAME ".watchtree-inotify"
+
+/* By this ioctl(2) of the root, with the number of a task, the supervisor of the second program asks for a turn of it. */
+#define CALL_TURN _IOW('w', 4, int32_t)
 
 extern const struct fuse_lowlevel_ops requests;
 

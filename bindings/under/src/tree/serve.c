@@ -34,7 +34,7 @@ bool take_all(void) {
 
 bool client_is_kept(void) { return client_waits(); }
 uint64_t serve_looks(uint64_t most) { return answer_looks(session, most); }
-bool serve_change(void) { return answer_change(session); }
+enum step serve_step(void) { return answer_step(session); }
 void refuse_second(void) { refuse_waiting(session); }
 
 void await_request(int64_t wait_us) {

@@ -1,6 +1,7 @@
 /* Answers the requests of the mount. */
 #ifndef SERVE_H
 #define SERVE_H
+#include "tree/waiting.h"
 #include "under.h"
 struct fuse_session;
 
@@ -20,7 +21,7 @@ bool take_all(void);
 bool client_is_kept(void);
 /* waiting.h has these, of the session. */
 uint64_t serve_looks(uint64_t most);
-bool serve_change(void);
+enum step serve_step(void);
 void refuse_second(void);
 /* Waits until a request comes, for so many microseconds at most. */
 void await_request(int64_t wait_us);

@@ -16,8 +16,8 @@ struct request {
     enum side side;
     bool is_change;                 /* it changes the tree, or raises events */
     bool is_of_supervisor;          /* of the second program */
-    uint64_t started;               /* when its task started: 0 of a closed file, which is of no task */
-    pid_t task;
+    bool is_call;                   /* by it a call waits that did not begin yet */
+    struct descent descent;         /* of its task: none of a closed file, which is of no task */
     size_t size;
     union { struct fuse_in_header head; char bytes[1]; };
 };
@@ -50,18 +50,29 @@ static bool is_change(const struct request *it) {
     }
 }
 
+/* Whose call waits, if one does. */
+static void find_caller(struct request *it) {
+    const struct fuse_ioctl_in *in = arguments(it);
+    int32_t task;
+    if (it->head.opcode != FUSE_IOCTL || in->cmd != CALL_TURN || in->in_size != sizeof task) return;
+    memcpy(&task, in + 1, sizeof task);
+    it->is_call = true;
+    side_of(task, &it->descent);
+}
+
 /* A closed file is of the side that opened it, as the kernel names no task. */
 static void find_side(struct request *it) {
-    it->task = (pid_t)it->head.pid;
-    it->started = 0;
-    it->is_of_supervisor = false;
+    pid_t task = (pid_t)it->head.pid;
+    it->descent.count = 0;
+    it->is_of_supervisor = it->is_call = false;
     if (it->head.opcode == FUSE_RELEASE) {
         uint64_t file = ((const struct fuse_release_in *)arguments(it))->fh;
         it->side = it->head.nodeid != INSTANCE && is_opened_by_second(file) ? SECOND : CLIENT;
-    } else if (it->task == second_supervisor_pid || syscall(SYS_tgkill, second_supervisor_pid, it->task, 0) == 0) {
+    } else if (task == second_supervisor_pid || syscall(SYS_tgkill, second_supervisor_pid, task, 0) == 0) {
         it->side = SECOND;
         it->is_of_supervisor = true;
-    } else it->side = side_of(it->task, &it->started);
+        find_caller(it);
+    } else it->side = side_of(task, &it->descent);
     it->is_change = is_change(it);
 }
 
@@ -158,7 +169,7 @@ bool answer_client(struct fuse_session *session) {
 uint64_t answer_looks(struct fuse_session *session, uint64_t most) {
     uint64_t count = 0;
     for (struct request **at = &all[SECOND]; *at && count < most;) {
-        if ((*at)->is_change) at = &(*at)->next;
+        if ((*at)->is_change || (*at)->is_call) at = &(*at)->next;
         else {
             answer(session, take(at));
             count++;
@@ -168,17 +179,18 @@ uint64_t answer_looks(struct fuse_session *session, uint64_t most) {
     return count;
 }
 
-static bool is_before(const struct request *one, const struct request *other) {
-    return one->started != other->started ? one->started < other->started : one->task < other->task;
+static bool is_first(const struct request *one, const struct request *other) {
+    return one->is_change != other->is_change ? one->is_change : is_before(&one->descent, &other->descent);
 }
 
-bool answer_change(struct fuse_session *session) {
+enum step answer_step(struct fuse_session *session) {
     struct request **first = NULL;
     for (struct request **at = &all[SECOND]; *at; at = &(*at)->next)
-        if ((*at)->is_change && (!first || is_before(*at, *first))) first = at;
-    if (!first) return false;
+        if (((*at)->is_change || (*at)->is_call) && (!first || is_first(*at, *first))) first = at;
+    if (!first) return NOTHING_WAITS;
+    enum step step = (*first)->is_change ? TREE_CHANGED : CALL_BEGAN;
     answer(session, take(first));
-    return true;
+    return step;
 }
 
 void refuse_waiting(struct fuse_session *session) {

@@ -22,11 +22,13 @@ bool client_waits(void);
 bool second_waits(void);
 /* How many tasks of the second program wait as their supervisor has a request here. */
 uint64_t supervised(void);
-/* Answers the requests of the second program that wait and only look, at most `most` of them. How many there were. */
+/* Answers the requests of the second program that wait and only look, at most `most` of them. How many there were. A call
+ * that waits before it begins is none. */
 uint64_t answer_looks(struct fuse_session *session, uint64_t most);
-/* Answers one that changes the tree or raises events: first what was closed, then those of the task that started first. False
- * if none waits. */
-bool answer_change(struct fuse_session *session);
+/* Answers one that changes the tree or raises events: first what was closed, then by the order of tasks. Without one, lets a
+ * call begin, by the same order. */
+enum step { NOTHING_WAITS, CALL_BEGAN, TREE_CHANGED };
+enum step answer_step(struct fuse_session *session);
 /* From now on requests of the second program are refused, those that wait too. */
 void refuse_waiting(struct fuse_session *session);
 #endif
