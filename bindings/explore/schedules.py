@@ -154,7 +154,7 @@ def parse(text: str) -> Schedule:
                 request, read_is_relative = _parse_request(read)
                 items.append(ShortRead(request, int(records), read_is_relative))
             elif turns:
-                # (the first turn of a relative place counts from the line above, and the others follow it at once)
+                # (the first of them counts from the line above, if it is relative, and the others follow it at once)
                 follows = Line(None, 0, True) if is_relative else Line(None, place)
                 items += [Line(None, place, is_relative), *[follows] * (int(turns) - 1)]
             elif rest:

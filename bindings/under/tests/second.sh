@@ -167,6 +167,7 @@ every 'cp -a' cp '' 'cp -a "$here/in" in; cp -a in copy'
 every 'rsync' rsync 's/\/\.([^ /]*)\.[A-Za-z0-9]{6}/\/.\1/g; s/ \.([^ /]*)\.[A-Za-z0-9]{6}/ .\1/g' 'rsync -a "$here/in/" a/; echo more >a/d/one; rsync -a a/ b/'
 every 'git init and commit' git "$names" 'git -c init.defaultBranch=main init -q r; cd r; cp -r "$here/in" .; git add -A; git commit -qm one'
 every 'git clone and checkout' git "$names" 'git clone -q "$here/repository" r; cd r; git checkout -q other'
+every 'four processes at once' sh '' 'for i in 1 2 3 4; do (mkdir $i; echo $i >$i/f; mv $i/f $i/g) & done; wait'
 every 'a seed' sh '' 'mkdir -p a/b c; echo 1 >a/b/f; mv a c/a; echo 2 >>c/a/b/f; rm -r c' --seed 3
 
 # ---- a race of a real client

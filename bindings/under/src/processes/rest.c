@@ -44,7 +44,7 @@ static bool is_ours(pid_t pid, enum side *side) {
     return false;
 }
 
-/* Whether all that is below a process, and the process, is of the second program. */
+/* Whether a process, with its descendants, is of the second program. */
 static bool begins_second(pid_t pid) { return pid == second_keeper_pid || pid == second_supervisor_pid; }
 
 static void *grow(void *old, size_t *capacity, size_t least, size_t size) {

@@ -25,7 +25,7 @@ enum { MOST_ANCESTORS = 64 };
 struct descent { int count; struct { unsigned long long started; pid_t task; } of[MOST_ANCESTORS]; };
 /* Of which side a task is, and its descent. */
 enum side side_of(pid_t task, struct descent *out);
-/* Whether a task is before another one: the first one of a parent's children, with all that is below it, is before the next. */
+/* Whether a task is before another one: a child, with its descendants, is before those that its parent started later. */
 bool is_before(const struct descent *one, const struct descent *other);
 /* Whether any task of the last look is such a one, the supervisors excepted. */
 bool any_task(bool (*is_such)(pid_t pid, const char *task));

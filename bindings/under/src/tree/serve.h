@@ -23,6 +23,6 @@ bool client_is_kept(void);
 uint64_t serve_looks(uint64_t most);
 enum step serve_step(void);
 void refuse_second(void);
-/* Waits until a request comes, for so many microseconds at most. */
+/* Waits until a request comes, for at most `wait_us` microseconds. */
 void await_request(int64_t wait_us);
 #endif
