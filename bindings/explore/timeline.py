@@ -41,8 +41,7 @@ def _rows(trace: List[Entry]) -> Iterator[Row]:
             answer = it.reply[0] if it.reply else ""
             refused = f"   ({answer})" if answer.startswith("err") else ""
             who = "second" if it.is_turn else "tree"
-            what = "a turn without a change" if it.is_turn and it.text == "-" else it.text
-            yield "", who, what + refused + (f"   before request {it.before}" if it.before else "")
+            yield "", who, it.text + refused + (f"   before request {it.before}" if it.before else "")
         elif isinstance(it, Asked):
             yield str(it.number), "program", it.text
         elif isinstance(it, Called):

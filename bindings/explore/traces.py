@@ -8,7 +8,7 @@ from typing import Iterable, List, Optional, Union
 @dataclass
 class Happened:
     """A line of the script, or a turn of the second program: the request before which it happened, or None at rest, and the
-    reply of a line. The text of a turn is what the program asked, or `-` if the tree did not change."""
+    reply of a line. The text of a turn is what the program asked."""
 
     text: str
     before: Optional[int]

@@ -263,13 +263,12 @@ class Texts(unittest.TestCase):
             "mkdir /d 755", "init 7", "watch 1 /d 0x100", "create /d/a 644", "unlink /d/b", "read 1 48", "watch 1 gone 0x100"][:6])
 
     def test_turns_in_the_timeline(self) -> None:
-        trace = traces.read_trace(["> --", "? 1 inotify_init", "& mkdir /d/a", "@2 & -", "@2 & create /d/a/f", "? 2 read 1"])
-        self.assertEqual(traces.places(trace), [2, 2, 2])
+        trace = traces.read_trace(["> --", "? 1 inotify_init", "& mkdir /d/a", "@2 & create /d/a/f", "? 2 read 1"])
+        self.assertEqual(traces.places(trace), [2, 2])
         self.assertEqual(timeline.timeline(trace).splitlines(), [
             "           tree     the program starts",
             "        1  program  inotify_init",
             "           second   mkdir /d/a",
-            "           second   a turn without a change   before request 2",
             "           second   create /d/a/f   before request 2",
             "        2  program  read 1"])
         self.assertIsNone(timeline.as_script(trace, 7))

@@ -42,7 +42,9 @@ void trace_asked(uint64_t request) {
     if (has_schedule() && is_traced()) trace("? %llu %s\n", (unsigned long long)request, all_asked[CLIENT]);
 }
 
-void trace_second(bool has_changed) { trace("& %s\n", has_changed ? all_asked[SECOND] : "-"); }
+void trace_second(void) {
+    if (is_traced()) trace("& %s\n", all_asked[SECOND]);
+}
 
 /* ---- the handlers: each says what is asked of a name in a directory, or of a file */
 

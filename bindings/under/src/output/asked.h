@@ -12,6 +12,6 @@ void ask_file(const char *call, uint64_t number);
 void ask_instance(const char *call, uint32_t instance);
 /* Traces what was asked, as the request of this number. */
 void trace_asked(uint64_t request);
-/* Traces a turn of the second program: what it asked last, or that nothing changed. */
-void trace_second(bool has_changed);
+/* Traces the change that the second program made. */
+void trace_second(void);
 #endif

@@ -4,7 +4,7 @@
 #include "under.h"
 
 /* Who waits for a lock of the other program waits for long; who waits for a disk does not. */
-enum { BLOCKED_MS = 20 };
+enum { BLOCKED_MS = 200 };
 
 /* The two programs of a run: that of the command line, and that of --and. */
 enum side { CLIENT, SECOND, SIDES };

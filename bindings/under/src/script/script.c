@@ -121,19 +121,20 @@ void pass_mark(void) {
 }
 
 /* What the turn raises is handed over after it, so that the client rests meanwhile. */
-void run_turn(void) {
-    bool was_held = hold_deliveries(true);
-    happened_after_mark++;          /* before a record of it is taken */
-    bool has_changed = second_goes();
-    happened_after_mark -= !has_changed;
-    line_happened(next_request());
-    turn_happened();
-    record_turn(request_of_line());
-    line_count++;
-    trace_point();
-    trace_second(has_changed);
+bool run_turn(void) {
+    bool was_held = hold_deliveries(true), has_changed = second_goes();
+    if (has_changed) {
+        happened_after_mark++;
+        line_happened(next_request());
+        turn_happened();
+        record_turn(request_of_line());
+        line_count++;
+        trace_point();
+        trace_second();
+    }
     hold_deliveries(was_held);
     deliver();
+    return has_changed;
 }
 
 /* A second program begins behind a mark, whether one stands there or not. */

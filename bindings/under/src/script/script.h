@@ -16,15 +16,15 @@ enum next next_in_script(void);
 /* Runs the next line, or passes over the next mark, which has to be there. */
 void run_line(void);
 void pass_mark(void);
-/* Gives the second program the turn that is next. */
-void run_turn(void);
+/* Gives the second program the turn that is next. False if the tree did not change: then the turn is still next. */
+bool run_turn(void);
 /* Runs the lines before the first mark, and waits for them if the script is live. */
 void run_first_lines(void);
 /* How many lines did not happen. */
 long lines_left(void);
 /* Records the lines that did not happen, in the form of a script, without those that are no lines of one. */
 void record_rest(void);
-/* How many lines after the first mark, and turns in which the tree changed, happened so far. */
+/* How many lines after the first mark, and turns, happened so far. */
 long lines_after_first_mark(void);
 
 /* The descriptor that more lines come from: -1 if none do, or a whole line waits. */

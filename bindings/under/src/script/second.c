@@ -13,8 +13,8 @@
 /* How many requests that only look, and calls that begin, a turn has at most: a program may ask again and again for what the
  * client is to do. */
 enum { MOST_LOOKS = 10000, MOST_CALLS = 100 };
-/* After a request more may come soon. And how long a turn is at most without a request. */
-enum { FIRST_WAIT_US = 50, LONGEST_WAIT_US = 2000, LONGEST_MS = 1000 };
+/* After a request more may come soon. And how long a program works at most in a turn without a request. */
+enum { FIRST_WAIT_US = 50, LONGEST_WAIT_US = 2000, LONGEST_NS = 1000000000 };
 
 static enum second how;
 static int status;
@@ -35,29 +35,32 @@ static bool take_and_look(uint64_t *looks) {
     return is_any || count;
 }
 
+/* Whether it worked for long since the last request. */
+static bool has_worked_long(const struct tasks *now, uint64_t *since) {
+    if (now->time < *since) *since = now->time;     /* a task ended */
+    return now->time - *since > LONGEST_NS;
+}
+
 /* Waits until it is at rest: all its tasks slept at one moment, or those that do not have waited for a lock for a while, which
  * the client has. It counts as at rest too if it works for long without a request. */
 static void await_rest(uint64_t looks) {
-    struct tasks last = { 0 };
-    int64_t asked_at = clock_ms(), same_since = asked_at, wait_us = FIRST_WAIT_US;
-    while (clock_ms() - asked_at < LONGEST_MS) {
+    struct tasks last = { 0 }, now;
+    uint64_t worked = UINT64_MAX;
+    int64_t same_since = 0, wait_us = FIRST_WAIT_US;
+    for (;; await_request(wait_us)) {
         if (take_and_look(&looks)) {
-            asked_at = clock_ms();
             last = (struct tasks){ 0 };
+            worked = UINT64_MAX;
             wait_us = FIRST_WAIT_US;
-        } else {
-            struct tasks now = look_at_tasks(SECOND);
-            bool is_same = now.runs == last.runs && now.none_runs;
-            if (!is_same) same_since = clock_ms();
-            last = now;
-            bool all_wait = now.none_runs && now.blocked <= supervised();
-            if (is_same && (all_wait || clock_ms() - same_since >= BLOCKED_MS)) {
-                if (!take_and_look(&looks)) break;
-                asked_at = clock_ms();
-            } else if (all_wait) continue;
-            wait_us = wait_us * 2 < LONGEST_WAIT_US ? wait_us * 2 : LONGEST_WAIT_US;
+            continue;
         }
-        await_request(wait_us);
+        now = look_at_tasks(SECOND);
+        bool is_same = now.runs == last.runs && now.none_runs, all_wait = now.none_runs && now.blocked <= supervised();
+        if (!is_same) same_since = clock_ms();
+        last = now;
+        if (is_same && (all_wait || clock_ms() - same_since >= BLOCKED_MS) && !take_and_look(&looks)) break;
+        if (has_worked_long(&now, &worked)) break;
+        wait_us = all_wait ? 0 : wait_us * 2 < LONGEST_WAIT_US ? wait_us * 2 + 1 : LONGEST_WAIT_US;
     }
     note_second();
 }

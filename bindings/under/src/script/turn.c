@@ -30,7 +30,7 @@ uint64_t run_steps_before_request(bool may_turn) {
     for (enum next next; (next = next_in_script()) == NEXT_LINE || (next == NEXT_TURN && may_turn); lines++) {
         if (!line_comes_before(request, lines)) break;
         if (next == NEXT_LINE) run_line();
-        else run_turn();
+        else if (!run_turn()) break;
     }
     hold_deliveries(false);
     answered_next = 0;
