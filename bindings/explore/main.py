@@ -22,6 +22,8 @@ from schedules import Fault  # noqa: E402
 USAGE = """watchtree explore [OPTIONS] SCRIPT --check COMMAND -- PROGRAM [ARGUMENT..]
        watchtree explore [OPTIONS] SCRIPT --check COMMAND -- CLIENT [ARGUMENT..] --and PROGRAM [ARGUMENT..]"""
 VARIED = ("lines", "reads", "queue")
+# The word before a second program.
+SECOND = "--and"
 # The first word below the keeper, and the folder that the keeper made and removes.
 KEPT, ROOM = "--kept", "WATCHTREE_ROOM"
 
@@ -115,7 +117,8 @@ def base_run(bench: Bench) -> Result:
     """Runs the script with nothing moved, which shows that the program, the check and the script go together."""
     base = bench.base()
     if base.status in (NOT_EXECUTABLE, NOT_FOUND) and not base.delivered:
-        raise Fault(f"{bench.program[0]}: status {base.status}: it cannot be run")
+        second = bench.program[bench.program.index(SECOND) + 1 :][:1] if SECOND in bench.program else []
+        raise Fault(f"{' or '.join([bench.program[0], *second])}: status {base.status}: it cannot be run")
     if not base.delivered:
         raise Fault(f"with every line at rest nothing was delivered (status {base.status}): the program takes no record")
     return base
@@ -151,7 +154,7 @@ def main(words: List[str]) -> int:
     sys.stdout.reconfigure(errors="surrogateescape")  # type: ignore[union-attr]
     said, program = read_words(words)
     try:
-        check_script(said.script, "--and" in program)
+        check_script(said.script, SECOND in program)
         return explore(said, program, children)
     except Fault as fault:
         print(f"watchtree explore: {fault}", file=sys.stderr)

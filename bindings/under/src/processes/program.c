@@ -152,6 +152,16 @@ void start_programs(const char *here, const sigset_t *blocked, int mount_fd) {
     close(ends[1]);
 }
 
+/* The supervisor of the second program has the root open, and its end closes it. */
+static void end_second_supervisor(void) {
+    if (!second_supervisor_pid) return;
+    kill(second_supervisor_pid, SIGKILL);
+    while (waitpid(second_supervisor_pid, NULL, WNOHANG) == 0) {
+        serve_all();
+        usleep(500);
+    }
+}
+
 void end_processes(void) {
     enum { POLITE = 20, PATIENT = 400 };
     refuse_second();
@@ -162,6 +172,6 @@ void end_processes(void) {
     }
     serve_all();
     kill(supervisor_pid, SIGKILL);
-    if (second_supervisor_pid) kill(second_supervisor_pid, SIGKILL);
+    end_second_supervisor();
     serve_all();
 }
