@@ -93,6 +93,38 @@ ends() {
     ends 'a live script' 125 '--and: fifo is not a file' fifo -- $watch --and true <>fifo
 }
 
+# ---- nothing stays behind, whichever process is killed
+below() {
+    for child in $(cat /proc/"$1"/task/*/children 2>/dev/null); do
+        echo "$child"
+        below "$child"
+    done
+}
+gone() { for pid; do ! kill -0 "$pid" 2>/dev/null || return 1; done; }
+# Kills a process of a run, the tool or the Nth below it, while a call of the second program waits.   killed NAME N STATUS
+killed() {
+    "$under" --end none script -- sh -c 'inotifywait -q -e create /wt/d; exec sleep 85' --and \
+        sh -c 'touch /wt/d/f; setsid sleep 84 & touch /wt/d/g; sleep 85' >out.said 2>said &
+    tool=$!
+    await grep -q CREATE out.said
+    tasks=$(below "$tool")
+    victim=$tool
+    [ "$2" = 0 ] || victim=$(echo "$tasks" | sed -n "$2p")
+    kill -9 "$victim"
+    wait "$tool" 2>/dev/null
+    status=$?
+    # (the words are several)
+    # shellcheck disable=SC2086
+    [ "$status" = "$3" ] && await gone $tasks
+    check "killed: $1" "status $status: $(cat said; ps -o pid,args -p "$(echo $tasks | tr ' ' ,)" 2>&1)"
+}
+killed 'the tool' 0 137
+killed 'the process with the tree' 2 125
+killed 'the supervisor of the client' 3 125
+killed 'the client' 4 137
+killed 'the supervisor of the second program' 5 125
+killed 'the keeper of the second program' 6 125
+
 # ---- locks: who waits for one of the other program lets it go on
 cat >lists.py <<'END_OF_PROGRAM'
 """Lists a directory at each record, and at first: lists.py DIRECTORY. It prints each name once."""

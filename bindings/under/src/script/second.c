@@ -14,7 +14,7 @@
  * client is to do. */
 enum { MOST_LOOKS = 10000, MOST_CALLS = 100 };
 /* After a request more may come soon. And how long a program works at most in a turn without a request. */
-enum { FIRST_WAIT_US = 50, LONGEST_WAIT_US = 2000, LONGEST_NS = 1000000000 };
+enum { FIRST_WAIT_US = 50, LONGEST_WAIT_US = 2000, LONGEST_NS = 1000000000, IDLE_MS = 20 };
 
 static enum second how;
 static int status;
@@ -41,8 +41,14 @@ static bool has_worked_long(const struct tasks *now, uint64_t *since) {
     return now->time - *since > LONGEST_NS;
 }
 
-/* Waits until it is at rest: all its tasks slept at one moment, or those that do not have waited for a lock for a while, which
- * the client has. It counts as at rest too if it works for long without a request. */
+static bool has_ended(void) {
+    note_second();
+    return how != SECOND_GOES_ON;
+}
+
+/* Waits until it is at rest: all its tasks slept at one moment, and one of them with a request, or for a while, as a task that
+ * lost its CPU on its way to sleep seems to sleep too; or some of them wait for a lock, which the client has. It counts as at
+ * rest too if it works for long without a request. */
 static void await_rest(uint64_t looks) {
     struct tasks last = { 0 }, now;
     uint64_t worked = UINT64_MAX;
@@ -58,11 +64,11 @@ static void await_rest(uint64_t looks) {
         bool is_same = now.runs == last.runs && now.none_runs, all_wait = now.none_runs && now.blocked <= supervised();
         if (!is_same) same_since = clock_ms();
         last = now;
-        if (is_same && (all_wait || clock_ms() - same_since >= BLOCKED_MS) && !take_and_look(&looks)) break;
+        int64_t least_ms = !all_wait ? BLOCKED_MS : second_waits() || has_ended() ? 0 : IDLE_MS;
+        if (is_same && clock_ms() - same_since >= least_ms && !take_and_look(&looks)) break;
         if (has_worked_long(&now, &worked)) break;
-        wait_us = all_wait ? 0 : wait_us * 2 < LONGEST_WAIT_US ? wait_us * 2 + 1 : LONGEST_WAIT_US;
+        wait_us = is_same || !all_wait ? (wait_us * 2 < LONGEST_WAIT_US ? wait_us * 2 + 1 : LONGEST_WAIT_US) : 0;
     }
-    note_second();
 }
 
 /* Calls may begin that change nothing, such as one that makes a directory which is there. */

@@ -1,9 +1,7 @@
 /* Requests that wait for their turn, in a run of two programs. Each is kept as it came from the mount. */
 #include "tree/waiting.h"
 #include "processes/program.h"
-#include "tree/nodes.h"
 #include "tree/requests.h"
-#include "tree/tree.h"
 #include <errno.h>
 #include <fcntl.h>
 #include <linux/fuse.h>
@@ -133,20 +131,10 @@ bool take_request(struct fuse_session *session) {
     return true;
 }
 
-/* The kernel looks a name up again that it knows, and has no lock then. */
-static bool is_known(uint64_t directory, const char *name) {
-    char path[PATH_SIZE];
-    struct wt_stat is;
-    if (path_in(directory, name, path) || wt_peek_stat(&tree, PATH(path), &is) < 0) return false;
-    const struct node *it = known_node(is.number);
-    return it && it->lookups;
-}
-
 bool client_has_lock(void) {
     if (!answered) return false;
     switch (answered->head.opcode) {
-    case FUSE_LOOKUP: return !is_known(answered->head.nodeid, arguments(answered));
-    case FUSE_READDIR: case FUSE_READDIRPLUS: return true;
+    case FUSE_LOOKUP: case FUSE_READDIR: case FUSE_READDIRPLUS: return true;
     default: return answered->is_change;
     }
 }
