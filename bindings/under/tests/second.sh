@@ -103,6 +103,7 @@ below() {
 gone() { for pid; do ! kill -0 "$pid" 2>/dev/null || return 1; done; }
 # Kills a process of a run, the tool or the Nth below it, while a call of the second program waits.   killed NAME N STATUS
 killed() {
+    rm -f out.said
     "$under" --end none script -- sh -c 'inotifywait -q -e create /wt/d; exec sleep 85' --and \
         sh -c 'touch /wt/d/f; setsid sleep 84 & touch /wt/d/g; sleep 85' >out.said 2>said &
     tool=$!
