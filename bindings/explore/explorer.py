@@ -11,7 +11,7 @@ from deadline import Deadline
 from folder import Folder
 from merge import merged
 from moves import by_moves
-from options import runner_options
+from options import SECOND, runner_options
 from reports import Report, Reports
 from runs import NOT_EXECUTABLE, NOT_FOUND, Bench, Result
 from schedules import Fault
@@ -76,7 +76,9 @@ class Explorer:
         """Runs the script with nothing moved, which shows that the program, the check and the script go together."""
         base = self.bench.base()
         if base.status in (NOT_EXECUTABLE, NOT_FOUND) and not base.delivered:
-            raise Fault(f"{self.bench.program[0]}: status {base.status}: it cannot be run")
+            program = self.bench.program
+            second = program[program.index(SECOND) + 1 :][:1] if SECOND in program else []
+            raise Fault(f"{' or '.join([program[0], *second])}: status {base.status}: it cannot be run")
         if not base.delivered:
             raise Fault(f"with every line at rest nothing was delivered (status {base.status}): the program takes no record")
         report.say_base(base)

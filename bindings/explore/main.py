@@ -13,7 +13,7 @@ sys.path.insert(0, os.path.dirname(os.path.abspath(__file__)))
 import schedules  # noqa: E402
 from children import Children, Ended  # noqa: E402
 from explorer import Explorer  # noqa: E402
-from options import read_words  # noqa: E402
+from options import SECOND, read_words  # noqa: E402
 from runs import TOOL_FAULT  # noqa: E402
 from schedules import Fault  # noqa: E402
 
@@ -21,8 +21,8 @@ from schedules import Fault  # noqa: E402
 KEPT = "--kept"
 
 
-def check_script(path: str) -> None:
-    """Looks at the script before anything runs."""
+def check_script(path: str, has_second: bool) -> None:
+    """Looks at the script before anything runs. Without lines to move there has to be a second program."""
     try:
         mode = os.stat(path).st_mode
         if not stat.S_ISREG(mode):
@@ -30,7 +30,7 @@ def check_script(path: str) -> None:
         schedule = schedules.read(path)
     except OSError as fault:
         raise Fault(f"{path}: {fault.strerror}") from fault
-    if not schedule.lines():
+    if not schedule.lines() and not has_second:
         raise Fault(f"{path}: no line happens after --")
 
 
@@ -38,7 +38,7 @@ def explore(explorer: Explorer) -> int:
     """Explores, and has each fault in the reports, which are there from the start on."""
     explorer.reports.write(explorer.report)
     try:
-        check_script(explorer.said.script)
+        check_script(explorer.said.script, SECOND in explorer.program)
         return explorer.explore()
     except (Fault, OSError) as fault:
         explorer.report.fault = text_of(fault)

@@ -1,4 +1,4 @@
-"""The search by moves: every schedule in which one or two lines are moved, or reads are short."""
+"""The search by moves: every schedule in which one or two lines, or turns, are moved, or reads are short."""
 
 import heapq
 from concurrent.futures import FIRST_COMPLETED, Future, ThreadPoolExecutor, wait
@@ -57,7 +57,8 @@ def _with_line(parent: Moved, schedule: Schedule, at: int, request: int, line: i
     assert isinstance(item, Line)
     items[at] = replace(item, before=request)
     schedule = replace(schedule, items=tuple(items))
-    return parent.with_move(schedule, (request, 0, line), line, f"line {line + 1} before request {request}")
+    what = "turn" if item.is_turn() else "line"
+    return parent.with_move(schedule, (request, 0, line), line, f"{what} {line + 1} before request {request}")
 
 
 def read_moves(parent: Moved, result: Result) -> Iterator[Moved]:

@@ -8,9 +8,12 @@ from typing import List, NoReturn, Tuple
 from runs import TOOL_FAULT
 from shards import Shard
 
-USAGE = "watchtree explore [OPTIONS] SCRIPT --check COMMAND -- PROGRAM [ARGUMENT..]"
+USAGE = """watchtree explore [OPTIONS] SCRIPT --check COMMAND -- PROGRAM [ARGUMENT..]
+       watchtree explore [OPTIONS] SCRIPT --check COMMAND -- CLIENT [ARGUMENT..] --and PROGRAM [ARGUMENT..]"""
 VARIED = ("lines", "reads", "queue")
 REPORTS = ("junit", "json")
+# The word before a second program.
+SECOND = "--and"
 
 
 class Words(argparse.ArgumentParser):

@@ -42,8 +42,9 @@ def many(count: int, what: str) -> str:
 
 def say_base(base: Result) -> None:
     """Says what a run without a schedule is."""
-    lines, requests = len(base.schedule.lines()), traces.requests(base.trace)
-    print(f"at rest: {many(lines, 'line')}, {many(requests, 'request')}, the check {'fails' if base.fails else 'passes'}")
+    lines, turns, requests = len(base.schedule.lines()), len(base.schedule.turns()), traces.requests(base.trace)
+    what = f"{many(turns, 'turn')} of the second program" if turns else many(lines, "line")
+    print(f"at rest: {what}, {many(requests, 'request')}, the check {'fails' if base.fails else 'passes'}")
     sys.stdout.flush()
 
 
@@ -89,7 +90,8 @@ def keep(failing: List[Failing], out: Folder) -> None:
 
 def what_failed(it: Result) -> str:
     """Returns a failing run in words."""
-    return f"status {it.status}, {many(it.schedule.moved(), 'line')} moved, {many(it.schedule.short_reads(), 'short read')}"
+    what = "turn" if it.schedule.turns() else "line"
+    return f"status {it.status}, {many(it.schedule.moved(), what)} moved, {many(it.schedule.short_reads(), 'short read')}"
 
 
 def simplest(failures: List[Result]) -> List[Result]:

@@ -39,7 +39,7 @@ class Result:
         return f"seed {self.seed}" if self.seed is not None else self.name or "at rest"
 
     def places(self) -> List[int]:
-        """Returns, for each line after the first mark, the request that was next when it had happened."""
+        """Returns, for each line after the first mark and each turn, the request that was next when it had happened."""
         return traces.places(self.trace)
 
 

@@ -17,12 +17,16 @@ class Refused(Fault):
 
 @dataclass(frozen=True)
 class Line:
-    """A line after the first mark. It happens at rest, or before a request: its number, or how many requests follow the one
-    that was next when the line above had happened."""
+    """A line after the first mark, or a turn of a second program, which has no text. It happens at rest, or before a request:
+    its number, or how many requests follow the one that was next when the line above had happened."""
 
-    text: str
+    text: Optional[str]
     before: Optional[int] = None
     is_relative: bool = False
+
+    def is_turn(self) -> bool:
+        """Whether it is a turn of a second program."""
+        return self.text is None
 
 
 @dataclass(frozen=True)
@@ -50,13 +54,21 @@ class Schedule:
     setup: Tuple[str, ...]
     items: Tuple[Item, ...]
 
-    def lines(self) -> List[Line]:
-        """Returns the lines after the first mark."""
+    def steps(self) -> List[Line]:
+        """Returns the lines after the first mark, and the turns."""
         return [it for it in self.items if isinstance(it, Line)]
 
+    def lines(self) -> List[Line]:
+        """Returns the lines after the first mark."""
+        return [it for it in self.steps() if not it.is_turn()]
+
+    def turns(self) -> List[Line]:
+        """Returns the turns of a second program."""
+        return [it for it in self.steps() if it.is_turn()]
+
     def moved(self) -> int:
-        """Counts the lines that do not happen at rest."""
-        return sum(it.before is not None for it in self.lines())
+        """Counts the lines and turns that do not happen at rest."""
+        return sum(it.before is not None for it in self.steps())
 
     def short_reads(self) -> int:
         """Counts the reads that hand over less than they could."""
@@ -67,8 +79,8 @@ class Schedule:
         return self.moved() + self.short_reads() + (self.queue != USUAL_QUEUE)
 
     def order(self) -> List[Tuple[int, int, int]]:
-        """Returns what is moved, by request: a line, or a read that is short. Schedules of one script sort by it."""
-        lines = [(it.before, 0, at) for at, it in enumerate(self.lines()) if it.before is not None]
+        """Returns what is moved, by request: a line, a turn, or a read that is short. Schedules of one script sort by it."""
+        lines = [(it.before, 0, at) for at, it in enumerate(self.steps()) if it.before is not None]
         return sorted(lines + [(it.request, 1, it.records) for it in self.items if isinstance(it, ShortRead)])
 
     def size(self) -> Tuple[int, int, int]:
@@ -80,7 +92,7 @@ class Schedule:
         """Returns the text of its file."""
         out = [] if self.queue == USUAL_QUEUE else [f"#@ queue {self.queue}"]
         out += [*self.setup, "--"]
-        now = "#@ at rest"
+        now, turns = "#@ at rest", 0
         for it in self.items:
             if isinstance(it, Mark):
                 out.append("--")
@@ -89,10 +101,18 @@ class Schedule:
             else:
                 place = "#@ at rest" if it.before is None else f"#@ before {_request(it.before, it.is_relative)}"
                 # A relative position counts from the line above, so each line needs its own.
-                if place != now or it.is_relative:
+                is_new = place != now or it.is_relative
+                if is_new:
                     out.append(place)
                 now = place
-                out.append(it.text)
+                if it.text is not None:
+                    out.append(it.text)
+                else:
+                    # Turns that follow each other are one directive.
+                    turns = turns + 1 if turns and not is_new else 1
+                    out[len(out) - (turns > 1) :] = [f"#@ and {turns}"]
+                    continue
+            turns = 0
         return "\n".join(out) + "\n"
 
     def encoded(self) -> bytes:
@@ -129,15 +149,19 @@ def parse(text: str) -> Schedule:
                 items.append(Mark())
             is_setup = False
         elif line.startswith("#@"):
-            found = re.fullmatch(r"#@ (?:queue (\d+)|(at rest)|before (\+?\d+)|read (\+?\d+) (\d+))\s*", line)
+            found = re.fullmatch(r"#@ (?:queue (\d+)|(at rest)|before (\+?\d+)|read (\+?\d+) (\d+)|and (\d+))\s*", line)
             if not found:
                 raise Fault(f"line {number}: not a directive of a schedule: {line}")
-            limit, rest, before, read, records = found.groups()
+            limit, rest, before, read, records, turns = found.groups()
             if limit:
                 queue = int(limit)
             elif read:
                 request, read_is_relative = _parse_request(read)
                 items.append(ShortRead(request, int(records), read_is_relative))
+            elif turns:
+                # (the first of them counts from the line above, if it is relative, and the others follow it at once)
+                follows = Line(None, 0, True) if is_relative else Line(None, place)
+                items += [Line(None, place, is_relative), *[follows] * (int(turns) - 1)]
             elif rest:
                 place, is_relative = None, False
             else:

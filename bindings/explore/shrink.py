@@ -74,7 +74,7 @@ class Shrinker:
 
 
 def without_moves(now: Schedule) -> Iterator[Schedule]:
-    """Lines happen at rest again: all, parts of them, single ones."""
+    """Lines and turns happen at rest again: all, parts of them, single ones."""
     yield now.at_rest()
     moved = [at for at, it in enumerate(now.items) if isinstance(it, Line) and it.before is not None]
     for some in chunks(moved):
@@ -95,12 +95,17 @@ def without_limits(now: Schedule) -> Iterator[Schedule]:
 def without_items(now: Schedule) -> Iterator[Schedule]:
     """Lines and marks after the first mark are dropped. What follows a dropped line counts from the line above it: by its own
     distance, or by both."""
-    droppable = [at for at, it in enumerate(now.items) if not isinstance(it, ShortRead)]
+    droppable = [at for at, it in enumerate(now.items) if not isinstance(it, ShortRead) and not is_turn(it)]
     for some in chunks(droppable):
         near, far = _drop(now.items, some, False), _drop(now.items, some, True)
         yield replace(now, items=near)
         if far != near:
             yield replace(now, items=far)
+
+
+def is_turn(it: Item) -> bool:
+    """Whether it is a turn of a second program, which makes it anyway: it can only happen elsewhere."""
+    return isinstance(it, Line) and it.is_turn()
 
 
 def _drop(items: Sequence[Item], some: Sequence[int], adds: bool) -> Tuple[Item, ...]:

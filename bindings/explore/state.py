@@ -100,9 +100,9 @@ def numbers(rows: Ranges) -> List[int]:
 
 def pack(moved: Moved, base: Schedule) -> Dict[str, Any]:
     """Returns what a schedule has that the run at rest has not."""
-    lines, reads = moved.schedule.lines(), [it for it in moved.schedule.items if isinstance(it, ShortRead)]
-    if [it.text for it in lines] != [it.text for it in base.lines()]:
-        raise Fault(f"the run of {moved.name} left other lines than the script has")
+    lines, reads = moved.schedule.steps(), [it for it in moved.schedule.items if isinstance(it, ShortRead)]
+    if [it.text for it in lines] != [it.text for it in base.steps()]:
+        raise Fault(f"the run of {moved.name} left other lines or turns than the run at rest")
     return {
         "moves": moved.name, "count": moved.count, "key": list(moved.key), "line": moved.line,
         "before": [[at, it.before] for at, it in enumerate(lines) if it.before is not None],

@@ -40,7 +40,8 @@ def _rows(trace: List[Entry]) -> Iterator[Row]:
                 continue
             answer = it.reply[0] if it.reply else ""
             refused = f"   ({answer})" if answer.startswith("err") else ""
-            yield "", "tree", it.text + refused + (f"   before request {it.before}" if it.before else "")
+            who = "second" if it.is_turn else "tree"
+            yield "", who, it.text + refused + (f"   before request {it.before}" if it.before else "")
         elif isinstance(it, Asked):
             yield str(it.number), "program", it.text
         elif isinstance(it, Called):
@@ -88,10 +89,12 @@ def _shortened(rows: List[Row]) -> Iterator[Row]:
 
 def as_script(trace: List[Entry], queue: int) -> Optional[str]:
     """Returns the run as a script for watchtree_trace: the lines, and the program's calls of inotify. None if the program
-    changed files itself."""
+    changed files itself, or a second program did."""
     out: List[str] = []
     reads: List[List[int]] = []
     for it in trace:
+        if isinstance(it, Happened) and it.is_turn:
+            return None
         if isinstance(it, Happened) and it.text != "--":
             out.append(it.text)
         elif isinstance(it, Asked) and it.text.split()[0] in CHANGES:
@@ -128,7 +131,7 @@ def write_page(out: Folder, library: str, trace: List[Entry], queue: int) -> Opt
     """Writes the page of a run. Returns why there is none."""
     script = as_script(trace, queue)
     if script is None:
-        return "the program changes files itself"
+        return "a program changes files itself"
     out.write("calls.script", script.encode("utf-8", "surrogateescape"))
     said = subprocess.run([sys.executable, "-c", PAGE, f"{out.path}/calls.script"], capture_output=True, check=False,
                           env={**os.environ, "PYTHONPATH": library})

@@ -7,12 +7,14 @@ from typing import Iterable, List, Optional, Union
 
 @dataclass
 class Happened:
-    """A line of the script: the request before which it happened, or None at rest, and its reply."""
+    """A line of the script, or a turn of the second program: the request before which it happened, or None at rest, and the
+    reply of a line. The text of a turn is what the program asked."""
 
     text: str
     before: Optional[int]
     next_request: int
     reply: List[str] = field(default_factory=list)
+    is_turn: bool = False
 
 
 @dataclass
@@ -63,10 +65,10 @@ def read_trace(lines: Iterable[str]) -> List[Entry]:
     last: Optional[Happened] = None
     for line in lines:
         line = line.rstrip("\n")
-        found = re.match(r"(?:@(\d+) )?> (.*)", line)
+        found = re.match(r"(?:@(\d+) )?([>&]) (.*)", line)
         if found:
             before = int(found[1]) if found[1] else None
-            last = Happened(found[2], before, request + 1 if before is None else before)
+            last = Happened(found[3], before, request + 1 if before is None else before, is_turn=found[2] == "&")
             out.append(last)
         elif line.startswith("? "):
             number, text = line[2:].split(" ", 1)
@@ -90,7 +92,7 @@ def after_first_mark(trace: List[Entry]) -> List[Entry]:
 
 
 def places(trace: List[Entry]) -> List[int]:
-    """Returns, for each line after the first mark, the request that was next when it had happened."""
+    """Returns, for each line after the first mark and each turn, the request that was next when it had happened."""
     return [it.next_request for it in after_first_mark(trace) if isinstance(it, Happened) and it.text != "--"]
 
 

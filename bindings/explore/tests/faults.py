@@ -26,6 +26,8 @@ class Faults(ToolTest):
     def test_a_program_that_cannot_be_run(self) -> None:
         self.fails("status 127", self.script, "true", ["/nonexistent/program"])
         self.fails("status 126", self.script, "true", [self.write("program", "exit 0")])
+        script = self.write("set_up", "mkdir /d 755")
+        self.fails("/nonexistent/program: status 127", script, "true", [*self.program, "--and", "/nonexistent/program"])
 
     def test_a_program_that_takes_no_record(self) -> None:
         self.fails("nothing was delivered", self.script, "true", ["true"])
@@ -56,7 +58,7 @@ class Faults(ToolTest):
 
     def test_a_fault_of_the_tool_itself(self) -> None:
         main = f"import sys; sys.path.insert(0, {os.path.dirname(MAIN)!r}); import main; " \
-               "main.check_script = lambda path: 1 // 0; sys.exit(main.flushed(main.main(sys.argv[1:])))"
+               "main.check_script = lambda *_: 1 // 0; sys.exit(main.flushed(main.main(sys.argv[1:])))"
         words = ["--runner", self.runner, self.script, "--check", "true", "--", "true"]
         said = self.run_tool([sys.executable, "-c", main, *words])
         self.assertEqual(said.returncode, 125)

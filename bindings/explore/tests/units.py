@@ -88,8 +88,20 @@ class Files(unittest.TestCase):
         self.assertEqual([it.before for it in schedule.lines()], [None, 1, 0, None])
         self.assertIn(ShortRead(1, 1, True), schedule.items)
 
+    def test_turns_are_read_and_written(self) -> None:
+        text = "mkdir /d 755\n--\n#@ and 2\n#@ before 5\n#@ and 2\n#@ read 6 1\n#@ and 1\n#@ at rest\n#@ and 3\n"
+        schedule = schedules.parse(text)
+        self.assertEqual(schedule.text(), text)
+        self.assertEqual([it.before for it in schedule.turns()], [None, None, 5, 5, 5, None, None, None])
+        self.assertEqual((schedule.lines(), schedule.size(), schedule.moved()), ([], (1, 4, 0), 3))
+        again = schedules.relative(schedule, [2, 3, 5, 5, 5, 7, 8, 9])
+        self.assertEqual([it.before for it in again.turns()], [None, None, 2, 0, 0, None, None, None])
+        self.assertEqual(schedules.parse(again.text()), again)
+        together = schedules.parse("--\n#@ before +4\n#@ and 3\n")
+        self.assertEqual([it.before for it in together.turns()], [4, 0, 0])
+
     def test_what_is_no_directive(self) -> None:
-        for line in ("#@ before", "#@ read 3", "#@ queue x", "#@ at noon", "#@"):
+        for line in ("#@ before", "#@ read 3", "#@ queue x", "#@ at noon", "#@", "#@ and", "#@ and x"):
             with self.assertRaisesRegex(schedules.Fault, "line 2: not a directive"):
                 schedules.parse(f"--\n{line}\n")
 
@@ -197,6 +209,12 @@ class Shrinking(unittest.TestCase):
         best = self.shrink(model, Schedule(schedules.USUAL_QUEUE, (*setup, "mkdir /e 755"), (Line("a"), Line("b", 3))))
         self.assertEqual((best.schedule.setup, best.schedule.moved()), (setup, 1))
 
+    def test_turns_are_not_dropped(self) -> None:
+        model = Model(lambda it: it.schedule.turns()[1].before is not None)
+        turns = (Line(None), Line(None, 6), Line(None, 6), Line(None))
+        best = self.shrink(model, Schedule(schedules.USUAL_QUEUE, (), turns))
+        self.assertEqual([it.before is None for it in best.schedule.turns()], [True, False, True, True])
+
     def test_what_does_not_fail_again(self) -> None:
         model = Model(lambda it: model.runs == 1)
         self.assertIsNone(self.shrink_only(model))
@@ -243,6 +261,17 @@ class Texts(unittest.TestCase):
             "           program  ends: by signal 15"])
         self.assertEqual(timeline.as_script(trace, 7).splitlines(), [
             "mkdir /d 755", "init 7", "watch 1 /d 0x100", "create /d/a 644", "unlink /d/b", "read 1 48", "watch 1 gone 0x100"][:6])
+
+    def test_turns_in_the_timeline(self) -> None:
+        trace = traces.read_trace(["> --", "? 1 inotify_init", "& mkdir /d/a", "@2 & create /d/a/f", "? 2 read 1"])
+        self.assertEqual(traces.places(trace), [2, 2])
+        self.assertEqual(timeline.timeline(trace).splitlines(), [
+            "           tree     the program starts",
+            "        1  program  inotify_init",
+            "           second   mkdir /d/a",
+            "           second   create /d/a/f   before request 2",
+            "        2  program  read 1"])
+        self.assertIsNone(timeline.as_script(trace, 7))
 
     def test_rows_of_requests_are_one_line(self) -> None:
         trace = [traces.Asked(number, "lookup /d") for number in range(1, 12)]

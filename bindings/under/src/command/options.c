@@ -91,9 +91,24 @@ _Noreturn static void print_usage(void) {
     exit(STATUS_FAULT);
 }
 
-/* The words behind the options: the script, unless a schedule has it, and the program. */
+/* Parts the words at the first --and: behind it is the second program. How many words are before it. */
+static int part_words(int argc, char **argv, int at) {
+    int end = at;
+    while (end < argc && strcmp(argv[end], "--and")) end++;
+    if (end == argc) return argc;
+    if (end + 1 == argc) fault("--and: there is no program behind it");
+    options.second = argv + end + 1;
+    argv[end] = NULL;
+    return end;
+}
+
+/* The words behind the options: the script, unless a schedule has it, and the program. A script is not needed where a second
+ * program makes the changes. */
 static void read_words(int argc, char **argv, int at) {
-    bool is_named = !options.has_schedule && at + 1 < argc;
+    argc = part_words(argc, argv, at);
+    bool has_none = options.second && !options.has_schedule && !strcmp(argv[at - 1], "--");
+    if (has_none) options.script = "/dev/null";
+    bool is_named = !options.has_schedule && !has_none && at + 1 < argc;
     if (is_named) options.script = argv[at++];
     if (is_named && !strcmp(argv[at], "--")) at++;
     if (!options.script || at >= argc) print_usage();

@@ -14,6 +14,7 @@ struct options {
     const char *recording;      /* the file that record writes; NULL: standard output */
     const char *from;           /* the directory that record copies in first; NULL: none */
     char **program;             /* its words, NULL at the end */
+    char **second;              /* those of the second program (--and); NULL: there is none */
     bool is_record;             /* the command is record, and not under */
     bool traces;
     bool has_seed;

@@ -1,4 +1,4 @@
-/* A run: mounts the tree, starts the program, and gives turns until it ends. One thread does it all. */
+/* A run: mounts the tree, starts the programs, and gives turns until the first one ends. One thread does it all. */
 #include "command/run.h"
 #include "command/needs.h"
 #include "command/options.h"
@@ -14,6 +14,7 @@
 #include "script/from.h"
 #include "script/schedule.h"
 #include "script/script.h"
+#include "script/second.h"
 #include "script/turn.h"
 #include "tree/files.h"
 #include "tree/mount.h"
@@ -38,7 +39,8 @@ enum { FIRST_LOOK_MS = 10 };
 /* How long a program may take to end, and how much longer than quiet a stall without rest may be. */
 enum { ENDING_MS = 10000, BUSY_STALLS = 6 };
 
-enum ending { RUNNING, OVER, STALLED, BROKEN };
+/* CUT: the second program cannot go on. */
+enum ending { RUNNING, OVER, STALLED, CUT, BROKEN };
 
 static struct fuse_session *session;
 static int signals;
@@ -46,6 +48,8 @@ static enum ending ending;
 static const char *broken;          /* which process of the tool was ended */
 static int64_t ended_at;            /* when the program was asked to end */
 static int64_t worked_at;           /* when it last worked */
+static int64_t second_worked_at;    /* when the second program did, as far as it mattered */
+static int64_t blocked_since;       /* since when it has waited for a lock */
 static int64_t progress_at;         /* when a record was taken or a line ran */
 static bool has_ended;
 static int wait_status;
@@ -71,7 +75,7 @@ static void take_signals(void) {
     if (getppid() != parent_pid) note_broken("the process that began the run");
     int status;
     for (pid_t pid; (pid = waitpid(-1, &status, WNOHANG)) > 0;) {
-        if (pid == supervisor_pid) note_broken("the supervisor of the system calls");
+        if (is_supervisor(pid)) note_broken("the supervisor of the system calls");
         if (pid != program_pid) continue;
         wait_status = status;
         has_ended = true;
@@ -83,11 +87,11 @@ static void take_signals(void) {
 static void ask_to_end(enum ending why) {
     ending = why;
     ended_at = clock_ms();
-    if (why == STALLED) kill(program_pid, SIGTERM);
+    if (why != OVER) kill(program_pid, SIGTERM);
     else if (options.end_signal) kill(program_pid, options.end_signal);
 }
 
-static bool was_asked_to_end(void) { return ending == STALLED || (ending == OVER && options.end_signal); }
+static bool was_asked_to_end(void) { return ending == STALLED || ending == CUT || (ending == OVER && options.end_signal); }
 
 static void insist(void) {
     static bool is_said;
@@ -106,14 +110,24 @@ static void note_progress(void) {
     last_progress = progress;
 }
 
-/* Nothing happens any more, though lines are left or the program has watched. A program that works goes on: while lines are
- * left for some time, and without lines for as long as it likes. */
+/* The second program works, and asks nothing. */
+static void note_second_work(void) {
+    static uint64_t counted_time;
+    if (!options.second) return;
+    uint64_t now = look_at_tasks(SECOND).time;
+    if (now > counted_time + QUIET_NS) second_worked_at = clock_ms();
+    if (now > counted_time + QUIET_NS || now < counted_time) counted_time = now;
+}
+
+/* Nothing happens any more, though something is left to happen or the program has watched. A program that works goes on: while
+ * something is left for some time, and otherwise for as long as it likes. */
 static bool is_stalled(void) {
-    int64_t now = clock_ms(), since = now - progress_at, quiet = now - worked_at;
+    int64_t now = clock_ms(), since = now - progress_at, last = worked_at > second_worked_at ? worked_at : second_worked_at;
     if (since < options.stall_ms) return false;
-    if (quiet < options.stall_ms && (!lines_left() || since < (int64_t)BUSY_STALLS * options.stall_ms)) return false;
+    bool is_any_left = lines_left() || second_goes_on(), is_quiet = now - last >= options.stall_ms;
+    if (!is_quiet && (!is_any_left || since < (int64_t)BUSY_STALLS * options.stall_ms)) return false;
     if (is_waiting_for_lines()) progress_at = now;
-    return progress_at != now && (instance_counts.made || lines_left());
+    return progress_at != now && (instance_counts.made || is_any_left);
 }
 
 /* ---- turns */
@@ -122,18 +136,25 @@ static bool is_stalled(void) {
 static bool is_at_rest(int64_t *wait_us) {
     static struct tasks last;
     static uint64_t counted_time, last_work;
-    struct tasks now = look_at_tasks();
+    struct tasks now = look_at_tasks(CLIENT);
     if (now.time < counted_time) counted_time = now.time;   /* a task ended */
     if (now.time > counted_time + QUIET_NS || now.set != last.set) {
         worked_at = clock_ms();
         counted_time = now.time;
     }
-    bool is_same = last.all_sleep && now.runs == last.runs && work_count == last_work;
+    bool is_unchanged = now.runs == last.runs && work_count == last_work, is_same = last.all_sleep && is_unchanged;
+    if (!is_unchanged || !now.none_runs || now.all_sleep) blocked_since = clock_ms();
     last = now;
     last_work = work_count;
     if (!now.all_sleep) *wait_us = *wait_us < REST_US ? REST_US : *wait_us * 2 < LONGEST_US ? *wait_us * 2 : LONGEST_US;
     else if (!is_same) *wait_us = 0;
     return now.all_sleep && is_same;
+}
+
+/* The client waits for a lock, such as that of a directory, which the second program has during a call that waits here. Then the
+ * second program goes on, as it would on a disk. */
+static bool is_blocked(void) {
+    return second_is_ready() && clock_ms() - blocked_since >= BLOCKED_MS && next_in_script() == NEXT_TURN;
 }
 
 /* The program is at rest. Sets how long it may stay so before the next look. */
@@ -147,39 +168,63 @@ static void give_turn(int64_t *wait_us) {
     *wait_us = 0;
     if (work_count != before) return;
     switch (take_turn(quiet)) {
-    case TURN_WAITS: *wait_us = quiet < 1000 ? 5000 : 20000; break;
+    case TURN_WAITS:
+        note_second_work();
+        *wait_us = quiet < 1000 ? 5000 : 20000;
+        break;
     case TURN_TAKEN: worked_at = clock_ms(); break;
     case TURN_OVER: ask_to_end(OVER); break;
     }
 }
 
+/* Waits for what comes, and answers it. Whether it was a request. */
+static bool serve_what_comes(int64_t wait_us) {
+    struct timespec limit = { .tv_sec = wait_us / 1000000, .tv_nsec = wait_us % 1000000 * 1000 };
+    struct pollfd fds[] = { { fuse_session_fd(session), POLLIN, 0 }, { signals, POLLIN, 0 },
+                            { live_script(), POLLIN, 0 }, { second_report(), POLLIN, 0 } };
+    if (client_is_kept()) limit = (struct timespec){ 0 };
+    if (ppoll(fds, 4, &limit, NULL) < 0 && errno != EINTR) fail("poll");
+    if (fds[1].revents) take_signals();
+    if (fds[2].revents) read_live_script();
+    if (fds[3].revents) note_second();
+    bool is_asked = fds[0].revents || client_is_kept();
+    if (is_asked) serve_burst();
+    note_progress();
+    return is_asked;
+}
+
+/* Whether the run has to end now. Then the program is asked to. */
+static bool is_over(int64_t started_at) {
+    if (is_stalled()) say("stalled: for %d ms no record was taken and no line ran", options.stall_ms);
+    else if (options.limit_ms && clock_ms() - started_at >= options.limit_ms)
+        say("the run was not over after %d ms (--limit)", options.limit_ms);
+    else if (!ending && second_is_broken()) {
+        ask_to_end(CUT);
+        return true;
+    } else return false;
+    ask_to_end(STALLED);
+    return true;
+}
+
+static bool is_anything_asked(void) {
+    struct pollfd request = { fuse_session_fd(session), POLLIN, 0 };
+    return client_is_kept() || poll(&request, 1, 0) != 0;
+}
+
 static void loop(void) {
     int64_t wait_us = FIRST_LOOK_MS * 1000, started_at = clock_ms();
-    worked_at = progress_at = started_at;
+    worked_at = progress_at = blocked_since = started_at;
     while (!has_ended && ending != BROKEN) {
-        struct timespec limit = { .tv_sec = wait_us / 1000000, .tv_nsec = wait_us % 1000000 * 1000 };
-        struct pollfd fds[] = { { fuse_session_fd(session), POLLIN, 0 }, { signals, POLLIN, 0 },
-                                { live_script(), POLLIN, 0 } };
-        if (ppoll(fds, 3, &limit, NULL) < 0 && errno != EINTR) fail("poll");
-        if (fds[1].revents) take_signals();
-        if (fds[2].revents) read_live_script();
-        if (fds[0].revents) serve_burst();
-        note_progress();
+        bool is_asked = serve_what_comes(wait_us);
         if (was_asked_to_end()) {
             insist();
             wait_us = 10000;
-        } else if (is_stalled()) {
-            say("stalled: for %d ms no record was taken and no line ran", options.stall_ms);
-            ask_to_end(STALLED);
-        } else if (options.limit_ms && clock_ms() - started_at >= options.limit_ms) {
-            say("the run was not over after %d ms (--limit)", options.limit_ms);
-            ask_to_end(STALLED);
-        } else if (fds[0].revents) wait_us = clock_ms() - started_at < FIRST_LOOK_MS ? FIRST_LOOK_MS * 1000 : REST_US;
+        } else if (is_over(started_at)) continue;
+        else if (is_asked) wait_us = clock_ms() - started_at < FIRST_LOOK_MS ? FIRST_LOOK_MS * 1000 : REST_US;
         else if (ending) wait_us = 10000;
         else if (is_at_rest(&wait_us)) {
-            struct pollfd request = { fuse_session_fd(session), POLLIN, 0 };
-            if (poll(&request, 1, 0) == 0) give_turn(&wait_us);
-        }
+            if (!is_anything_asked()) give_turn(&wait_us);
+        } else if (is_blocked()) run_turn();
     }
     serve_all();                    /* its files were closed before its end was known */
 }
@@ -209,7 +254,9 @@ static int status_of_program(void) {
 static int status_of_delivery(void) {
     bool has_lines = lines_after_first_mark() > 0, was_asked = ending == OVER && options.end_signal;
     if (has_lines ? instance_counts.reads_after_line : instance_counts.reads || !instance_counts.made) return 0;
-    say("nothing was delivered: %s%s", has_lines ? "" : "no line stands after a line --, and ",
+    const char *why = has_lines ? "" : options.second ? "the second program changed nothing, and "
+                                                      : "no line stands after a line --, and ";
+    say("nothing was delivered: %s%s", why,
         instance_counts.made ? "the program took no record" : "the program made no instance");
     return has_lines || was_asked ? STATUS_NOTHING_DELIVERED : 0;
 }
@@ -223,10 +270,13 @@ static int exit_status(void) {
     if (WIFEXITED(wait_status)) trace("# ended %d\n", WEXITSTATUS(wait_status));
     else trace("# ended by signal %d\n", WTERMSIG(wait_status));
     if (left) say("%ld line%s did not happen", left, left == 1 ? "" : "s");
+    int of_second = status_of_second();
+    if (second_is_broken()) return of_second;
     if (ending == STALLED) return STATUS_STALLED;
     int status = status_of_program();
     if (status) return status;
     if (left) return STATUS_LINES_LEFT;
+    if (of_second) return of_second;
     return options.is_record ? 0 : status_of_delivery();
 }
 
@@ -277,7 +327,7 @@ int run(void) {
     begin_run(here);
     signals = take_over_signals();
     prctl(PR_SET_CHILD_SUBREAPER, 1);
-    start_program(here, &first_mask, fuse_session_fd(session));
+    start_programs(here, &first_mask, fuse_session_fd(session));
     loop();
     end_processes();
     return end_run();

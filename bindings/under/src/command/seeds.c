@@ -85,7 +85,7 @@ static bool is_passed(uint64_t seed, const char *out, int status) {
 static const char *prepare_above(void) {
     struct stat is;
     if (stat(options.script, &is) < 0) fail(options.script);
-    if (!S_ISREG(is.st_mode)) fault("--seeds needs a script that can be read again");
+    if (!S_ISREG(is.st_mode) && strcmp(options.script, "/dev/null")) fault("--seeds needs a script that can be read again");
     if (options.out && mkdir(options.out, 0755) < 0 && errno != EEXIST) fail(options.out);
     if (options.out) return options.out;
     snprintf(temporary->above, sizeof temporary->above, "/tmp/watchtree-under.XXXXXX");

@@ -4,6 +4,8 @@
 static const char of_under[] =
     "usage: watchtree under [OPTIONS] SCRIPT -- PROGRAM [ARGUMENT..]\n"
     "       watchtree under [OPTIONS] --schedule FILE -- PROGRAM [ARGUMENT..]\n"
+    "       watchtree under [OPTIONS] [SCRIPT] -- CLIENT [ARGUMENT..] --and PROGRAM [ARGUMENT..]\n"
+    "                     PROGRAM changes the tree in place of lines: each change waits until CLIENT is at rest\n"
     "  --dir DIR          mount the tree at DIR (/wt)\n"
     "  --trace            print each line, watch and record on standard error\n"
     "  --out DIR          write trace, schedule, stdout, stderr, listing and tree into DIR\n"

@@ -1,6 +1,6 @@
 /* The filter of the program's system calls. Handed to the supervisor are those of inotify, FIONREAD, what asks for SIGIO,
  * mmap(2) of a file that others see written, which a recording names, and statfs(2), as programs look there whether inotify
- * works. fanotify and dnotify are refused: they would see no line of the script. A 32-bit program runs without inotify. */
+ * works; of the second program also those that lock a directory. fanotify and dnotify are refused: they would see no line of the script. A 32-bit program runs without inotify. */
 #include "inotify/filter.h"
 #include "under.h"
 #include <errno.h>
@@ -39,7 +39,7 @@ enum { HELD = SECCOMP_RET_USER_NOTIF, NONE = SECCOMP_RET_ERRNO | ENOSYS, INVALID
        X32 = 0x40000000 };
 
 /* What the filter does with each call: it is held for the supervisor, refused, or let through. */
-static struct sock_filter filter[] = {
+static const struct sock_filter first[] = {
     LOAD(arch),
     UNLESS(AUDIT_ARCH_I386, 17),
     LOAD(nr),
@@ -59,6 +59,29 @@ static struct sock_filter filter[] = {
     LOAD(nr),
     BPF_JUMP(BPF_JMP | BPF_JGE | BPF_K, X32, 0, 1),
     RETURN(NONE),
+};
+
+/* Of the second program. */
+static const struct sock_filter turns[] = {
+    ON(SYS_mkdir, HELD), ON(SYS_mkdirat, HELD), ON(SYS_mknod, HELD), ON(SYS_mknodat, HELD), ON(SYS_rmdir, HELD),
+    ON(SYS_unlink, HELD), ON(SYS_unlinkat, HELD), ON(SYS_rename, HELD), ON(SYS_renameat, HELD), ON(SYS_renameat2, HELD),
+    ON(SYS_link, HELD), ON(SYS_linkat, HELD), ON(SYS_symlink, HELD), ON(SYS_symlinkat, HELD), ON(SYS_creat, HELD),
+    ON(SYS_openat2, HELD),
+
+    UNLESS(SYS_open, 4),
+    LOAD(args[1]),
+    WITHOUT(O_CREAT, 1),
+    RETURN(HELD),
+    RETURN(SECCOMP_RET_ALLOW),
+
+    UNLESS(SYS_openat, 4),
+    LOAD(args[2]),
+    WITHOUT(O_CREAT, 1),
+    RETURN(HELD),
+    RETURN(SECCOMP_RET_ALLOW),
+};
+
+static const struct sock_filter rest[] = {
     ON(SYS_inotify_init, HELD),
     ON(SYS_inotify_init1, HELD),
     ON(SYS_inotify_add_watch, HELD),
@@ -92,8 +115,21 @@ static struct sock_filter filter[] = {
     RETURN(SECCOMP_RET_ALLOW),
 };
 
-int install_filter(void) {
-    struct sock_fprog program = { sizeof filter / sizeof *filter, filter };
+bool waits_for_turn(int call) {
+    switch (call) {
+    case SYS_mkdir: case SYS_mkdirat: case SYS_mknod: case SYS_mknodat: case SYS_rmdir: case SYS_unlink: case SYS_unlinkat:
+    case SYS_rename: case SYS_renameat: case SYS_renameat2: case SYS_link: case SYS_linkat: case SYS_symlink:
+    case SYS_symlinkat: case SYS_creat: case SYS_openat2: case SYS_open: case SYS_openat: return true;
+    default: return false;
+    }
+}
+
+int install_filter(bool is_of_second) {
+    struct sock_filter filter[(sizeof first + sizeof turns + sizeof rest) / sizeof *first];
+    char *end = mempcpy(filter, first, sizeof first);
+    if (is_of_second) end = mempcpy(end, turns, sizeof turns);
+    end = mempcpy(end, rest, sizeof rest);
+    struct sock_fprog program = { (unsigned short)((struct sock_filter *)(void *)end - filter), filter };
     /* Once the supervisor has a call, a signal (Go sends many) does not interrupt and repeat it. */
     unsigned long flags = SECCOMP_FILTER_FLAG_NEW_LISTENER | SECCOMP_FILTER_FLAG_WAIT_KILLABLE_RECV;
     int fd = (int)syscall(SYS_seccomp, SECCOMP_SET_MODE_FILTER, flags, &program);

@@ -266,7 +266,11 @@ static void wake_poller(struct instance *it) {
 
 static bool is_delivering, is_held;
 
-void hold_deliveries(bool holds) { is_held = holds; }
+bool hold_deliveries(bool holds) {
+    bool was_held = is_held;
+    is_held = holds;
+    return was_held;
+}
 
 void deliver(void) {
     if (is_delivering || is_held || !instance_counts.open) return;

@@ -18,8 +18,8 @@ void call_instance(fuse_req_t req, unsigned command, struct fuse_file_info *file
 
 /* Answers each waiting read for which there is a record now, and wakes each poll. */
 void deliver(void);
-/* While deliveries are held, deliver() does nothing. */
-void hold_deliveries(bool holds);
+/* While deliveries are held, deliver() does nothing. Returns whether they were held. */
+bool hold_deliveries(bool holds);
 
 /* What the open instances say of the program. */
 struct asking {

@@ -26,6 +26,8 @@
 #include <unistd.h>
 
 static int root = -1;
+static bool serves_second;
+static int turns = -1;              /* of the second program: the root, to ask for turns by */
 
 /* An answer that is the kernel's own: the call goes on as if nobody had held it. */
 enum { GOES_ON = INT32_MIN, IS_ANSWERED = INT32_MIN + 1 };
@@ -46,6 +48,12 @@ static int borrow_instance(const struct seccomp_notif *call, int fd) {
 /* A new instance goes into the caller before the call is answered, and is closed here before that too: what the caller does
  * next finds one descriptor of it. The call was received, so only a fatal signal can come between. */
 static int init(const struct seccomp_notif *call) {
+    static atomic_flag is_said = ATOMIC_FLAG_INIT;
+    if (serves_second) {
+        if (!atomic_flag_test_and_set(&is_said))
+            say("the second program has no inotify: inotify_init is refused (%s)", strerror(ENOSYS));
+        return -ENOSYS;
+    }
     int flags = call->data.nr == SYS_inotify_init ? 0 : (int)call->data.args[0];
     if (flags & ~(IN_CLOEXEC | IN_NONBLOCK)) return -EINVAL;
     int mine = openat(root, INSTANCE_NAME, O_RDONLY | O_CLOEXEC | (flags & IN_NONBLOCK));
@@ -149,7 +157,15 @@ static int map_shared(const struct seccomp_notif *call) {
     return GOES_ON;
 }
 
+/* The tool answers when it is the caller's turn. */
+static int wait_for_turn(const struct seccomp_notif *call) {
+    int32_t task = (int32_t)call->pid;
+    ioctl(turns, CALL_TURN, &task);         /* refused at the end of the run, when no turn comes any more */
+    return GOES_ON;
+}
+
 static int answer(const struct seccomp_notif *call) {
+    if (waits_for_turn(call->data.nr)) return wait_for_turn(call);
     switch (call->data.nr) {
     case SYS_inotify_init:
     case SYS_inotify_init1: return init(call);
@@ -195,6 +211,7 @@ static int prepare(int from, pid_t tool) {
     if (gone < 0) fail("pidfd_open");
     if ((root = open(options.dir, O_PATH | O_DIRECTORY | O_CLOEXEC)) < 0 || fstat(root, &is) < 0) fail(options.dir);
     if ((proc_root = open("/proc", O_PATH | O_DIRECTORY | O_CLOEXEC)) < 0) fail("/proc");
+    if (serves_second && (turns = open(options.dir, O_RDONLY | O_DIRECTORY | O_CLOEXEC)) < 0) fail(options.dir);
     device = is.st_dev;
     keep_own_root();
     keep_own_rights();
@@ -255,7 +272,8 @@ static void *serve_calls(void *unused) {
     }
 }
 
-void supervise(int from, pid_t tool) {
+void supervise(int from, pid_t tool, bool is_of_second) {
+    serves_second = is_of_second;
     int gone = prepare(from, tool);
     struct pollfd one = { gone, POLLIN, 0 };
     if (!has_another()) fail("pthread_create");

@@ -1,41 +1,49 @@
 /* What the program asks. FUSE splits a system call into requests: open(2) of /d/f is a lookup of /d, one of f in it, and an
  * open. Their names are those of FUSE, but for calls of inotify. */
 #include "output/asked.h"
+#include "command/options.h"
 #include "inotify/instances.h"
 #include "output/trace.h"
 #include "script/schedule.h"
 #include "tree/nodes.h"
+#include "tree/waiting.h"
 #include <stdio.h>
 
-static char asked[3 * PATH_SIZE + 64];
+/* Turns of the second program may come between a request of the client and its answer. */
+enum { SIZE = 6 * PATH_SIZE + 64 };
+static char all_asked[SIDES][SIZE];
 
-static bool is_needed(void) { return has_schedule() && is_traced(); }
+static bool is_needed(void) { return (has_schedule() || options.second) && is_traced(); }
 
 /* The path of a file, perhaps of a name in it, as scripts spell it. */
 static void ask_name(const char *call, uint64_t number, const char *name) {
-    char path[PATH_SIZE] = "", shown[3 * PATH_SIZE] = "";
+    char path[PATH_SIZE] = "", shown[3 * PATH_SIZE] = "", *asked = all_asked[served];
     struct wt_stat is;
     if (!is_needed()) return;
     bool is_known = known_node(number) && find_file(number, path, &is);
     if (is_known) spell(path, shown);
-    size_t length = (size_t)snprintf(asked, sizeof asked, "%s %s", call, is_known ? shown : number ? "gone" : "outside");
-    if (!name || length + 3 * 256 + 2 > sizeof asked) return;
+    size_t length = (size_t)snprintf(asked, SIZE, "%s %s", call, is_known ? shown : number ? "gone" : "outside");
+    if (!name || length + 3 * 256 + 2 > SIZE) return;
     spell(name, shown);
-    snprintf(asked + length, sizeof asked - length, "%s%s", path[1] ? "/" : "", shown);
+    snprintf(asked + length, SIZE - length, "%s%s", path[1] ? "/" : "", shown);
 }
 
 void ask(const char *call) {
-    if (is_needed()) snprintf(asked, sizeof asked, "%s", call);
+    if (is_needed()) snprintf(all_asked[served], SIZE, "%s", call);
 }
 
 void ask_file(const char *call, uint64_t number) { ask_name(call, number, NULL); }
 
 void ask_instance(const char *call, uint32_t instance) {
-    if (is_needed()) snprintf(asked, sizeof asked, "%s %u", call, instance);
+    if (is_needed()) snprintf(all_asked[served], SIZE, "%s %u", call, instance);
 }
 
 void trace_asked(uint64_t request) {
-    if (is_needed()) trace("? %llu %s\n", (unsigned long long)request, asked);
+    if (has_schedule() && is_traced()) trace("? %llu %s\n", (unsigned long long)request, all_asked[CLIENT]);
+}
+
+void trace_second(void) {
+    if (is_traced()) trace("& %s\n", all_asked[SECOND]);
 }
 
 /* ---- the handlers: each says what is asked of a name in a directory, or of a file */
@@ -65,6 +73,7 @@ OF_FILE(read, (fuse_req_t req, fuse_ino_t number, size_t size, off_t offset, str
         (req, number, size, offset, file))
 OF_FILE(write, (fuse_req_t req, fuse_ino_t number, const char *bytes, size_t size, off_t offset,
                 struct fuse_file_info *file), (req, number, bytes, size, offset, file))
+OF_FILE(release, (fuse_req_t req, fuse_ino_t number, struct fuse_file_info *file), (req, number, file))
 OF_FILE(fsync, (fuse_req_t req, fuse_ino_t number, int datasync, struct fuse_file_info *file),
         (req, number, datasync, file))
 OF_FILE(opendir, (fuse_req_t req, fuse_ino_t number, struct fuse_file_info *file), (req, number, file))
@@ -87,6 +96,7 @@ void trace_handlers(struct fuse_lowlevel_ops *handlers) {
     handlers->open = ask_open;
     handlers->read = ask_read;
     handlers->write = ask_write;
+    handlers->release = ask_release;
     handlers->fsync = handlers->fsyncdir = ask_fsync;
     handlers->opendir = ask_opendir;
     handlers->readdir = ask_readdir;

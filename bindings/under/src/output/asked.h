@@ -3,7 +3,7 @@
 #define ASKED_H
 #include "tree/requests.h"
 
-/* In a run with a schedule, makes each handler first note what is asked. */
+/* In a run with a schedule, and in one of two programs, makes each handler first note what is asked. */
 void trace_handlers(struct fuse_lowlevel_ops *handlers);
 
 /* Each notes what is asked next: a call, one on a file, or one on an instance. */
@@ -12,4 +12,6 @@ void ask_file(const char *call, uint64_t number);
 void ask_instance(const char *call, uint32_t instance);
 /* Traces what was asked, as the request of this number. */
 void trace_asked(uint64_t request);
+/* Traces the change that the second program made. */
+void trace_second(void);
 #endif

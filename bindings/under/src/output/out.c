@@ -9,9 +9,9 @@
 #include <sys/stat.h>
 #include <unistd.h>
 
-static const char *const names[OUT_FILES] = { "trace", "schedule", "stdout", "stderr", "listing" };
+static const char *const names[OUT_FILES] = { "trace", "schedule", "stdout", "stderr", "listing", "and.stdout", "and.stderr" };
 static int above = AT_FDCWD, directory = -1;
-static int made[OUT_FILES] = { -1, -1, -1, -1, -1 };
+static int made[OUT_FILES] = { -1, -1, -1, -1, -1, -1, -1 };
 
 void hold_out_above(const char *path) {
     if ((above = open(path, O_PATH | O_DIRECTORY | O_CLOEXEC)) < 0) fail(path);

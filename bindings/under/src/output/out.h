@@ -4,7 +4,7 @@
 #include "under.h"
 #include <stdio.h>
 
-enum out_file { OUT_TRACE, OUT_SCHEDULE, OUT_STDOUT, OUT_STDERR, OUT_LISTING, OUT_FILES };
+enum out_file { OUT_TRACE, OUT_SCHEDULE, OUT_STDOUT, OUT_STDERR, OUT_LISTING, OUT_SECOND_STDOUT, OUT_SECOND_STDERR, OUT_FILES };
 
 /* The directory of each run of --seeds is one below this, which is opened once. */
 void hold_out_above(const char *path);

@@ -5,6 +5,8 @@
 
 static FILE *file;
 static uint64_t before;             /* the request of the last directive: 0 at rest */
+/* The last line of the file, if it is one of turns: where it begins, and how many turns it has. It is written anew for each. */
+static struct { long start; unsigned long long count; } turns;
 
 void open_record(void) {
     enum { USUAL_QUEUE = 16384 };
@@ -19,18 +21,35 @@ void close_record(void) {
     file = NULL;
 }
 
+static void record_place(uint64_t request) {
+    if (request == before) return;
+    if (request) fprintf(file, "#@ before %llu\n", (unsigned long long)request);
+    else fprintf(file, "#@ at rest\n");
+    before = request;
+    turns.count = 0;
+}
+
 void record_line(const char *line, size_t length, uint64_t request) {
     if (!file) return;
-    if (request != before && request) fprintf(file, "#@ before %llu\n", (unsigned long long)request);
-    else if (request != before) fprintf(file, "#@ at rest\n");
-    before = request;
+    record_place(request);
     fprintf(file, "%.*s\n", (int)length, line);
+    turns.count = 0;
 }
 
 void record_mark(void) {
     if (file) fprintf(file, "--\n");
+    turns.count = 0;
+}
+
+void record_turn(uint64_t request) {
+    if (!file) return;
+    record_place(request);
+    if (!turns.count) turns.start = ftell(file);
+    else if (fseek(file, turns.start, SEEK_SET) < 0) fail("schedule");
+    fprintf(file, "#@ and %llu\n", ++turns.count);
 }
 
 void record_short_read(uint64_t request, uint64_t records) {
     if (file) fprintf(file, "#@ read %llu %llu\n", (unsigned long long)request, (unsigned long long)records);
+    turns.count = 0;
 }

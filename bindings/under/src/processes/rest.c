@@ -11,7 +11,7 @@
 struct process { pid_t pid, parent; ino_t folder; };
 static struct process *unknown;             /* those of which this look does not know yet whose they are */
 static size_t unknown_count, unknown_capacity;
-static pid_t *ours;
+static struct member { pid_t pid; enum side side; } *ours;
 static size_t our_count, our_capacity;
 /* Processes that are not ours, by the inode number of their folder in /proc: another process with the same number has
  * another one. The parent of each is none of ours either, as this process is a subreaper. */
@@ -32,11 +32,20 @@ static bool read_state(const char *name, struct state *out) {
     return end && sscanf(end + 1, " %c %d %*d %*d %*d %*d %*u %*u %llu", &out->letter, &out->parent, &out->faults) == 3;
 }
 
-static bool is_ours(pid_t pid) {
+/* Whether it is ours, and of which side its children are. */
+static bool is_ours(pid_t pid, enum side *side) {
+    *side = CLIENT;
     if (pid == getpid()) return true;
-    for (size_t i = 0; i < our_count; i++) if (ours[i] == pid) return true;
+    for (size_t i = 0; i < our_count; i++) {
+        if (ours[i].pid != pid) continue;
+        *side = ours[i].side;
+        return true;
+    }
     return false;
 }
+
+/* Whether a process, with its descendants, is of the second program. */
+static bool begins_second(pid_t pid) { return pid == second_keeper_pid || pid == second_supervisor_pid; }
 
 static void *grow(void *old, size_t *capacity, size_t least, size_t size) {
     size_t now = *capacity ? *capacity : 256;
@@ -48,9 +57,9 @@ static void *grow(void *old, size_t *capacity, size_t least, size_t size) {
     return all;
 }
 
-static void add(pid_t pid) {
+static void add(pid_t pid, enum side side) {
     if (our_count == our_capacity) ours = grow(ours, &our_capacity, our_count, sizeof *ours);
-    ours[our_count++] = pid;
+    ours[our_count++] = (struct member){ pid, begins_second(pid) ? SECOND : side };
 }
 
 static ino_t *foreign_entry(pid_t pid) {
@@ -86,7 +95,8 @@ static void find_ours(void) {
         size_t left = 0;
         for (size_t i = 0; i < unknown_count; i++) {
             struct process *it = unknown + i;
-            if (is_ours(it->parent)) add(it->pid);
+            enum side side;
+            if (is_ours(it->parent, &side)) add(it->pid, side);
             else if (!it->parent || *foreign_entry(it->parent)) *foreign_entry(it->pid) = it->folder;
             else {
                 unknown[left++] = *it;
@@ -112,24 +122,28 @@ static void look_at_task(pid_t pid, const char *task, struct tasks *all) {
     if (!read_state(name, &state) || state.letter == 'Z' || state.letter == 'X') return;
     snprintf(name, sizeof name, "%d/task/%s/schedstat", pid, task);
     if (!read_proc_file(name, text, sizeof text)) return;
-    if (sscanf(text, "%llu %llu %llu", &ran, &waited, &count) != 3 || !strchr("STtI", state.letter)) all->all_sleep = false;
+    bool is_known = sscanf(text, "%llu %llu %llu", &ran, &waited, &count) == 3;
+    if (!is_known || !strchr("STtI", state.letter)) all->all_sleep = false;
+    if (!is_known || !strchr("STtID", state.letter)) all->none_runs = false;
+    all->blocked += state.letter == 'D';
     uint64_t number = strtoull(task, NULL, 10);
     all->runs = mix(mix(all->runs, number), count);
-    if (pid == supervisor_pid) return;
+    if (is_supervisor(pid)) return;
     all->set = mix(mix(all->set, number), state.faults);
     all->time += ran;
 }
 
-struct tasks look_at_tasks(void) {
+struct tasks look_at_tasks(enum side side) {
     enum { START = 0x7bf29ce4 };
-    struct tasks all = { .all_sleep = true, .runs = START, .set = START };
+    struct tasks all = { .all_sleep = true, .none_runs = true, .runs = START, .set = START };
     find_ours();
     for (size_t i = 0; i < our_count; i++) {
         char name[64];
         struct dirent *it;
-        snprintf(name, sizeof name, "%d/task", ours[i]);
+        if (ours[i].side != side) continue;
+        snprintf(name, sizeof name, "%d/task", ours[i].pid);
         DIR *tasks = open_proc_folder(name);
-        while (tasks && (it = readdir(tasks))) if (*it->d_name != '.') look_at_task(ours[i], it->d_name, &all);
+        while (tasks && (it = readdir(tasks))) if (*it->d_name != '.') look_at_task(ours[i].pid, it->d_name, &all);
         if (tasks) closedir(tasks);
     }
     return all;
@@ -141,13 +155,14 @@ bool any_task(bool (*is_such)(pid_t pid, const char *task)) {
         char name[64];
         struct state state;
         struct dirent *it;
-        if (ours[i] == supervisor_pid) continue;
-        snprintf(name, sizeof name, "%d/task", ours[i]);
+        pid_t pid = ours[i].pid;
+        if (is_supervisor(pid)) continue;
+        snprintf(name, sizeof name, "%d/task", pid);
         DIR *tasks = open_proc_folder(name);
         while (tasks && !is_any && (it = readdir(tasks))) {
             if (*it->d_name == '.') continue;
-            snprintf(name, sizeof name, "%d/task/%.20s/stat", ours[i], it->d_name);
-            is_any = read_state(name, &state) && state.letter != 'Z' && state.letter != 'X' && is_such(ours[i], it->d_name);
+            snprintf(name, sizeof name, "%d/task/%.20s/stat", pid, it->d_name);
+            is_any = read_state(name, &state) && state.letter != 'Z' && state.letter != 'X' && is_such(pid, it->d_name);
         }
         if (tasks) closedir(tasks);
     }
@@ -157,8 +172,46 @@ bool any_task(bool (*is_such)(pid_t pid, const char *task)) {
 int signal_all(int signal, pid_t but) {
     int count = 0;
     find_ours();
-    for (size_t i = 0; i < our_count; i++) if (ours[i] != but) count += kill(ours[i], signal) == 0;
+    for (size_t i = 0; i < our_count; i++) {
+        pid_t pid = ours[i].pid;
+        if (pid != but && pid != second_supervisor_pid) count += kill(pid, signal) == 0;
+    }
     return count;
+}
+
+/* The parent of a task, and when the task started: 0 if it is gone. */
+static pid_t parent_of(pid_t task, unsigned long long *started) {
+    char name[32], text[1024];
+    pid_t parent = 0;
+    *started = 0;
+    snprintf(name, sizeof name, "%d/stat", task);
+    if (!read_proc_file(name, text, sizeof text)) return 0;
+    const char *end = strrchr(text, ')');
+    if (!end || sscanf(end + 1, " %*c %d %*d %*d %*d %*d %*u %*u %*u %*u %*u %*u %*u %*d %*d %*d %*d %*d %*d %llu", &parent,
+                       started) != 2) return 0;
+    return parent;
+}
+
+enum side side_of(pid_t task, struct descent *out) {
+    out->count = 0;
+    while (task > 1 && task != getpid() && task != second_keeper_pid) {
+        unsigned long long started;
+        pid_t above = parent_of(task, &started);
+        if (out->count < MOST_ANCESTORS) {
+            out->of[out->count].started = started;
+            out->of[out->count++].task = task;
+        }
+        task = above;
+    }
+    return task && task == second_keeper_pid ? SECOND : CLIENT;
+}
+
+bool is_before(const struct descent *one, const struct descent *other) {
+    for (int i = one->count - 1, j = other->count - 1; i >= 0 && j >= 0; i--, j--) {
+        if (one->of[i].started != other->of[j].started) return one->of[i].started < other->of[j].started;
+        if (one->of[i].task != other->of[j].task) return one->of[i].task < other->of[j].task;
+    }
+    return one->count < other->count;
 }
 
 bool can_tell_rest(void) {

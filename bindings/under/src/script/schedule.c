@@ -1,6 +1,7 @@
 /* What a schedule decides, asked by a generator or by the directives of a file. */
 #include "script/schedule.h"
 #include "command/options.h"
+#include <ctype.h>
 #include <stdio.h>
 #include <stdlib.h>
 
@@ -54,7 +55,9 @@ static struct short_read { uint64_t request, records; } *reads;
 static size_t read_count, read_capacity;
 static uint64_t origin = 1;         /* what relative requests count from */
 
-enum directive { NO_DIRECTIVE, QUEUE_LIMIT, BEFORE, AT_REST, SHORT_READ };
+static uint64_t turns;              /* of the second program, of a directive that was passed */
+
+enum directive { NO_DIRECTIVE, QUEUE_LIMIT, BEFORE, AT_REST, SHORT_READ, TURNS };
 struct parsed { enum directive kind; bool is_relative; uint64_t request, number; };
 
 /* A request: its number, or + and how many follow first. */
@@ -81,6 +84,9 @@ static struct parsed parse(const char *line, size_t length) {
     else if (sscanf(text, "#@ queue %llu%n", &number, &end) == 1 && !text[end]) {
         out.number = number;
         if (number >= 1 && number <= 65535) out.kind = QUEUE_LIMIT;
+    } else if (sscanf(text, "#@ and %llu%n", &number, &end) == 1 && !text[end]) {
+        out.number = number;
+        if (number >= 1 && isdigit((unsigned char)text[7])) out.kind = TURNS;
     } else if (!strncmp(text, "#@ before ", 10)) {
         if ((at = parse_request(text + 10, &out)) && !*at) out.kind = BEFORE;
     } else if (!strncmp(text, "#@ read ", 8)) {
@@ -103,10 +109,12 @@ bool is_directive(const char *line, size_t length) {
     return options.has_schedule && length >= 2 && !memcmp(line, "#@", 2);
 }
 
-void expect_directive(const char *line, size_t length, long number, long lines) {
+void expect_directive(const char *line, size_t length, long number, long lines, bool is_setup) {
     struct parsed it = parse(line, length);
     if (!it.kind) fault("line %ld: not a directive of a schedule: %.*s", number, (int)length, line);
     if (it.kind == QUEUE_LIMIT && lines) fault("line %ld: the queue's limit must come before all lines", number);
+    if (it.kind == TURNS && !options.second) fault("line %ld: turns of a second program, and there is none (--and)", number);
+    if (it.kind == TURNS && is_setup) fault("line %ld: turns of a second program before the first line `--`", number);
     if (it.kind == QUEUE_LIMIT) options.queue = (uint32_t)it.number;
     if (it.kind == SHORT_READ && !it.is_relative) expect_read(it.request, it.number);
 }
@@ -119,7 +127,14 @@ void pass_directive(const char *line, size_t length) {
         place.request = request;
     }
     if (it.kind == SHORT_READ && it.is_relative) expect_read(request, it.number);
+    if (it.kind == TURNS) turns = it.number;
 }
+
+uint64_t turns_left(void) { return turns; }
+
+void turn_happened(void) { turns -= turns > 0; }
+
+void pass_end(void) { place.is_before = false; }
 
 void line_happened(uint64_t next_request) { origin = next_request; }
 

@@ -19,10 +19,15 @@ uint64_t most_records(uint64_t request);
 /* Whether a comment is one, of a script that --schedule names. */
 bool is_directive(const char *line, size_t length);
 /* Called for each directive before the program starts; it keeps reads of absolute requests and the queue's limit. A fault
- * if there is no such directive. `lines` lines come before it. */
-void expect_directive(const char *line, size_t length, long number, long lines);
+ * if there is no such directive. `lines` lines come before it; in the set-up no mark does. */
+void expect_directive(const char *line, size_t length, long number, long lines, bool is_setup);
 /* Passes a directive, which decides where the lines after it happen. */
 void pass_directive(const char *line, size_t length);
-/* Notes that a line happened, and that directives count from this request, the next to be answered. */
+/* How many turns of the second program a directive that was passed still has. */
+uint64_t turns_left(void);
+void turn_happened(void);
+/* Notes that nothing stands behind what was passed: what still happens happens at rest, unless a seed decides. */
+void pass_end(void);
+/* Notes that a line happened, or a turn, and that directives count from this request, the next to be answered. */
 void line_happened(uint64_t next_request);
 #endif

@@ -3,7 +3,10 @@
 #include "command/options.h"
 #include "output/record.h"
 #include "output/trace.h"
+#include "inotify/instances.h"
+#include "output/asked.h"
 #include "script/schedule.h"
+#include "script/second.h"
 #include "script/turn.h"
 #include <errno.h>
 #include <fcntl.h>
@@ -75,11 +78,19 @@ static bool is_empty(const char *line, size_t length) {
     return !length || *line == '#';
 }
 
+/* Behind the last line all turns that are left follow. */
+static enum next next_behind_all(void) {
+    if (!second_goes_on()) return NEXT_END;
+    if (!turns_left()) pass_end();
+    return NEXT_TURN;
+}
+
 enum next next_in_script(void) {
     for (;;) {
+        if (turns_left()) return second_goes_on() ? NEXT_TURN : NEXT_END;
         read_live_script();
         ssize_t length = line_length();
-        if (length < 0) return is_ended ? NEXT_END : NEXT_NOT_YET;
+        if (length < 0) return is_ended ? next_behind_all() : NEXT_NOT_YET;
         if (length == 2 && !memcmp(text + at, "--", 2)) return NEXT_MARK;
         if (!is_empty(text + at, (size_t)length)) return NEXT_LINE;
         if (is_directive(text + at, (size_t)length)) pass_directive(text + at, (size_t)length);
@@ -109,6 +120,32 @@ void pass_mark(void) {
     trace("> --\n");
 }
 
+/* What the turn raises is handed over after it, so that the client rests meanwhile. */
+bool run_turn(void) {
+    bool was_held = hold_deliveries(true), has_changed = second_goes();
+    if (has_changed) {
+        happened_after_mark++;
+        line_happened(next_request());
+        turn_happened();
+        record_turn(request_of_line());
+        line_count++;
+        trace_point();
+        trace_second();
+    }
+    hold_deliveries(was_held);
+    deliver();
+    return has_changed;
+}
+
+/* A second program begins behind a mark, whether one stands there or not. */
+static void pass_first_mark(void) {
+    if (next_in_script() == NEXT_MARK) pass_mark();
+    if (had_mark || !options.second) return;
+    had_mark = true;
+    record_mark();
+    trace("> --\n");
+}
+
 void run_first_lines(void) {
     for (;;) {
         enum next next = next_in_script();
@@ -116,7 +153,7 @@ void run_first_lines(void) {
         else if (next == NEXT_NOT_YET) read_some();
         else break;
     }
-    if (next_in_script() == NEXT_MARK) pass_mark();
+    pass_first_mark();
 }
 
 long lines_left(void) {
@@ -153,14 +190,17 @@ int live_script(void) { return is_ended || line_length() >= 0 ? -1 : fd; }
 static void try_all(void) {
     struct wt_tree scratch = WT_TREE_INIT;
     long lines = 0;
+    bool is_setup = true;
     if (wt_open(&scratch) < 0) fault("wt_open");
     for (ssize_t length; (length = line_length()) >= 0; pass((size_t)length)) {
         const char *line = text + at;
         bool is_mark = length == 2 && !memcmp(line, "--", 2);
-        if (is_directive(line, (size_t)length)) expect_directive(line, (size_t)length, number + 1, lines);
+        if (is_directive(line, (size_t)length)) expect_directive(line, (size_t)length, number + 1, lines, is_setup);
+        if (is_mark) is_setup = false;
         if (is_mark || is_empty(line, (size_t)length)) continue;
         const char *why = fault_of_text(&scratch, line, (size_t)length);
         if (why) fault("line %ld: %s", number + 1, why);
+        if (options.second && !is_setup) fault("line %ld: with --and the second program makes the changes after `--`", number + 1);
         lines++;
     }
     wt_close(&scratch);
@@ -174,6 +214,7 @@ void open_script(void) {
     if (fd < 0 || fstat(fd, &is) < 0) fail(options.script);
     if (!S_ISREG(is.st_mode) && strcmp(options.script, "/dev/null")) {
         if (options.has_schedule) fault("--schedule: %s is not a file", options.script);
+        if (options.second) fault("--and: %s is not a file, and the script sets the tree up", options.script);
         return;
     }
     if (is.st_size > LONGEST_SCRIPT) fault("%s: script too long", options.script);

@@ -6,7 +6,8 @@
 /* The longest script that is a file, here and of `watchtree run`. */
 enum { LONGEST_SCRIPT = 1 << 20 };
 
-enum next { NEXT_LINE, NEXT_MARK, NEXT_NOT_YET, NEXT_END };
+/* What stands next: a line, a mark, a turn of the second program, or nothing, yet or any more. */
+enum next { NEXT_LINE, NEXT_MARK, NEXT_TURN, NEXT_NOT_YET, NEXT_END };
 
 void open_script(void);
 void close_script(void);
@@ -15,13 +16,15 @@ enum next next_in_script(void);
 /* Runs the next line, or passes over the next mark, which has to be there. */
 void run_line(void);
 void pass_mark(void);
+/* Gives the second program the turn that is next. False if the tree did not change: then the turn is still next. */
+bool run_turn(void);
 /* Runs the lines before the first mark, and waits for them if the script is live. */
 void run_first_lines(void);
 /* How many lines did not happen. */
 long lines_left(void);
 /* Records the lines that did not happen, in the form of a script, without those that are no lines of one. */
 void record_rest(void);
-/* How many lines stood or stand after the first mark and happened so far. */
+/* How many lines after the first mark, and turns, happened so far. */
 long lines_after_first_mark(void);
 
 /* The descriptor that more lines come from: -1 if none do, or a whole line waits. */

@@ -9,6 +9,7 @@
 #include "processes/timers.h"
 #include "script/schedule.h"
 #include "script/script.h"
+#include "script/second.h"
 
 /* After an edge-triggered event and a short read no poll follows, so 'was polled, and is empty' is enough after a while. */
 enum { POLLED_MS = 20 };
@@ -19,12 +20,18 @@ uint64_t line_count;
 static uint64_t request_count;
 static uint64_t answered_next;      /* the request before which lines happen now: 0 at rest */
 
-uint64_t run_lines_before_request(void) {
+uint64_t run_lines_before_request(void) { return run_steps_before_request(true); }
+
+uint64_t run_steps_before_request(bool may_turn) {
     uint64_t request = ++request_count, lines = 0;
     if (!has_schedule()) return request;
     answered_next = request;
     hold_deliveries(true);
-    for (; next_in_script() == NEXT_LINE && line_comes_before(request, lines); lines++) run_line();
+    for (enum next next; (next = next_in_script()) == NEXT_LINE || (next == NEXT_TURN && may_turn); lines++) {
+        if (!line_comes_before(request, lines)) break;
+        if (next == NEXT_LINE) run_line();
+        else if (!run_turn()) break;
+    }
     hold_deliveries(false);
     answered_next = 0;
     trace_asked(request);
@@ -60,6 +67,10 @@ enum turn take_turn(int64_t quiet_ms) {
     case NEXT_LINE:
         run_lines();
         return TURN_TAKEN;
+    case NEXT_TURN:
+        if (!second_is_ready()) return TURN_WAITS;
+        run_turn();
+        return TURN_TAKEN;
     case NEXT_MARK:
         if (quiet_ms < options.debounce_ms && !is_quiet_for_good()) return TURN_WAITS;
         pass_mark();
@@ -67,6 +78,7 @@ enum turn take_turn(int64_t quiet_ms) {
     case NEXT_NOT_YET: return TURN_WAITS;
     case NEXT_END: break;
     }
+    if (options.second && !second_is_at_rest()) return TURN_WAITS;
     return quiet_ms < options.settle_ms && !is_quiet_for_good() ? TURN_WAITS : TURN_OVER;
 }
 

@@ -6,7 +6,10 @@
 /* How many lines ran. */
 extern uint64_t line_count;
 
-/* Called before a request of the program is answered: lets lines happen first, by the schedule. Returns its number. */
+/* Called before a request of the program is answered: lets lines happen first, by the schedule, and turns of the second program
+ * if they may. Returns its number. */
+uint64_t run_steps_before_request(bool may_turn);
+/* The same of a request during which the kernel has no lock. */
 uint64_t run_lines_before_request(void);
 /* The request before which a line happens now: 0 if it happens at rest. */
 uint64_t request_of_line(void);

@@ -4,13 +4,14 @@
 #include "tree/files.h"
 #include "tree/requests.h"
 #include "tree/tree.h"
+#include "tree/waiting.h"
 #include <errno.h>
 #include <fcntl.h>
 #include <linux/fuse.h>
 #include <poll.h>
 #include <stdlib.h>
 
-struct descriptor { bool may_write, has_read; };
+struct descriptor { bool may_write, has_read, is_of_second; };
 
 enum { LARGEST_READ = 1 << 20 };
 static char buffer[LARGEST_READ];
@@ -26,12 +27,15 @@ static bool open_descriptor(uint64_t number, struct fuse_file_info *file) {
     struct descriptor *it = calloc(1, sizeof *it);
     if (!it) return false;
     it->may_write = (file->flags & O_ACCMODE) != O_RDONLY;
+    it->is_of_second = served == SECOND;
     node_of(number)->opens++;
     file->fh = (uintptr_t)it;
     file->direct_io = 1;
     file->noflush = 1;
     return true;
 }
+
+bool is_opened_by_second(uint64_t file) { return ((const struct descriptor *)(uintptr_t)file)->is_of_second; }
 
 static void close_descriptor(uint64_t number, struct descriptor *it) {
     free(it);
@@ -155,7 +159,7 @@ void on_release(fuse_req_t req, fuse_ino_t number, struct fuse_file_info *file) 
     if (number == INSTANCE) close_instance(file);
     else {
         struct descriptor *it = (struct descriptor *)(uintptr_t)file->fh;
-        work_count++;
+        count_work();
         raise_close(number, it);
         close_descriptor(number, it);
     }
@@ -178,5 +182,6 @@ void on_ioctl(fuse_req_t req, fuse_ino_t number, unsigned command, void *argumen
               unsigned flags, const void *in, size_t in_size, size_t out_size) {
     (void)argument, (void)flags, (void)out_size;
     if (number == INSTANCE && by_supervisor(req)) call_instance(req, command, file, in, in_size);
+    else if (number == ROOT && command == CALL_TURN && by_supervisor(req)) fuse_reply_ioctl(req, 0, NULL, 0);
     else fuse_reply_err(req, ENOTTY);
 }

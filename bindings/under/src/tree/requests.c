@@ -3,21 +3,25 @@
 #include "processes/program.h"
 #include "script/script.h"
 #include "script/turn.h"
+#include "command/options.h"
 #include "tree/tree.h"
+#include "tree/waiting.h"
 #include <sys/syscall.h>
 #include <unistd.h>
 
 uint64_t work_count;
 
 bool by_supervisor(fuse_req_t req) {
-    pid_t task = fuse_req_ctx(req)->pid;
-    return task == supervisor_pid || syscall(SYS_tgkill, supervisor_pid, task, 0) == 0;
+    pid_t task = fuse_req_ctx(req)->pid, supervisor = served == SECOND ? second_supervisor_pid : supervisor_pid;
+    return task == supervisor || syscall(SYS_tgkill, supervisor, task, 0) == 0;
 }
 
+void count_work(void) { work_count += served == CLIENT; }
+
 void begin(fuse_req_t req) {
-    if (by_supervisor(req)) return;
+    if (served == SECOND || by_supervisor(req)) return;
     work_count++;
-    run_lines_before_request();
+    run_steps_before_request(!client_has_lock());
 }
 
 bool is_refused(fuse_req_t req, int64_t reply) {
@@ -30,6 +34,9 @@ static void on_init(void *data, struct fuse_conn_info *connection) {
     connection->want &= ~(unsigned)(FUSE_CAP_READDIRPLUS | FUSE_CAP_READDIRPLUS_AUTO | FUSE_CAP_SPLICE_READ |
                                     FUSE_CAP_SPLICE_WRITE | FUSE_CAP_SPLICE_MOVE | FUSE_CAP_AUTO_INVAL_DATA |
                                     FUSE_CAP_EXPORT_SUPPORT);
+    /* Closed files of the second program may wait, and must not hold up those of the client. */
+    enum { MOST_IN_BACKGROUND = 65535 };
+    if (options.second) connection->max_background = MOST_IN_BACKGROUND;
 }
 
 const struct fuse_lowlevel_ops requests = {

@@ -4,11 +4,15 @@
 #include "under.h"
 #define FUSE_USE_VERSION 35
 #include <fuse3/fuse_lowlevel.h>
+#include <sys/ioctl.h>
 #include <sys/stat.h>
 
 /* The inode number of every inotify instance, and the name by which the supervisor opens a new one. */
 enum { INSTANCE = 1 << 30 };
 #define INSTANCE_NAME ".watchtree-inotify"
+
+/* By this ioctl(2) of the root, with the number of a task, the supervisor of the second program asks for a turn of it. */
+#define CALL_TURN _IOW('w', 4, int32_t)
 
 extern const struct fuse_lowlevel_ops requests;
 
@@ -16,7 +20,10 @@ extern const struct fuse_lowlevel_ops requests;
 extern uint64_t work_count;
 
 bool by_supervisor(fuse_req_t req);
-/* The first step of a request: the program works, and by a seed lines of the script happen before it. */
+/* Counts a request as work, unless the second program made it. */
+void count_work(void);
+/* The first step of a request: the program works, and by a seed lines of the script happen before it. A request of the second
+ * program is none that a schedule counts. */
 void begin(fuse_req_t req);
 /* Answers with an error if the reply of the tree is one. */
 bool is_refused(fuse_req_t req, int64_t reply);
@@ -57,6 +64,8 @@ void on_readdir(fuse_req_t req, fuse_ino_t number, size_t size, off_t offset, st
 void on_releasedir(fuse_req_t req, fuse_ino_t number, struct fuse_file_info *file);
 
 /* descriptors.c */
+/* Whether the second program opened a file, by what the kernel knows it by. */
+bool is_opened_by_second(uint64_t file);
 void on_open(fuse_req_t req, fuse_ino_t number, struct fuse_file_info *file);
 void on_create(fuse_req_t req, fuse_ino_t parent, const char *name, mode_t mode, struct fuse_file_info *file);
 void on_read(fuse_req_t req, fuse_ino_t number, size_t size, off_t offset, struct fuse_file_info *file);

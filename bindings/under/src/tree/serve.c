@@ -1,7 +1,10 @@
 /* Answers the requests of the mount. */
 #include "tree/serve.h"
+#include "command/options.h"
 #include "tree/requests.h"
+#include "tree/waiting.h"
 #include <errno.h>
+#include <poll.h>
 #include <sched.h>
 #include <stdlib.h>
 
@@ -11,6 +14,7 @@ void serve_session(struct fuse_session *it) { session = it; }
 
 static bool serve_one(void) {
     static struct fuse_buf buffer;
+    if (options.second) return answer_client(session) || take_request(session);
     int count = fuse_session_receive_buf(session, &buffer);
     if (count == -EAGAIN || count == -EINTR) return false;
     if (count <= 0) fault("/dev/fuse: %s", count ? strerror(-count) : "the mount is gone");
@@ -20,6 +24,23 @@ static bool serve_one(void) {
 
 void serve_all(void) {
     while (serve_one()) {}
+}
+
+bool take_all(void) {
+    bool is_any = false;
+    while (take_request(session)) is_any = true;
+    return is_any;
+}
+
+bool client_is_kept(void) { return client_waits(); }
+uint64_t serve_looks(uint64_t most) { return answer_looks(session, most); }
+enum step serve_step(void) { return answer_step(session); }
+void refuse_second(void) { refuse_waiting(session); }
+
+void await_request(int64_t wait_us) {
+    struct timespec limit = { .tv_sec = wait_us / 1000000, .tv_nsec = wait_us % 1000000 * 1000 };
+    struct pollfd one = { fuse_session_fd(session), POLLIN, 0 };
+    if (ppoll(&one, 1, &limit, NULL) < 0 && errno != EINTR) fail("poll");
 }
 
 /* Whether another processor is likely to have nothing to do. */
