@@ -76,8 +76,8 @@ def as_json(it: Report) -> bytes:
         "script_sha256": it.identity.get("script"), "shard": it.shard, "fault": it.fault, "complete": found.is_complete,
         "runs": found.runs, "failed": len(found.failures), "seconds": round(found.seconds, 3),
         "nothing_delivered": found.undelivered, "lines_left": found.unfinished, "stalled": found.stalled,
-        "at_rest": base and {"lines": len(base.schedule.lines()), "turns": len(base.schedule.turns()), "requests": traces.requests(base.trace),
-                             "status": base.status, "fails": base.fails},
+        "at_rest": base and {"lines": len(base.schedule.lines()), "turns": len(base.schedule.turns()),
+                             "requests": traces.requests(base.trace), "status": base.status, "fails": base.fails},
         "failures": [_json_failure(name, one) for name, one in it.failing],
         "shrunk": it.shrunk and _json_shrunk(it.shrunk),
     }
