@@ -72,10 +72,9 @@ def moves_of(lines: List[List[str]]) -> List[Tuple[str, str]]:
     moves = []
     for words in lines:
         if words[0] in ("rename", "rename2"):
-            old, new = spelled(words[1]), spelled(words[2])
-            moves.append((old, new))
             if words[0] == "rename2" and int(words[3]) & EXCHANGE:
-                moves.append((new, old))
+                sys.exit("a rename that exchanges is not supported")
+            moves.append((spelled(words[1]), spelled(words[2])))
     return moves
 
 
