@@ -32,7 +32,8 @@ from raised import read_lines  # noqa: E402
 REPLAYS = 20
 # The failing seeds whose schedules are replayed until one fails each time.
 TRIED = 3
-LIMIT = 180_000
+# Milliseconds without work after which a client has started, and those that a run takes at most.
+START, LIMIT = 500, 180_000
 AT_REST = "rest"
 
 
@@ -58,8 +59,7 @@ class Pair:
         script = f"{self.room}/{self.recording}.script"
         with open(script, "w", encoding="utf-8", errors="surrogateescape") as file:
             file.write(script_of(self.recording))
-        settle = str(self.client.settle)
-        options = ["--quick", "--settle", settle, "--debounce", settle, "--limit", str(LIMIT)]
+        options = ["--quick", "--settle", str(self.client.settle), "--debounce", str(START), "--limit", str(LIMIT)]
         check = f'{explored.check_of(self.client)} 2>"{self.room}/{self.name}.${{WT_SEED:-{AT_REST}}}"'
         return runs.Bench(self.words.runner, options, script, check, explored.words_of(self.client, self.built), self.room, LIMIT)
 
