@@ -1,6 +1,6 @@
 """Runs the tests: all.py [--sanitized] RUNNER [CLASS..]. Two go at once.
 
-With --sanitized the tests that need no runner are not run again. The last line is 'explore: N passed, M failed'.
+With --sanitized the tests that need no runner, and those of the recordings, are not run again. The last line is 'explore: N passed, M failed'.
 """
 
 import importlib
@@ -15,7 +15,7 @@ from typing import Iterable, List, Optional, Tuple
 
 HERE = os.path.dirname(os.path.abspath(__file__))
 sys.path[:0] = [HERE, os.path.dirname(HERE)]
-WITHOUT_RUNNER = ("units", "clients")
+ONCE = ("units", "clients", "recordings")
 WITH_RUNNER = ("folders", "replays", "found", "faults", "printed", "quiet", "ended")
 EXAMPLES = ("recursive", "renames", "overflow", "follow", "reload")
 AT_ONCE = 2
@@ -75,7 +75,7 @@ def main() -> int:
     words = sys.argv[1:]
     is_sanitized = words[0] == "--sanitized"
     runner, *names = words[is_sanitized:]
-    runner, modules = os.path.abspath(runner), WITH_RUNNER if is_sanitized else WITHOUT_RUNNER + WITH_RUNNER
+    runner, modules = os.path.abspath(runner), WITH_RUNNER if is_sanitized else ONCE + WITH_RUNNER
     with tempfile.TemporaryDirectory(prefix="watchtree-explore-test-") as room:
         os.environ.update(RUNNER=beside_library(runner, room) if is_sanitized else runner, ROOM=room)
         wrong = build(room)
