@@ -93,6 +93,7 @@ def search_seeds(pair: Pair, bench: runs.Bench, found: Dict[str, Any], path: str
     if "at_rest" not in found:
         base = bench.base()
         found["at_rest"] = pair.wrong(AT_REST) if base.fails else []
+        found["at_rest_failed"] = replay(pair, bench, base.schedule) if base.fails else 0
         keep(path, found)
     left = [it for it in pair.words.seeds if it not in found["seeds"]]
     steps = ((lambda seed=seed: bench.seed(seed, "lines,reads")) for seed in left)
@@ -185,7 +186,8 @@ def cell(found: Optional[Dict[str, Any]]) -> str:
     if not found or not found["seeds"]:
         return ""
     failed, seeds = len(found["failed"]), len(found["seeds"])
-    return f"{failed} of {seeds}" + (f", {best_replays(found)}" if failed else "")
+    at_rest = f"; at rest {found['at_rest_failed']}" if found.get("at_rest_failed") else ""
+    return f"{failed} of {seeds}" + (f", {best_replays(found)}" if failed else "") + at_rest
 
 
 def best_replays(found: Dict[str, Any]) -> str:

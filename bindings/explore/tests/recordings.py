@@ -70,8 +70,13 @@ class Recordings(ToolTest):
         self.assertEqual([it for it in said.stdout.splitlines() if it not in rows], [])
 
 
-# What two recordings of a program have not in common: random names, and the lengths of files that have a number of a process.
-RANDOM = [(r"(tmp_[a-z]*_|\.git/t)[A-Za-z0-9]{6}", r"\1"), (r"^(write \S+ )\S+ ([0-9a-f]{2})$", r"\1"), (r"^(write \S+) .*", r"\1")]
+# What two recordings of a program have not in common: the bytes that it writes, the names that it draws at random or by the number
+# of its process, and the lengths of files that have this number.
+RANDOM = [(r"^(write \S+ \d+) .*", r"\1"), (r"(tmp_[a-z]*_|\.git/t|\.#-emacs)[A-Za-z0-9]{6}", r"\1"),
+          (r"(index\.stash\.)\d+", r"\1"), (r"(/\.[^ /]*\.)[A-Za-z0-9]{6}(?= |$)", r"\1"), (r"[a-z0-9_]{8}(\.tmp)\b", r"\1"),
+          (r"^(write \S+(/\.#-emacs|\.keep)) .*", r"\1")]
+# These make calls in several processes or threads.
+IN_ANY_ORDER = ("rsync", "npm")
 
 
 def alike(path: str, name: str) -> List[str]:
@@ -79,7 +84,7 @@ def alike(path: str, name: str) -> List[str]:
     lines = lines_of(path)
     for pattern, text in RANDOM:
         lines = [re.sub(pattern, text, it) for it in lines]
-    return sorted(lines) if name == "rsync" else lines
+    return sorted(lines) if name in IN_ANY_ORDER else lines
 
 
 class Made(ToolTest):
