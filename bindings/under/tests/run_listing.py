@@ -12,9 +12,10 @@ program, script, listing = sys.argv[1:]
 # (surrogates stand for bytes that are no text)
 with open(listing, encoding="utf-8", errors="surrogateescape") as file:
     paths = [line.rsplit(" ", 4)[0] for line in file if line.startswith("/")]
-# (`run` knows no line --, at which `under` starts its program)
 with open(script, "rb") as file:
-    lines = [line for line in file.read().splitlines() if line != b"--"]
+    lines = file.read().splitlines()
+# (a line -- has no reply)
+calls = [line for line in lines if line != b"--"]
 
 
 def spell(path):
@@ -31,10 +32,10 @@ for line in said.splitlines():
         replies[-1].append(line[2:].decode())
     else:
         replies.append([line.decode()])
-refused = [one.decode() for one, reply in zip(lines, replies) if not reply[0].startswith("ok")]
+refused = [one.decode() for one, reply in zip(calls, replies) if not reply[0].startswith("ok")]
 for one in refused:
     print(f"refused: {one}")
-replies = iter(replies[len(lines):])
+replies = iter(replies[len(calls):])
 sums = []
 for path in paths:
     stat, names, content = next(replies)[0].split(), next(replies), next(replies)[0].split()

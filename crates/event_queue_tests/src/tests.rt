@@ -1,207 +1,171 @@
+//! Queues by tables of steps: what is kept, merged, marked and lost, and what waits.
+
 use event_queue::{Fit, Offered, Queue};
 use record_codec::{Event, Name, bits};
-use std::alloc::{AllocError, Global};
-use std::fmt::Debug;
+use std::alloc::Global;
 use std::process::Abort;
-use tree_paths::{Limits, Refusal};
 
-/// Asserts that two values are equal. Tests assert in these two functions, because the macros in a long body take
-/// minutes to prove.
-pub(crate) fn equal<T: PartialEq + Debug + Drop>(rt: &impl Abort, got: T, wanted: T) {
-    assert_eq!(rt; got, wanted);
+/// A call and its answer, or what waits. An event has the name of its file, and the overflow mark is a dash.
+#[derive(Clone, Copy, Debug)]
+pub(crate) enum Step {
+    Offer(&'static str, Offered),
+    Take(&'static str),
+    DropOldest(usize),
+    /// The records that wait, the name of each one byte.
+    Waits(&'static str),
+    Ends,
+    /// A number of bytes, how many records fit into them, and how many bytes these take.
+    Fits(usize, usize, usize),
 }
 
-/// Asserts a condition.
-pub(crate) fn holds(rt: &impl Abort, what: &str, is_so: bool) {
-    assert!(rt; is_so, "{what}");
+// Of a queue of one record.
+const ONE: [Step; 10] = [
+    Step::Offer("a", Offered::Kept),
+    Step::Offer("a", Offered::Merged),
+    Step::Offer("b", Offered::Marked),
+    Step::Offer("a", Offered::Lost),
+    Step::Waits("a-"),
+    Step::Take("a"),
+    Step::Offer("a", Offered::Lost),
+    Step::Take("-"),
+    Step::Offer("a", Offered::Kept),
+    Step::Waits("a"),
+];
+
+// Of a queue of two. The mark takes 16 bytes, and a record with a short name 32.
+pub(crate) const TWO: [Step; 20] = [
+    Step::Ends,
+    Step::Offer("a", Offered::Kept),
+    Step::Offer("b", Offered::Kept),
+    Step::Offer("c", Offered::Marked),
+    Step::Offer("d", Offered::Lost),
+    Step::Take("a"),
+    Step::Offer("e", Offered::Lost),
+    Step::Take("b"),
+    Step::Offer("g", Offered::Kept),
+    Step::Offer("g", Offered::Merged),
+    Step::Waits("-g"),
+    Step::Fits(15, 0, 0),
+    Step::Fits(16, 1, 16),
+    Step::Fits(47, 1, 16),
+    Step::Fits(48, 2, 48),
+    Step::Fits(1000, 2, 48),
+    Step::DropOldest(1),
+    Step::Take("g"),
+    Step::Ends,
+    Step::Fits(1000, 0, 0),
+];
+
+// Of a queue of three: it is full after 3 steps, has the mark behind its records after 4, and between two after 7.
+const THREE: [Step; 10] = [
+    Step::Offer("a", Offered::Kept),
+    Step::Offer("b", Offered::Kept),
+    Step::Offer("c", Offered::Kept),
+    Step::Offer("d", Offered::Marked),
+    Step::Take("a"),
+    Step::DropOldest(1),
+    Step::Offer("g", Offered::Kept),
+    Step::Waits("c-g"),
+    Step::DropOldest(2),
+    Step::Waits("g"),
+];
+
+/// An empty queue of 1 to 65,535 records.
+pub(crate) fn new_queue(rt: &impl Abort, alloc: Global, limit: u32) -> Queue {
+    Queue::with_limit(alloc, limit.clamp(1, 65_535)).expect(rt, "memory")
 }
 
-/// The event of a new file of this name in the directory of watch 1.
-pub(crate) fn made(alloc: Global, name: &[u8]) -> Result<Event, AllocError> {
-    Ok(Event {
-        wd: 1,
-        mask: bits::IN_CREATE,
+/// The event of a new file in the directory of watch 1, or the mark. A short name takes no memory.
+fn event(rt: &impl Abort, alloc: Global, name: &[u8]) -> Event {
+    let (wd, mask, name) = if name == b"-".as_slice() {
+        (-1, bits::IN_Q_OVERFLOW, None)
+    } else {
+        let name = Name::new(alloc, name).expect(rt, "memory");
+        (1, bits::IN_CREATE, name)
+    };
+    Event {
+        wd,
+        mask,
         cookie: 0,
-        name: Name::new(alloc, name)?,
-    })
+        name,
+    }
+}
+
+/// Whether just these records wait.
+fn is_waiting(rt: &impl Abort, alloc: Global, queue: &Queue, names: &[u8]) -> bool {
+    for (index, name) in names.iter().enumerate() {
+        if queue.peek(index) != Some(&event(rt, alloc, &[*name])) {
+            return false;
+        }
+    }
+    queue.peek(names.len()).is_none() && queue.len() == names.len() && !queue.is_empty()
+}
+
+/// Whether a step goes as it says.
+fn is_right(rt: &impl Abort, alloc: Global, queue: &mut Queue, step: Step) -> bool {
+    match step {
+        Step::Offer(name, answer) => queue.offer(event(rt, alloc, name.as_bytes())) == answer,
+        Step::Take(name) => queue.take() == Some(event(rt, alloc, name.as_bytes())),
+        Step::DropOldest(count) => {
+            queue.drop_oldest(count);
+            true
+        }
+        Step::Waits(names) => is_waiting(rt, alloc, queue, names.as_bytes()),
+        Step::Ends => queue.take().is_none() && queue.is_empty() && queue.len() == 0,
+        Step::Fits(bytes, count, len) => {
+            queue.fit_len(bytes) == Fit { count, len }
+                && queue.fit(bytes) == count
+                && queue.any_fits(bytes) == (count > 0)
+        }
+    }
+}
+
+/// Makes the steps, each of which goes as it says.
+pub(crate) fn plays(rt: &impl Abort, alloc: Global, queue: &mut Queue, steps: &[Step]) {
+    for (index, step) in steps.iter().enumerate() {
+        let is_right = is_right(rt, alloc, queue, *step);
+        assert!(rt; is_right, "step {index}, {step:?}");
+    }
 }
 
 #[test]
-fn limit_two(rt: HostRuntime) -> Result<(), Refusal> {
+fn offers_and_takes(rt: HostRuntime) {
     let alloc = rt.alloc();
-    let a = made(alloc, b"a".as_slice())?;
-    let b = made(alloc, b"b".as_slice())?;
-    let c = made(alloc, b"c".as_slice())?;
-    let d = made(alloc, b"d".as_slice())?;
-    let e = made(alloc, b"e".as_slice())?;
-    let g = made(alloc, b"g".as_slice())?;
-    let again = made(alloc, b"g".as_slice())?;
-    let (first, second, last) = (a.copy()?, b.copy()?, g.copy()?);
-    let mut queue = Queue::with_limit(alloc, 2)?;
-    equal(&rt, queue.offer(a), Offered::Kept);
-    equal(&rt, queue.offer(b), Offered::Kept);
-    equal(&rt, queue.offer(c), Offered::Marked);
-    equal(&rt, queue.offer(d), Offered::Lost);
-    equal(&rt, queue.take(), Some(first));
-    equal(&rt, queue.offer(e), Offered::Lost);
-    equal(&rt, queue.take(), Some(second));
-    equal(&rt, queue.offer(g), Offered::Kept);
-    equal(&rt, queue.offer(again), Offered::Merged);
-    equal(&rt, queue.len(), 2);
-    equal(&rt, queue.limit(), 2);
-    holds(&rt, "!queue.is_empty()", !queue.is_empty());
-    // The mark takes 16 bytes, and a record with a short name 32.
-    let fits = [15, 16, 47, 48, 1000].map(|bytes| queue.fit_len(bytes));
-    let counted = [(0, 0), (1, 16), (1, 16), (2, 48), (2, 48)];
-    equal(&rt, fits, counted.map(|(count, len)| Fit { count, len }));
-    let fits = [15, 16, 47, 48, 1000].map(|bytes| queue.fit(bytes));
-    equal(&rt, fits, counted.map(|(count, _)| count));
-    equal(
-        &rt,
-        [15, 16].map(|bytes| queue.any_fits(bytes)),
-        [false, true],
-    );
-    equal(&rt, queue.peek(0), Some(&overflow_mark()));
-    equal(&rt, queue.peek(1), Some(&last));
-    equal(&rt, queue.peek(2), None);
-    equal(&rt, queue.take(), Some(overflow_mark()));
-    equal(&rt, queue.take(), Some(last));
-    equal(&rt, queue.take(), None);
-    holds(&rt, "!queue.any_fits(1000)", !queue.any_fits(1000));
-    holds(&rt, "queue.is_empty()", queue.is_empty());
-    Ok(())
-}
-
-/// The record that says that events were lost.
-fn overflow_mark() -> Event {
-    Event {
-        wd: -1,
-        mask: bits::IN_Q_OVERFLOW,
-        cookie: 0,
-        name: None,
-    }
-}
-
-/// An event of watch 1 that has no name, and so does not allocate.
-fn touched(cookie: u32) -> Event {
-    Event {
-        wd: 1,
-        mask: bits::IN_ATTRIB,
-        cookie,
-        name: None,
-    }
-}
-
-#[test]
-fn least_limit(rt: HostRuntime) -> Result<(), Refusal> {
-    let mut queue = Queue::with_limit(rt.alloc(), 1)?;
-    equal(&rt, queue.offer(touched(1)), Offered::Kept);
-    equal(&rt, queue.offer(touched(1)), Offered::Merged);
-    equal(&rt, queue.offer(touched(2)), Offered::Marked);
-    equal(&rt, queue.offer(touched(1)), Offered::Lost);
-    equal(&rt, queue.len(), 2);
-    equal(&rt, queue.take(), Some(touched(1)));
-    equal(&rt, queue.offer(touched(1)), Offered::Lost);
-    equal(&rt, queue.take(), Some(overflow_mark()));
-    equal(&rt, queue.offer(touched(1)), Offered::Kept);
-    equal(&rt, queue.len(), 1);
-    Ok(())
-}
-
-#[test]
-fn greatest_limit(rt: HostRuntime) -> Result<(), Refusal> {
-    let limit = Limits::full().queue;
-    let mut queue = Queue::with_limit(rt.alloc(), limit)?;
-    for cookie in 0..limit {
-        equal(&rt, queue.offer(touched(cookie)), Offered::Kept);
-    }
-    equal(&rt, queue.offer(touched(0)), Offered::Marked);
-    equal(&rt, queue.offer(touched(1)), Offered::Lost);
-    equal(&rt, queue.len(), 65_536);
-    let fit = Fit {
-        count: 65_535,
-        len: 1_048_560,
-    };
-    equal(&rt, queue.fit_len(1_048_575), fit);
-    for cookie in 0..limit {
-        equal(&rt, queue.take(), Some(touched(cookie)));
-    }
-    equal(&rt, queue.take(), Some(overflow_mark()));
-    holds(&rt, "queue.is_empty()", queue.is_empty());
-    Ok(())
-}
-
-/// One of four queues of three records: an empty one, a full one, one with the overflow mark behind its records, and
-/// one with the mark between two of them.
-fn queue_of(alloc: Global, which: u32) -> Result<Queue, Refusal> {
-    let mut queue = Queue::with_limit(alloc, 3)?;
-    let offers = match which {
-        0 => 0,
-        1 => 3,
-        _ => 4,
-    };
-    for cookie in 0..offers {
-        queue.offer(touched(cookie));
-    }
-    if which == 3 {
-        queue.take();
-        queue.take();
-        queue.offer(touched(9));
-    }
-    Ok(queue)
+    plays(&rt, alloc, &mut new_queue(&rt, alloc, 1), &ONE);
+    let mut queue = new_queue(&rt, alloc, 2);
+    plays(&rt, alloc, &mut queue, &TWO);
+    assert_eq!(rt; queue.limit(), 2);
 }
 
 /// Whether the same records wait in both, and what is offered then has the same outcome.
-fn are_alike(one: &mut Queue, other: &mut Queue) -> bool {
-    if one.len() != other.len() || one.bytes() != other.bytes() {
-        return false;
-    }
-    for cookie in 20..25 {
-        if one.offer(touched(cookie)) != other.offer(touched(cookie)) {
-            return false;
-        }
+fn are_alike(rt: &impl Abort, alloc: Global, one: &mut Queue, other: &mut Queue) -> bool {
+    let mut is_alike = one.len() == other.len() && one.bytes() == other.bytes();
+    for name in b"tuvwx" {
+        let offered = one.offer(event(rt, alloc, &[*name]));
+        is_alike = other.offer(event(rt, alloc, &[*name])) == offered && is_alike;
     }
     for _ in 0..9 {
-        if one.take() != other.take() {
-            return false;
-        }
+        is_alike = one.take() == other.take() && is_alike;
     }
-    one.is_empty() && other.is_empty()
+    is_alike && one.is_empty() && other.is_empty()
 }
 
-/// Whether dropping the `count` oldest records leaves the same as taking `count` records one by one.
-fn drops_as_taken(alloc: Global, which: u32, count: usize) -> Result<bool, Refusal> {
-    let mut dropped = queue_of(alloc, which)?;
-    let mut taken = queue_of(alloc, which)?;
-    dropped.drop_oldest(count);
-    for _ in 0..count {
-        taken.take();
-    }
-    Ok(are_alike(&mut dropped, &mut taken))
-}
-
+/// Dropping the oldest records leaves the same as taking them one by one.
 #[test]
-fn the_oldest_are_dropped(rt: HostRuntime) -> Result<(), Refusal> {
+fn the_oldest_are_dropped(rt: HostRuntime) {
     let alloc = rt.alloc();
-    for which in 0..4 {
+    for end in 0..11 {
         for count in 0..7 {
-            holds(
-                &rt,
-                "drops_as_taken(alloc, which, count)",
-                drops_as_taken(alloc, which, count)?,
-            );
+            let mut dropped = new_queue(&rt, alloc, 3);
+            let mut taken = new_queue(&rt, alloc, 3);
+            plays(&rt, alloc, &mut dropped, &THREE[..end]);
+            plays(&rt, alloc, &mut taken, &THREE[..end]);
+            dropped.drop_oldest(count);
+            for _ in 0..count {
+                taken.take();
+            }
+            let is_alike = are_alike(&rt, alloc, &mut dropped, &mut taken);
+            assert!(rt; is_alike, "{count} after {end} steps");
         }
     }
-    let mut queue = queue_of(alloc, 3)?;
-    queue.drop_oldest(1);
-    equal(&rt, queue.len(), 2);
-    equal(&rt, queue.peek(0), Some(&overflow_mark()));
-    queue.drop_oldest(1);
-    equal(&rt, queue.take(), Some(touched(9)));
-    equal(&rt, queue.take(), None);
-    let mut queue = queue_of(alloc, 1)?;
-    queue.drop_oldest(2);
-    equal(&rt, queue.take(), Some(touched(2)));
-    equal(&rt, queue.take(), None);
-    Ok(())
 }

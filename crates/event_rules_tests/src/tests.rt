@@ -1,27 +1,177 @@
+//! The events of calls, line by line. More of them are in scripts.
+
 mod refused;
 
 use event_rules::*;
 use inode_table::Table;
-use record_codec::{Bytes, Event, Name};
+use record_codec::{Bytes, append_record_line, bits};
 use std::alloc::Global;
-use std::collections::VecDeque;
-use std::fmt::Debug;
 use std::marker::Model;
-use std::process::Abort;
 use std::test::Fail;
-use tree_ops::{Counts, FileCall, Paths, carry_out, check, opening_table};
+use tree_ops::{Counts, FileCall, Paths, RENAME_EXCHANGE, carry_out, check, opening_table};
 use tree_paths::{Limits, Path, Refusal};
 use watch_table::{Mask, Watches};
 
-/// What was got is what is wanted. Tests assert in these two functions: the macros in a long body take minutes to
-/// prove.
-fn equal<T: PartialEq + Debug + Drop>(rt: &impl Abort, got: T, wanted: T) {
-    assert_eq!(rt; got, wanted);
+/// A call on files.
+#[derive(Clone, Copy, Debug)]
+enum Ask {
+    Mkdir(&'static str, u32),
+    Create(&'static str, u32),
+    Write(&'static str, u64, &'static str),
+    ReadFile(&'static str, u64, u32),
+    Truncate(&'static str, u64),
+    Chmod(&'static str, u32),
+    Link(&'static str, &'static str),
+    Unlink(&'static str),
+    Rmdir(&'static str),
+    Rename(&'static str, &'static str),
+    Exchange(&'static str, &'static str),
+    Stat(&'static str),
+    List(&'static str),
 }
 
-/// It is so.
-fn holds(rt: &impl Abort, what: &str, is_so: bool) {
-    assert!(rt; is_so, "{what}");
+// Directories 2 and 4, a file 3 with two paths, and files 5 and 6.
+const PREPARED: [Ask; 7] = [
+    Ask::Mkdir("/d", 0o755),
+    Ask::Create("/d/f", 0o644),
+    Ask::Link("/d/f", "/g"),
+    Ask::Mkdir("/e", 0o755),
+    Ask::Create("/h", 0o644),
+    Ask::Create("/i", 0o644),
+    Ask::Write("/g", 0, "abc"),
+];
+
+// The bits of the watch of each file. The descriptors are the numbers of the files.
+const WATCHED: [(u32, u32); 6] = [
+    (1, 0xfff),
+    (2, 0x8000_0180),
+    (3, 0xfff),
+    (4, 0xfff),
+    (5, 0xfff),
+    (6, 0x8000_0fff),
+];
+
+// A call there, and the events that it raises.
+const CALLS: [(Ask, &str); 27] = [
+    (
+        Ask::Create("/n", 0o644),
+        "1 00000100 0 n\n1 00000020 0 n\n1 00000008 0 n\n",
+    ),
+    (Ask::Create("/d/n", 0o644), "2 00000100 0 n\n2 00008000 0\n"),
+    (Ask::Mkdir("/n", 0o755), "1 40000100 0 n\n"),
+    (
+        Ask::Write("/g", 5, "xyz"),
+        "1 00000020 0 g\n3 00000020 0\n1 00000002 0 g\n3 00000002 0\n1 00000008 0 g\n3 00000008 0\n",
+    ),
+    (
+        Ask::Write("/g", 0, ""),
+        "1 00000020 0 g\n3 00000020 0\n1 00000008 0 g\n3 00000008 0\n",
+    ),
+    (
+        Ask::ReadFile("/g", 2, 9),
+        "1 00000020 0 g\n3 00000020 0\n1 00000001 0 g\n3 00000001 0\n1 00000010 0 g\n3 00000010 0\n",
+    ),
+    (
+        Ask::ReadFile("/g", 3, 9),
+        "1 00000020 0 g\n3 00000020 0\n1 00000010 0 g\n3 00000010 0\n",
+    ),
+    (
+        Ask::ReadFile("/g", 0, 0),
+        "1 00000020 0 g\n3 00000020 0\n1 00000010 0 g\n3 00000010 0\n",
+    ),
+    (Ask::Truncate("/g", 9), "1 00000002 0 g\n3 00000002 0\n"),
+    (Ask::Chmod("/g", 0o700), "1 00000004 0 g\n3 00000004 0\n"),
+    (Ask::Chmod("/e", 0o755), "1 40000004 0 e\n4 40000004 0\n"),
+    (Ask::Chmod("/", 0o700), "1 40000004 0\n"),
+    (Ask::Link("/g", "/n"), "3 00000004 0\n1 00000100 0 n\n"),
+    (Ask::Unlink("/g"), "3 00000004 0\n1 00000200 0 g\n"),
+    (Ask::Unlink("/d/f"), "3 00000004 0\n"),
+    (
+        Ask::Unlink("/h"),
+        "5 00000004 0\n5 00000400 0\n5 00008000 0\n1 00000200 0 h\n",
+    ),
+    (
+        Ask::Unlink("/i"),
+        "6 00000004 0\n6 00008000 0\n1 00000200 0 i\n",
+    ),
+    (
+        Ask::Rmdir("/e"),
+        "4 00000400 0\n4 00008000 0\n1 40000200 0 e\n",
+    ),
+    (
+        Ask::Rename("/g", "/h"),
+        "1 00000040 1 g\n1 00000080 1 h\n5 00000004 0\n5 00000400 0\n5 00008000 0\n3 00000800 0\n",
+    ),
+    (
+        Ask::Rename("/h", "/d/f"),
+        "1 00000040 1 h\n2 00000080 1 f\n2 00008000 0\n3 00000004 0\n5 00000800 0\n",
+    ),
+    (
+        Ask::Rename("/d", "/e"),
+        "1 40000040 1 d\n1 40000080 1 e\n4 00000400 0\n4 00008000 0\n",
+    ),
+    (
+        Ask::Rename("/h", "/e/n"),
+        "1 00000040 1 h\n4 00000080 1 n\n5 00000800 0\n",
+    ),
+    (Ask::Rename("/g", "/d/f"), ""),
+    (Ask::Rename("/g", "/g"), ""),
+    (
+        Ask::Exchange("/g", "/h"),
+        "1 00000040 1 g\n1 00000080 1 h\n3 00000800 0\n1 00000040 2 h\n1 00000080 2 g\n5 00000800 0\n",
+    ),
+    (Ask::Stat("/g"), ""),
+    (Ask::List("/d"), ""),
+];
+
+/// The path of a call and its new one, or twice its only one.
+fn paths_of(ask: Ask) -> (&'static str, &'static str) {
+    match ask {
+        Ask::Link(old, new) | Ask::Rename(old, new) | Ask::Exchange(old, new) => (old, new),
+        Ask::Mkdir(path, _)
+        | Ask::Create(path, _)
+        | Ask::Write(path, ..)
+        | Ask::ReadFile(path, ..)
+        | Ask::Truncate(path, _)
+        | Ask::Chmod(path, _)
+        | Ask::Unlink(path)
+        | Ask::Rmdir(path)
+        | Ask::Stat(path)
+        | Ask::List(path) => (path, path),
+    }
+}
+
+fn call_of(alloc: Global, ask: Ask) -> Result<FileCall, Refusal> {
+    let (path, new) = paths_of(ask);
+    let path = Path::parse(alloc, path.as_bytes())?;
+    let new = Path::parse(alloc, new.as_bytes())?;
+    Ok(match ask {
+        Ask::Mkdir(_, mode) => FileCall::Mkdir { path, mode },
+        Ask::Create(_, mode) => FileCall::Create { path, mode },
+        Ask::Write(_, offset, text) => FileCall::Write {
+            path,
+            offset,
+            bytes: Bytes::from_vec(Vec::from_slice(alloc, text.as_bytes())?),
+        },
+        Ask::ReadFile(_, offset, count) => FileCall::ReadFile {
+            path,
+            offset,
+            count,
+        },
+        Ask::Truncate(_, len) => FileCall::Truncate { path, len },
+        Ask::Chmod(_, mode) => FileCall::Chmod { path, mode },
+        Ask::Link(..) => FileCall::Link { old: path, new },
+        Ask::Unlink(_) => FileCall::Unlink { path },
+        Ask::Rmdir(_) => FileCall::Rmdir { path },
+        Ask::Rename(..) => FileCall::Rename { old: path, new },
+        Ask::Exchange(..) => FileCall::Rename2 {
+            old: path,
+            new,
+            flags: RENAME_EXCHANGE,
+        },
+        Ask::Stat(_) => FileCall::Stat { path },
+        Ask::List(_) => FileCall::List { path },
+    })
 }
 
 /// A table on which calls are made one after another.
@@ -43,36 +193,6 @@ impl Model for Calls {
     ghost invariant = { λ calls. HasNumbersBelow (world_of calls.table) calls.counts.next_number };
 }
 
-/// What a notice says: the number, the bits (0 where it is gone), the cookie and the name.
-type Line<'a> = (u32, u32, u32, &'a str);
-
-fn is_name(name: &Option<Name>, text: &str) -> bool {
-    match name {
-        Some(name) => name.bytes() == text.as_bytes(),
-        None => text.is_empty(),
-    }
-}
-
-fn says(notice: &Notice, line: &Line) -> bool {
-    match notice {
-        Notice::Told {
-            number,
-            bits,
-            cookie,
-            name,
-        } => *number == line.0 && *bits == line.1 && *cookie == line.2 && is_name(name, line.3),
-        Notice::Gone { number } => *number == line.0 && line.1 == 0,
-    }
-}
-
-fn say(notices: &[Notice], lines: &[Line]) -> bool {
-    notices.len() == lines.len()
-        && notices
-            .iter()
-            .zip(lines)
-            .all(|(notice, line)| says(notice, line))
-}
-
 impl Calls {
     fn new(alloc: Global) -> Result<Calls, Refusal> {
         Ok(Calls {
@@ -85,527 +205,156 @@ impl Calls {
         })
     }
 
-    /// The notices of the call.
-    fn told(&mut self, call: &FileCall) -> Result<Notices, Refusal> {
+    /// The table after the prepared calls.
+    fn prepared(alloc: Global) -> Result<Calls, Refusal> {
+        let mut calls = Calls::new(alloc)?;
+        for ask in PREPARED {
+            let call = call_of(alloc, ask)?;
+            calls.make(&call)?;
+        }
+        Ok(calls)
+    }
+
+    fn make(&mut self, call: &FileCall) -> Result<(), Refusal> {
         let paths = Paths::resolve(&self.table, call);
         let ready = check(&paths, &self.counts, &Limits::full())?;
         let Some(next_number) = self.counts.next_number.checked_add(ready.numbers()) else {
             return Err(Refusal::NumbersSpent);
         };
-        let Some(next_cookie) = self.counts.next_cookie.checked_add(ready.cookies()) else {
-            return Err(Refusal::CookiesSpent);
-        };
-        let mut told = Notices::new(self.alloc);
-        notices(&ready, self.counts.next_cookie, &mut told)?;
         let plan = ready.into_plan();
         carry_out(self.alloc, &mut self.table, &plan)?;
         self.counts.next_number = next_number;
-        self.counts.next_cookie = next_cookie;
+        Ok(())
+    }
+
+    /// The notices that a call would have.
+    fn noticed<A: Audience>(&self, call: &FileCall, audience: &A) -> Result<Notices, Refusal> {
+        let paths = Paths::resolve(&self.table, call);
+        let ready = check(&paths, &self.counts, &Limits::full())?;
+        let next_cookie = self.counts.next_cookie;
+        if next_cookie.checked_add(ready.cookies()).is_none() {
+            return Err(Refusal::CookiesSpent);
+        }
+        let mut told = Notices::new(self.alloc);
+        notices(&ready, next_cookie, audience, &mut told)?;
         Ok(told)
     }
+}
 
-    fn path(&self, text: &str) -> Result<Path, Refusal> {
-        Path::parse(self.alloc, text.as_bytes())
-    }
+/// Each file is watched.
+#[derive(Drop)]
+struct Everybody;
 
-    fn create(&mut self, path: &str) -> Result<Notices, Refusal> {
-        let path = self.path(path)?;
-        self.told(&FileCall::Create { path, mode: 0o644 })
-    }
+impl Audience for Everybody {
+    ghost use Rattle.std.specs.Prelude.{true};
 
-    fn mkdir(&mut self, path: &str) -> Result<Notices, Refusal> {
-        let path = self.path(path)?;
-        self.told(&FileCall::Mkdir { path, mode: 0o755 })
-    }
+    ghost watches = { λ _ _. true };
 
-    fn write(&mut self, path: &str, bytes: &[u8]) -> Result<Notices, Refusal> {
-        let path = self.path(path)?;
-        let copied = Vec::from_slice(self.alloc, bytes)?;
-        self.told(&FileCall::Write {
-            path,
-            offset: 0,
-            bytes: Bytes::from_vec(copied),
-        })
-    }
-
-    fn read(&mut self, path: &str, offset: u64, count: u32) -> Result<Notices, Refusal> {
-        let path = self.path(path)?;
-        self.told(&FileCall::ReadFile {
-            path,
-            offset,
-            count,
-        })
-    }
-
-    fn truncate(&mut self, path: &str, len: u64) -> Result<Notices, Refusal> {
-        let path = self.path(path)?;
-        self.told(&FileCall::Truncate { path, len })
-    }
-
-    fn chmod(&mut self, path: &str) -> Result<Notices, Refusal> {
-        let path = self.path(path)?;
-        self.told(&FileCall::Chmod { path, mode: 0o700 })
-    }
-
-    fn link(&mut self, old: &str, new: &str) -> Result<Notices, Refusal> {
-        let old = self.path(old)?;
-        let new = self.path(new)?;
-        self.told(&FileCall::Link { old, new })
-    }
-
-    fn unlink(&mut self, path: &str) -> Result<Notices, Refusal> {
-        let path = self.path(path)?;
-        self.told(&FileCall::Unlink { path })
-    }
-
-    fn rmdir(&mut self, path: &str) -> Result<Notices, Refusal> {
-        let path = self.path(path)?;
-        self.told(&FileCall::Rmdir { path })
-    }
-
-    fn rename(&mut self, old: &str, new: &str) -> Result<Notices, Refusal> {
-        let old = self.path(old)?;
-        let new = self.path(new)?;
-        self.told(&FileCall::Rename { old, new })
-    }
-
-    fn stat(&mut self, path: &str) -> Result<Notices, Refusal> {
-        let path = self.path(path)?;
-        self.told(&FileCall::Stat { path })
-    }
-
-    fn list(&mut self, path: &str) -> Result<Notices, Refusal> {
-        let path = self.path(path)?;
-        self.told(&FileCall::List { path })
+    fn is_watched(&self, _number: u32) -> bool {
+        true
     }
 }
 
-/// The call has just these notices.
-fn tells(rt: &impl Abort, told: Result<Notices, Refusal>, lines: &[Line]) {
-    match told {
-        Ok(notices) => holds(
-            rt,
-            "say(notices.as_slice(), lines)",
-            say(notices.as_slice(), lines),
-        ),
-        Err(refusal) => equal(rt, (refusal, false), (refusal, true)),
+/// The files of these watches are watched.
+#[derive(Drop)]
+struct Watchers<'a>(&'a Watches);
+
+impl<'a> Audience for Watchers<'a> {
+    ghost use Rattle.std.specs.Prelude.{is_some};
+    ghost use Rattle.watch_table.specs.Watching.{watch_of};
+
+    ghost watches = { λ w number. is_some (watch_of w.0.now number) };
+
+    fn is_watched(&self, number: u32) -> bool {
+        self.0.of(number).is_some()
     }
-}
-
-#[test]
-fn making(rt: HostRuntime) -> Result<(), Fail> {
-    let mut calls = Calls::new(rt.alloc())?;
-    tells(&rt, calls.mkdir("/d"), &[(1, 0x4000_0100, 0, "d")]);
-    tells(
-        &rt,
-        calls.create("/d/f"),
-        &[(2, 0x100, 0, "f"), (2, 0x20, 0, "f"), (2, 0x8, 0, "f")],
-    );
-    tells(&rt, calls.mkdir("/d/e"), &[(2, 0x4000_0100, 0, "e")]);
-    tells(&rt, calls.stat("/d/f"), &[]);
-    tells(&rt, calls.list("/d"), &[]);
-    Ok(())
-}
-
-#[test]
-fn contents(rt: HostRuntime) -> Result<(), Fail> {
-    let mut calls = Calls::new(rt.alloc())?;
-    tells(
-        &rt,
-        calls.create("/f"),
-        &[(1, 0x100, 0, "f"), (1, 0x20, 0, "f"), (1, 0x8, 0, "f")],
-    );
-    let unwritten = [
-        (1, 0x20, 0, "f"),
-        (2, 0x20, 0, ""),
-        (1, 0x8, 0, "f"),
-        (2, 0x8, 0, ""),
-    ];
-    let unread = [
-        (1, 0x20, 0, "f"),
-        (2, 0x20, 0, ""),
-        (1, 0x10, 0, "f"),
-        (2, 0x10, 0, ""),
-    ];
-    tells(&rt, calls.write("/f", b""), &unwritten);
-    tells(&rt, calls.read("/f", 0, 9), &unread);
-    tells(
-        &rt,
-        calls.write("/f", b"abc"),
-        &[
-            (1, 0x20, 0, "f"),
-            (2, 0x20, 0, ""),
-            (1, 0x2, 0, "f"),
-            (2, 0x2, 0, ""),
-            (1, 0x8, 0, "f"),
-            (2, 0x8, 0, ""),
-        ],
-    );
-    tells(
-        &rt,
-        calls.read("/f", 2, 9),
-        &[
-            (1, 0x20, 0, "f"),
-            (2, 0x20, 0, ""),
-            (1, 0x1, 0, "f"),
-            (2, 0x1, 0, ""),
-            (1, 0x10, 0, "f"),
-            (2, 0x10, 0, ""),
-        ],
-    );
-    tells(&rt, calls.read("/f", 3, 9), &unread);
-    tells(&rt, calls.read("/f", 0, 0), &unread);
-    tells(
-        &rt,
-        calls.truncate("/f", 3),
-        &[(1, 0x2, 0, "f"), (2, 0x2, 0, "")],
-    );
-    Ok(())
-}
-
-#[test]
-fn modes(rt: HostRuntime) -> Result<(), Fail> {
-    let mut calls = Calls::new(rt.alloc())?;
-    holds(&rt, "calls.mkdir('/d').is_ok()", calls.mkdir("/d").is_ok());
-    holds(
-        &rt,
-        "calls.create('/d/f').is_ok()",
-        calls.create("/d/f").is_ok(),
-    );
-    tells(
-        &rt,
-        calls.chmod("/d/f"),
-        &[(2, 0x4, 0, "f"), (3, 0x4, 0, "")],
-    );
-    tells(
-        &rt,
-        calls.chmod("/d/f"),
-        &[(2, 0x4, 0, "f"), (3, 0x4, 0, "")],
-    );
-    tells(
-        &rt,
-        calls.chmod("/d"),
-        &[(1, 0x4000_0004, 0, "d"), (2, 0x4000_0004, 0, "")],
-    );
-    tells(&rt, calls.chmod("/"), &[(1, 0x4000_0004, 0, "")]);
-    Ok(())
-}
-
-#[test]
-fn links(rt: HostRuntime) -> Result<(), Fail> {
-    let mut calls = Calls::new(rt.alloc())?;
-    holds(&rt, "calls.mkdir('/d').is_ok()", calls.mkdir("/d").is_ok());
-    holds(
-        &rt,
-        "calls.create('/d/f').is_ok()",
-        calls.create("/d/f").is_ok(),
-    );
-    tells(
-        &rt,
-        calls.link("/d/f", "/g"),
-        &[(3, 0x4, 0, ""), (1, 0x100, 0, "g")],
-    );
-    tells(
-        &rt,
-        calls.unlink("/d/f"),
-        &[(3, 0x4, 0, ""), (2, 0x200, 0, "f")],
-    );
-    tells(
-        &rt,
-        calls.unlink("/g"),
-        &[
-            (3, 0x4, 0, ""),
-            (3, 0x400, 0, ""),
-            (3, 0, 0, ""),
-            (1, 0x200, 0, "g"),
-        ],
-    );
-    tells(
-        &rt,
-        calls.rmdir("/d"),
-        &[(2, 0x400, 0, ""), (2, 0, 0, ""), (1, 0x4000_0200, 0, "d")],
-    );
-    Ok(())
-}
-
-#[test]
-fn renames(rt: HostRuntime) -> Result<(), Fail> {
-    let mut calls = Calls::new(rt.alloc())?;
-    holds(&rt, "calls.mkdir('/d').is_ok()", calls.mkdir("/d").is_ok());
-    holds(&rt, "calls.mkdir('/e').is_ok()", calls.mkdir("/e").is_ok());
-    holds(
-        &rt,
-        "calls.create('/d/f').is_ok()",
-        calls.create("/d/f").is_ok(),
-    );
-    holds(
-        &rt,
-        "calls.create('/g').is_ok()",
-        calls.create("/g").is_ok(),
-    );
-    holds(
-        &rt,
-        "calls.link('/g', '/h').is_ok()",
-        calls.link("/g", "/h").is_ok(),
-    );
-    tells(&rt, calls.rename("/g", "/h"), &[]);
-    tells(&rt, calls.rename("/g", "/g"), &[]);
-    tells(
-        &rt,
-        calls.rename("/d/f", "/g"),
-        &[
-            (2, 0x40, 1, "f"),
-            (1, 0x80, 1, "g"),
-            (5, 0x4, 0, ""),
-            (4, 0x800, 0, ""),
-        ],
-    );
-    tells(
-        &rt,
-        calls.rename("/g", "/h"),
-        &[
-            (1, 0x40, 2, "g"),
-            (1, 0x80, 2, "h"),
-            (5, 0x4, 0, ""),
-            (5, 0x400, 0, ""),
-            (5, 0, 0, ""),
-            (4, 0x800, 0, ""),
-        ],
-    );
-    tells(
-        &rt,
-        calls.rename("/d", "/e"),
-        &[
-            (1, 0x4000_0040, 3, "d"),
-            (1, 0x4000_0080, 3, "e"),
-            (3, 0x400, 0, ""),
-            (3, 0, 0, ""),
-            (2, 0x800, 0, ""),
-        ],
-    );
-    tells(
-        &rt,
-        calls.rename("/h", "/e/i"),
-        &[(1, 0x40, 4, "h"), (2, 0x80, 4, "i"), (4, 0x800, 0, "")],
-    );
-    Ok(())
-}
-
-/// What an event says: the descriptor, the mask, the cookie and the name.
-type Record<'a> = (i32, u32, u32, &'a str);
-
-fn shows(event: &Event, record: &Record) -> bool {
-    event.wd == record.0
-        && event.mask == record.1
-        && event.cookie == record.2
-        && is_name(&event.name, record.3)
-}
-
-fn show(events: &VecDeque<StagedEvent>, records: &[Record]) -> bool {
-    events.len() == records.len()
-        && events
-            .iter()
-            .zip(records)
-            .all(|(heard, record)| shows(&heard.event, record))
-}
-
-/// Watches a file.
-fn watch(watches: &mut Watches, number: u32, bits: u32) -> Result<i32, Refusal> {
-    let mask = Mask::of(bits);
-    if let Some(refusal) = mask.fault() {
-        return Err(refusal);
-    }
-    watches.add(number, mask, false)
 }
 
 /// The number of the instance.
 const ID: u32 = 7;
 
-/// The call raises just these events and ends just these watches, which are removed.
-fn raises(
-    rt: &impl Abort,
-    watches: &mut Watches,
+/// The watches of the instance.
+fn watching(alloc: Global) -> Result<Watches, Refusal> {
+    let mut watches = Watches::new(alloc, &Limits::full());
+    for (number, bits) in WATCHED {
+        let mask = Mask::of(bits);
+        if let Some(refusal) = mask.fault() {
+            return Err(refusal);
+        }
+        watches.add(number, mask, false)?;
+    }
+    Ok(watches)
+}
+
+/// The lines of the events.
+fn lines_of(alloc: Global, staged: &Staged) -> Result<Vec<u8>, Refusal> {
+    let mut text = Vec::new(alloc);
+    for heard in &staged.events {
+        append_record_line(&heard.event, &mut text)?;
+        text.push(b'\n')?;
+    }
+    Ok(text)
+}
+
+/// Whether all is for the instance, and the watches that end are those with an event that says so.
+fn are_ended(staged: &Staged) -> bool {
+    let mut drops = staged.drops.iter();
+    for heard in &staged.events {
+        if heard.id != ID {
+            return false;
+        }
+        let ended = StagedEnd {
+            id: ID,
+            wd: heard.event.wd,
+        };
+        if heard.event.mask == bits::IN_IGNORED && drops.next() != Some(&ended) {
+            return false;
+        }
+    }
+    drops.next().is_none()
+}
+
+/// Whether these notices raise the events of the lines, and end the watches that say so.
+fn raise_lines(
     alloc: Global,
-    told: Result<Notices, Refusal>,
-    records: &[Record],
-    drops: &[i32],
-) -> Result<(), Refusal> {
-    let notices = told?;
+    watches: &Watches,
+    told: &Notices,
+    lines: &str,
+) -> Result<bool, Refusal> {
     let mut staged = Staged::new(alloc);
-    stage(ID, watches, notices.as_slice(), &mut staged)?;
-    let are_for_it = staged.events.iter().all(|heard| heard.id == ID)
-        && staged.drops.iter().all(|ended| ended.id == ID);
-    holds(rt, "are_for_it", are_for_it);
-    holds(rt, "show(events, records)", show(&staged.events, records));
-    let mut wds = Vec::new(alloc);
-    for ended in &staged.drops {
-        wds.push(ended.wd)?;
+    stage(ID, watches, told.as_slice(), &mut staged)?;
+    let are_lines = lines_of(alloc, &staged)?.as_slice() == lines.as_bytes();
+    Ok(are_lines && are_ended(&staged))
+}
+
+/// Whether each notice is of a file that is watched.
+fn are_watched(watches: &Watches, told: &Notices) -> bool {
+    for notice in told.as_slice() {
+        if watches.of(notice.number()).is_none() {
+            return false;
+        }
     }
-    holds(rt, "wds == drops", wds.as_slice() == drops);
-    for wd in wds {
-        watches.remove(wd)?;
-    }
-    Ok(())
+    true
 }
 
 #[test]
-fn oneshot_watches(rt: HostRuntime) -> Result<(), Fail> {
+fn calls_raise_events(rt: HostRuntime) -> Result<(), Fail> {
     let alloc = rt.alloc();
-    let mut calls = Calls::new(alloc)?;
-    let mut watches = Watches::new(alloc, &Limits::full());
-    holds(&rt, "calls.mkdir('/d').is_ok()", calls.mkdir("/d").is_ok());
-    holds(
-        &rt,
-        "calls.create('/f').is_ok()",
-        calls.create("/f").is_ok(),
-    );
-    equal(&rt, watch(&mut watches, 2, 0x8000_0100), Ok(1));
-    equal(&rt, watch(&mut watches, 3, 0x8000_0fff), Ok(2));
-    let made = calls.create("/d/a");
-    raises(
-        &rt,
-        &mut watches,
-        alloc,
-        made,
-        &[(1, 0x100, 0, "a"), (1, 0x8000, 0, "")],
-        &[1],
-    )?;
-    equal(&rt, watches.of(2), None);
-    let made = calls.create("/d/b");
-    raises(&rt, &mut watches, alloc, made, &[], &[])?;
-    let unlinked = calls.unlink("/f");
-    raises(
-        &rt,
-        &mut watches,
-        alloc,
-        unlinked,
-        &[(2, 0x4, 0, ""), (2, 0x8000, 0, "")],
-        &[2],
-    )?;
-    holds(&rt, "watches.is_empty()", watches.is_empty());
-    Ok(())
-}
-
-#[test]
-fn lost_files(rt: HostRuntime) -> Result<(), Fail> {
-    let alloc = rt.alloc();
-    let mut calls = Calls::new(alloc)?;
-    let mut watches = Watches::new(alloc, &Limits::full());
-    holds(
-        &rt,
-        "calls.mkdir('/d1').is_ok()",
-        calls.mkdir("/d1").is_ok(),
-    );
-    holds(
-        &rt,
-        "calls.mkdir('/d2').is_ok()",
-        calls.mkdir("/d2").is_ok(),
-    );
-    holds(
-        &rt,
-        "calls.create('/d1/xx').is_ok()",
-        calls.create("/d1/xx").is_ok(),
-    );
-    holds(
-        &rt,
-        "calls.link('/d1/xx', '/d2/yy').is_ok()",
-        calls.link("/d1/xx", "/d2/yy").is_ok(),
-    );
-    for number in 2..5 {
-        holds(
-            &rt,
-            "watch(&mut watches, number, 0xfff).is_ok()",
-            watch(&mut watches, number, 0xfff).is_ok(),
+    let calls = Calls::prepared(alloc)?;
+    let watches = watching(alloc)?;
+    for (ask, lines) in CALLS {
+        let call = call_of(alloc, ask)?;
+        let told = calls.noticed(&call, &Everybody)?;
+        let is_right = raise_lines(alloc, &watches, &told, lines)?;
+        let heard = calls.noticed(&call, &Watchers(&watches))?;
+        let is_enough = raise_lines(alloc, &watches, &heard, lines)?;
+        assert!(rt;
+            is_right && is_enough && are_watched(&watches, &heard),
+            "{ask:?}"
         );
     }
-    let unlinked = calls.unlink("/d2/yy");
-    raises(
-        &rt,
-        &mut watches,
-        alloc,
-        unlinked,
-        &[(3, 0x4, 0, ""), (2, 0x200, 0, "yy")],
-        &[],
-    )?;
-    let unlinked = calls.unlink("/d1/xx");
-    raises(
-        &rt,
-        &mut watches,
-        alloc,
-        unlinked,
-        &[
-            (3, 0x4, 0, ""),
-            (3, 0x400, 0, ""),
-            (3, 0x8000, 0, ""),
-            (1, 0x200, 0, "xx"),
-        ],
-        &[3],
-    )?;
-    let removed = calls.rmdir("/d1");
-    raises(
-        &rt,
-        &mut watches,
-        alloc,
-        removed,
-        &[(1, 0x400, 0, ""), (1, 0x8000, 0, "")],
-        &[1],
-    )?;
-    equal(&rt, watches.of(3), Some((2, 0xfff)));
-    holds(
-        &rt,
-        "shows(&ignored(7), &(7, 0x8000, 0, ''))",
-        shows(&ignored(7), &(7, 0x8000, 0, "")),
-    );
-    Ok(())
-}
-
-#[test]
-fn replaced_files(rt: HostRuntime) -> Result<(), Fail> {
-    let alloc = rt.alloc();
-    let mut calls = Calls::new(alloc)?;
-    let mut watches = Watches::new(alloc, &Limits::full());
-    holds(
-        &rt,
-        "calls.mkdir('/d1').is_ok()",
-        calls.mkdir("/d1").is_ok(),
-    );
-    holds(
-        &rt,
-        "calls.mkdir('/d2').is_ok()",
-        calls.mkdir("/d2").is_ok(),
-    );
-    holds(
-        &rt,
-        "calls.create('/d1/f').is_ok()",
-        calls.create("/d1/f").is_ok(),
-    );
-    holds(
-        &rt,
-        "calls.create('/d2/g').is_ok()",
-        calls.create("/d2/g").is_ok(),
-    );
-    for number in [2, 3, 5, 4] {
-        holds(
-            &rt,
-            "watch(&mut watches, number, 0xfff).is_ok()",
-            watch(&mut watches, number, 0xfff).is_ok(),
-        );
-    }
-    let renamed = calls.rename("/d1/f", "/d2/g");
-    raises(
-        &rt,
-        &mut watches,
-        alloc,
-        renamed,
-        &[
-            (1, 0x40, 1, "f"),
-            (2, 0x80, 1, "g"),
-            (3, 0x4, 0, ""),
-            (3, 0x400, 0, ""),
-            (3, 0x8000, 0, ""),
-            (4, 0x800, 0, ""),
-        ],
-        &[3],
-    )?;
+    let mut text = Vec::new(alloc);
+    append_record_line(&ignored(7), &mut text)?;
+    assert!(rt; text.as_slice() == b"7 00008000 0".as_slice(), "{text:?}");
     Ok(())
 }

@@ -1,5 +1,6 @@
 -- The instances that the index notes for a file are those that watch it.
-use Rattle.std.proofs.Common.{◌≡◌, ℕ, Bool, true, false, cond, eqb, T, ◌||◌, ◌&&◌, Option, Some, None, is_some, List, [], ◌∷◌, map, refl, sym, ap, ◌∙◌}
+use Rattle.std.proofs.Common.{◌≡◌, ℕ, Bool, true, false, cond, eqb, T, ◌||◌, ◌&&◌, Option, Some, None, is_some, List, [], ◌∷◌, map, refl, sym, ap, ◌∙◌, arith}
+use Rattle.std.specs.Prelude.{not, length, ◌==◌}
 use Rattle.std.specs.FinMap as finmap
 use Rattle.std.specs.FinMap.{is_sorted, entries, entries_sorted, contains_key-keys}
 use Rattle.std.specs.FinMap.Entries.{below_all}
@@ -14,7 +15,7 @@ use Rattle.instance_table.specs.declared.instance.Instance.{Instance}
 use Rattle.instance_table.specs.declared.instances.Instances.TheInside.{Inside}
 use Rattle.instance_table.specs.Ids.{IdSet, set_of}
 use Rattle.instance_table.specs.Index.{row_under}
-use Rattle.instance_table.specs.Instances.{instance_of, watchers_of, watches_file}
+use Rattle.instance_table.specs.Instances.{Instances, instance_of, is_watched, watchers_of, watches_file}
 use Rattle.instance_table.specs.Views.{instances_of, NotesEveryWatch}
 use Rattle.instance_table.specs.Watchers.{watch_at}
 use Rattle.instance_table.proofs.Rising.{get-set, mark, same-set, items-rising, is-same}
@@ -90,6 +91,22 @@ watchers-noted a whole number =
     ∙ contains_key-keys row q)
     ∙ sym (get-set noted q)) in
     sym (items-rising noted (rising (entries row) (entries_sorted row))) ∙ ap (λ (s : IdSet). finmap.keys s) (sym same) ∙ items-rising ks sorted
+
+no-length : (xs : List ℕ) → not (length xs == 0) ≡ false → xs ≡ []
+no-length [] h = refl
+no-length (x ∷ xs) h = absurd (let e = Rattle.instance_table.proofs.Indexed.is-same (length (x ∷ xs)) 0 (denied (length (x ∷ xs) == 0) h) in omega (arith, e))
+  where
+    denied : (b : Bool) → not b ≡ false → b ≡ true
+    denied true h = refl
+    denied false h = sym h
+
+-- no instance watches a file that is not watched
+pub unwatched-by-none : (m : Instances) (number q : ℕ) → is_watched m number ≡ false → watches_file number (instance_of m q) ≡ false
+unfolding watchers_of
+unwatched-by-none m number q none =
+    let p : ℕ → Bool = λ id. watches_file number (instance_of m id) in
+    sym (watches-there number (instance_of m q)) ∙ ap (λ b. b && p q) (contains_key-keys m q) ∙ sym (any-filter p q (finmap.keys m))
+    ∙ ap (list_any (eq_by_cmp nat_cmp q)) (no-length (filter p (finmap.keys m)) none)
 
 pub same-tests : (q : ℕ) (ks : List ℕ) → list_any (λ id. eqb q id) ks ≡ list_any (eq_by_cmp nat_cmp q) ks
 same-tests q [] = refl

@@ -1,5 +1,6 @@
 -- The open instances of inotify(7): what each watches, and what waits in its queue.
-use Rattle.std.specs.Prelude.{◌≡◌, ℕ, ℤ, Bool, false, List, [], Option, Some, None, map, fold, drop, is_some}
+use Rattle.std.specs.Prelude.{◌≡◌, ◌==◌, ℕ, ℤ, Bool, false, not, List, [], length, Option, Some, None, map, fold, drop}
+use Rattle.std.specs.Prelude.{is_some}
 use Rattle.std.specs.FinMap as finmap
 use Rattle.std.specs.List.{filter}
 use Rattle.std.specs.Ordering.{nat_cmp}
@@ -79,3 +80,7 @@ NobodyWatches m = (number id : ℕ) → watches_file number (instance_of m id) �
 -- the numbers of the instances that watch a file, rising
 unfoldable pub watchers_of : Instances → ℕ → List ℕ
 watchers_of m number = filter (λ id. watches_file number (instance_of m id)) (finmap.keys m)
+
+-- whether any instance watches a file
+abbrev pub is_watched : Instances → ℕ → Bool
+is_watched m number = not (length (watchers_of m number) == 0)

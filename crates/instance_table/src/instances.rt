@@ -24,7 +24,7 @@ use crate::rows::{InstanceRow, instance_row};
 use crate::staging::{offer_one, offer_run};
 use crate::watchers::Watchers;
 use event_queue::Queue;
-use event_rules::{StagedEvent, ignored};
+use event_rules::{Audience, StagedEvent, ignored};
 use record_codec::Event;
 use std::alloc::Global;
 use std::collections::VecDeque;
@@ -65,6 +65,17 @@ impl Model for Instances {
     ghost view = { instances_of };
 
     ghost invariant = { NotesEveryWatch };
+}
+
+impl Audience for Instances {
+    ghost use Rattle.instance_table.specs.Instances.{is_watched};
+
+    ghost watches = { λ m number. is_watched m number };
+
+    /// Whether any instance watches a file. It takes no memory.
+    fn is_watched(&self, number: u32) -> bool {
+        !self.watchers(number).is_empty()
+    }
 }
 
 impl Instances {
@@ -126,7 +137,7 @@ impl Instances {
         self.index.row(number)
     }
 
-    /// Whether any instance watches a file. It takes no memory.
+    /// Whether any instance watches any file. It takes no memory.
     pub fn is_watching(&self) -> bool
         ensures { (result ≡ false) ↔ NobodyWatches self.now }
     {

@@ -17,6 +17,6 @@ mod watchers;
 
 pub use instance::Instance;
 pub use instances::Instances;
-pub use laws::unwatched_instances_stay;
+pub use laws::{unwatched_files_need_no_telling, unwatched_instances_stay};
 pub use rows::InstanceRow;
 pub use staging::Staging;

@@ -1,8 +1,7 @@
 //! The instances from outside: who receives what, when watches end, and who watches a file.
 
+mod model;
 mod refused;
-mod staging;
-mod watched;
 
 use event_rules::Notice;
 use instance_table::{Instances, Staging};
@@ -10,32 +9,97 @@ use record_codec::bits::{
     IN_ALL_EVENTS, IN_CREATE, IN_DELETE_SELF, IN_IGNORED, IN_ONESHOT, IN_ONLYDIR,
 };
 use std::alloc::Global;
-use std::fmt::Debug;
 use std::process::Abort;
 use std::test::Fail;
 use tree_paths::{Limits, Refusal};
 use watch_table::Mask;
 
-/// What was got is what is wanted. Tests assert in these two functions: the macros in a long body take minutes to
-/// prove.
-fn equal<T: PartialEq + Debug + Drop>(rt: &impl Abort, got: T, wanted: T) {
-    assert_eq!(rt; got, wanted);
-}
-
-/// It is so.
-fn holds(rt: &impl Abort, what: &str, is_so: bool) {
-    assert!(rt; is_so, "{what}");
-}
-
 const FILE: u32 = 5;
 
+/// How many instances there may be at a time.
+const MANY: u32 = 128;
+
+/// A notice or a call about the file, or what is seen then.
+#[derive(Clone, Copy, Debug)]
+enum Step {
+    Told(u32),
+    Gone,
+    Watch(u32, u32, Result<i32, Refusal>),
+    Unwatch(u32),
+    DropOldest(u32),
+    Close(u32),
+    /// What waits in an instance: a letter for each record, which is of its first watch.
+    Waits(u32, &'static str),
+    IsClosed(u32),
+    /// How many instances there are, and the digits of those that watch the file.
+    Has(usize, &'static str),
+}
+
+// Of instances 1 and 2, which watch the file for all events, and 3, which watches nothing.
+const STORY: [Step; 36] = [
+    Step::Has(3, "12"),
+    Step::Told(IN_CREATE),
+    Step::Waits(1, "c"),
+    Step::Waits(2, "c"),
+    Step::Waits(3, ""),
+    Step::DropOldest(1),
+    Step::Waits(1, ""),
+    Step::Waits(2, "c"),
+    // Another mask.
+    Step::Watch(1, IN_DELETE_SELF, Ok(1)),
+    Step::Told(IN_CREATE),
+    Step::Waits(1, ""),
+    Step::Told(IN_DELETE_SELF),
+    Step::Waits(1, "d"),
+    Step::Waits(2, "cd"),
+    // A watch that is refused leaves no trace.
+    Step::Watch(3, IN_CREATE | IN_ONLYDIR, Err(Refusal::Enotdir)),
+    Step::Has(3, "12"),
+    // A watch for one event.
+    Step::Watch(3, IN_CREATE | IN_ONESHOT, Ok(1)),
+    Step::Has(3, "123"),
+    Step::Told(IN_DELETE_SELF),
+    Step::Has(3, "123"),
+    Step::Waits(3, ""),
+    Step::Told(IN_CREATE),
+    Step::Waits(3, "ci"),
+    Step::Has(3, "12"),
+    Step::Told(IN_CREATE),
+    Step::Waits(3, "ci"),
+    Step::Waits(2, "cdc"),
+    Step::Unwatch(2),
+    Step::Waits(2, "cdci"),
+    Step::Has(3, "1"),
+    Step::Close(1),
+    Step::IsClosed(1),
+    Step::Has(2, ""),
+    Step::Told(IN_CREATE),
+    Step::Waits(2, "cdci"),
+    Step::Waits(3, "ci"),
+];
+
+// A file that is gone.
+const GONE: [Step; 5] = [
+    Step::Gone,
+    Step::Waits(1, "i"),
+    Step::Waits(2, "i"),
+    Step::Waits(3, ""),
+    Step::Has(3, ""),
+];
+
+// Of a copy.
+const COPIED: [Step; 3] = [
+    Step::Has(3, "12"),
+    Step::Told(IN_CREATE),
+    Step::Waits(2, "c"),
+];
+
 /// Opens an instance whose queue takes ten records, unless the number is taken.
-fn open(instances: &mut Instances, id: u32) -> Result<bool, Refusal> {
+fn open(instances: &mut Instances, id: u32) -> Result<(), Refusal> {
     if instances.get(id).is_some() {
-        return Ok(false);
+        return Ok(());
     }
-    instances.open(id, 10, false, &Limits::full())?;
-    Ok(true)
+    instances.open(id, 10, false, &Limits::full())
 }
 
 /// Watches a regular file for an open instance, for bits that are no fault.
@@ -45,6 +109,23 @@ fn watch(instances: &mut Instances, id: u32, number: u32, bits: u32) -> Result<i
         return Err(Refusal::Ebadf);
     }
     instances.watch(id, 0, number, mask, false)
+}
+
+/// Opens instances 1 to `count`.
+fn opened(alloc: Global, count: u32) -> Result<Instances, Refusal> {
+    let mut instances = Instances::new(alloc);
+    for id in 1..=count {
+        open(&mut instances, id)?;
+    }
+    Ok(instances)
+}
+
+/// Instances 1 and 2, which watch the file for all events, and 3, which watches nothing.
+fn three(alloc: Global) -> Result<Instances, Refusal> {
+    let mut instances = opened(alloc, 3)?;
+    watch(&mut instances, 2, FILE, IN_ALL_EVENTS)?;
+    watch(&mut instances, 1, FILE, IN_ALL_EVENTS)?;
+    Ok(instances)
 }
 
 /// A notice of an event of the file.
@@ -75,232 +156,115 @@ fn waiting(instances: &Instances, id: u32) -> usize {
     }
 }
 
-/// Whether the record that waits at an index has this descriptor and this mask.
-fn waits(instances: &Instances, id: u32, index: usize, wd: i32, mask: u32) -> bool {
+/// The mask of a letter.
+fn mask_of(letter: u8) -> u32 {
+    match letter {
+        b'c' => IN_CREATE,
+        b'd' => IN_DELETE_SELF,
+        _ => IN_IGNORED,
+    }
+}
+
+/// Whether just records of these masks wait, all of the first watch.
+fn waits(instances: &Instances, id: u32, letters: &[u8]) -> bool {
     let Some(instance) = instances.get(id) else {
         return false;
     };
-    match instance.queue.peek(index) {
-        Some(event) => event.wd == wd && event.mask == mask,
-        None => false,
+    for (index, letter) in letters.iter().enumerate() {
+        match instance.queue.peek(index) {
+            Some(event) if event.wd == 1 && event.mask == mask_of(*letter) => {}
+            _ => return false,
+        }
     }
+    instance.queue.len() == letters.len()
 }
 
-/// Instances 1 and 2, which watch the file for all events, and 3, which watches nothing.
-fn three(alloc: Global) -> Result<Instances, Refusal> {
-    let mut instances = Instances::new(alloc);
-    for id in 1..4 {
-        open(&mut instances, id)?;
-    }
-    watch(&mut instances, 2, FILE, IN_ALL_EVENTS)?;
-    watch(&mut instances, 1, FILE, IN_ALL_EVENTS)?;
-    Ok(instances)
-}
-
-#[test]
-fn those_that_watch_hear(rt: HostRuntime) -> Result<(), Fail> {
-    let alloc = rt.alloc();
-    let mut instances = three(alloc)?;
-    equal(&rt, instances.len(), 3);
-    equal(&rt, instances.watchers(FILE), [1, 2].as_slice());
-    holds(
-        &rt,
-        "instances.watchers(6).is_empty()",
-        instances.watchers(6).is_empty(),
-    );
-    tell(alloc, &mut instances, told(IN_CREATE))?;
-    holds(
-        &rt,
-        "waits(&instances, 1, 0, 1, IN_CREATE) && waits(&instances, 2, 0, 1, IN_CREATE)",
-        waits(&instances, 1, 0, 1, IN_CREATE) && waits(&instances, 2, 0, 1, IN_CREATE),
-    );
-    equal(&rt, waiting(&instances, 3), 0);
-    instances.drop_oldest(1, 0, 1);
-    equal(&rt, waiting(&instances, 1), 0);
-    equal(&rt, waiting(&instances, 2), 1);
-    Ok(())
-}
-
-#[test]
-fn a_watch_for_one_event_ends(rt: HostRuntime) -> Result<(), Fail> {
-    let alloc = rt.alloc();
-    let mut instances = Instances::new(alloc);
-    open(&mut instances, 7)?;
-    watch(&mut instances, 7, FILE, IN_CREATE | IN_ONESHOT)?;
-    tell(alloc, &mut instances, told(IN_DELETE_SELF))?;
-    equal(&rt, instances.watchers(FILE), [7].as_slice());
-    tell(alloc, &mut instances, told(IN_CREATE))?;
-    holds(
-        &rt,
-        "waits(&instances, 7, 0, 1, IN_CREATE) && waits(&instances, 7, 1, 1, IN_IGNORED)",
-        waits(&instances, 7, 0, 1, IN_CREATE) && waits(&instances, 7, 1, 1, IN_IGNORED),
-    );
-    holds(
-        &rt,
-        "instances.watchers(FILE).is_empty()",
-        instances.watchers(FILE).is_empty(),
-    );
-    tell(alloc, &mut instances, told(IN_CREATE))?;
-    equal(&rt, waiting(&instances, 7), 2);
-    Ok(())
-}
-
-#[test]
-fn a_watch_gets_another_mask(rt: HostRuntime) -> Result<(), Fail> {
-    let alloc = rt.alloc();
-    let mut instances = three(alloc)?;
-    equal(&rt, watch(&mut instances, 1, FILE, IN_DELETE_SELF)?, 1);
-    tell(alloc, &mut instances, told(IN_CREATE))?;
-    equal(&rt, waiting(&instances, 1), 0);
-    tell(alloc, &mut instances, told(IN_DELETE_SELF))?;
-    holds(
-        &rt,
-        "waits(&instances, 1, 0, 1, IN_DELETE_SELF)",
-        waits(&instances, 1, 0, 1, IN_DELETE_SELF),
-    );
-    Ok(())
-}
-
-#[test]
-fn a_lost_file_ends_its_watches(rt: HostRuntime) -> Result<(), Fail> {
-    let alloc = rt.alloc();
-    let mut instances = three(alloc)?;
-    tell(alloc, &mut instances, Notice::Gone { number: FILE })?;
-    holds(
-        &rt,
-        "waits(&instances, 1, 0, 1, IN_IGNORED) && waits(&instances, 2, 0, 1, IN_IGNORED)",
-        waits(&instances, 1, 0, 1, IN_IGNORED) && waits(&instances, 2, 0, 1, IN_IGNORED),
-    );
-    holds(
-        &rt,
-        "instances.watchers(FILE).is_empty()",
-        instances.watchers(FILE).is_empty(),
-    );
-    equal(&rt, waiting(&instances, 3), 0);
-    Ok(())
-}
-
-#[test]
-fn who_stops_watching_is_forgotten(rt: HostRuntime) -> Result<(), Fail> {
-    let alloc = rt.alloc();
-    let mut instances = three(alloc)?;
-    instances.unwatch(2, 0, 1);
-    holds(
-        &rt,
-        "waits(&instances, 2, 0, 1, IN_IGNORED)",
-        waits(&instances, 2, 0, 1, IN_IGNORED),
-    );
-    equal(&rt, instances.watchers(FILE), [1].as_slice());
-    instances.close(1, 0);
-    holds(
-        &rt,
-        "instances.watchers(FILE).is_empty()",
-        instances.watchers(FILE).is_empty(),
-    );
-    equal(&rt, waiting(&instances, 1), 99);
-    equal(&rt, instances.len(), 2);
-    Ok(())
-}
-
-#[test]
-fn a_refused_watch_leaves_no_trace(rt: HostRuntime) -> Result<(), Fail> {
-    let alloc = rt.alloc();
-    let mut instances = three(alloc)?;
-    let refused = watch(&mut instances, 3, FILE, IN_CREATE | IN_ONLYDIR);
-    holds(
-        &rt,
-        "matches!(refused, Err(Refusal::Enotdir))",
-        matches!(refused, Err(Refusal::Enotdir)),
-    );
-    equal(&rt, instances.watchers(FILE), [1, 2].as_slice());
-    equal(&rt, watch(&mut instances, 3, FILE, IN_CREATE)?, 1);
-    equal(&rt, instances.watchers(FILE), [1, 2, 3].as_slice());
-    Ok(())
-}
-
-// How many instances there may be at a time.
-const MOST: u32 = 128;
-
-/// As many instances as there may be, of which the first and the last watch the file.
-fn many(alloc: Global) -> Result<Instances, Refusal> {
-    let mut instances = Instances::new(alloc);
-    for id in 1..MOST + 1 {
-        open(&mut instances, id)?;
-    }
-    watch(&mut instances, MOST, FILE, IN_CREATE)?;
-    watch(&mut instances, 1, FILE, IN_CREATE)?;
-    Ok(instances)
-}
-
-/// Whether nothing waits in any but the first and the last instance.
-fn all_others_are_silent(instances: &Instances) -> bool {
-    for id in 2..MOST {
-        if waiting(instances, id) != 0 {
+/// Whether just these instances watch the file.
+fn has_watchers(instances: &Instances, digits: &[u8]) -> bool {
+    let mut ids = instances.watchers(FILE).iter();
+    for digit in digits {
+        let id = u32::from(digit.wrapping_sub(b'0'));
+        if ids.next() != Some(&id) {
             return false;
         }
     }
-    true
+    ids.next().is_none()
 }
 
-#[test]
-fn two_of_many_hear(rt: HostRuntime) -> Result<(), Fail> {
-    let alloc = rt.alloc();
-    let mut instances = many(alloc)?;
-    equal(&rt, instances.watchers(FILE), [1, MOST].as_slice());
-    tell(alloc, &mut instances, told(IN_CREATE))?;
-    equal(&rt, waiting(&instances, 1), 1);
-    equal(&rt, waiting(&instances, MOST), 1);
-    holds(
-        &rt,
-        "all_others_are_silent(&instances)",
-        all_others_are_silent(&instances),
-    );
-    Ok(())
-}
-
-/// As many instances as there may be, all of which watch the file.
-fn all_watch(alloc: Global) -> Result<Instances, Refusal> {
-    let mut instances = Instances::new(alloc);
-    for id in 1..MOST + 1 {
-        open(&mut instances, id)?;
-        watch(&mut instances, id, FILE, IN_CREATE)?;
-    }
-    Ok(instances)
-}
-
-/// Whether one such record waits in each instance, and no other.
-fn each_heard(instances: &Instances) -> bool {
-    for id in 1..MOST + 1 {
-        if waiting(instances, id) != 1 || !waits(instances, id, 0, 1, IN_CREATE) {
-            return false;
+/// Whether a step goes as it says.
+fn is_right(alloc: Global, instances: &mut Instances, step: Step) -> Result<bool, Refusal> {
+    match step {
+        Step::Told(bits) => tell(alloc, instances, told(bits))?,
+        Step::Gone => tell(alloc, instances, Notice::Gone { number: FILE })?,
+        Step::Watch(id, bits, answer) => return Ok(watch(instances, id, FILE, bits) == answer),
+        Step::Unwatch(id) => instances.unwatch(id, 0, 1),
+        Step::DropOldest(id) => instances.drop_oldest(id, 0, 1),
+        Step::Close(id) => instances.close(id, 0),
+        Step::Waits(id, letters) => return Ok(waits(instances, id, letters.as_bytes())),
+        Step::IsClosed(id) => return Ok(instances.get(id).is_none()),
+        Step::Has(count, digits) => {
+            return Ok(instances.len() == count && has_watchers(instances, digits.as_bytes()));
         }
     }
-    true
+    Ok(true)
 }
 
-#[test]
-fn all_of_many_hear(rt: HostRuntime) -> Result<(), Fail> {
-    let alloc = rt.alloc();
-    let mut instances = all_watch(alloc)?;
-    equal(&rt, instances.watchers(FILE).len(), MOST as usize);
-    tell(alloc, &mut instances, told(IN_CREATE))?;
-    holds(&rt, "each_heard(&instances)", each_heard(&instances));
+/// Makes the steps, each of which goes as it says.
+fn plays(
+    rt: &impl Abort,
+    alloc: Global,
+    instances: &mut Instances,
+    steps: &[Step],
+) -> Result<(), Refusal> {
+    for (index, step) in steps.iter().enumerate() {
+        let is_right = is_right(alloc, instances, *step)?;
+        assert!(rt; is_right, "step {index}, {step:?}");
+    }
     Ok(())
 }
 
 #[test]
-fn a_copy_hears_alone(rt: HostRuntime) -> Result<(), Fail> {
+fn watchers_receive_events(rt: HostRuntime) -> Result<(), Fail> {
     let alloc = rt.alloc();
-    let instances = three(alloc)?;
+    plays(&rt, alloc, &mut three(alloc)?, &STORY)?;
+    plays(&rt, alloc, &mut three(alloc)?, &GONE)?;
+    let mut instances = three(alloc)?;
     let mut copy = instances.copy()?;
-    tell(alloc, &mut copy, told(IN_CREATE))?;
-    equal(&rt, waiting(&instances, 2), 0);
+    plays(&rt, alloc, &mut copy, &COPIED)?;
+    plays(&rt, alloc, &mut instances, &[Step::Waits(2, "")])?;
     drop(instances);
-    equal(&rt, copy.watchers(FILE), [1, 2].as_slice());
-    holds(
+    plays(
         &rt,
-        "waits(&copy, 2, 0, 1, IN_CREATE)",
-        waits(&copy, 2, 0, 1, IN_CREATE),
-    );
+        alloc,
+        &mut copy,
+        &[Step::Has(3, "12"), Step::Waits(2, "c")],
+    )?;
+    Ok(())
+}
+
+/// Whether an instance is the first or the last of as many as there may be.
+fn is_outer(id: u32) -> bool {
+    id == 1 || id == MANY
+}
+
+/// Of as many instances as there may be the first and the last watch the file, or all do.
+#[test]
+fn watchers_among_many_receive_events(rt: HostRuntime) -> Result<(), Fail> {
+    let alloc = rt.alloc();
+    for (are_all, count) in [(false, 2), (true, 128)] {
+        let mut instances = opened(alloc, MANY)?;
+        for id in 1..=MANY {
+            if are_all || is_outer(id) {
+                watch(&mut instances, id, FILE, IN_CREATE)?;
+            }
+        }
+        tell(alloc, &mut instances, told(IN_CREATE))?;
+        assert!(rt; instances.watchers(FILE).len() == count, "{count} watch");
+        for id in 1..=MANY {
+            let letters = if are_all || is_outer(id) { "c" } else { "" };
+            let is_right = waits(&instances, id, letters.as_bytes());
+            assert!(rt; is_right, "{id} of {count}");
+        }
+    }
     Ok(())
 }

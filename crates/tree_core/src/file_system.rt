@@ -21,7 +21,9 @@ use crate::snapshot::Snapshot;
 use event_queue::{Fit, Queue};
 use event_rules::{Notices, notices};
 use inode_table::{Kind, Table};
-use instance_table::{Instance, Instances, Staging, unwatched_instances_stay};
+use instance_table::{
+    Instance, Instances, Staging, unwatched_files_need_no_telling, unwatched_instances_stay,
+};
 use record_codec::{Bytes, Events, append};
 use std::alloc::{AllocError, Global};
 use tree_ops::{CallPaths, Counts, FileCall, Paths, Ready, carry_out, check};
@@ -391,8 +393,8 @@ fn rest_of(is_staged: bool) -> Rest
     }
 }
 
-/// Stages what an accepted call raises, if any file is watched. Otherwise it has no recipients, and nothing is staged.
-/// The answer says which.
+/// Stages what an accepted call raises for the files that are watched. If it concerns no such file, it has no
+/// recipients, and nothing is staged. The answer says which.
 fn stage_notices(
     instances: &Instances,
     ready: &Ready,
@@ -406,10 +408,14 @@ fn stage_notices(
     ensures memory { IfErr result (λ refusal. refusal ≡ Enomem) }
 {
     unwatched_instances_stay();
+    unwatched_files_need_no_telling();
     if !instances.is_watching() {
         return Ok(false);
     }
-    notices(ready, cookie, noted)?;
+    notices(ready, cookie, instances, noted)?;
+    if noted.as_slice().is_empty() {
+        return Ok(false);
+    }
     instances.stage(noted.as_slice(), staging)?;
     Ok(true)
 }

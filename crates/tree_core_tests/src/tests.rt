@@ -1,36 +1,28 @@
-//! The tree from outside: each call with its answer and its events, and each limit at its last value.
+//! The tree from outside: what no script can show. Scripts show the answers and the events of calls.
 
-mod calls;
 mod cuts;
-mod dice;
-mod forks;
-mod instances;
-mod keeping;
-mod limits;
-mod paths;
-mod peeks;
-mod refusals;
+mod journals;
 mod refused;
-mod steps;
+mod sights;
 
 use inode_table::Kind;
-use record_codec::{Bytes, Event, Name, encode};
+use record_codec::{Bytes, Event, Events, Name, encode};
 use std::alloc::Global;
 use std::fmt::Debug;
 use std::process::Abort;
-use tree_core::{Call, Receipt, Reply, State};
+use tree_core::{Call, Entry, Kept, Receipt, Reply, State};
 use tree_ops::{Answer, FileCall, RENAME_EXCHANGE};
 use tree_paths::{Limits, Names, Path, Refusal};
 
-/// What was got is what is wanted. Tests assert in these two functions: the macros in a long body take minutes to
-/// prove.
+/// What was got is what is wanted. Tests assert in these two functions, and the helpers end the test where a call
+/// fails: a macro or a `?` in a long body costs seconds to prove.
 fn equal<T: PartialEq + Debug + Drop>(rt: &impl Abort, got: T, wanted: T) {
     assert_eq!(rt; got, wanted);
 }
 
-/// It is so.
-fn holds(rt: &impl Abort, what: &str, is_so: bool) {
-    assert!(rt; is_so, "{what}");
+/// It is so in this case.
+fn holds<C: Debug + Drop>(rt: &impl Abort, case: C, is_so: bool) {
+    assert!(rt; is_so, "{case:?}");
 }
 
 /// Who makes the calls.
@@ -39,298 +31,260 @@ const CALLER: u32 = 7;
 /// The size of a buffer for all that waits, in bytes.
 const ALL: u32 = 4096;
 
-/// More names than a path here has.
-const PATH_NAMES: u32 = 16;
-
 /// A record: the descriptor, the mask, the cookie, and the name, which is empty where it has none.
 type Record<'a> = (i32, u32, u32, &'a str);
 
-/// The root alone.
-fn opened(alloc: Global, limits: Limits) -> Result<State, Refusal> {
-    State::new(alloc, limits)
+/// A call.
+#[derive(Clone, Copy, Debug)]
+enum Ask<'a> {
+    Create(&'a str),
+    Mkdir(&'a str),
+    Write(&'a str, u64, &'a str),
+    ReadFile(&'a str, u64, u32),
+    Truncate(&'a str, u64),
+    Chmod(&'a str, u32),
+    Link(&'a str, &'a str),
+    Unlink(&'a str),
+    Rmdir(&'a str),
+    Rename(&'a str, &'a str),
+    Exchange(&'a str, &'a str),
+    Stat(&'a str),
+    List(&'a str),
+    Init(u32),
+    InitPiped(u32),
+    Watch(u32, &'a str, u32),
+    Unwatch(u32, i32),
+    Read(u32, u32),
+    Pump(u32, u32),
+    Close(u32),
 }
 
-/// Makes a call.
-fn made(state: &mut State, call: &Call) -> Result<Receipt, Refusal> {
-    state.apply(CALLER, call.copy()?)
+/// A reply.
+#[derive(Clone, Copy)]
+enum Gives<'a> {
+    Number(u32),
+    Count(u64),
+    /// The reply of a call on files that has no other one.
+    Filed,
+    Contents(&'a str),
+    Names(&'a [&'a str]),
+    /// The number, the mode, the links and the size.
+    File(u32, u32, u64, u64),
+    Directory(u32, u32),
+    Instance(u32),
+    Wd(i32),
+    Done,
+    Records(&'a [Record<'a>]),
+    Refused(Refusal),
 }
 
-/// Whether the last entry of the journal is this call with this reply.
-fn is_last(state: &State, call: &Call, reply: &Reply) -> bool {
-    match state.journal().last() {
-        Some(entry) => entry.caller == CALLER && entry.call == *call && entry.reply == *reply,
-        None => false,
+/// A tree of the root alone.
+fn opened(rt: &impl Abort, alloc: Global, limits: Limits) -> State {
+    State::new(alloc, limits).expect(rt, "a tree")
+}
+
+fn path(rt: &impl Abort, alloc: Global, text: &str) -> Path {
+    Path::parse(alloc, text.as_bytes()).expect(rt, "a path")
+}
+
+fn bytes(rt: &impl Abort, alloc: Global, text: &str) -> Bytes {
+    Bytes::from_vec(Vec::from_slice(alloc, text.as_bytes()).expect(rt, "memory"))
+}
+
+/// A call that is made at one path, and has no bytes.
+fn at(path: Path, ask: Ask) -> FileCall {
+    match ask {
+        Ask::Create(_) => FileCall::Create { path, mode: 0o644 },
+        Ask::Mkdir(_) => FileCall::Mkdir { path, mode: 0o755 },
+        Ask::ReadFile(_, offset, count) => FileCall::ReadFile {
+            path,
+            offset,
+            count,
+        },
+        Ask::Truncate(_, len) => FileCall::Truncate { path, len },
+        Ask::Chmod(_, mode) => FileCall::Chmod { path, mode },
+        Ask::Unlink(_) => FileCall::Unlink { path },
+        Ask::Rmdir(_) => FileCall::Rmdir { path },
+        Ask::Stat(_) => FileCall::Stat { path },
+        _ => FileCall::List { path },
     }
 }
 
-/// What a call answers, and whether the journal's last entry says so and has the receipt's sequence number.
-fn answered(state: &mut State, call: Result<Call, Refusal>) -> Result<(Reply, bool), Refusal> {
-    let call = call?;
-    let receipt = made(state, &call)?;
-    let is_at_its_place = receipt.place == state.last_place();
-    let is_journaled = is_at_its_place && is_last(state, &call, &receipt.reply);
-    Ok((receipt.reply, is_journaled))
+/// A call that is made at two paths.
+fn between(old: Path, new: Path, ask: Ask) -> FileCall {
+    match ask {
+        Ask::Link(_, _) => FileCall::Link { old, new },
+        Ask::Rename(_, _) => FileCall::Rename { old, new },
+        _ => FileCall::Rename2 {
+            old,
+            new,
+            flags: RENAME_EXCHANGE,
+        },
+    }
 }
 
-/// The reply is the one that is wanted.
-fn is_wanted(rt: &impl Abort, reply: Reply, wanted: Result<Reply, Refusal>) {
-    let wanted = wanted.expect(rt, "a reply");
-    equal(rt, reply, wanted);
+/// The call.
+fn call(rt: &impl Abort, alloc: Global, ask: Ask) -> Call {
+    match ask {
+        Ask::Init(limit) => Call::Init {
+            limit,
+            piped: false,
+        },
+        Ask::InitPiped(limit) => Call::Init { limit, piped: true },
+        Ask::Watch(instance, text, mask) => Call::AddWatch {
+            instance,
+            path: path(rt, alloc, text),
+            mask,
+        },
+        Ask::Unwatch(instance, wd) => Call::RmWatch { instance, wd },
+        Ask::Read(instance, bytes) => Call::Read { instance, bytes },
+        Ask::Pump(instance, bytes) => Call::Pump { instance, bytes },
+        Ask::Close(instance) => Call::Close { instance },
+        Ask::Write(text, offset, written) => Call::File(FileCall::Write {
+            path: path(rt, alloc, text),
+            offset,
+            bytes: bytes(rt, alloc, written),
+        }),
+        Ask::Link(old, new) | Ask::Rename(old, new) | Ask::Exchange(old, new) => {
+            let (old, new) = (path(rt, alloc, old), path(rt, alloc, new));
+            Call::File(between(old, new, ask))
+        }
+        Ask::Create(text)
+        | Ask::Mkdir(text)
+        | Ask::ReadFile(text, _, _)
+        | Ask::Truncate(text, _)
+        | Ask::Chmod(text, _)
+        | Ask::Unlink(text)
+        | Ask::Rmdir(text)
+        | Ask::Stat(text)
+        | Ask::List(text) => Call::File(at(path(rt, alloc, text), ask)),
+    }
 }
 
-/// The call answers what is wanted, and so the journal has it.
-fn tells(
-    rt: &impl Abort,
-    state: &mut State,
-    call: Result<Call, Refusal>,
-    wanted: Result<Reply, Refusal>,
-) {
-    let (reply, is_journaled) = answered(state, call).expect(rt, "a receipt");
-    is_wanted(rt, reply, wanted);
-    holds(rt, "the journal has it", is_journaled);
-}
-
-/// The call is not refused.
-fn does(rt: &impl Abort, state: &mut State, call: Result<Call, Refusal>) {
-    let told = answered(state, call);
-    let is_done = !matches!(told, Ok((Reply::Refused(_), _)) | Err(_));
-    holds(rt, "the call is not refused", is_done);
-}
-
-/// The call is refused so, and what waits for the first two instances is as before.
-fn refuses(rt: &impl Abort, state: &mut State, call: Result<Call, Refusal>, refusal: Refusal) {
-    let before = (state.waiting(1), state.waiting(2));
-    tells(rt, state, call, Ok(Reply::Refused(refusal)));
-    equal(rt, (state.waiting(1), state.waiting(2)), before);
-}
-
-/// `count` records wait for the instance.
-fn waits(rt: &impl Abort, state: &State, instance: u32, count: usize) {
-    equal(rt, state.waiting(instance), Some(count));
-}
-
-/// There is no such instance.
-fn is_not_open(rt: &impl Abort, state: &State, instance: u32) {
-    equal(rt, state.waiting(instance), None);
-}
-
-/// The journal has `count` entries.
-fn journals(rt: &impl Abort, state: &State, count: usize) {
-    equal(rt, state.journal().len(), count);
-}
-
-/// The journal takes `count` more entries.
-fn has_room_for(rt: &impl Abort, state: &State, count: u64) {
-    equal(rt, state.free_entries(), count);
-}
-
-/// The instance has just these records to read.
-fn hears(rt: &impl Abort, state: &mut State, alloc: Global, instance: u32, lines: &[Record]) {
-    waits(rt, state, instance, lines.len());
-    tells(rt, state, read(instance, ALL), records(alloc, lines));
-}
-
-/// The instance has nothing to read.
-fn hears_nothing(rt: &impl Abort, state: &mut State, instance: u32) {
-    waits(rt, state, instance, 0);
-    refuses(rt, state, read(instance, ALL), Refusal::Eagain);
-}
-
-/// These instances watch the file of this number, and no others.
-fn watch_it(rt: &impl Abort, state: &State, number: u32, ids: &[u32]) {
-    assert_eq!(rt; state.watchers(number), ids);
-}
-
-fn path(alloc: Global, text: &str) -> Result<Path, Refusal> {
-    Path::parse(alloc, text.as_bytes())
-}
-
-fn bytes(alloc: Global, slice: &[u8]) -> Result<Bytes, Refusal> {
-    Ok(Bytes::from_vec(Vec::from_slice(alloc, slice)?))
-}
-
-fn create(alloc: Global, text: &str) -> Result<Call, Refusal> {
-    let path = path(alloc, text)?;
-    Ok(Call::File(FileCall::Create { path, mode: 0o644 }))
-}
-
-fn mkdir(alloc: Global, text: &str) -> Result<Call, Refusal> {
-    let path = path(alloc, text)?;
-    Ok(Call::File(FileCall::Mkdir { path, mode: 0o755 }))
-}
-
-fn write(alloc: Global, text: &str, offset: u64, slice: &[u8]) -> Result<Call, Refusal> {
-    Ok(Call::File(FileCall::Write {
-        path: path(alloc, text)?,
-        offset,
-        bytes: bytes(alloc, slice)?,
-    }))
-}
-
-fn read_file(alloc: Global, text: &str, offset: u64, count: u32) -> Result<Call, Refusal> {
-    Ok(Call::File(FileCall::ReadFile {
-        path: path(alloc, text)?,
-        offset,
-        count,
-    }))
-}
-
-fn truncate(alloc: Global, text: &str, len: u64) -> Result<Call, Refusal> {
-    let path = path(alloc, text)?;
-    Ok(Call::File(FileCall::Truncate { path, len }))
-}
-
-fn chmod(alloc: Global, text: &str, mode: u32) -> Result<Call, Refusal> {
-    let path = path(alloc, text)?;
-    Ok(Call::File(FileCall::Chmod { path, mode }))
-}
-
-fn link(alloc: Global, old: &str, new: &str) -> Result<Call, Refusal> {
-    let old = path(alloc, old)?;
-    let new = path(alloc, new)?;
-    Ok(Call::File(FileCall::Link { old, new }))
-}
-
-fn unlink(alloc: Global, text: &str) -> Result<Call, Refusal> {
-    let path = path(alloc, text)?;
-    Ok(Call::File(FileCall::Unlink { path }))
-}
-
-fn rmdir(alloc: Global, text: &str) -> Result<Call, Refusal> {
-    let path = path(alloc, text)?;
-    Ok(Call::File(FileCall::Rmdir { path }))
-}
-
-fn rename(alloc: Global, old: &str, new: &str) -> Result<Call, Refusal> {
-    let old = path(alloc, old)?;
-    let new = path(alloc, new)?;
-    Ok(Call::File(FileCall::Rename { old, new }))
-}
-
-fn exchange(alloc: Global, old: &str, new: &str) -> Result<Call, Refusal> {
-    let old = path(alloc, old)?;
-    let new = path(alloc, new)?;
-    let flags = RENAME_EXCHANGE;
-    Ok(Call::File(FileCall::Rename2 { old, new, flags }))
-}
-
-fn stat(alloc: Global, text: &str) -> Result<Call, Refusal> {
-    let path = path(alloc, text)?;
-    Ok(Call::File(FileCall::Stat { path }))
-}
-
-fn list(alloc: Global, text: &str) -> Result<Call, Refusal> {
-    let path = path(alloc, text)?;
-    Ok(Call::File(FileCall::List { path }))
-}
-
-fn init(limit: u32) -> Result<Call, Refusal> {
-    Ok(Call::Init {
-        limit,
-        piped: false,
-    })
-}
-
-fn init_piped(limit: u32) -> Result<Call, Refusal> {
-    Ok(Call::Init { limit, piped: true })
-}
-
-fn watch(alloc: Global, instance: u32, text: &str, mask: u32) -> Result<Call, Refusal> {
-    Ok(Call::AddWatch {
-        instance,
-        path: path(alloc, text)?,
-        mask,
-    })
-}
-
-fn unwatch(instance: u32, wd: i32) -> Result<Call, Refusal> {
-    Ok(Call::RmWatch { instance, wd })
-}
-
-fn read(instance: u32, bytes: u32) -> Result<Call, Refusal> {
-    Ok(Call::Read { instance, bytes })
-}
-
-fn pump(instance: u32, bytes: u32) -> Result<Call, Refusal> {
-    Ok(Call::Pump { instance, bytes })
-}
-
-fn close(instance: u32) -> Result<Call, Refusal> {
-    Ok(Call::Close { instance })
-}
-
-fn number(number: u32) -> Result<Reply, Refusal> {
-    Ok(Reply::File(Answer::Number(number)))
-}
-
-fn count(count: u64) -> Result<Reply, Refusal> {
-    Ok(Reply::File(Answer::Count(count)))
-}
-
-/// The answer of a call on files that has no other one.
-fn filed() -> Result<Reply, Refusal> {
-    Ok(Reply::File(Answer::Done))
-}
-
-/// The answer with these bytes of a file.
-fn contents(alloc: Global, slice: &[u8]) -> Result<Reply, Refusal> {
-    Ok(Reply::File(Answer::Bytes(bytes(alloc, slice)?)))
-}
-
-/// The answer with the names of this path.
-fn names(alloc: Global, text: &str) -> Result<Reply, Refusal> {
-    let path = path(alloc, text)?;
+/// Names of a directory.
+fn names(rt: &impl Abort, alloc: Global, texts: &[&str]) -> Names {
     let mut names = Vec::new(alloc);
-    let mut rest = path.names();
-    for _ in 0..PATH_NAMES {
-        let Some(name) = rest.next() else { break };
-        names.push(name.as_name().copy()?)?;
+    for text in texts {
+        if let Some(name) = Name::new(alloc, text.as_bytes()).expect(rt, "memory") {
+            names.push(name).expect(rt, "memory");
+        }
     }
-    Ok(Reply::File(Answer::Names(Names::from_vec(names))))
+    Names::from_vec(names)
 }
 
-fn file(number: u32, mode: u32, links: u64, size: u64) -> Result<Reply, Refusal> {
-    Ok(Reply::File(Answer::Stat {
-        number,
-        kind: Kind::Regular,
-        mode,
-        links,
-        size,
-    }))
+/// The bytes of events.
+fn spelled(rt: &impl Abort, alloc: Global, events: &[Event]) -> Bytes {
+    Bytes::from_vec(encode(alloc, events).expect(rt, "memory"))
 }
 
-fn directory(number: u32, mode: u32) -> Result<Reply, Refusal> {
-    Ok(Reply::File(Answer::Stat {
-        number,
-        kind: Kind::Directory,
-        mode,
-        links: 1,
-        size: 0,
-    }))
-}
-
-fn instance(id: u32) -> Result<Reply, Refusal> {
-    Ok(Reply::Instance(id))
-}
-
-fn wd(wd: i32) -> Result<Reply, Refusal> {
-    Ok(Reply::Wd(wd))
-}
-
-fn done() -> Result<Reply, Refusal> {
-    Ok(Reply::Done)
-}
-
-/// The answer with the bytes of these records.
-fn records(alloc: Global, lines: &[Record]) -> Result<Reply, Refusal> {
+/// The bytes of these records.
+fn records(rt: &impl Abort, alloc: Global, lines: &[Record]) -> Bytes {
     let mut events = Vec::new(alloc);
-    for line in lines {
-        events.push(Event {
-            wd: line.0,
-            mask: line.1,
-            cookie: line.2,
-            name: Name::new(alloc, line.3.as_bytes())?,
-        })?;
+    for (wd, mask, cookie, name) in lines {
+        let name = Name::new(alloc, name.as_bytes()).expect(rt, "memory");
+        let event = Event {
+            wd: *wd,
+            mask: *mask,
+            cookie: *cookie,
+            name,
+        };
+        events.push(event).expect(rt, "memory");
     }
-    Ok(Reply::Records(Bytes::from_vec(encode(alloc, events.as_slice())?)))
+    spelled(rt, alloc, events.as_slice())
+}
+
+/// The reply.
+fn reply(rt: &impl Abort, alloc: Global, gives: Gives) -> Reply {
+    Reply::File(match gives {
+        Gives::Number(number) => Answer::Number(number),
+        Gives::Count(count) => Answer::Count(count),
+        Gives::Filed => Answer::Done,
+        Gives::Contents(text) => Answer::Bytes(bytes(rt, alloc, text)),
+        Gives::Names(texts) => Answer::Names(names(rt, alloc, texts)),
+        Gives::File(number, mode, links, size) => Answer::Stat {
+            number,
+            kind: Kind::Regular,
+            mode,
+            links,
+            size,
+        },
+        Gives::Directory(number, mode) => Answer::Stat {
+            number,
+            kind: Kind::Directory,
+            mode,
+            links: 1,
+            size: 0,
+        },
+        Gives::Instance(id) => return Reply::Instance(id),
+        Gives::Wd(wd) => return Reply::Wd(wd),
+        Gives::Done => return Reply::Done,
+        Gives::Records(lines) => return Reply::Records(records(rt, alloc, lines)),
+        Gives::Refused(refusal) => return Reply::Refused(refusal),
+    })
+}
+
+/// Which of the ways a call goes: `apply`, `record`, or `keep` and, of a pump, `pump`.
+#[derive(Clone, Copy, Debug)]
+enum Way {
+    Apply,
+    Record,
+    Keep,
+}
+
+/// All ways.
+const WAYS: [Way; 3] = [Way::Apply, Way::Record, Way::Keep];
+
+/// What a call gives in its way: the sequence number, and where it gives them the reply, what is kept of it, and the
+/// records of a pump.
+#[derive(Drop)]
+struct Given {
+    place: u64,
+    reply: Option<Reply>,
+    kept: Option<Kept>,
+    events: Option<Events>,
+}
+
+/// Makes a call in this way.
+fn made(tree: &mut State, call: Call, way: Way) -> Result<Given, Refusal> {
+    let (receipt, kept, events) = match (way, call) {
+        (Way::Record, call) => {
+            return Ok(Given {
+                place: tree.record(CALLER, call)?,
+                reply: None,
+                kept: None,
+                events: None,
+            });
+        }
+        (Way::Apply, call) => (tree.apply(CALLER, call)?, None, None),
+        (Way::Keep, Call::Pump { instance, bytes }) => {
+            let (receipt, kept, events) = tree.pump(CALLER, instance, bytes)?;
+            (receipt, Some(kept), events)
+        }
+        (Way::Keep, call) => {
+            let (receipt, kept) = tree.keep(CALLER, call)?;
+            (receipt, Some(kept), None)
+        }
+    };
+    Ok(Given {
+        place: receipt.place,
+        reply: Some(receipt.reply),
+        kept,
+        events,
+    })
+}
+
+/// Whether the last call was not refused.
+fn is_done(tree: &State) -> bool {
+    match tree.last_entry() {
+        Some(entry) => !matches!(entry.reply, Reply::Refused(_)),
+        None => true,
+    }
+}
+
+/// Makes the calls, none of which is refused.
+fn does(rt: &impl Abort, alloc: Global, tree: &mut State, asks: &[Ask]) {
+    for ask in asks {
+        let made = tree.record(CALLER, call(rt, alloc, *ask));
+        holds(rt, *ask, made.is_ok() && is_done(tree));
+    }
 }

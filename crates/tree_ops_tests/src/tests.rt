@@ -1,26 +1,210 @@
 mod recent;
 mod refused;
-mod steps;
 
-use inode_table::{Kind, Table};
+use inode_table::{FileRow, Kind, Table};
 use record_codec::Bytes;
 use std::alloc::Global;
-use std::fmt::Debug;
 use std::marker::Model;
 use std::process::Abort;
 use std::test::Fail;
 use tree_ops::*;
 use tree_paths::{Limits, Path, Refusal};
 
-/// What was got is what is wanted. Tests assert in these two functions: the macros in a long body take minutes to
-/// prove.
-fn equal<T: PartialEq + Debug + Drop>(rt: &impl Abort, got: T, wanted: T) {
-    assert_eq!(rt; got, wanted);
+/// A call on files.
+#[derive(Clone, Copy, Debug)]
+enum Ask {
+    Mkdir(&'static str, u32),
+    Create(&'static str, u32),
+    Write(&'static str, u64, &'static str),
+    ReadFile(&'static str, u64, u32),
+    Truncate(&'static str, u64),
+    Chmod(&'static str, u32),
+    Link(&'static str, &'static str),
+    Unlink(&'static str),
+    Rmdir(&'static str),
+    Rename(&'static str, &'static str),
+    Exchange(&'static str, &'static str),
+    Stat(&'static str),
+    List(&'static str),
 }
 
-/// It is so.
-fn holds(rt: &impl Abort, what: &str, is_so: bool) {
-    assert!(rt; is_so, "{what}");
+/// What a call gives.
+#[derive(Clone, Copy, Debug)]
+enum Gives {
+    Done,
+    Number(u32),
+    Count(u64),
+    Bytes(&'static str),
+    /// The number, the mode, the count of paths and the length of a file, and the number and the mode of a directory.
+    File(u32, u32, u64, u64),
+    Directory(u32, u32),
+    /// The names, each with a space behind it.
+    Names(&'static str),
+    Refused(Refusal),
+}
+
+// A name of 255 bytes.
+const LONGEST: &str =
+    "/nnnnnnnnnnnnnnnnnnnnnnnnnnnnnnnnnnnnnnnnnnnnnnnnnnnnnnnnnnnnnnnnnnnnnnnnnnnnnnnnnnnnn\
+    nnnnnnnnnnnnnnnnnnnnnnnnnnnnnnnnnnnnnnnnnnnnnnnnnnnnnnnnnnnnnnnnnnnnnnnnnnnnnnnnnnnnn\
+    nnnnnnnnnnnnnnnnnnnnnnnnnnnnnnnnnnnnnnnnnnnnnnnnnnnnnnnnnnnnnnnnnnnnnnnnnnnnnnnnnnnnn";
+
+// Below, `/d` is directory 2 and `/d/f` file 3. More of such calls are in scripts.
+const STORY: [(Ask, Gives); 44] = [
+    (Ask::Stat("/"), Gives::Directory(1, 0o755)),
+    (Ask::List("/"), Gives::Names("")),
+    (Ask::Mkdir("/d", 0o750), Gives::Number(2)),
+    (Ask::Stat("/d"), Gives::Directory(2, 0o750)),
+    (Ask::Create("/d/f", 0o644), Gives::Number(3)),
+    (Ask::Stat("/d/f"), Gives::File(3, 0o644, 1, 0)),
+    (Ask::Write("/d/f", 3, "abc"), Gives::Count(3)),
+    (Ask::Write("/d/f", 1, "xyz"), Gives::Count(3)),
+    (Ask::ReadFile("/d/f", 0, 9), Gives::Bytes("\0xyzbc")),
+    (Ask::ReadFile("/d/f", 9, 1), Gives::Bytes("")),
+    (Ask::Truncate("/d/f", 2), Gives::Done),
+    (Ask::Truncate("/d/f", 4), Gives::Done),
+    (Ask::Write("/d/f", 9, ""), Gives::Count(0)),
+    (Ask::ReadFile("/d/f", 0, 9), Gives::Bytes("\0x\0\0")),
+    (Ask::Chmod("/d/f", 0o600), Gives::Done),
+    (Ask::Stat("/e/f"), Gives::Refused(Refusal::Enoent)),
+    (Ask::Stat("/d/g"), Gives::Refused(Refusal::Enoent)),
+    (Ask::Stat("/d/f/g/h"), Gives::Refused(Refusal::Enotdir)),
+    (Ask::Create("/d/B", 0o644), Gives::Number(4)),
+    (Ask::Create("/d/ab", 0o644), Gives::Number(5)),
+    (Ask::List("/d"), Gives::Names("B ab f ")),
+    (Ask::Link("/d/f", "/g"), Gives::Done),
+    (Ask::Write("/g", 0, "shared"), Gives::Count(6)),
+    (Ask::Unlink("/d/f"), Gives::Done),
+    (Ask::Stat("/g"), Gives::File(3, 0o600, 1, 6)),
+    (Ask::Link("/g", "/h"), Gives::Done),
+    (Ask::Rename("/d/ab", "/h"), Gives::Done),
+    (Ask::Stat("/h"), Gives::File(5, 0o644, 1, 0)),
+    (Ask::Stat("/g"), Gives::File(3, 0o600, 1, 6)),
+    (Ask::Rename("/h", "/g"), Gives::Done),
+    (Ask::Mkdir("/x", 0o755), Gives::Number(6)),
+    (Ask::Mkdir("/x/y", 0o755), Gives::Number(7)),
+    (Ask::Rename("/d", "/x/y"), Gives::Done),
+    (Ask::Stat("/x/y"), Gives::Directory(2, 0o750)),
+    (Ask::Stat("/x/y/B"), Gives::File(4, 0o644, 1, 0)),
+    (Ask::Stat("/d/B"), Gives::Refused(Refusal::Enoent)),
+    (Ask::Exchange("/x/y", "/g"), Gives::Done),
+    (Ask::Stat("/g/B"), Gives::File(4, 0o644, 1, 0)),
+    (Ask::Stat("/x/y/B"), Gives::Refused(Refusal::Enotdir)),
+    (Ask::Rmdir("/x"), Gives::Refused(Refusal::Enotempty)),
+    (Ask::Unlink("/x/y"), Gives::Done),
+    (Ask::Rmdir("/x"), Gives::Done),
+    (Ask::Create(LONGEST, 0o644), Gives::Number(8)),
+    (Ask::Stat(LONGEST), Gives::File(8, 0o644, 1, 0)),
+];
+
+// Of a table for files up to number 3, of 4 bytes and 2 paths, and for one cookie.
+const LIMITED: [(Ask, Gives); 14] = [
+    (Ask::Create("/a", 0o644), Gives::Number(2)),
+    (Ask::Create("/b", 0o644), Gives::Number(3)),
+    (
+        Ask::Create("/c", 0o644),
+        Gives::Refused(Refusal::NumbersSpent),
+    ),
+    (Ask::Write("/a", 0, "abcd"), Gives::Count(4)),
+    (Ask::Write("/a", 4, "e"), Gives::Refused(Refusal::Efbig)),
+    (Ask::Truncate("/a", 5), Gives::Refused(Refusal::Efbig)),
+    (Ask::Link("/a", "/l"), Gives::Done),
+    (Ask::Link("/a", "/c"), Gives::Refused(Refusal::Emlink)),
+    (Ask::Rename("/a", "/c"), Gives::Done),
+    (
+        Ask::Rename("/c", "/a"),
+        Gives::Refused(Refusal::CookiesSpent),
+    ),
+    // A rename that moves nothing takes no cookie.
+    (Ask::Rename("/c", "/l"), Gives::Done),
+    (Ask::Rename("/c", "/c"), Gives::Done),
+    (Ask::Stat("/c"), Gives::File(2, 0o644, 2, 4)),
+    (Ask::Stat("/a"), Gives::Refused(Refusal::Enoent)),
+];
+
+// Of the table that LINKED leaves, when all cookies are spent.
+const SPENT: [(Ask, Gives); 4] = [
+    (
+        Ask::Rename("/g", "/n"),
+        Gives::Refused(Refusal::CookiesSpent),
+    ),
+    (Ask::Rename("/g", "/d/f"), Gives::Done),
+    (Ask::Rename("/g", "/g"), Gives::Done),
+    (Ask::Stat("/n"), Gives::Refused(Refusal::Enoent)),
+];
+
+// A directory, a file of two paths, and a free slot before them.
+const LINKED: [(Ask, Gives); 10] = [
+    (Ask::Create("/lost", 0o644), Gives::Number(2)),
+    (Ask::Mkdir("/d", 0o750), Gives::Number(3)),
+    (Ask::Create("/d/f", 0o644), Gives::Number(4)),
+    (Ask::Link("/d/f", "/g"), Gives::Done),
+    (Ask::Write("/g", 0, "shared"), Gives::Count(6)),
+    (Ask::Unlink("/lost"), Gives::Done),
+    (Ask::Stat("/d"), Gives::Directory(3, 0o750)),
+    (Ask::Stat("/g"), Gives::File(4, 0o644, 2, 6)),
+    (Ask::List("/"), Gives::Names("d g ")),
+    (Ask::List("/d"), Gives::Names("f ")),
+];
+
+// Changes each part of it.
+const CHANGED: [(Ask, Gives); 6] = [
+    (Ask::Write("/g", 0, "S"), Gives::Count(1)),
+    (Ask::Unlink("/d/f"), Gives::Done),
+    (Ask::Mkdir("/d/e", 0o755), Gives::Number(5)),
+    (Ask::Chmod("/d", 0o700), Gives::Done),
+    (Ask::List("/d"), Gives::Names("e ")),
+    (Ask::ReadFile("/g", 0, 9), Gives::Bytes("Shared")),
+];
+
+/// The path of a call and its new one, or twice its only one.
+fn paths_of(ask: Ask) -> (&'static str, &'static str) {
+    match ask {
+        Ask::Link(old, new) | Ask::Rename(old, new) | Ask::Exchange(old, new) => (old, new),
+        Ask::Mkdir(path, _)
+        | Ask::Create(path, _)
+        | Ask::Write(path, ..)
+        | Ask::ReadFile(path, ..)
+        | Ask::Truncate(path, _)
+        | Ask::Chmod(path, _)
+        | Ask::Unlink(path)
+        | Ask::Rmdir(path)
+        | Ask::Stat(path)
+        | Ask::List(path) => (path, path),
+    }
+}
+
+fn call_of(alloc: Global, ask: Ask) -> Result<FileCall, Refusal> {
+    let (path, new) = paths_of(ask);
+    let path = Path::parse(alloc, path.as_bytes())?;
+    let new = Path::parse(alloc, new.as_bytes())?;
+    Ok(match ask {
+        Ask::Mkdir(_, mode) => FileCall::Mkdir { path, mode },
+        Ask::Create(_, mode) => FileCall::Create { path, mode },
+        Ask::Write(_, offset, text) => FileCall::Write {
+            path,
+            offset,
+            bytes: bytes_of(alloc, text)?,
+        },
+        Ask::ReadFile(_, offset, count) => FileCall::ReadFile {
+            path,
+            offset,
+            count,
+        },
+        Ask::Truncate(_, len) => FileCall::Truncate { path, len },
+        Ask::Chmod(_, mode) => FileCall::Chmod { path, mode },
+        Ask::Link(..) => FileCall::Link { old: path, new },
+        Ask::Unlink(_) => FileCall::Unlink { path },
+        Ask::Rmdir(_) => FileCall::Rmdir { path },
+        Ask::Rename(..) => FileCall::Rename { old: path, new },
+        Ask::Exchange(..) => FileCall::Rename2 {
+            old: path,
+            new,
+            flags: RENAME_EXCHANGE,
+        },
+        Ask::Stat(_) => FileCall::Stat { path },
+        Ask::List(_) => FileCall::List { path },
+    })
 }
 
 /// A table on which calls are made one after another.
@@ -66,11 +250,6 @@ impl Calls {
         })
     }
 
-    /// Says that all cookies are spent.
-    fn spend_cookies(&mut self) {
-        self.counts.next_cookie = 0;
-    }
-
     fn made(&mut self, call: &FileCall) -> Result<Answer, Refusal> {
         let paths = Paths::resolve(&self.table, call);
         let ready = check(&paths, &self.counts, &self.limits)?;
@@ -85,220 +264,202 @@ impl Calls {
         Ok(answer)
     }
 
+    /// Says that all cookies are spent.
+    fn spend_cookies(&mut self) {
+        self.counts.next_cookie = 0;
+    }
+
     fn path(&self, text: &str) -> Result<Path, Refusal> {
         Path::parse(self.alloc, text.as_bytes())
     }
 
-    fn create(&mut self, path: &str, mode: u32) -> Result<Answer, Refusal> {
-        let path = self.path(path)?;
-        self.made(&FileCall::Create { path, mode })
-    }
-
-    fn write(&mut self, path: &str, offset: u64, bytes: &[u8]) -> Result<Answer, Refusal> {
-        let path = self.path(path)?;
-        let bytes = Bytes::from_vec(Vec::from_slice(self.alloc, bytes)?);
-        self.made(&FileCall::Write {
-            path,
-            offset,
-            bytes,
-        })
-    }
-
-    fn read(&mut self, path: &str, offset: u64, count: u32) -> Result<Answer, Refusal> {
-        let path = self.path(path)?;
-        self.made(&FileCall::ReadFile {
-            path,
-            offset,
-            count,
-        })
-    }
-
-    fn truncate(&mut self, path: &str, len: u64) -> Result<Answer, Refusal> {
-        let path = self.path(path)?;
-        self.made(&FileCall::Truncate { path, len })
-    }
-
-    fn link(&mut self, old: &str, new: &str) -> Result<Answer, Refusal> {
-        let old = self.path(old)?;
-        let new = self.path(new)?;
-        self.made(&FileCall::Link { old, new })
-    }
-
-    fn rename(&mut self, old: &str, new: &str) -> Result<Answer, Refusal> {
-        let old = self.path(old)?;
-        let new = self.path(new)?;
-        self.made(&FileCall::Rename { old, new })
-    }
-
-    fn exchange(&mut self, old: &str, new: &str) -> Result<Answer, Refusal> {
-        let old = self.path(old)?;
-        let new = self.path(new)?;
-        let flags = RENAME_EXCHANGE;
-        self.made(&FileCall::Rename2 { old, new, flags })
-    }
-
-    fn stat(&mut self, path: &str) -> Result<Answer, Refusal> {
-        let path = self.path(path)?;
-        self.made(&FileCall::Stat { path })
-    }
-
-    /// The answer with these bytes.
-    fn bytes(&self, bytes: &[u8]) -> Result<Answer, Refusal> {
-        Ok(Answer::Bytes(Bytes::from_vec(Vec::from_slice(self.alloc, bytes)?)))
+    fn mkdir(&mut self, text: &str) -> Result<Answer, Refusal> {
+        let path = self.path(text)?;
+        self.made(&FileCall::Mkdir { path, mode: 0o755 })
     }
 }
 
-fn number(number: u32) -> Result<Answer, Refusal> {
-    Ok(Answer::Number(number))
+/// Whether the answer has these names, each with a space behind it.
+fn are_names(
+    alloc: Global,
+    answer: Result<Answer, Refusal>,
+    wanted: &str,
+) -> Result<bool, Refusal> {
+    let Ok(Answer::Names(names)) = answer else {
+        return Ok(false);
+    };
+    let mut text = Vec::new(alloc);
+    for name in names.as_slice() {
+        text.extend_from_slice(name.bytes())?;
+        text.push(b' ')?;
+    }
+    Ok(text.as_slice() == wanted.as_bytes())
 }
 
-fn count(count: u64) -> Result<Answer, Refusal> {
-    Ok(Answer::Count(count))
+fn bytes_of(alloc: Global, text: &str) -> Result<Bytes, Refusal> {
+    Ok(Bytes::from_vec(Vec::from_slice(alloc, text.as_bytes())?))
 }
 
-fn file(number: u32, mode: u32, links: u64, size: u64) -> Result<Answer, Refusal> {
-    Ok(Answer::Stat {
-        number,
-        kind: Kind::Regular,
-        mode,
-        links,
-        size,
-    })
+/// Whether the answer of a call is the one that is wanted.
+fn is_answer(
+    alloc: Global,
+    answer: Result<Answer, Refusal>,
+    wanted: Gives,
+) -> Result<bool, Refusal> {
+    let wanted = match wanted {
+        Gives::Done => Answer::Done,
+        Gives::Number(number) => Answer::Number(number),
+        Gives::Count(count) => Answer::Count(count),
+        Gives::Bytes(text) => Answer::Bytes(bytes_of(alloc, text)?),
+        Gives::File(number, mode, links, size) => Answer::Stat {
+            number,
+            kind: Kind::Regular,
+            mode,
+            links,
+            size,
+        },
+        Gives::Directory(number, mode) => Answer::Stat {
+            number,
+            kind: Kind::Directory,
+            mode,
+            links: 1,
+            size: 0,
+        },
+        Gives::Names(names) => return are_names(alloc, answer, names),
+        Gives::Refused(refusal) => return Ok(answer == Err(refusal)),
+    };
+    Ok(answer == Ok(wanted))
 }
 
-fn directory(number: u32, mode: u32) -> Result<Answer, Refusal> {
-    Ok(Answer::Stat {
-        number,
-        kind: Kind::Directory,
-        mode,
-        links: 1,
-        size: 0,
-    })
+/// Makes the calls, each of which gives what it should.
+fn plays(rt: &impl Abort, calls: &mut Calls, steps: &[(Ask, Gives)]) -> Result<(), Refusal> {
+    for (ask, wanted) in steps {
+        let call = call_of(calls.alloc, *ask)?;
+        let answer = calls.made(&call);
+        let is_right = is_answer(calls.alloc, answer, *wanted)?;
+        assert!(rt; is_right, "{ask:?}: {wanted:?}");
+    }
+    Ok(())
 }
 
-/// The call returned what is wanted.
-fn tells(rt: &impl Abort, told: Result<Answer, Refusal>, wanted: Result<Answer, Refusal>) {
-    assert_eq!(rt; told, wanted);
+/// Whether two files are the same.
+fn are_same(one: &FileRow, other: &FileRow) -> bool {
+    one.number == other.number
+        && one.kind == other.kind
+        && one.mode == other.mode
+        && one.bytes == other.bytes
 }
 
-/// The call was done.
-fn done(rt: &impl Abort, told: Result<Answer, Refusal>) {
-    assert_eq!(rt; told, Ok(Answer::Done));
+/// Whether both tables have the same paths and the same files.
+fn are_alike(one: &Table, other: &Table) -> Result<bool, Refusal> {
+    let files = one.files()?;
+    let others = other.files()?;
+    let are_same = files.iter().zip(&others).all(|(f, g)| are_same(f, g));
+    Ok(are_same && files.len() == others.len() && one.flat()? == other.flat()?)
 }
 
-/// The call was refused so.
-fn refuses(rt: &impl Abort, told: Result<Answer, Refusal>, wanted: Refusal) {
-    assert_eq!(rt; told, Err(wanted));
-}
-
-#[test]
-fn contents(rt: HostRuntime) -> Result<(), Fail> {
-    let mut calls = Calls::new(rt.alloc(), Limits::full())?;
-    tells(&rt, calls.create("/f", 0o644), number(2));
-    tells(&rt, calls.write("/f", 3, b"ab"), count(2));
-    tells(&rt, calls.read("/f", 0, 10), calls.bytes(b"\0\0\0ab"));
-    tells(&rt, calls.read("/f", 9, 1), calls.bytes(b""));
-    tells(&rt, calls.stat("/f"), file(2, 0o644, 1, 5));
-    tells(&rt, calls.stat("/"), directory(1, 0o755));
-    tells(&rt, calls.write("/f", 1, b"xy"), count(2));
-    tells(&rt, calls.read("/f", 1, 3), calls.bytes(b"xya"));
+/// The table has `count` files, each with one path.
+fn counts(rt: &impl Abort, table: &Table, count: usize) -> Result<(), Refusal> {
+    let (files, paths) = (table.files()?.len(), table.flat()?.len());
+    assert!(rt;
+        files == count && paths == count,
+        "{files} files, {paths} paths"
+    );
     Ok(())
 }
 
 #[test]
-fn renames_of_one_file(rt: HostRuntime) -> Result<(), Fail> {
+fn calls_give_their_answers(rt: HostRuntime) -> Result<(), Fail> {
     let mut calls = Calls::new(rt.alloc(), Limits::full())?;
-    tells(&rt, calls.create("/a", 0o644), number(2));
-    done(&rt, calls.link("/a", "/b"));
-    done(&rt, calls.rename("/a", "/b"));
-    tells(&rt, calls.stat("/a"), file(2, 0o644, 2, 0));
-    calls.spend_cookies();
-    refuses(&rt, calls.rename("/a", "/c"), Refusal::CookiesSpent);
-    done(&rt, calls.rename("/a", "/b"));
-    done(&rt, calls.rename("/a", "/a"));
-    refuses(&rt, calls.stat("/c"), Refusal::Enoent);
-    Ok(())
-}
-
-#[test]
-fn last_values(rt: HostRuntime) -> Result<(), Fail> {
+    counts(&rt, &calls.table, 1)?;
+    plays(&rt, &mut calls, &STORY)?;
+    // Of the files that lost their last paths nothing is left.
+    counts(&rt, &calls.table, 4)?;
     let mut limits = Limits::full();
     limits.numbers = 3;
     limits.file_bytes = 4;
-    limits.links = 1;
+    limits.links = 2;
     limits.cookies = 1;
-    let mut calls = Calls::new(rt.alloc(), limits)?;
-    tells(&rt, calls.create("/a", 0o644), number(2));
-    tells(&rt, calls.create("/b", 0o644), number(3));
-    refuses(&rt, calls.create("/c", 0o644), Refusal::NumbersSpent);
-    tells(&rt, calls.write("/a", 0, b"abcd"), count(4));
-    refuses(&rt, calls.write("/a", 4, b"e"), Refusal::Efbig);
-    refuses(&rt, calls.truncate("/a", 5), Refusal::Efbig);
-    refuses(&rt, calls.link("/a", "/c"), Refusal::Emlink);
-    done(&rt, calls.rename("/a", "/c"));
-    refuses(&rt, calls.rename("/c", "/a"), Refusal::CookiesSpent);
+    plays(&rt, &mut Calls::new(rt.alloc(), limits)?, &LIMITED)?;
     Ok(())
+}
+
+/// The table that LINKED leaves.
+fn linked(rt: &impl Abort, alloc: Global) -> Result<Calls, Refusal> {
+    let mut calls = Calls::new(alloc, Limits::full())?;
+    plays(rt, &mut calls, &LINKED)?;
+    Ok(calls)
 }
 
 #[test]
-fn ready_calls(rt: HostRuntime) -> Result<(), Fail> {
-    let calls = Calls::new(rt.alloc(), Limits::full())?;
-    let path = calls.path("/a")?;
-    let call = FileCall::Mkdir { path, mode: 0o755 };
-    let paths = Paths::resolve(&calls.table, &call);
-    let ready = check(&paths, &calls.counts, &calls.limits)?;
-    equal(&rt, ready.cookies(), 0);
-    equal(&rt, ready.numbers(), 1);
-    holds(
-        &rt,
-        "ready.call().is_same(&call)",
-        ready.call().is_same(&call),
-    );
+fn a_copy_shares_nothing(rt: HostRuntime) -> Result<(), Fail> {
+    let control = linked(&rt, rt.alloc())?;
+    let mut calls = linked(&rt, rt.alloc())?;
+    let mut copy = calls.fork()?;
+    assert!(rt; are_alike(&copy.table, &control.table)?, "a copy");
+    plays(&rt, &mut copy, &CHANGED)?;
+    assert!(rt; are_alike(&calls.table, &control.table)?, "the table");
+    let other = calls.fork()?;
+    plays(&rt, &mut calls, &CHANGED)?;
+    assert!(rt; are_alike(&other.table, &control.table)?, "another copy");
+    assert!(rt; are_alike(&calls.table, &copy.table)?, "all changes");
     Ok(())
 }
 
-/// Makes a directory with ten thousand files in it.
-fn filled(calls: &mut Calls, directory: &str) -> Result<(), Fail> {
-    let path = calls.path(directory)?;
-    calls.made(&FileCall::Mkdir { path, mode: 0o755 })?;
-    for i in 0..10000u32 {
-        let text = format!(in calls.alloc; "{directory}/{i}")?;
-        calls.create(text.as_str(), 0o644)?;
+/// Gives the file at the path these bytes. Whether it is a file and has them.
+fn sets_content(
+    table: &mut Table,
+    path: &Path,
+    bytes: Vec<u8>,
+    wanted: &[u8],
+) -> Result<bool, Refusal> {
+    let found = table.resolve(path);
+    if table.look(&found)?.kind == Kind::Directory {
+        return Ok(false);
     }
-    Ok(())
+    table.set_content(&found, bytes);
+    let found = table.resolve(path);
+    table.look(&found)?;
+    Ok(table.content(table.key(&found)) == wanted)
 }
 
 #[test]
-fn large_directories_change_places(rt: HostRuntime) -> Result<(), Fail> {
-    let mut calls = Calls::new(rt.alloc(), Limits::full())?;
-    filled(&mut calls, "/a")?;
-    filled(&mut calls, "/b")?;
-    for _ in 0..99 {
-        equal(&rt, calls.exchange("/a", "/b"), Ok(Answer::Done));
+fn content_is_set(rt: HostRuntime) -> Result<(), Fail> {
+    let alloc = rt.alloc();
+    let Calls { mut table, .. } = linked(&rt, alloc)?;
+    let path = Path::parse(alloc, b"/g")?;
+    let bytes = Vec::from_slice(alloc, b"bytes")?;
+    let is_set = sets_content(&mut table, &path, bytes, b"bytes")?;
+    assert!(rt; is_set, "other bytes");
+    Ok(())
+}
+
+/// How many numbers and cookies a call takes, and copies of it and of an answer.
+#[test]
+fn calls_and_answers_are_copied(rt: HostRuntime) -> Result<(), Fail> {
+    let alloc = rt.alloc();
+    let mut calls = linked(&rt, alloc)?;
+    for (ask, counts) in [
+        (Ask::Mkdir("/a", 0o755), (1, 0)),
+        (Ask::Rename("/g", "/a"), (0, 1)),
+        (Ask::Exchange("/g", "/d"), (0, 2)),
+        (Ask::Rename("/g", "/d/f"), (0, 0)),
+    ] {
+        let call = call_of(alloc, ask)?;
+        let copy = call.copy()?;
+        let paths = Paths::resolve(&calls.table, &call);
+        let ready = check(&paths, &calls.counts, &calls.limits)?;
+        let is_same = ready.call().is_same(&copy);
+        assert!(rt;
+            is_same && (ready.numbers(), ready.cookies()) == counts,
+            "{ask:?}"
+        );
     }
-    equal(&rt, calls.stat("/a/0"), file(10004, 0o644, 1, 0));
-    equal(&rt, calls.stat("/b/9999"), file(10002, 0o644, 1, 0));
-    equal(&rt, calls.exchange("/a", "/b"), Ok(Answer::Done));
-    equal(&rt, calls.stat("/a/9999"), file(10002, 0o644, 1, 0));
-    equal(&rt, calls.counts.next_cookie, 201);
-    Ok(())
-}
-
-#[test]
-fn copies(rt: HostRuntime) -> Result<(), Fail> {
-    let calls = Calls::new(rt.alloc(), Limits::full())?;
-    let old = calls.path("/a")?;
-    let new = calls.path("/b")?;
-    let call = FileCall::Rename { old, new };
-    let copy = call.copy()?;
-    holds(&rt, "copy.is_same(&call)", copy.is_same(&call));
-    let answer = calls.bytes(b"ab")?;
+    let answer = Answer::Bytes(bytes_of(alloc, "ab")?);
     let copy = answer.copy()?;
-    holds(&rt, "copy.is_same(&answer)", copy.is_same(&answer));
-    holds(
-        &rt,
-        "!copy.is_same(&Answer::Done)",
-        !copy.is_same(&Answer::Done),
-    );
+    let is_same = copy.is_same(&answer) && !copy.is_same(&Answer::Done);
+    assert!(rt; is_same, "the answer");
+    calls.spend_cookies();
+    plays(&rt, &mut calls, &SPENT)?;
     Ok(())
 }

@@ -1,23 +1,117 @@
+//! Masks, and watches by tables of steps: what joins, what is replaced, what ends, and what is refused.
+
 use bitflags::Flags;
-use record_codec::bits;
-use std::fmt::Debug;
+use record_codec::bits::{IN_ALL_EVENTS, IN_ATTRIB, IN_CREATE, IN_DELETE, IN_MODIFY, IN_ONLYDIR};
 use std::process::Abort;
 use tree_paths::{Limits, Refusal};
 use watch_table::{Mask, Watches};
 
-/// Asserts that two values are equal. Tests assert in these two functions, because the macros in a long body take
-/// minutes to prove.
-fn equal<T: PartialEq + Debug + Drop>(rt: &impl Abort, got: T, wanted: T) {
-    assert_eq!(rt; got, wanted);
+/// A call and its answer, or what is watched.
+#[derive(Clone, Copy, Debug)]
+pub(crate) enum Step {
+    /// A watch for these bits, of the file or of the directory of this number.
+    File(u32, u32, Result<i32, Refusal>),
+    Directory(u32, u32, Result<i32, Refusal>),
+    Remove(i32, Result<(), Refusal>),
+    DropFile(u32, Option<i32>),
+    /// The watch of a file, and the file of a watch.
+    Has(u32, Option<(i32, u32)>),
+    Watched(i32, Option<u32>),
+    /// How many watches there are, and the next descriptor.
+    Counts(usize, u32),
 }
 
-/// Asserts a condition.
-pub(crate) fn holds(rt: &impl Abort, what: &str, is_so: bool) {
-    assert!(rt; is_so, "{what}");
-}
+const JOINED: [Step; 18] = [
+    Step::Counts(0, 1),
+    Step::Has(7, None),
+    Step::Directory(7, IN_CREATE, Ok(1)),
+    Step::Has(7, Some((1, 0x100))),
+    Step::Directory(7, 0xa000_0200, Ok(1)),
+    Step::Has(7, Some((1, 0x8000_0300))),
+    Step::Directory(7, 0x2000_0001, Ok(1)),
+    Step::Has(7, Some((1, 0x8000_0301))),
+    Step::Directory(7, 0x0100_0200, Ok(1)),
+    Step::Has(7, Some((1, 0x200))),
+    // A file that is not watched yet gets the bits of the call, also to be joined.
+    Step::File(3, 0x2600_4002, Ok(2)),
+    Step::Has(3, Some((2, 0x2))),
+    Step::File(3, 0x0100_0fff, Err(Refusal::Enotdir)),
+    Step::Has(3, Some((2, 0x2))),
+    // Under MASK_CREATE a file that is watched already is refused, after a look at ONLYDIR, and keeps its bits.
+    Step::File(3, 0x1000_0001, Err(Refusal::Eexist)),
+    Step::File(3, 0x1100_0001, Err(Refusal::Enotdir)),
+    Step::Has(3, Some((2, 0x2))),
+    Step::Counts(2, 3),
+];
 
-/// Watches a file.
-fn watch(
+const ENDED: [Step; 14] = [
+    Step::File(9, IN_ALL_EVENTS, Ok(1)),
+    Step::File(4, IN_ALL_EVENTS, Ok(2)),
+    Step::File(6, IN_ALL_EVENTS, Ok(3)),
+    Step::Counts(3, 4),
+    Step::Watched(1, Some(9)),
+    Step::Watched(-1, None),
+    Step::Remove(1, Ok(())),
+    Step::Remove(1, Err(Refusal::Einval)),
+    Step::Has(9, None),
+    Step::DropFile(6, Some(3)),
+    Step::DropFile(6, None),
+    Step::Remove(3, Err(Refusal::Einval)),
+    Step::File(9, IN_ALL_EVENTS, Ok(4)),
+    Step::Counts(2, 5),
+];
+
+// Of a copy of the watches that JOINED leaves, and then of these watches themselves.
+const COPIED: [Step; 4] = [
+    Step::Has(7, Some((1, 0x200))),
+    Step::Remove(1, Ok(())),
+    Step::File(9, IN_CREATE, Ok(3)),
+    Step::Counts(2, 4),
+];
+
+const LEFT: [Step; 4] = [
+    Step::Has(7, Some((1, 0x200))),
+    Step::Has(3, Some((2, 0x2))),
+    Step::Has(9, None),
+    Step::Counts(2, 3),
+];
+
+// Of an instance that may watch one file.
+const ONE_FILE: [Step; 6] = [
+    Step::File(5, IN_MODIFY, Ok(1)),
+    Step::File(6, IN_MODIFY, Err(Refusal::Enospc)),
+    Step::File(6, 0x0100_0002, Err(Refusal::Enotdir)),
+    Step::File(5, IN_ATTRIB, Ok(1)),
+    Step::DropFile(5, Some(1)),
+    Step::File(6, IN_MODIFY, Ok(2)),
+];
+
+// Of one that has two descriptors.
+const TWO_DESCRIPTORS: [Step; 6] = [
+    Step::File(5, IN_MODIFY, Ok(1)),
+    Step::File(6, IN_MODIFY, Ok(2)),
+    Step::File(7, IN_MODIFY, Err(Refusal::Enospc)),
+    Step::Remove(1, Ok(())),
+    Step::File(7, IN_MODIFY, Err(Refusal::Enospc)),
+    Step::File(6, IN_ATTRIB, Ok(2)),
+];
+
+// Of one that watches the files 0, 7 and 14, and may watch no more.
+pub(crate) const SMALL: [Step; 10] = [
+    Step::Has(7, Some((2, IN_CREATE))),
+    Step::Watched(3, Some(14)),
+    Step::File(7, IN_DELETE, Ok(2)),
+    Step::File(7, IN_DELETE | IN_ONLYDIR, Err(Refusal::Enotdir)),
+    Step::File(21, IN_CREATE, Err(Refusal::Enospc)),
+    Step::Remove(2, Ok(())),
+    Step::Remove(2, Err(Refusal::Einval)),
+    Step::DropFile(14, Some(3)),
+    Step::Has(14, None),
+    Step::Counts(1, 4),
+];
+
+/// Watches a file or a directory.
+pub(crate) fn watch(
     watches: &mut Watches,
     number: u32,
     bits: u32,
@@ -30,36 +124,89 @@ fn watch(
     watches.add(number, mask, is_directory)
 }
 
+/// Whether there are `len` watches, by rising numbers of files, and `next_wd` is the next descriptor.
+fn are_counted(watches: &Watches, len: usize, next_wd: u32) -> bool {
+    let (mut least, mut count) = (0, 0_usize);
+    for number in watches.numbers() {
+        if *number < least {
+            return false;
+        }
+        least = number.saturating_add(1);
+        count = count.saturating_add(1);
+    }
+    count == len
+        && watches.len() == len
+        && watches.is_empty() == (len == 0)
+        && watches.next_wd() == next_wd
+}
+
+/// Whether a step goes as it says.
+fn is_right(watches: &mut Watches, step: Step) -> bool {
+    match step {
+        Step::File(number, bits, answer) => watch(watches, number, bits, false) == answer,
+        Step::Directory(number, bits, answer) => watch(watches, number, bits, true) == answer,
+        Step::Remove(wd, answer) => watches.remove(wd) == answer,
+        Step::DropFile(number, answer) => watches.drop_file(number) == answer,
+        Step::Has(number, watch) => watches.of(number) == watch,
+        Step::Watched(wd, number) => watches.watched_by(wd) == number,
+        Step::Counts(len, next_wd) => are_counted(watches, len, next_wd),
+    }
+}
+
+/// Makes the steps, each of which goes as it says.
+pub(crate) fn plays(rt: &impl Abort, watches: &mut Watches, steps: &[Step]) {
+    for (index, step) in steps.iter().enumerate() {
+        let is_right = is_right(watches, *step);
+        assert!(rt; is_right, "step {index}, {step:?}");
+    }
+}
+
+#[test]
+fn watches_join_and_end(rt: HostRuntime) {
+    let alloc = rt.alloc();
+    let limits = Limits::full();
+    plays(&rt, &mut Watches::new(alloc, &limits), &ENDED);
+    let mut watches = Watches::new(alloc, &limits);
+    plays(&rt, &mut watches, &JOINED);
+    let mut copy = watches.copy().expect(&rt, "memory");
+    plays(&rt, &mut copy, &COPIED);
+    plays(&rt, &mut watches, &LEFT);
+    drop(watches);
+    plays(&rt, &mut copy, &[Step::Has(9, Some((3, IN_CREATE)))]);
+    let mut limits = Limits::full();
+    limits.watches = 1;
+    plays(&rt, &mut Watches::new(alloc, &limits), &ONE_FILE);
+    let mut limits = Limits::full();
+    limits.wds = 2;
+    plays(&rt, &mut Watches::new(alloc, &limits), &TWO_DESCRIPTORS);
+}
+
+/// What a mask has, what a watch keeps of it, what a watch of 0x300 has after it, and why none takes it.
 #[test]
 fn masks(rt: HostRuntime) {
-    for (bits, known, stored, fault) in [
-        (0x0000_0001, 0x0000_0001, 0x001, None),
-        (0xffff_ffff, 0xb700_0fff, 0x8000_0fff, Some(Refusal::Einval)),
-        (0xa100_0100, 0xa100_0100, 0x8000_0100, None),
-        (0x4000_f000, 0, 0, Some(Refusal::Einval)),
-        (0x8000_0000, 0x8000_0000, 0x8000_0000, Some(Refusal::Einval)),
-        (0x1000_0100, 0x1000_0100, 0x100, None),
-        (0x3000_0100, 0x3000_0100, 0x100, Some(Refusal::Einval)),
-        (0x1000_0000, 0x1000_0000, 0, Some(Refusal::Einval)),
-        (0x0600_0002, 0x0600_0002, 0x002, None),
+    let einval = Some(Refusal::Einval);
+    for (bits, known, stored, next, fault) in [
+        (0x0000_0001, 0x0000_0001, 0x1, 0x1, None),
+        (0xffff_ffff, 0xb700_0fff, 0x8000_0fff, 0x8000_0fff, einval),
+        (0xa100_0100, 0xa100_0100, 0x8000_0100, 0x8000_0300, None),
+        (0x4000_f000, 0, 0, 0, einval),
+        (0x8000_0000, 0x8000_0000, 0x8000_0000, 0x8000_0000, einval),
+        (0x1000_0100, 0x1000_0100, 0x100, 0x100, None),
+        (0x3000_0100, 0x3000_0100, 0x100, 0x300, einval),
+        (0x1000_0000, 0x1000_0000, 0, 0, einval),
+        (0x0600_0002, 0x0600_0002, 0x2, 0x2, None),
+        (0x0100_0001, 0x0100_0001, 0x1, 0x1, None),
+        (0xa000_0001, 0xa000_0001, 0x8000_0001, 0x8000_0301, None),
     ] {
         let mask = Mask::of(bits);
-        equal(&rt, mask.bits(), known);
-        equal(&rt, mask.stored(), stored);
-        equal(&rt, mask.fault(), fault);
+        let is_right = mask.bits() == known
+            && mask.stored() == stored
+            && mask.next_bits(0x300) == next
+            && mask.fault() == fault;
+        assert!(rt; is_right, "{bits:08x}");
     }
-    holds(
-        &rt,
-        "(Mask::CREATE | Mask::DELETE).contains(Mask::CREATE)",
-        (Mask::CREATE | Mask::DELETE).contains(Mask::CREATE),
-    );
-    holds(
-        &rt,
-        "Mask::from_name('ONESHOT') == Some(Mask::ONESHOT)",
-        Mask::from_name("ONESHOT") == Some(Mask::ONESHOT),
-    );
-    equal(&rt, Mask::of(0x0100_0001).next_bits(0x300), 0x1);
-    equal(&rt, Mask::of(0xa000_0001).next_bits(0x300), 0x8000_0301);
+    let both = Mask::CREATE | Mask::DELETE;
+    assert!(rt; both.contains(Mask::CREATE), "a mask of two");
 }
 
 /// Each bit by its name and its value: inotify(7), and inotify_add_watch(2).
@@ -86,119 +233,9 @@ fn masks_have_names(rt: HostRuntime) {
         ("MASK_ADD", 0x2000_0000),
         ("ONESHOT", 0x8000_0000),
     ] {
-        equal(&rt, Mask::from_name(name), Some(Mask::of(bits)));
+        let mask = Mask::from_name(name);
+        assert!(rt; mask == Some(Mask::of(bits)), "{name}");
     }
-    equal(&rt, Mask::from_name("ISDIR"), None);
-}
-
-#[test]
-fn joins_and_replaces(rt: HostRuntime) {
-    let mut watches = Watches::new(rt.alloc(), &Limits::full());
-    equal(&rt, watches.of(7), None);
-    holds(&rt, "watches.is_empty()", watches.is_empty());
-    equal(&rt, watch(&mut watches, 7, bits::IN_CREATE, true), Ok(1));
-    equal(&rt, watches.of(7), Some((1, 0x100)));
-    equal(&rt, watch(&mut watches, 7, 0xa000_0200, true), Ok(1));
-    equal(&rt, watches.of(7), Some((1, 0x8000_0300)));
-    equal(&rt, watch(&mut watches, 7, 0x2000_0001, true), Ok(1));
-    equal(&rt, watches.of(7), Some((1, 0x8000_0301)));
-    equal(&rt, watch(&mut watches, 7, 0x0100_0200, true), Ok(1));
-    equal(&rt, watches.of(7), Some((1, 0x200)));
-
-    // A file that is not watched yet gets the bits of the call, also to be joined.
-    equal(&rt, watch(&mut watches, 3, 0x2600_4002, false), Ok(2));
-    equal(&rt, watches.of(3), Some((2, 0x2)));
-    equal(
-        &rt,
-        watch(&mut watches, 3, 0x0100_0fff, false),
-        Err(Refusal::Enotdir),
-    );
-    equal(&rt, watches.of(3), Some((2, 0x2)));
-
-    // Under MASK_CREATE a file that is watched already is refused, once ONLYDIR was looked at, and keeps its bits.
-    equal(
-        &rt,
-        watch(&mut watches, 3, 0x1000_0001, false),
-        Err(Refusal::Eexist),
-    );
-    equal(
-        &rt,
-        watch(&mut watches, 3, 0x1100_0001, false),
-        Err(Refusal::Enotdir),
-    );
-    equal(&rt, watches.of(3), Some((2, 0x2)));
-    equal(&rt, watches.len(), 2);
-    holds(&rt, "!watches.is_empty()", !watches.is_empty());
-    equal(&rt, watches.next_wd(), 3);
-}
-
-#[test]
-fn ends(rt: HostRuntime) {
-    let mut watches = Watches::new(rt.alloc(), &Limits::full());
-    for number in [9, 4, 6] {
-        holds(
-            &rt,
-            "watch(&mut watches, number, bits::IN_ALL_EVENTS, false).is_ok()",
-            watch(&mut watches, number, bits::IN_ALL_EVENTS, false).is_ok(),
-        );
-    }
-    equal(&rt, watches.watched_by(1), Some(9));
-    equal(&rt, watches.watched_by(-1), None);
-    let mut sum = 0;
-    for number in watches.numbers() {
-        holds(&rt, "*number > sum", *number > sum);
-        sum = *number;
-    }
-    equal(&rt, sum, 9);
-    equal(&rt, watches.remove(1), Ok(()));
-    equal(&rt, watches.remove(1), Err(Refusal::Einval));
-    equal(&rt, watches.of(9), None);
-    equal(&rt, watches.drop_file(6), Some(3));
-    equal(&rt, watches.drop_file(6), None);
-    equal(&rt, watches.remove(3), Err(Refusal::Einval));
-    equal(
-        &rt,
-        watch(&mut watches, 9, bits::IN_ALL_EVENTS, false),
-        Ok(4),
-    );
-    equal(&rt, watches.len(), 2);
-}
-
-#[test]
-fn limits(rt: HostRuntime) {
-    let mut limits = Limits::full();
-    limits.watches = 1;
-    let mut watches = Watches::new(rt.alloc(), &limits);
-    equal(&rt, watch(&mut watches, 5, bits::IN_MODIFY, false), Ok(1));
-    equal(
-        &rt,
-        watch(&mut watches, 6, bits::IN_MODIFY, false),
-        Err(Refusal::Enospc),
-    );
-    equal(
-        &rt,
-        watch(&mut watches, 6, 0x0100_0002, false),
-        Err(Refusal::Enotdir),
-    );
-    equal(&rt, watch(&mut watches, 5, bits::IN_ATTRIB, false), Ok(1));
-    equal(&rt, watches.drop_file(5), Some(1));
-    equal(&rt, watch(&mut watches, 6, bits::IN_MODIFY, false), Ok(2));
-
-    let mut limits = Limits::full();
-    limits.wds = 2;
-    let mut watches = Watches::new(rt.alloc(), &limits);
-    equal(&rt, watch(&mut watches, 5, bits::IN_MODIFY, false), Ok(1));
-    equal(&rt, watch(&mut watches, 6, bits::IN_MODIFY, false), Ok(2));
-    equal(
-        &rt,
-        watch(&mut watches, 7, bits::IN_MODIFY, false),
-        Err(Refusal::Enospc),
-    );
-    equal(&rt, watches.remove(1), Ok(()));
-    equal(
-        &rt,
-        watch(&mut watches, 7, bits::IN_MODIFY, false),
-        Err(Refusal::Enospc),
-    );
-    equal(&rt, watch(&mut watches, 6, bits::IN_ATTRIB, false), Ok(2));
+    let isdir = Mask::from_name("ISDIR");
+    assert!(rt; isdir == None, "ISDIR is of events alone");
 }

@@ -1,207 +1,366 @@
-//! Books of three pipes, and of two threads.
+//! Books that are settled, and books that are not.
 
-ghost use Rattle.std.specs.Prelude.{◌≡◌, IfOk, IsTrue};
-ghost use Rattle.tree_core.specs.Calls.{is_plain};
+ghost use Rattle.std.specs.Prelude.{◌≡◌, ◌≤◌, true};
+ghost use Rattle.event_sinks.specs.Listeners.{IsSoundListener, state_of_listener};
 
-use super::audits::{Answer, End, Open, answered, create, ended, mkdir};
+use super::listeners::{EACH, Known, known};
+use super::stories::{Left, call_of, makes, plays_out, watches};
 use super::*;
-use record_codec::Bytes;
-use shared_tree::{Book, Feed, Held, Pass, Seat, SeatLog, Tree};
+use shared_tree::{Book, Feed, Held, KeptCalls, Pass, Seat, SeatLog, Tree};
 use std::marker::Brand;
 use std::sync::ledger::{Blank, Ledger};
 use std::sync::{Mutex, Wait};
 use std::thread;
 use std::thread::Threads;
-use tree_core::{Call, Reply};
-use tree_ops::FileCall;
-use tree_paths::{Limits, Path, Refusal};
+use tree_core::Reply;
+use tree_paths::Limits;
 
-/// Makes an instance with a pipe, which watches the root.
-fn watched<L: Ledger>(
+/// What `settle` answers: how many entries the book has, or its fault.
+type Answer = Result<u64, SettleFault>;
+
+/// Settles a book, and compares the answer.
+fn settles_to<S: Drop>(
+    rt: &impl Abort,
+    alloc: Global,
+    book: Book,
+    logs: Vec<SeatLog>,
+    ends: Vec<Ended<S>>,
+    answer: Answer,
+) {
+    let wanted = match answer {
+        Ok(entries) => Ok(Settled {
+            entries,
+            calls: entries,
+        }),
+        Err(fault) => Err(fault),
+    };
+    equal(rt, settle(alloc, book, logs, ends), wanted);
+}
+
+/// The listeners at these feeds, after at most `turns` turns each.
+pub(super) fn listened(
+    rt: &impl Abort,
+    alloc: Global,
+    feeds: Vec<Feed>,
+    turns: u64,
+) -> Vec<Ended<MemorySink>> {
+    let mut ends = Vec::new(alloc);
+    for feed in feeds {
+        let listener = Listening::new(alloc, 7, feed, MemorySink::new(alloc));
+        ends.push(listener.run(&EACH, turns)).expect(rt, "memory");
+    }
+    ends
+}
+
+/// The values whose indexes are these digits, in this order.
+fn chosen<T: Drop>(rt: &impl Abort, alloc: Global, values: Vec<T>, digits: &str) -> Vec<T> {
+    let mut rest = Vec::new(alloc);
+    for value in values {
+        rest.push(Some(value)).expect(rt, "memory");
+    }
+    let mut chosen = Vec::new(alloc);
+    for digit in digits.as_bytes() {
+        if let Some(value) = rest.get_mut(usize::from(digit.wrapping_sub(b'0'))) {
+            chosen.extend(value.take()).expect(rt, "memory");
+        }
+    }
+    chosen
+}
+
+/// How the last log is changed before a book is settled: its first two calls are exchanged, or the call at this index
+/// gets this sequence number.
+#[derive(Clone, Copy)]
+enum Change {
+    No,
+    Exchanged,
+    Numbered(usize, u64),
+}
+
+/// A log with this change.
+fn changed(log: SeatLog, change: Change) -> SeatLog {
+    let SeatLog { number, kept } = log;
+    let mut kept = kept.into_vec();
+    match change {
+        Change::No => {}
+        Change::Exchanged => {
+            if kept.len() > 1 {
+                kept.swap(0, 1);
+            }
+        }
+        Change::Numbered(index, place) => {
+            if let Some(call) = kept.get_mut(index) {
+                call.place = place;
+            }
+        }
+    }
+    let kept = KeptCalls::from_vec(kept);
+    SeatLog { number, kept }
+}
+
+/// Two stories, of which the first leaves a book; the logs that it is settled with, and how the last one is changed;
+/// the listeners, and how many turns each has; and the answer. Digits choose the logs and the listeners among those of
+/// both stories, the first story's first.
+type Case<'a> = (&'a str, &'a str, &'a str, Change, &'a str, u64, Answer);
+
+/// Settles a book, and compares the answer.
+fn settles(
+    rt: &impl Abort,
+    alloc: Global,
+    (story, other, numbers, change, heard, turns, answer): &Case<'_>,
+) {
+    let Left {
+        book,
+        mut logs,
+        mut feeds,
+    } = plays_out(rt, alloc, story);
+    let others = plays_out(rt, alloc, other);
+    logs.extend(others.logs).expect(rt, "memory");
+    feeds.extend(others.feeds).expect(rt, "memory");
+    let mut logs = chosen(rt, alloc, logs, numbers);
+    let last = logs.pop().expect(rt, "a log");
+    logs.push(changed(last, *change)).expect(rt, "memory");
+    let ends = listened(rt, alloc, feeds, *turns);
+    let ends = chosen(rt, alloc, ends, heard);
+    settles_to(rt, alloc, book, logs, ends, *answer);
+}
+
+/// A log that misses a call.
+const MISSED: Answer = Err(SettleFault::CountDiffers {
+    entries: 2,
+    calls: 1,
+});
+
+/// A log of seat 1 that is not the journal's.
+const STRAY: Answer = Err(SettleFault::Stray(1));
+
+/// A call of another tree's seat 2.
+const ANOTHER: Answer = Err(SettleFault::Stray(2));
+
+/// A listener of instance 1 that has not ended.
+const MISSING: Answer = Err(SettleFault::NotEnded(1));
+
+/// A listener of instance 1 that was handed another batch than that of this sequence number.
+const DIFFERS: Answer = Err(SettleFault::HandedDiffers {
+    instance: 1,
+    place: 4,
+});
+
+/// A second listener of instance 1.
+const TWICE: Answer = Err(SettleFault::HandedDiffers {
+    instance: 1,
+    place: 0,
+});
+
+/// Three pipes, each of which was handed a record and the end batch.
+const PIPES: &str = "+++f1!.2!.3!.";
+
+/// A seat's call is stray where it stands under another sequence number than in the journal, before or after a cut. A
+/// listener has ended once it was handed the end batch. What it was handed must be what its pipe was sent, also where
+/// the journal was cut before or after the pipe was closed.
+const CASES: [Case<'static>; 25] = [
+    ("a,b", "", "01", Change::No, "", 9, Ok(2)),
+    ("a,b", "", "0", Change::No, "", 9, MISSED),
+    ("a,b", "a,c", "03", Change::No, "", 9, ANOTHER),
+    ("ab", "", "0", Change::No, "", 9, Ok(2)),
+    ("ab", "", "0", Change::Exchanged, "", 9, STRAY),
+    ("ab|cd", "", "0", Change::Numbered(0, 1), "", 9, Ok(4)),
+    ("ab|cd", "", "0", Change::Numbered(0, 0), "", 9, STRAY),
+    ("ab|cd", "", "0", Change::Numbered(1, 1), "", 9, STRAY),
+    ("ab|cd", "", "0", Change::Numbered(3, 4), "", 9, Ok(4)),
+    ("ab|cd", "", "0", Change::Numbered(3, 5), "", 9, STRAY),
+    ("+f!.", "", "0", Change::No, "0", 2, Ok(5)),
+    ("+f!.", "", "0", Change::No, "", 2, MISSING),
+    ("+f!.", "", "0", Change::No, "0", 1, MISSING),
+    ("+f!.", "+g!.", "0", Change::No, "1", 2, DIFFERS),
+    ("+f!.", "+g!.", "0", Change::No, "01", 2, TWICE),
+    ("+f!.", "+.", "0", Change::No, "1", 2, DIFFERS),
+    ("+", "", "0", Change::No, "", 2, MISSING),
+    ("+f|!.g", "", "0", Change::No, "0", 2, Ok(6)),
+    ("+f!.|g", "", "0", Change::No, "0", 2, Ok(6)),
+    ("+f!.|g", "", "0", Change::No, "", 2, MISSING),
+    (PIPES, "", "0", Change::No, "012", 9, Ok(13)),
+    (PIPES, "", "0", Change::No, "201", 9, Ok(13)),
+    (PIPES, "", "0", Change::No, "01", 9, NO_THIRD),
+    (PIPES, "", "0", Change::No, "20", 9, NO_SECOND),
+    (PIPES, "", "0", Change::No, "12", 9, MISSING),
+];
+
+/// The listeners of the second and of the third pipe that have not ended.
+const NO_SECOND: Answer = Err(SettleFault::NotEnded(2));
+
+const NO_THIRD: Answer = Err(SettleFault::NotEnded(3));
+
+#[test]
+fn books_are_settled(rt: HostRuntime) {
+    for case in &CASES {
+        settles(&rt, rt.alloc(), case);
+    }
+}
+
+/// A file is made, the root is looked at, the file is removed, and what this raised is pumped, 5,000 times.
+#[test]
+fn a_large_book_is_settled(rt: HostRuntime) {
+    let alloc = rt.alloc();
+    let mut story = String::new(alloc);
+    story.push('+').expect(&rt, "memory");
+    for _ in 0..5_000 {
+        story.push_str("f?F!").expect(&rt, "memory");
+    }
+    story.push('.').expect(&rt, "memory");
+    let case = (story.as_str(), "", "0", Change::No, "0", 5_001, Ok(20_003));
+    settles(&rt, alloc, &case);
+}
+
+/// A step of the listener at a tilde, and what any other byte of a story stands for. Returns whether no pipe was full.
+fn takes_turn<L: Ledger, S: Sink>(
+    rt: &impl Abort,
     alloc: Global,
     held: &mut Held<L>,
     seat: &mut Seat<L>,
-    instance: u32,
-) -> Result<Feed, Refusal> {
-    let (_, feed) = held.open_piped(seat, 16, 2)?;
-    let watch = Call::AddWatch {
-        instance,
-        path: Path::parse(alloc, b"/")?,
-        mask: IN_CREATE,
-    };
-    held.call(seat, watch)?;
-    feed.ok_or(Refusal::Ebadf)
+    listener: &mut Listening<S>,
+    byte: u8,
+) -> bool
+    requires { IsSoundListener (state_of_listener S.record_list S.is_open listener.old) }
+    ensures { IsSoundListener (state_of_listener S.record_list S.is_open listener.new) }
+{
+    if byte == b'~' {
+        let _ = listener.step();
+        return true;
+    }
+    makes(rt, alloc, held, seat, (1, byte))
 }
 
-/// The book of a tree with three pipes, each of which was handed a record and then the end batch; the log, and the
-/// feeds.
-fn three_pipes<L: Ledger>(
+/// Plays a story on a new tree of one instance, whose listener makes a step at each tilde. Returns what the seat and
+/// the listener leave, and how many pumps found the pipe full.
+fn interleaved<L: Ledger, S: Sink>(
+    rt: &impl Abort,
     alloc: Global,
     blank: Blank,
-) -> Result<(Book, SeatLog, [Feed; 3]), Refusal>
+    slots: usize,
+    sink: S,
+    story: &[u8],
+) -> (Book, SeatLog, Ended<S>, u32)
     requires name { blank.name ≡ L.name }
     requires parts { (blank.parts ≡ L.parts) × (blank.parts ≡ 65537) }
+    requires slots { (1 ≤ slots) × (slots ≤ 65536) }
+    requires is_open { S.is_open sink ≡ true }
 {
-    let (mut held, mut pass) = Held::<L>::new(alloc, blank, Limits::full())?;
-    let mut seat = pass.seat()?;
-    let first = watched(alloc, &mut held, &mut seat, 1)?;
-    let second = watched(alloc, &mut held, &mut seat, 2)?;
-    let third = watched(alloc, &mut held, &mut seat, 3)?;
-    held.call(&mut seat, create(alloc)?)?;
-    for instance in 1..4 {
-        held.pump(&mut seat, instance, 4096)?;
-        held.call(&mut seat, Call::Close { instance })?;
+    let (mut held, mut pass) = Held::<L>::new(alloc, blank, Limits::full()).expect(rt, "a tree");
+    let mut seat = pass.seat().expect(rt, "a seat");
+    let feed = watches(rt, alloc, &mut held, &mut seat, 1, 99, slots);
+    let mut listener = Listening::new(alloc, 7, feed, sink);
+    let mut full = 0u32;
+    for byte in story {
+        if !takes_turn(rt, alloc, &mut held, &mut seat, &mut listener, *byte) {
+            full = full.saturating_add(1);
+        }
     }
     let log = pass.join(seat);
-    Ok((held.dissolve(pass), log, [first, second, third]))
+    (held.dissolve(pass), log, listener.finish(), full)
 }
 
-/// What a listener at a feed comes to.
-fn heard(alloc: Global, feed: Feed) -> Result<End, Refusal> {
-    ended(Listening::new(alloc, 7, feed, MemorySink::new(alloc)).run(&Open, 9))
-}
-
-/// The answer for that book, where the listeners of these pipes are handed in, in this order.
-fn settled_three(alloc: Global, order: &[usize]) -> Result<Answer, Fail> {
-    let (book, log, [first, second, third]) = three_pipes::<Brand>(alloc, Blank::new(65537))?;
-    let mut ends = [
-        Some(heard(alloc, first)?),
-        Some(heard(alloc, second)?),
-        Some(heard(alloc, third)?),
-    ];
-    let mut logs = Vec::with_capacity(alloc, 1)?;
-    logs.push(log)?;
-    let mut given = Vec::with_capacity(alloc, 3)?;
-    for at in order {
-        given.extend(ends[*at % 3].take())?;
-    }
-    answered(settle(alloc, book, logs, given))
-}
-
-#[test]
-fn a_book_of_three_pipes(rt: HostRuntime) -> Result<(), Fail> {
-    let alloc = rt.alloc();
-    let settled = Ok(Settled {
-        entries: 13,
-        calls: 13,
-    });
-    equal(&rt, settled_three(alloc, &[0, 1, 2])?, settled);
-    equal(&rt, settled_three(alloc, &[2, 0, 1])?, settled);
-    for (order, missing) in [([0, 1], 3), ([2, 0], 2), ([1, 2], 1)] {
-        let answer = settled_three(alloc, &order)?;
-        equal(&rt, answer, Err(SettleFault::NotEnded(missing)));
-    }
-    Ok(())
-}
-
-/// How many calls each of two writers makes.
-const CALLS: u32 = 100;
-
-/// A call of the writer of this name, by its number: it makes its file, writes a byte, moves the file, and takes it
-/// away, in turn.
-fn call_of(alloc: Global, name: u8, number: u32) -> Result<Call, Refusal>
-    ensures { IfOk result (λ call. IsTrue (is_plain call)) }
+/// Plays a story so, with a sink that takes `most` records. Compares what is known of the listener, how many pumps
+/// found the pipe full, how many records its batches have, and what its book comes to.
+fn settles_interleaved(
+    rt: &impl Abort,
+    alloc: Global,
+    slots: usize,
+    most: u64,
+    story: &[u8],
+    wanted: (Known, u32),
+    sizes: &[usize],
+    answer: Answer,
+)
+    requires { (1 ≤ slots) × (slots ≤ 65536) }
 {
-    let file = Path::parse(alloc, &[b'/', b's', b'/', b'a', name])?;
-    let moved = Path::parse(alloc, &[b'/', b's', b'/', b'b', name])?;
-    Ok(Call::File(match number % 4 {
-        0 => FileCall::Create {
-            path: file,
-            mode: 0o644,
-        },
-        1 => FileCall::Write {
-            path: file,
-            offset: 0,
-            bytes: Bytes::from_vec(Vec::from_slice(alloc, b"x")?),
-        },
-        2 => FileCall::Rename {
-            old: file,
-            new: moved,
-        },
-        _ => FileCall::Unlink { path: moved },
-    }))
+    let blank = Blank::new(65537);
+    let sink = CountSink::new(alloc, most);
+    let (book, log, end, full) = interleaved::<Brand, CountSink>(
+        rt, alloc, blank, slots, sink, story,
+    );
+    equal(rt, (known(rt, &end), full), wanted);
+    for (batch, size) in end.handed().iter().zip(sizes) {
+        equal(rt, batch.records.as_slice().len(), *size);
+    }
+    let logs = vec![in alloc; log].expect(rt, "memory");
+    let ends = vec![in alloc; end].expect(rt, "memory");
+    settles_to(rt, alloc, book, logs, ends, answer);
 }
 
-/// Makes the calls of a writer.
-fn writes_all<L: Ledger>(
-    rt: &impl Wait,
+/// A pump follows each of a hundred files, and the pipe has one slot.
+#[test]
+fn a_full_pipe_loses_nothing(rt: HostRuntime) {
+    let alloc = rt.alloc();
+    let mut story = Vec::new(alloc);
+    for name in 128..228 {
+        story.extend_from_slice(&[name, b'!']).expect(&rt, "memory");
+    }
+    story.extend_from_slice(b"~!~.~").expect(&rt, "memory");
+    let wanted = ((Cause::Last, 3, 100), 99);
+    settles_interleaved(&rt, alloc, 1, 999, &story, wanted, &[1, 99, 0], Ok(105));
+}
+
+/// The sink takes one record of three. The listener takes no batch after that, so that one of two slots is free, and
+/// no second one.
+#[test]
+fn a_full_sink_is_not_ended(rt: HostRuntime) {
+    let wanted = ((Cause::Sink(SinkFault::Full), 1, 1), 1);
+    let story = b"fgh!i!~~~j!k!";
+    settles_interleaved(&rt, rt.alloc(), 2, 1, story, wanted, &[3], MISSING);
+}
+
+/// Makes a file and removes it, fifty times.
+fn writes_all<L: Ledger, R: Wait + Abort>(
+    rt: &R,
     alloc: Global,
     tree: &Tree<L>,
     seat: Seat<L>,
     name: u8,
 ) -> Seat<L> {
     let mut seat = seat;
-    for number in 0..CALLS {
-        if let Ok(call) = call_of(alloc, name, number) {
-            let _ = tree.lock(rt).call(&mut seat, call);
-        }
+    for number in 0..100 {
+        let byte = if number % 2 == 0 { name } else { name ^ 32 };
+        let call = call_of(rt, alloc, 1, byte);
+        let _ = tree.lock(rt).call(&mut seat, call);
     }
     seat
 }
 
 /// The book of a tree on which two threads made calls, with no pump and no gate, and the logs. Its law is called
 /// through a guard.
-fn written<L: Ledger + Send + Sync, R: Threads + Wait + Sync>(
+fn written<L: Ledger + Send + Sync, R: Threads + Wait + Abort + Sync>(
     rt: &R,
     alloc: Global,
     blank: Blank,
-) -> Result<(Book, Vec<SeatLog>), Refusal>
+) -> (Book, Vec<SeatLog>)
     requires name { blank.name ≡ L.name }
     requires parts { (blank.parts ≡ L.parts) × (blank.parts ≡ 65537) }
 {
-    let (mut held, mut pass): (Held<L>, Pass<L>) = Held::<L>::new(alloc, blank, Limits::full())?;
-    let mut main = pass.seat()?;
-    let first = pass.seat()?;
-    let second = pass.seat()?;
-    let mut logs = Vec::with_capacity(alloc, 3)?;
-    held.call(&mut main, mkdir(alloc, b"/s")?)?;
+    let (held, mut pass): (Held<L>, Pass<L>) = Held::<L>::new(alloc, blank, Limits::full()).expect(
+        rt, "a tree",
+    );
+    let first = pass.seat().expect(rt, "a seat");
+    let second = pass.seat().expect(rt, "a seat");
     let tree: Tree<L> = Mutex::new(held);
     let shared = &tree;
     let (first, second) = thread::join(
         rt,
-        move || writes_all(rt, alloc, shared, first, b'1'),
-        move || writes_all(rt, alloc, shared, second, b'2'),
+        move || writes_all(rt, alloc, shared, first, b'a'),
+        move || writes_all(rt, alloc, shared, second, b'b'),
     );
     tree.lock(rt).law();
-    logs.push_reserved(pass.join(main));
-    logs.push_reserved(pass.join(first));
-    logs.push_reserved(pass.join(second));
-    Ok((tree.into_inner().dissolve(pass), logs))
-}
-
-/// The same with the ledger of a brand.
-fn both_written<R: Threads + Wait + Sync>(
-    rt: &R,
-    alloc: Global,
-) -> Result<(Book, Vec<SeatLog>), Refusal> {
-    written::<Brand, R>(rt, alloc, Blank::new(65537))
-}
-
-/// How many entries have a refusal as their reply.
-fn refusals_of(book: &Book) -> usize {
-    let mut count = 0usize;
-    for entry in book.journal() {
-        if matches!(entry.reply, Reply::Refused(_)) {
-            count = count.saturating_add(1);
-        }
-    }
-    count
+    let logs = vec![in alloc; pass.join(first), pass.join(second)];
+    (tree.into_inner().dissolve(pass), logs.expect(rt, "memory"))
 }
 
 #[test]
-fn two_threads_without_pumps_are_settled(rt: HostRuntime) -> Result<(), Fail> {
+fn two_threads_without_pumps_are_settled(rt: HostRuntime) {
     let alloc = rt.alloc();
-    let (book, logs) = both_written(&rt, alloc)?;
-    equal(&rt, refusals_of(&book), 0);
-    let none: Vec<End> = Vec::new(alloc);
-    let whole = answered(settle(alloc, book, logs, none))?;
-    equal(
-        &rt,
-        whole,
-        Ok(Settled {
-            entries: 201,
-            calls: 201,
-        }),
-    );
-    Ok(())
+    let (book, logs) = written::<Brand, HostRuntime>(&rt, alloc, Blank::new(65537));
+    for entry in book.journal() {
+        let is_refused = matches!(entry.reply, Reply::Refused(_));
+        equal(&rt, is_refused, false);
+    }
+    let none: Vec<Ended<MemorySink>> = Vec::new(alloc);
+    settles_to(&rt, alloc, book, logs, none, Ok(200));
 }

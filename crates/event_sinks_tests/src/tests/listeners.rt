@@ -9,12 +9,12 @@ ghost use Rattle.event_sinks.specs.Lines.{closing_line, line_of};
 ghost use Rattle.event_sinks.specs.Writing.{port_of};
 ghost use Rattle.event_sinks.specs.Listeners.{IsSoundListener, listener_state, state_of_listener};
 
-use super::feeds::feed_of;
+use super::stories::feed_of;
 use super::*;
+use event_sinks::Step::{Idle, Over, Took};
 use shared_tree::Feed;
 use std::thread;
 use std::thread::Threads;
-use tree_paths::Refusal;
 
 /// Lets the turns of one worker through, from a turn on.
 #[derive(Drop)]
@@ -40,199 +40,128 @@ impl Gate for Lets {
 /// A gate that lets each turn of the listeners of these tests through.
 pub(super) const EACH: Lets = Lets { who: 7, from: 0 };
 
-/// What is known of a listener that has ended: its cause, how many batches it was handed, how many records its sink
-/// took, and whether the sink is open.
-pub(super) type Told = (Cause, usize, u64, bool);
+/// What is known of a listener that has ended: its cause, how many batches it was handed, and how many records its sink
+/// took.
+pub(super) type Known = (Cause, usize, u64);
 
-/// What is known of a listener that has ended.
-pub(super) fn told<S: Sink>(ended: &Ended<S>) -> Told {
+/// What is known of a listener that has ended. Its sink is closed.
+pub(super) fn known<S: Sink>(rt: &impl Abort, ended: &Ended<S>) -> Known {
     let sink = ended.sink();
-    (
-        ended.cause(),
-        ended.handed().len(),
-        sink.taken(),
-        sink.is_open(),
-    )
+    equal(rt, sink.is_open(), false);
+    (ended.cause(), ended.handed().len(), sink.taken())
 }
 
-/// Runs a listener for at most `turns` turns.
-fn ran<S: Sink>(
-    alloc: Global,
-    story: &str,
-    sink: S,
-    gate: &Lets,
-    turns: u64,
-) -> Result<Told, Refusal>
+const FULL_SINK: Cause = Cause::Sink(SinkFault::Full);
+
+const WRITE_FAULT: Cause = Cause::Sink(SinkFault::Write);
+
+/// A story, how many records a sink takes, three steps of a listener at the story, and what is known of it once it is
+/// finished then.
+type Steps = (&'static str, u64, [Step; 3], Known);
+
+/// Compares the steps of a listener, and what is known of it once it is finished then.
+fn steps<S: Sink>(rt: &impl Abort, alloc: Global, row: &Steps, sink: S)
     requires { S.is_open sink ≡ true }
 {
-    let feed = feed_of(alloc, story)?;
-    let ended = Listening::new(alloc, 7, feed, sink).run(gate, turns);
-    Ok(told(&ended))
-}
-
-/// Whether the next steps of a listener are these.
-pub(super) fn steps<S: Sink>(listener: &mut Listening<S>, wanted: &[Step]) -> bool
-    requires { IsSoundListener (state_of_listener S.record_list S.is_open listener.old) }
-    ensures { IsSoundListener (state_of_listener S.record_list S.is_open listener.new) }
-{
+    let (story, _, wanted, ends) = row;
+    let mut listener = Listening::new(alloc, 7, feed_of(rt, alloc, story), sink);
     for step in wanted {
-        if listener.step() != *step {
-            return false;
-        }
+        equal(rt, (*story, listener.step()), (*story, *step));
     }
-    true
+    let ended = listener.finish();
+    equal(rt, (ended.number(), ended.instance()), (7, 1));
+    equal(rt, (*story, known(rt, &ended)), (*story, *ends));
 }
 
-/// Whether the steps of a listener are these, and what is known of it when it is finished then.
-fn stepped<S: Sink>(
-    alloc: Global,
-    story: &str,
-    sink: S,
-    wanted: &[Step],
-) -> Result<(bool, Told), Refusal>
-    requires { S.is_open sink ≡ true }
-{
-    let feed = feed_of(alloc, story)?;
-    let mut listener = Listening::new(alloc, 7, feed, sink);
-    let as_wanted = steps(&mut listener, wanted);
-    Ok((as_wanted, told(&listener.finish())))
-}
+const STEPS: [Steps; 7] = [
+    ("+", 9, [Idle, Idle, Idle], (Cause::Given, 0, 0)),
+    ("+fg!h", 9, [Took, Idle, Idle], (Cause::Given, 1, 2)),
+    ("+fg!h!", 9, [Took, Took, Idle], (Cause::Given, 2, 3)),
+    ("+fg!.", 9, [Took, Took, Over], (Cause::Last, 2, 2)),
+    ("+.", 9, [Took, Over, Over], (Cause::Last, 1, 0)),
+    ("+f!g!.", 9, [Took, Took, Took], (Cause::Last, 3, 2)),
+    ("+fgh!i!.", 1, [Took, Over, Over], (FULL_SINK, 1, 1)),
+];
 
+/// With a sink, and with the same in a box.
 #[test]
-fn steps_say_what_they_did(rt: HostRuntime) -> Result<(), Fail> {
+fn steps_say_what_they_did(rt: HostRuntime) {
     let alloc = rt.alloc();
-    let full = Cause::Sink(SinkFault::Full);
-    for (story, most, wanted, ends) in [
-        (
-            "",
-            9,
-            [Step::Idle, Step::Idle, Step::Idle],
-            (Cause::Given, 0, 0, false),
-        ),
-        (
-            "fg!h",
-            9,
-            [Step::Took, Step::Idle, Step::Idle],
-            (Cause::Given, 1, 2, false),
-        ),
-        (
-            "fg!h!",
-            9,
-            [Step::Took, Step::Took, Step::Idle],
-            (Cause::Given, 2, 3, false),
-        ),
-        (
-            "fg!.",
-            9,
-            [Step::Took, Step::Took, Step::Over],
-            (Cause::Last, 2, 2, false),
-        ),
-        (
-            ".",
-            9,
-            [Step::Took, Step::Over, Step::Over],
-            (Cause::Last, 1, 0, false),
-        ),
-        (
-            "fgh!i!.",
-            1,
-            [Step::Took, Step::Over, Step::Over],
-            (full, 1, 1, false),
-        ),
-    ] {
-        let (as_wanted, told) = stepped(alloc, story, CountSink::new(alloc, most), &wanted)?;
-        equal(&rt, (story, as_wanted), (story, true));
-        equal(&rt, (story, told), (story, ends));
+    for row in &STEPS {
+        steps(&rt, alloc, row, CountSink::new(alloc, row.1));
+        let sink = CountSink::new(alloc, row.1);
+        let boxed: Box<dyn Sink> = Box::new(alloc, sink).expect(&rt, "memory");
+        steps(&rt, alloc, row, boxed);
     }
-    Ok(())
 }
 
-#[test]
-fn stopped_sinks_take_the_first_records(rt: HostRuntime) -> Result<(), Fail> {
-    let alloc = rt.alloc();
-    for most in 0..5 {
-        let sink = StopSink::new(MemorySink::new(alloc), most);
-        let told = ran(alloc, "fg!hij!", sink, &EACH, 9)?;
-        let handed = if most < 2 { 1 } else { 2 };
-        equal(
-            &rt,
-            (most, told),
-            (most, (Cause::Sink(SinkFault::Full), handed, most, false)),
-        );
-    }
-    let sink = StopSink::new(MemorySink::new(alloc), 5);
-    equal(
-        &rt,
-        ran(alloc, "fg!hij!", sink, &EACH, 9)?,
-        (Cause::Turns, 2, 5, false),
-    );
-    Ok(())
-}
+/// A story; the worker whose turns a gate lets through, from a turn on, and how many turns the listener has; how many
+/// records its sink takes, and how often a write fails once a number of bytes is written; what is known of the listener
+/// then, and what its sink wrote.
+type Run = (
+    &'static str,
+    (u32, u64, u64),
+    (u64, usize, usize),
+    Known,
+    &'static str,
+);
 
-/// The lines of the records of batches of two and of three, and where they begin.
-const FIVE: &[u8] =
-    b"1 00000100 0 f\n1 00000100 0 g\n1 00000100 0 h\n1 00000100 0 i\n1 00000100 0 j\n";
+const OPEN: (u32, u64, u64) = (7, 0, 9);
 
-const LINE: usize = 15;
+const ALL: (u64, usize, usize) = (9, 0, 0);
 
-#[test]
-fn stopped_sinks_take_no_other_records(rt: HostRuntime) -> Result<(), Fail> {
-    let alloc = rt.alloc();
-    for most in 0..6u8 {
-        let mut text = Vec::with_capacity(alloc, 99)?;
-        let sink = StopSink::new(LineSink::new(alloc, &mut text), u64::from(most));
-        let (_, _, taken, _) = ran(alloc, "fg!hij!", sink, &EACH, 9)?;
-        equal(&rt, taken, u64::from(most));
-        let mut wanted = Vec::from_slice(alloc, &FIVE[..LINE * usize::from(most)])?;
-        wanted.extend_from_slice(b"closed ")?;
-        wanted.extend_from_slice(&[b'0' + most, b'\n'])?;
-        equal(&rt, text.as_slice(), wanted.as_slice());
-    }
-    Ok(())
-}
+const NONE: &str = "closed 0\n";
 
-#[test]
-fn gates_hold_turns_back(rt: HostRuntime) -> Result<(), Fail> {
-    let alloc = rt.alloc();
-    for (who, from, turns, ends) in [
-        (7, 9, 9, (Cause::Turns, 0, 0, false)),
-        (7, 8, 9, (Cause::Turns, 1, 1, false)),
-        (7, 0, 2, (Cause::Turns, 2, 2, false)),
-        (7, 0, 3, (Cause::Last, 3, 2, false)),
-        (7, 0, u64::MAX, (Cause::Last, 3, 2, false)),
-        (8, 0, 9, (Cause::Turns, 0, 0, false)),
-    ] {
-        let gate = Lets { who, from };
-        let told = ran(alloc, "f!g!.", MemorySink::new(alloc), &gate, turns)?;
-        assert_eq!(rt; told, ends, "{who} {from} {turns}");
-    }
-    Ok(())
-}
+/// A listener ends with the end batch, with its last turn, which a gate may hold back, or with a record that its sink
+/// refuses: it was then handed that batch, and the sink has the records before.
+const RUNS: [Run; 14] = [
+    ("+f!g!.", (7, 9, 9), ALL, (Cause::Turns, 0, 0), NONE),
+    ("+f!g!.", (7, 8, 9), ALL, (Cause::Turns, 1, 1), ONE),
+    ("+f!g!.", (7, 0, 2), ALL, (Cause::Turns, 2, 2), TWO),
+    ("+f!g!.", (7, 0, 3), ALL, (Cause::Last, 3, 2), TWO),
+    ("+f!g!.", (7, 0, u64::MAX), ALL, (Cause::Last, 3, 2), TWO),
+    ("+f!g!.", (8, 0, 9), ALL, (Cause::Turns, 0, 0), NONE),
+    ("+f!g!", OPEN, (9, 10, 1), (WRITE_FAULT, 1, 0), CUT_NONE),
+    ("+f!g!", OPEN, (9, 10, 99), (WRITE_FAULT, 1, 0), CUT_LINE),
+    ("+fg!hij!", OPEN, (0, 0, 0), (FULL_SINK, 1, 0), NONE),
+    ("+fg!hij!", OPEN, (1, 0, 0), (FULL_SINK, 1, 1), ONE),
+    ("+fg!hij!", OPEN, (2, 0, 0), (FULL_SINK, 2, 2), TWO),
+    ("+fg!hij!", OPEN, (3, 0, 0), (FULL_SINK, 2, 3), THREE),
+    ("+fg!hij!", OPEN, (4, 0, 0), (FULL_SINK, 2, 4), FOUR),
+    ("+fg!hij!", OPEN, (5, 0, 0), (Cause::Turns, 2, 5), FIVE),
+];
 
-/// A sheet whose writes take all they are given, up to `room` bytes together, and then fail `faults` times.
-fn sheet(text: &mut Vec<u8>, room: usize, faults: usize) -> ShortWriter<'_> {
-    ShortWriter {
-        text,
+/// A line that was cut off, with a closing line and without one.
+const CUT_NONE: &str = "1 00000100closed 0\n";
+
+const CUT_LINE: &str = "1 00000100";
+
+/// Runs such a listener, and compares what comes of it.
+fn runs(rt: &impl Abort, alloc: Global, (story, turns, sink, ends, wanted): &Run) {
+    let mut text = Vec::with_capacity(alloc, 99).expect(rt, "memory");
+    let writer = ShortWriter {
+        text: &mut text,
         step: usize::MAX,
-        room,
-        faults,
-    }
+        free: sink.1,
+        faults: sink.2,
+    };
+    let sink = StopSink::new(LineSink::new(alloc, writer), sink.0);
+    let listener = Listening::new(alloc, 7, feed_of(rt, alloc, story), sink);
+    let gate = Lets {
+        who: turns.0,
+        from: turns.1,
+    };
+    let ended = listener.run(&gate, turns.2);
+    equal(rt, (*turns, known(rt, &ended)), (*turns, *ends));
+    drop(ended);
+    equal(rt, (*turns, text.as_slice()), (*turns, wanted.as_bytes()));
 }
 
 #[test]
-fn a_failed_write_ends_a_listener(rt: HostRuntime) -> Result<(), Fail> {
-    let alloc = rt.alloc();
-    for (faults, wants) in [
-        (1, b"1 00000100closed 0\n".as_slice()),
-        (usize::MAX, b"1 00000100".as_slice()),
-    ] {
-        let mut text = Vec::with_capacity(alloc, 99)?;
-        let sink = LineSink::new(alloc, sheet(&mut text, 10, faults));
-        let told = ran(alloc, "f!g!", sink, &EACH, 9)?;
-        equal(&rt, told, (Cause::Sink(SinkFault::Write), 1, 0, false));
-        equal(&rt, text.as_slice(), wants);
+fn listeners_end(rt: HostRuntime) {
+    for row in &RUNS {
+        runs(&rt, rt.alloc(), row);
     }
-    Ok(())
 }
 
 /// Runs a listener whose sink writes lines. Where it ended by the end batch, and no write failed, the writer got the
@@ -253,22 +182,15 @@ fn writes_lines<W: Write + Send + Drop>(
 }
 
 #[test]
-fn a_listener_writes_its_records(rt: HostRuntime) -> Result<(), Fail> {
+fn a_listener_writes_its_records(rt: HostRuntime) {
     let alloc = rt.alloc();
-    for (story, wants) in [
-        (".", b"closed 0\n".as_slice()),
-        (
-            "fg!h!.",
-            b"1 00000100 0 f\n1 00000100 0 g\n1 00000100 0 h\nclosed 3\n".as_slice(),
-        ),
-    ] {
-        let mut text = Vec::with_capacity(alloc, 99)?;
-        let ended = writes_lines(alloc, feed_of(alloc, story)?, &mut text, &EACH);
+    for (story, wanted) in &[("+.", NONE), ("+fg!h!.", THREE)] {
+        let mut text = Vec::with_capacity(alloc, 99).expect(&rt, "memory");
+        let ended = writes_lines(alloc, feed_of(&rt, alloc, story), &mut text, &EACH);
         equal(&rt, ended.cause(), Cause::Last);
         drop(ended);
-        equal(&rt, text.as_slice(), wants);
+        equal(&rt, text.as_slice(), wanted.as_bytes());
     }
-    Ok(())
 }
 
 /// Drops a listener after `count` steps.
@@ -293,66 +215,27 @@ fn drops_elsewhere<S: Sink, R: Threads>(rt: &R, listener: Listening<S>, count: u
     );
 }
 
-/// What a listener at two batches and the end batch wrote, by the number of steps after which it was dropped.
-const WRITTEN: [&[u8]; 5] = [
-    b"closed 0\n",
-    b"1 00000100 0 f\nclosed 1\n",
-    b"1 00000100 0 f\n1 00000100 0 g\nclosed 2\n",
-    b"1 00000100 0 f\n1 00000100 0 g\nclosed 2\n",
-    b"1 00000100 0 f\n1 00000100 0 g\nclosed 2\n",
-];
-
-#[test]
-fn a_dropped_listener_closes_once(rt: HostRuntime) -> Result<(), Fail> {
-    let alloc = rt.alloc();
-    let mut count: u32 = 0;
-    for wants in &WRITTEN {
-        let mut text = Vec::with_capacity(alloc, 99)?;
-        let sink = LineSink::new(alloc, &mut text);
-        drops(
-            Listening::new(alloc, 7, feed_of(alloc, "f!g!.")?, sink),
-            count,
-        );
-        equal(&rt, (count, text.as_slice()), (count, *wants));
-
-        let mut text = Vec::with_capacity(alloc, 99)?;
-        let sink = LineSink::new(alloc, &mut text);
-        drops_elsewhere(
-            &rt,
-            Listening::new(alloc, 7, feed_of(alloc, "f!g!.")?, sink),
-            count,
-        );
-        equal(&rt, (count, text.as_slice()), (count, *wants));
-        count = count.saturating_add(1);
+/// Drops a listener at two batches and the end batch after `count` steps, in another thread or in this one. Compares
+/// what its sink wrote.
+fn drops_at<R: Threads + Abort>(rt: &R, alloc: Global, is_thread: bool, count: u32, wanted: &str) {
+    let mut text = Vec::with_capacity(alloc, 99).expect(rt, "memory");
+    let sink = LineSink::new(alloc, &mut text);
+    let listener = Listening::new(alloc, 7, feed_of(rt, alloc, "+f!g!."), sink);
+    if is_thread {
+        drops_elsewhere(rt, listener, count);
+    } else {
+        drops(listener, count);
     }
-    Ok(())
+    equal(rt, (count, text.as_slice()), (count, wanted.as_bytes()));
 }
 
-/// A listener with a sink in a box.
-fn boxed(alloc: Global, feed: Feed, sink: Box<dyn Sink>) -> Listener
-    requires { ⟦<Box<dyn Sink> as Sink>⟧.is_open sink ≡ true }
-    ensures { IsSoundListener
-        (state_of_listener ⟦<Box<dyn Sink> as Sink>⟧.record_list ⟦<Box<dyn Sink> as Sink>⟧.is_open result) }
-{
-    Listener::new(alloc, 1, feed, sink)
-}
+/// After how many steps a listener is dropped, and what its sink wrote.
+const DROPPED: [(u32, &str); 5] = [(0, NONE), (1, ONE), (2, TWO), (3, TWO), (4, TWO)];
 
 #[test]
-fn a_sink_in_a_box_is_heard(rt: HostRuntime) -> Result<(), Fail> {
-    let alloc = rt.alloc();
-    let sink: Box<dyn Sink> = Box::new(alloc, CountSink::new(alloc, 2))?;
-    let mut listener = boxed(alloc, feed_of(alloc, "fgh!")?, sink);
-    equal(&rt, listener.step(), Step::Took);
-    let ended = listener.finish();
-    equal(
-        &rt,
-        told(&ended),
-        (Cause::Sink(SinkFault::Full), 1, 2, false),
-    );
-    equal(&rt, (ended.number(), ended.instance()), (1, 1));
-
-    let sink: Box<dyn Sink> = Box::new(alloc, CountSink::new(alloc, 9))?;
-    let told = ran(alloc, "f!g!.", sink, &EACH, 9)?;
-    equal(&rt, told, (Cause::Last, 3, 2, false));
-    Ok(())
+fn a_dropped_listener_closes_once(rt: HostRuntime) {
+    for (count, wanted) in &DROPPED {
+        drops_at(&rt, rt.alloc(), false, *count, wanted);
+        drops_at(&rt, rt.alloc(), true, *count, wanted);
+    }
 }

@@ -1,93 +1,41 @@
-//! Fault injection: each allocation of a listener, and of settling, fails in turn. Without the shim each runs once,
-//! without failures.
+//! Fault injection: each allocation of a listener with one of three sinks, and of settling, fails in turn. Without the
+//! shim each runs once, without failures.
 
 ghost use Rattle.std.specs.Prelude.{◌≡◌, true};
 
-use super::audits::heard_out;
-use super::feeds::feed_of;
-use super::listeners::{EACH, Told, told};
+use super::books::listened;
+use super::listeners::{EACH, known};
+use super::stories::{Left, feed_of, plays_out};
 use super::*;
 use refuser::{refuse, was_refused};
-use shared_tree::Feed;
 
-/// More allocations than a listener here makes.
+/// More allocations than a listener or settling makes here.
 const MOST: u32 = 100;
 
-/// What is known of a listener whose allocation `k` fails, and whether one failed.
-fn refused_at<S: Sink>(alloc: Global, feed: Feed, sink: S, k: u32) -> (Told, bool)
+/// Runs a listener at five batches of a record each and the end batch while allocation `k` fails. Returns whether one
+/// failed, and whether the listener ended as it may then, with its sink closed.
+fn listens<S: Sink>(rt: &impl Abort, alloc: Global, sink: S, k: u32) -> (bool, bool)
     requires { S.is_open sink ≡ true }
 {
+    let feed = feed_of(rt, alloc, "+f!g!h!i!j!.");
     let listener = Listening::new(alloc, 7, feed, sink);
     let _ = refuse(alloc, k);
     let ended = listener.run(&EACH, 9);
     let is_refused = was_refused(alloc);
-    (told(&ended), is_refused)
-}
-
-/// The same, of five batches of a record each and the end batch, and of one of three sinks.
-fn listens(alloc: Global, which: u32, k: u32) -> Result<(Told, bool), Fail> {
-    let feed = feed_of(alloc, "f!g!h!i!j!.")?;
-    let mut text = Vec::with_capacity(alloc, 999)?;
-    Ok(match which {
-        0 => refused_at(alloc, feed, MemorySink::new(alloc), k),
-        1 => refused_at(alloc, feed, CountSink::new(alloc, 9), k),
-        _ => refused_at(alloc, feed, LineSink::new(alloc, &mut text), k),
-    })
-}
-
-/// Whether a listener may end so after five batches of a record each and the end batch, out of memory or not.
-fn may_be_told(told: Told) -> bool {
-    let (cause, handed, taken, is_open) = told;
-    let as_caused = match cause {
-        Cause::Last => handed == 6 && taken == 5,
-        Cause::Memory => taken < 6 && handed as u64 == taken,
-        Cause::Sink(SinkFault::Memory) => taken < 5 && handed as u64 == taken + 1,
+    let (cause, handed, taken) = known(rt, &ended);
+    let is_well = match cause {
+        Cause::Last => !is_refused && handed == 6 && taken == 5,
+        Cause::Memory => is_refused && taken < 6 && handed as u64 == taken,
+        Cause::Sink(SinkFault::Memory) => is_refused && taken < 5 && handed as u64 == taken + 1,
         _ => false,
     };
-    as_caused && !is_open
+    (is_refused, is_well)
 }
 
-/// How many allocations a listener makes, if all is well when each fails in turn: it ends out of memory, its sink
-/// closed. None if one was not well.
-fn refused_in_turn(alloc: Global, which: u32) -> Result<Option<u32>, Fail> {
-    for k in 1..MOST {
-        let (told, is_refused) = listens(alloc, which, k)?;
-        if !may_be_told(told) || is_refused == (told.0 == Cause::Last) {
-            return Ok(None);
-        }
-        if !is_refused {
-            return Ok(Some(k - 1));
-        }
-    }
-    Ok(None)
-}
-
-/// Whether allocations can be made to fail.
-fn has_refuser(alloc: Global) -> bool {
-    let has = refuse(alloc, MOST);
-    let _ = was_refused(alloc);
-    has
-}
-
-#[test]
-fn each_growth_of_a_listener(rt: HostRuntime) -> Result<(), Fail> {
-    let alloc = rt.alloc();
-    let has_refuser = has_refuser(alloc);
-    for which in 0..3 {
-        let count = refused_in_turn(alloc, which)?;
-        let is_well = matches!(count, Some(count) if (count > 0) == has_refuser);
-        assert!(rt; is_well, "sink {which}: {count:?}");
-    }
-    Ok(())
-}
-
-/// Settles a book while allocation `k` fails. Whether all is well, and whether one failed.
-fn settled_at(alloc: Global, k: u32) -> Result<(bool, bool), Fail> {
-    let (book, log, end) = heard_out(alloc, "f!.", 2)?;
-    let mut logs = Vec::with_capacity(alloc, 1)?;
-    logs.push(log)?;
-    let mut ends = Vec::with_capacity(alloc, 1)?;
-    ends.push(end)?;
+/// Settles a book while allocation `k` fails. Returns whether one failed, and whether the answer is as it must be then.
+fn settles(rt: &impl Abort, alloc: Global, k: u32) -> (bool, bool) {
+    let Left { book, logs, feeds } = plays_out(rt, alloc, "+f!.");
+    let ends = listened(rt, alloc, feeds, 2);
     let _ = refuse(alloc, k);
     let answer = settle(alloc, book, logs, ends);
     let is_refused = was_refused(alloc);
@@ -99,20 +47,40 @@ fn settled_at(alloc: Global, k: u32) -> Result<(bool, bool), Fail> {
             calls: 5,
         })
     };
-    Ok((answer == wanted, is_refused))
+    (is_refused, answer == wanted)
+}
+
+/// A listener of one of three sinks, or settling, while allocation `k` fails.
+fn fails_at(rt: &impl Abort, alloc: Global, which: u32, k: u32) -> (bool, bool) {
+    let mut text = Vec::with_capacity(alloc, 999).expect(rt, "memory");
+    match which {
+        0 => listens(rt, alloc, MemorySink::new(alloc), k),
+        1 => listens(rt, alloc, CountSink::new(alloc, 9), k),
+        2 => listens(rt, alloc, LineSink::new(alloc, &mut text), k),
+        _ => settles(rt, alloc, k),
+    }
+}
+
+/// How many allocations it makes, each of which fails in turn.
+fn fails_in_turn(rt: &impl Abort, alloc: Global, which: u32) -> u32 {
+    for k in 1..MOST {
+        let (is_refused, is_well) = fails_at(rt, alloc, which, k);
+        equal(rt, (which, k, is_well), (which, k, true));
+        if !is_refused {
+            return k - 1;
+        }
+    }
+    MOST
 }
 
 #[test]
-fn each_growth_of_settling(rt: HostRuntime) -> Result<(), Fail> {
+fn each_allocation_of_a_listener_and_of_settling(rt: HostRuntime) {
     let alloc = rt.alloc();
-    let has_refuser = has_refuser(alloc);
-    for k in 1..MOST {
-        let (is_well, is_refused) = settled_at(alloc, k)?;
-        assert!(rt; is_well, "allocation {k}");
-        if !is_refused {
-            assert_eq!(rt; k > 1, has_refuser);
-            return Ok(());
-        }
+    let has_refuser = refuse(alloc, MOST);
+    let _ = was_refused(alloc);
+    for which in 0..4 {
+        let count = fails_in_turn(&rt, alloc, which);
+        let got = (which, count > 0, count < MOST);
+        equal(&rt, got, (which, has_refuser, true));
     }
-    Err(Fail::new("settling makes more allocations"))
 }

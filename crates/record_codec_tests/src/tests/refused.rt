@@ -58,36 +58,35 @@ fn is_copied(alloc: Global) -> Result<bool, AllocError> {
     Ok(event.copy()? == event)
 }
 
-/// The events of `SPELLED`.
+/// The events of `SPELLED`, or none of them where they are read wrong.
 fn decoded(alloc: Global) -> Result<Vec<Event>, AllocError> {
     match decode(alloc, &SPELLED) {
         Ok(events) => Ok(events),
-        Err(_) => Err(AllocError),
+        Err(CodecFault::Memory) => Err(AllocError),
+        Err(_) => Ok(Vec::new(alloc)),
     }
 }
 
 /// Whether those are spelled so.
 fn is_decoded(alloc: Global) -> Result<bool, AllocError> {
-    match decode(alloc, &SPELLED) {
-        Ok(events) => Ok(spells(&events, &SPELLED)),
-        Err(CodecFault::Memory) => Err(AllocError),
-        Err(_) => Ok(false),
-    }
+    Ok(spells(&decoded(alloc)?, &SPELLED))
 }
 
-/// How many allocations of a call were made to fail, each with the right result. `None` if a result was wrong.
-fn refused_in_turn(alloc: Global, which: u32, event: &Event) -> Result<Option<u32>, AllocError> {
+/// How many allocations a call makes, each of which fails in turn.
+fn fails_in_turn(rt: &impl Abort, alloc: Global, which: u32, event: &Event) -> u32 {
     for k in 1..MOST {
-        let mut text = Vec::from_slice(alloc, b"before")?;
+        let mut text = Vec::from_slice(alloc, b"before").expect(rt, "memory");
         let _ = refuse(alloc, k);
-        let told = is_right(alloc, which, event, &mut text);
-        match (told, was_refused(alloc)) {
-            (Err(_), true) if text.as_slice() == b"before".as_slice() => {}
-            (Ok(true), false) => return Ok(Some(k - 1)),
-            _ => return Ok(None),
+        let answer = is_right(alloc, which, event, &mut text);
+        let is_refused = was_refused(alloc);
+        if !is_refused {
+            equal(rt, (which, answer), (which, Ok(true)));
+            return k - 1;
         }
+        let got = (which, answer.is_err(), text.as_slice());
+        equal(rt, got, (which, true, b"before".as_slice()));
     }
-    Ok(None)
+    MOST
 }
 
 #[test]
@@ -97,14 +96,14 @@ fn each_growth_of_each_call(rt: HostRuntime) {
     let _ = was_refused(alloc);
     let event = named(&rt, alloc, 1, IN_CREATE, 0, b"f");
     for which in 0..CALLS {
-        let count = refused_in_turn(alloc, which, &event).expect(&rt, "memory");
-        let is_well = matches!(count, Some(count) if (count > 0) == has_refuser);
-        assert!(rt; is_well, "call {which}: {count:?}");
+        let count = fails_in_turn(&rt, alloc, which, &event);
+        let got = (which, count > 0, count < MOST);
+        equal(&rt, got, (which, has_refuser, true));
     }
 }
 
-/// Whether calls that take no memory answer as they should.
-fn is_told(events: &[Event], name: &Name) -> bool {
+/// Whether the calls that take no memory answer as they should.
+fn are_answered(events: &[Event], name: &Name) -> bool {
     let mut len: usize = 0;
     for event in events {
         len = len.saturating_add(record_len(event));
@@ -115,17 +114,6 @@ fn is_told(events: &[Event], name: &Name) -> bool {
         && name.bytes() == b"f".as_slice()
 }
 
-#[test]
-fn some_calls_take_no_memory(rt: HostRuntime) {
-    let alloc = rt.alloc();
-    let events = two_events(&rt, alloc);
-    let name = name(&rt, alloc, b"f");
-    let _ = refuse_from(alloc, 1);
-    let is_told = is_told(&events, &name);
-    let is_refused = was_refused(alloc);
-    holds(&rt, "told", is_told && !is_refused);
-}
-
 /// Whether a name of these bytes is made and copied. `Err` means out of memory.
 fn is_made_and_copied(alloc: Global, bytes: &[u8]) -> Result<bool, AllocError> {
     Ok(match Name::new(alloc, bytes)? {
@@ -134,19 +122,23 @@ fn is_made_and_copied(alloc: Global, bytes: &[u8]) -> Result<bool, AllocError> {
     })
 }
 
+/// Nor do some calls.
 #[test]
 fn short_names_take_no_memory(rt: HostRuntime) {
     let alloc = rt.alloc();
+    let events = two_events(&rt, alloc);
+    let name = name(&rt, alloc, b"f");
     let has_refuser = refuse_from(alloc, 1);
+    let are_answered = are_answered(&events, &name);
     let short = is_made_and_copied(alloc, &LONG[..NAME_IN_PLACE]);
     let shortest = is_made_and_copied(alloc, &LONG[..1]);
     let is_refused = was_refused(alloc);
-    let are_made = matches!(short, Ok(true)) && matches!(shortest, Ok(true));
-    holds(&rt, "made", are_made && !is_refused);
+    equal(&rt, (short, shortest), (Ok(true), Ok(true)));
+    equal(&rt, (are_answered, is_refused), (true, false));
     let _ = refuse_from(alloc, 1);
     let long = is_made_and_copied(alloc, &LONG);
     let is_refused = was_refused(alloc);
-    equal(&rt, long.is_err(), has_refuser);
-    equal(&rt, is_refused, has_refuser);
+    let got = (long.is_err(), is_refused);
+    equal(&rt, got, (has_refuser, has_refuser));
     equal(&rt, is_made_and_copied(alloc, &LONG), Ok(true));
 }

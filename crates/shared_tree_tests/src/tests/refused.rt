@@ -1,241 +1,173 @@
-//! Fault injection: each allocation of each step of a story fails in turn. The seat keeps nothing, no feed is given
-//! anything, and the same step then succeeds as if nothing had happened. Without the shim each step runs once.
+//! Fault injection: each allocation of each act of a story, and of a cut, fails in turn. It is then not done, the
+//! seat keeps nothing, no feed is given anything, and the same act then succeeds as if nothing had happened. Without
+//! the shim each runs once.
 
 ghost use Rattle.std.specs.Prelude.{◌≡◌};
 
 use super::*;
 use refuser::{refuse, refuse_from, was_refused};
-use std::test::Fail;
+use std::marker::Brand;
 use tree_core::Kept;
 
-/// More allocations than a step makes.
+/// More allocations than an act makes.
 const MOST: u32 = 100;
 
-/// A step of each kind, so that each vector outgrows its first capacity.
-const STORY: [Step; 22] = [
-    Step::Opens(16, 4, Says::Instance(1)),
-    Step::Watches(1, Says::Wd(1)),
-    Step::Creates("/a", Says::File),
-    Step::Pumps(1, Says::Records),
-    Step::Opens(16, 4, Says::Instance(2)),
-    Step::Watches(2, Says::Wd(1)),
-    Step::Creates("/b", Says::File),
-    Step::Pumps(2, Says::Records),
-    Step::Pumps(1, Says::Records),
-    Step::Opens(16, 4, Says::Instance(3)),
-    Step::Opens(16, 4, Says::Instance(4)),
-    Step::Opens(16, 4, Says::Instance(5)),
-    Step::Inits(Says::Instance(6)),
-    Step::Watches(6, Says::Wd(1)),
-    Step::Creates("/a-name-that-is-not-stored-in-place", Says::File),
-    Step::Reads(6, Says::Records),
-    Step::Closes(6, Says::Done),
-    Step::Closes(1, Says::Done),
-    Step::Pumps(2, Says::Records),
-    Step::Closes(2, Says::Done),
-    Step::Closes(3, Says::Done),
-    Step::Creates("/d", Says::File),
+/// An act of each kind, so that each vector outgrows its first capacity.
+const STORY: [(Act, Says); 22] = [
+    (Act::Opens(16, 4), Says::Instance(1)),
+    (Act::Watches(1), Says::Wd(1)),
+    (Act::Creates("/a"), Says::Number(2)),
+    (Act::Pumps(1, 4096), Says::Records),
+    (Act::Opens(16, 4), Says::Instance(2)),
+    (Act::Watches(2), Says::Wd(1)),
+    (Act::Creates("/b"), Says::Number(3)),
+    (Act::Pumps(2, 4096), Says::Records),
+    (Act::Pumps(1, 4096), Says::Records),
+    (Act::Opens(16, 4), Says::Instance(3)),
+    (Act::Opens(16, 4), Says::Instance(4)),
+    (Act::Opens(16, 4), Says::Instance(5)),
+    (Act::Inits, Says::Instance(6)),
+    (Act::Watches(6), Says::Wd(1)),
+    (
+        Act::Creates("/a-name-that-is-not-stored-in-place"),
+        Says::Number(4),
+    ),
+    (Act::Reads(6), Says::Records),
+    (Act::Closes(6), Says::Done),
+    (Act::Closes(1), Says::Done),
+    (Act::Pumps(2, 4096), Says::Records),
+    (Act::Closes(2), Says::Done),
+    (Act::Closes(3), Says::Done),
+    (Act::Creates("/d"), Says::Number(5)),
 ];
 
-/// Where an allocation fails.
-#[derive(Clone, Copy)]
-enum Does {
-    Step(Step),
-    Cut,
-}
+/// Before which act of the story a cut is tried.
+const CUT_BEFORE: usize = 8;
 
-/// What came of it.
-#[derive(Clone, Copy, PartialEq, Eq)]
-enum Came {
-    Refused,
-    /// There are fewer allocations, and it was done.
-    Done,
-    Wrong,
-}
-
-/// What is seen of a tree at its end: what the seat kept, what the feeds of the first two instances gave, the sequence
-/// number of the last entry, and how many entries there are and how many records wait.
+/// What is seen of a tree at its end: what the seat kept, what the feeds gave, and the last sequence number.
 #[derive(Debug, Drop, PartialEq, Eq)]
 struct Seen {
     kept: Vec<Kept>,
-    first: Vec<Batch>,
-    second: Vec<Batch>,
-    place: u64,
-    counts: (usize, Option<usize>, Option<usize>),
+    given: Vec<Batch>,
+    last: u64,
 }
 
-impl<L: Ledger> Stage<L> {
-    /// All that the feed of an instance gives.
-    fn given(&mut self, instance: u32) -> Result<Vec<Batch>, Refusal> {
-        let mut batches = Vec::new(self.alloc);
-        for _ in 0..MOST {
-            if let Some(batch) = self.takes(instance) {
-                batches.push(batch)?;
-            }
-        }
-        Ok(batches)
-    }
-
-    /// What is seen of it at its end.
-    fn seen(&mut self) -> Result<Seen, Refusal> {
-        let first = self.given(1)?;
-        let second = self.given(2)?;
-        let kept = match self.seat.take() {
-            Some(seat) => self.pass.join(seat).kept.into_vec(),
-            None => Vec::new(self.alloc),
-        };
-        let state = self.held.state();
-        Ok(Seen {
-            kept,
-            first,
-            second,
-            place: state.last_place(),
-            counts: (state.journal().len(), state.waiting(1), state.waiting(2)),
-        })
-    }
-
-    /// Makes a step. Whether it lacked memory, and whether it came to what is wanted.
-    fn tries(&mut self, step: Step) -> (bool, bool) {
-        match self.says(step) {
-            Some((said, wanted)) => (said == Says::Fails(Refusal::Enomem), said == wanted),
-            None => (false, false),
+/// What is seen of a tree at its end.
+fn seen_of<L: Ledger>(rt: &impl Abort, alloc: Global, stage: Stage<L>) -> Seen {
+    let Stage {
+        held,
+        mut pass,
+        seat,
+        mut feeds,
+        ..
+    } = stage;
+    let mut given = Vec::new(alloc);
+    for feed in &mut feeds {
+        for _ in 0..4 {
+            given.extend(feed.take()).expect(rt, "memory");
         }
     }
-
-    /// The outcome of a step whose allocation `k` fails.
-    fn refused_at(&mut self, does: Does, k: u32) -> Came {
-        let _ = refuse(self.alloc, k);
-        let tried = match does {
-            Does::Cut => cut_short(&self.held.cut()),
-            Does::Step(step) => self.tries(step),
-        };
-        came_of(was_refused(self.alloc), tried)
+    Seen {
+        kept: pass.join(seat).kept.into_vec(),
+        given,
+        last: held.state().last_place(),
     }
 }
 
-/// Whether a cut lacked memory, and whether it was made.
-fn cut_short(told: &Result<u64, Refusal>) -> (bool, bool) {
-    match told {
-        Ok(_) => (false, true),
-        Err(refusal) => (*refusal == Refusal::Enomem, false),
-    }
-}
-
-/// The outcome, whether or not an allocation failed.
-fn came_of(is_refused: bool, (lacked, is_done): (bool, bool)) -> Came {
-    match is_refused {
-        true if lacked => Came::Refused,
-        false if is_done => Came::Done,
-        _ => Came::Wrong,
-    }
-}
-
-/// What is seen of a tree after the first steps, the step in which an allocation fails, if any, and the rest.
-fn seen_after<L: Ledger>(
+/// Plays the story, where allocation `k` of the act at this index fails, or of a cut before it. Whether one failed, and
+/// what is seen at the end.
+fn fails_at<L: Ledger>(
+    rt: &impl Abort,
     alloc: Global,
     blank: Blank,
-    first: &[Step],
-    refused: Option<(Does, u32)>,
-    rest: &[Step],
-) -> Result<(Came, Seen), Refusal>
+    at: usize,
+    is_cut: bool,
+    k: u32,
+) -> (bool, Seen)
     requires name { blank.name ≡ L.name }
     requires parts { (blank.parts ≡ L.parts) × (blank.parts ≡ 65537) }
 {
-    let mut stage = Stage::<L>::new(alloc, blank, Limits::full())?;
-    stage.sits()?;
-    let mut is_well = stage.plays(first) == first.len();
-    let mut came = Came::Refused;
-    if let Some((does, k)) = refused {
-        came = stage.refused_at(does, k);
-    }
-    if came == Came::Refused {
-        is_well = is_well && stage.plays(rest) == rest.len();
-    }
-    if !is_well {
-        came = Came::Wrong;
-    }
-    Ok((came, stage.seen()?))
-}
-
-/// What is seen of a tree after these steps, with the ledger of a brand.
-fn told(
-    alloc: Global,
-    first: &[Step],
-    refused: Option<(Does, u32)>,
-    rest: &[Step],
-) -> Result<(Came, Seen), Refusal> {
-    seen_after::<Brand>(alloc, Blank::new(65537), first, refused, rest)
-}
-
-/// How many allocations a step after the first ones makes, if all is well when each fails in turn. None if not.
-fn refused_in_turn(alloc: Global, at: usize, does: Does) -> Result<Option<u32>, Refusal> {
+    let mut stage = Stage::<L>::new(rt, alloc, blank, Limits::full());
     let (first, rest) = STORY.split_at(at.min(STORY.len()));
-    let (_, before) = told(alloc, first, None, &[])?;
-    let (_, whole) = told(alloc, first, None, rest)?;
+    stage.plays(rt, alloc, first);
+    let (act, wanted) = match rest.first() {
+        Some(row) if !is_cut => *row,
+        _ => (Act::Cuts, Says::Cut(at as u64)),
+    };
+    let call = call_of(rt, alloc, act);
+    let _ = refuse(alloc, k);
+    let says = match call {
+        Some(call) => stage.calls(rt, call),
+        None => stage.others(rt, act),
+    };
+    let is_refused = was_refused(alloc);
+    let wanted = if is_refused {
+        Says::Fails(Refusal::Enomem)
+    } else {
+        wanted
+    };
+    equal(rt, (at, k, says), (at, k, wanted));
+    let done = if is_refused || is_cut { 0 } else { 1 };
+    stage.plays(rt, alloc, rest.get(done..).unwrap_or(&[]));
+    (is_refused, seen_of(rt, alloc, stage))
+}
+
+/// How many allocations the act at this index makes, or a cut before it, each of which fails in turn. What is seen at
+/// the end is compared.
+fn fails_in_turn(rt: &impl Abort, alloc: Global, at: usize, is_cut: bool, whole: &Seen) -> u32 {
     for k in 1..MOST {
-        let (came, seen) = told(alloc, first, Some((does, k)), &[])?;
-        if came == Came::Done {
-            return Ok(Some(k - 1));
-        }
-        let (goes_on, seen_at_last) = told(alloc, first, Some((does, k)), rest)?;
-        if came != Came::Refused || goes_on != came || seen != before || seen_at_last != whole {
-            return Ok(None);
+        let (is_refused, seen) = fails_at::<Brand>(rt, alloc, Blank::new(65537), at, is_cut, k);
+        equal(rt, (at, k, &seen), (at, k, whole));
+        if !is_refused {
+            return k - 1;
         }
     }
-    Ok(None)
+    MOST
 }
 
-/// Whether allocations can be made to fail.
-fn has_refuser(alloc: Global) -> bool {
-    let has = refuse(alloc, MOST);
+#[test]
+fn each_allocation_of_each_act(rt: HostRuntime) {
+    let alloc = rt.alloc();
+    let has_refuser = refuse(alloc, MOST);
     let _ = was_refused(alloc);
-    has
-}
-
-#[test]
-fn each_growth_of_each_step(rt: HostRuntime) -> Result<(), Fail> {
-    let alloc = rt.alloc();
-    let mut sum: u32 = 0;
-    for (at, step) in STORY.iter().enumerate() {
-        let count = refused_in_turn(alloc, at, Does::Step(*step))?;
-        assert!(rt; count.is_some(), "step {at}");
-        sum = sum.saturating_add(count.unwrap_or(0));
+    let (_, whole) = fails_at::<Brand>(&rt, alloc, Blank::new(65537), 0, false, MOST);
+    let cut = fails_in_turn(&rt, alloc, CUT_BEFORE, true, &whole);
+    let mut most = 0u32;
+    for at in 0..STORY.len() {
+        most = most.max(fails_in_turn(&rt, alloc, at, false, &whole));
     }
-    assert_eq!(rt; sum > 0, has_refuser(alloc));
-    Ok(())
+    equal(&rt, (most > 0, most < MOST), (has_refuser, true));
+    equal(&rt, (cut > 0, cut < MOST), (has_refuser, true));
 }
 
-#[test]
-fn each_growth_of_a_cut(rt: HostRuntime) -> Result<(), Fail> {
-    let alloc = rt.alloc();
-    let count = refused_in_turn(alloc, 8, Does::Cut)?;
-    let is_well = matches!(count, Some(count) if (count > 0) == has_refuser(alloc));
-    assert!(rt; is_well, "{count:?}");
-    Ok(())
-}
-
-/// Whether seats, feeds and the end of a tree take no memory.
-fn takes_none<L: Ledger>(alloc: Global, blank: Blank) -> Result<bool, Refusal>
+/// Feeds, seats and the end of a tree take no memory.
+fn takes_none<L: Ledger>(rt: &impl Abort, alloc: Global, blank: Blank)
     requires name { blank.name ≡ L.name }
     requires parts { (blank.parts ≡ L.parts) × (blank.parts ≡ 65537) }
 {
-    let mut stage = Stage::<L>::new(alloc, blank, Limits::full())?;
-    stage.sits()?;
-    let (first, _) = STORY.split_at(9.min(STORY.len()));
-    stage.plays(first);
+    let mut stage = Stage::<L>::new(rt, alloc, blank, Limits::full());
+    stage.plays(rt, alloc, &STORY[..9]);
     let _ = refuse_from(alloc, 1);
-    let given = is_batch(&stage.takes(1), 1, 4, 1) && is_batch(&stage.takes(2), 2, 8, 1);
-    let kept = stage.stands() == Some((1, 9));
-    let has_seat = stage.sits().is_ok();
-    let Stage { held, pass, .. } = stage;
+    let given = (stage.takes(1), stage.takes(2));
+    let Stage {
+        held,
+        mut pass,
+        seat,
+        ..
+    } = stage;
+    let kept = pass.join(seat).kept.as_slice().len();
+    let has_seat = pass.seat().is_ok();
     let entries = held.dissolve(pass).entries();
-    Ok(!was_refused(alloc) && given && kept && has_seat && entries == 9)
+    let is_refused = was_refused(alloc);
+    equal(rt, given, (Says::Batch(4, 1), Says::Batch(8, 1)));
+    equal(
+        rt,
+        (kept, has_seat, entries, is_refused),
+        (9, true, 9, false),
+    );
 }
 
 #[test]
-fn some_calls_take_no_memory(rt: HostRuntime) -> Result<(), Fail> {
-    let alloc = rt.alloc();
-    let takes_none = takes_none::<Brand>(alloc, Blank::new(65537))?;
-    assert!(rt; takes_none);
-    Ok(())
+fn some_calls_take_no_memory(rt: HostRuntime) {
+    takes_none::<Brand>(&rt, rt.alloc(), Blank::new(65537));
 }

@@ -1,184 +1,18 @@
-//! Cuts: the tree goes on as if there had been none.
+//! Cuts and forks: a tree that was cut, and a fork, answer as if nothing had happened. The scripts `cut-*` show what is
+//! read after a cut.
 
-use super::dice::{Rng, guessed};
-use super::steps::{Ask, Step, takes};
 use super::*;
-use std::test::Fail;
 
-/// The cut answers this sequence number, and the journal is empty.
-fn cuts(rt: &impl Abort, state: &mut State, place: u64) {
-    equal(rt, state.cut(), Ok(place));
-    equal(rt, state.journal().len(), 0);
-}
+/// A tree, and one that answers as it does.
+type Trees = (State, State);
 
-/// The call answers what is wanted, and its entry has this sequence number.
-fn tells_at(
-    rt: &impl Abort,
-    state: &mut State,
-    place: u64,
-    call: Result<Call, Refusal>,
-    wanted: Result<Reply, Refusal>,
-) {
-    tells(rt, state, call, wanted);
-    equal(rt, state.last_place(), place);
-}
-
-/// The sequence number, the next file number, the next cookie and the next instance of the snapshot.
-fn counts(state: &State) -> (u64, u32, u32, u32) {
-    let kept = state.snapshot();
-    (kept.place, kept.next_number, kept.next_cookie, kept.next_id)
-}
-
-/// The limit, the next descriptor and how much waits of the only instance of the snapshot, which is of this number.
-fn only(state: &State, id: u32) -> Option<(u32, u32, usize)> {
-    match state.snapshot().instances.as_slice() {
-        [row] if row.id == id => Some((row.limit, row.next_wd, row.waiting.as_slice().len())),
-        _ => None,
-    }
-}
-
-/// The watches of the first instance of the snapshot.
-fn watches_kept(state: &State) -> &[(u32, i32, u32)] {
-    match state.snapshot().instances.first() {
-        Some(row) => row.watches.as_slice(),
-        None => &[],
-    }
-}
-
-/// Whether a record that waits in the first instance of the snapshot is this one.
-fn keeps(state: &State, at: usize, record: Record) -> bool {
-    let Some(row) = state.snapshot().instances.first() else {
-        return false;
-    };
-    let Some(event) = row.waiting.as_slice().get(at) else {
-        return false;
-    };
-    let name = event
-        .name
-        .as_ref()
-        .map_or(b"".as_slice(), |name| name.bytes());
-    (event.wd, event.mask, event.cookie) == (record.0, record.1, record.2)
-        && name == record.3.as_bytes()
-}
-
-/// A queue of two records was offered four: the last two are lost.
-pub(super) fn overfull(rt: &impl Abort, alloc: Global) -> Result<State, Refusal> {
-    let mut tree = opened(alloc, Limits::full())?;
-    takes(
-        rt,
-        &mut tree,
-        alloc,
-        &[
-            Step::Does(Ask::Init(2)),
-            Step::Does(Ask::Mkdir("/d")),
-            Step::Does(Ask::Watch(1, "/d", 0x100)),
-        ],
-    );
-    for path in ["/d/a", "/d/b", "/d/c", "/d/d"] {
-        does(rt, &mut tree, create(alloc, path));
-    }
-    Ok(tree)
-}
-
-#[test]
-fn a_cut_keeps_what_waits(rt: HostRuntime) -> Result<(), Fail> {
-    let tree = &mut overfull(&rt, rt.alloc())?;
-    equal(&rt, counts(tree), (0, 2, 1, 1));
-    cuts(&rt, tree, 7);
-    equal(&rt, counts(tree), (7, 7, 1, 2));
-    equal(&rt, only(tree, 1), Some((2, 2, 3)));
-    assert_eq!(&rt; watches_kept(tree), [(2, 1, 0x100)].as_slice());
-    holds(&rt, "a waits", keeps(tree, 0, (1, 0x100, 0, "a")));
-    holds(&rt, "b waits", keeps(tree, 1, (1, 0x100, 0, "b")));
-    holds(&rt, "a mark waits", keeps(tree, 2, (-1, 0x4000, 0, "")));
-    Ok(())
-}
-
-#[test]
-fn what_waited_at_a_cut_is_read(rt: HostRuntime) -> Result<(), Fail> {
-    let alloc = rt.alloc();
-    let tree = &mut overfull(&rt, alloc)?;
-    cuts(&rt, tree, 7);
-    let a = records(alloc, &[(1, 0x100, 0, "a")]);
-    tells_at(&rt, tree, 8, read(1, 32), a);
-    tells_at(&rt, tree, 9, create(alloc, "/d/e"), number(7));
-    let b = records(alloc, &[(1, 0x100, 0, "b")]);
-    tells_at(&rt, tree, 10, read(1, 32), b);
-    tells_at(&rt, tree, 11, create(alloc, "/d/g"), number(8));
-    let rest = records(alloc, &[(-1, 0x4000, 0, ""), (1, 0x100, 0, "g")]);
-    tells_at(&rt, tree, 12, read(1, ALL), rest);
-    Ok(())
-}
-
-#[test]
-fn events_merge_over_a_cut(rt: HostRuntime) -> Result<(), Fail> {
-    let alloc = rt.alloc();
-    let tree = &mut opened(alloc, Limits::full())?;
-    takes(
-        &rt,
-        tree,
-        alloc,
-        &[
-            Step::Does(Ask::Init(10)),
-            Step::Does(Ask::Create("/f")),
-            Step::Does(Ask::Watch(1, "/f", 0x2)),
-            Step::Does(Ask::Write("/f", 0, "a")),
-        ],
-    );
-    cuts(&rt, tree, 4);
-    tells_at(&rt, tree, 5, write(alloc, "/f", 1, b"b"), count(1));
-    hears(&rt, tree, alloc, 1, &[(1, 0x2, 0, "")]);
-    Ok(())
-}
-
-/// Whether the entry with this sequence number has this reply.
-fn has_entry(state: &State, place: u64, reply: &Reply) -> bool {
-    match state.entry(place) {
-        Some(entry) => entry.reply == *reply,
-        None => false,
-    }
-}
-
-#[test]
-fn entries_since_a_cut(rt: HostRuntime) -> Result<(), Fail> {
-    let alloc = rt.alloc();
-    let tree = &mut overfull(&rt, alloc)?;
-    holds(&rt, "the first", has_entry(tree, 1, &instance(1)?));
-    cuts(&rt, tree, 7);
-    does(&rt, tree, create(alloc, "/d/e"));
-    does(&rt, tree, close(1));
-    holds(&rt, "the first since", has_entry(tree, 8, &number(7)?));
-    holds(&rt, "the last", has_entry(tree, 9, &done()?));
-    for place in [0, 1, 7, 10, u64::MAX] {
-        holds(&rt, "no entry", tree.entry(place).is_none());
-    }
-    Ok(())
-}
-
-#[test]
-fn a_cut_makes_room(rt: HostRuntime) -> Result<(), Fail> {
-    let alloc = rt.alloc();
-    let mut limits = Limits::full();
-    limits.journal = 2;
-    let tree = &mut opened(alloc, limits)?;
-    does(&rt, tree, mkdir(alloc, "/a"));
-    does(&rt, tree, mkdir(alloc, "/b"));
-    let third = mkdir(alloc, "/c")?;
-    equal(&rt, made(tree, &third).err(), Some(Refusal::JournalFull));
-    cuts(&rt, tree, 2);
-    has_room_for(&rt, tree, 2);
-    tells_at(&rt, tree, 3, mkdir(alloc, "/c"), number(4));
-    has_room_for(&rt, tree, 1);
-    Ok(())
-}
-
-/// The call answers the same on both trees, with the same sequence number. Whether it gave records.
-pub(super) fn both_tell(rt: &impl Abort, one: &mut State, other: &mut State, call: &Call) -> bool {
-    let told = made(one, call);
-    let other = made(other, call);
-    holds(rt, "both trees answer the same", other == told);
+/// Whether a call gives records. It answers the same on both trees, with the same sequence number.
+fn both_read(rt: &impl Abort, alloc: Global, trees: &mut Trees, ask: Ask) -> bool {
+    let one = trees.0.apply(CALLER, call(rt, alloc, ask));
+    let other = trees.1.apply(CALLER, call(rt, alloc, ask));
+    holds(rt, ask, one == other);
     matches!(
-        told,
+        one,
         Ok(Receipt {
             reply: Reply::Records(_),
             ..
@@ -186,49 +20,223 @@ pub(super) fn both_tell(rt: &impl Abort, one: &mut State, other: &mut State, cal
     )
 }
 
-/// Makes 3,000 calls on both trees, and cuts the one after every seventh. How many gave records.
-fn play(
-    rt: &impl Abort,
-    alloc: Global,
-    one: &mut State,
-    other: &mut State,
-) -> Result<u32, Refusal> {
-    let mut dice = Rng::new(48);
+// Calls to draw from. Their instances are counted back from the last one.
+const DRAWN: [Ask<'static>; 64] = [
+    Ask::Create("/a"),
+    Ask::Create("/b"),
+    Ask::Create("/a/a"),
+    Ask::Create("/a/b"),
+    Ask::Create("/b/a"),
+    Ask::Create("/c/d"),
+    Ask::Create("/a/a/a"),
+    Ask::Mkdir("/a"),
+    Ask::Mkdir("/b"),
+    Ask::Mkdir("/c"),
+    Ask::Mkdir("/a/a"),
+    Ask::Mkdir("/a/b"),
+    Ask::Link("/b", "/d"),
+    Ask::Link("/a/b", "/c/d"),
+    Ask::Link("/c/d", "/b/b"),
+    Ask::Unlink("/a"),
+    Ask::Unlink("/b"),
+    Ask::Unlink("/a/b"),
+    Ask::Unlink("/c/d"),
+    Ask::Rmdir("/a"),
+    Ask::Rmdir("/c"),
+    Ask::Rmdir("/a/a"),
+    Ask::Rename("/a", "/b"),
+    Ask::Rename("/b", "/a"),
+    Ask::Rename("/a/a", "/c"),
+    Ask::Rename("/c/d", "/a/b"),
+    Ask::Exchange("/a", "/c"),
+    Ask::Exchange("/b", "/a/a"),
+    Ask::Write("/b", 0, "abc"),
+    Ask::Write("/a/b", 7, "xy"),
+    Ask::Write("/c/d", 2, ""),
+    Ask::Truncate("/b", 5),
+    Ask::Truncate("/c/d", 1),
+    Ask::Chmod("/", 0o700),
+    Ask::Chmod("/a", 0o711),
+    Ask::Chmod("/b", 0o600),
+    Ask::ReadFile("/b", 0, 9),
+    Ask::ReadFile("/c/d", 1, 4),
+    Ask::List("/"),
+    Ask::List("/a"),
+    Ask::Stat("/b"),
+    Ask::Stat("/a/a"),
+    Ask::Init(1),
+    Ask::Init(3),
+    Ask::InitPiped(2),
+    Ask::Watch(0, "/", 0xfff),
+    Ask::Watch(1, "/", 0x8000_0fff),
+    Ask::Watch(1, "/a", 0x2000_0300),
+    Ask::Watch(2, "/b", 0xfff),
+    Ask::Watch(2, "/a", 0xfff),
+    Ask::Watch(3, "/c", 0x3c0),
+    Ask::Watch(4, "/c/d", 0x8000_0fff),
+    Ask::Watch(4, "/", 0xfff),
+    Ask::Unwatch(1, 1),
+    Ask::Unwatch(2, 2),
+    Ask::Read(0, 47),
+    Ask::Read(1, ALL),
+    Ask::Read(2, 16),
+    Ask::Read(3, ALL),
+    Ask::Pump(2, ALL),
+    Ask::Pump(3, 70),
+    Ask::Pump(4, 50),
+    Ask::Close(1),
+    Ask::Close(4),
+];
+
+/// The call, where `opened` instances were opened.
+fn of_last(ask: Ask<'static>, opened: u32) -> Ask<'static> {
+    match ask {
+        Ask::Watch(back, text, mask) => Ask::Watch(opened.saturating_sub(back), text, mask),
+        Ask::Unwatch(back, wd) => Ask::Unwatch(opened.saturating_sub(back), wd),
+        Ask::Read(back, bytes) => Ask::Read(opened.saturating_sub(back), bytes),
+        Ask::Pump(back, bytes) => Ask::Pump(opened.saturating_sub(back), bytes),
+        Ask::Close(back) => Ask::Close(opened.saturating_sub(back)),
+        ask => ask,
+    }
+}
+
+/// Makes 3,000 calls on both trees, and cuts the second after every seventh. How many gave records.
+fn draws(rt: &impl Abort, alloc: Global, trees: &mut Trees) -> u32 {
+    // Each number is 1664525 times the one before it and 1013904223, modulo 2^32.
+    let mut at = 48u32;
     let mut reads = 0u32;
-    for turn in 1..3_001u32 {
-        let call = guessed(alloc, &mut dice)?;
-        if both_tell(rt, one, other, &call) {
+    let mut opened = 0u32;
+    for turn in 1..3_001u64 {
+        at = at.wrapping_mul(1_664_525).wrapping_add(1_013_904_223);
+        let ask = DRAWN[(at >> 8) as usize % 64];
+        if matches!(ask, Ask::Init(_) | Ask::InitPiped(_)) {
+            opened = opened.saturating_add(1);
+        }
+        if both_read(rt, alloc, trees, of_last(ask, opened)) {
             reads = reads.saturating_add(1);
         }
         if turn % 7 == 0 {
-            equal(rt, other.cut(), Ok(u64::from(turn)));
+            equal(rt, trees.1.cut(), Ok(turn));
         }
     }
-    Ok(reads)
-}
-
-/// Reads all that waits in both trees. How many instances gave records.
-fn drain(rt: &impl Abort, one: &mut State, other: &mut State) -> Result<u32, Refusal> {
-    let mut reads = 0u32;
-    for id in 1..one.snapshot().next_id {
-        if both_tell(rt, one, other, &read(id, ALL)?)
-            || both_tell(rt, one, other, &pump(id, ALL)?)
-        {
-            reads = reads.saturating_add(1);
-        }
-    }
-    Ok(reads)
+    reads
 }
 
 #[test]
-fn cuts_change_no_answer(rt: HostRuntime) -> Result<(), Fail> {
+fn cuts_change_no_answer(rt: HostRuntime) {
     let alloc = rt.alloc();
-    let one = &mut opened(alloc, Limits::full())?;
-    let other = &mut opened(alloc, Limits::full())?;
-    let reads = play(&rt, alloc, one, other)?;
-    holds(&rt, "records are read", reads > 20);
-    cuts(&rt, one, 3_000);
-    let reads = drain(&rt, one, other)?;
-    holds(&rt, "records wait", reads > 20);
-    Ok(())
+    let tree = opened(&rt, alloc, Limits::full());
+    let mut trees = (tree, opened(&rt, alloc, Limits::full()));
+    let reads = draws(&rt, alloc, &mut trees);
+    equal(&rt, trees.0.cut(), Ok(3_000));
+    let mut rest = 0u32;
+    for id in 1..trees.0.snapshot().next_id {
+        for ask in [Ask::Read(id, ALL), Ask::Pump(id, ALL)] {
+            if both_read(&rt, alloc, &mut trees, ask) {
+                rest = rest.saturating_add(1);
+            }
+        }
+    }
+    equal(&rt, (reads > 20, rest > 20), (true, true));
+}
+
+// The queue of two records is offered four: the last two are lost.
+const NINE: [Ask<'static>; 9] = [
+    Ask::Init(2),
+    Ask::Mkdir("/d"),
+    Ask::Watch(1, "/d", 0x100),
+    Ask::Create("/d/a"),
+    Ask::Create("/d/b"),
+    Ask::Create("/d/c"),
+    Ask::Create("/d/d"),
+    Ask::Link("/d/a", "/b"),
+    Ask::InitPiped(4),
+];
+
+const THREE: [Ask<'static>; 3] = [
+    Ask::Watch(2, "/b", 0xfff),
+    Ask::Write("/b", 0, "abc"),
+    Ask::Rename("/d/b", "/d/e"),
+];
+
+/// A directory, a file with two paths, an instance of two records with an overflow mark, and one with a pipe. Nine of
+/// the twelve calls were cut off.
+fn grown(rt: &impl Abort, alloc: Global) -> State {
+    let mut tree = opened(rt, alloc, Limits::full());
+    does(rt, alloc, &mut tree, &NINE);
+    equal(rt, tree.cut(), Ok(9));
+    does(rt, alloc, &mut tree, &THREE);
+    tree
+}
+
+#[test]
+fn a_cut_keeps_what_waits(rt: HostRuntime) {
+    let alloc = rt.alloc();
+    let tree = grown(&rt, alloc);
+    let wanted = [(1, 0x100, 0, "a"), (1, 0x100, 0, "b"), (-1, 0x4000, 0, "")];
+    let wanted = records(&rt, alloc, &wanted);
+    let row = tree.snapshot().instances.first().expect(&rt, "an instance");
+    let are_kept = row.watches.as_slice() == [(2, 1, 0x100)].as_slice()
+        && spelled(&rt, alloc, row.waiting.as_slice()) == wanted;
+    equal(
+        &rt,
+        (row.id, row.limit, row.next_wd, are_kept),
+        (1, 2, 2, true),
+    );
+}
+
+// Calls whose replies show the files, what waits, and each number that comes next. Six give records.
+const TWENTY: [Ask<'static>; 20] = [
+    Ask::Stat("/b"),
+    Ask::List("/d"),
+    Ask::ReadFile("/d/a", 0, 9),
+    Ask::Read(1, ALL),
+    Ask::Pump(2, ALL),
+    Ask::Create("/d/g"),
+    Ask::Mkdir("/e"),
+    Ask::Rename("/d/g", "/e/g"),
+    Ask::Read(1, ALL),
+    Ask::Init(3),
+    Ask::Watch(3, "/e", 0xfff),
+    Ask::Watch(1, "/b", 0xfff),
+    Ask::Exchange("/b", "/e/g"),
+    Ask::Read(3, ALL),
+    Ask::Unlink("/d/a"),
+    Ask::Read(1, ALL),
+    Ask::Unwatch(1, 1),
+    Ask::Close(2),
+    Ask::Rmdir("/gone"),
+    Ask::Read(1, ALL),
+];
+
+#[test]
+fn a_fork_answers_alike_and_apart(rt: HostRuntime) {
+    let alloc = rt.alloc();
+    let tree = grown(&rt, alloc);
+    let fork = tree.fork().expect(&rt, "a fork");
+    let mut apart = tree.fork().expect(&rt, "a fork");
+    let mut trees = (tree, fork);
+    let mut reads = 0u32;
+    for ask in TWENTY {
+        if both_read(&rt, alloc, &mut trees, ask) {
+            reads = reads.saturating_add(1);
+        }
+    }
+    let (tree, fork) = trees;
+    equal(
+        &rt,
+        (
+            reads,
+            fork.last_place(),
+            tree.journal().len(),
+            fork.journal().len(),
+        ),
+        (6, 32, 23, 20),
+    );
+    equal(&rt, (apart.waiting(1), apart.last_place()), (Some(3), 12));
+    drop(tree);
+    does(&rt, alloc, &mut apart, &[Ask::Stat("/b"), Ask::Close(1)]);
+    equal(&rt, (fork.waiting(1), apart.waiting(1)), (Some(0), None));
+    drop(fork);
+    does(&rt, alloc, &mut apart, &[Ask::Pump(2, ALL)]);
 }

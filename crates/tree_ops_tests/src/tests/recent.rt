@@ -37,11 +37,6 @@ impl Made {
     }
 }
 
-fn make(calls: &mut Calls, text: &str) -> Result<Answer, Refusal> {
-    let path = calls.path(text)?;
-    calls.made(&FileCall::Mkdir { path, mode: 0o755 })
-}
-
 /// The path of a directory in another one, of 6 to 8 bytes or of 10 to 12.
 fn inner(alloc: Global, a: u64, b: u64) -> Result<String, Refusal> {
     if b % 2 == 0 {
@@ -53,16 +48,16 @@ fn inner(alloc: Global, a: u64, b: u64) -> Result<String, Refusal> {
 fn prepared(alloc: Global) -> Result<Calls, Refusal> {
     let mut calls = Calls::new(alloc, Limits::full())?;
     for a in 0..TOP {
-        make(&mut calls, format!(in alloc; "/d{a}")?.as_str())?;
+        calls.mkdir(format!(in alloc; "/d{a}")?.as_str())?;
         for b in 1..INNER {
-            make(&mut calls, inner(alloc, a, b)?.as_str())?;
+            calls.mkdir(inner(alloc, a, b)?.as_str())?;
         }
     }
     for text in LONG {
-        make(&mut calls, text)?;
+        calls.mkdir(text)?;
     }
     let [_, _, long] = LONG;
-    make(&mut calls, format!(in alloc; "{long}c")?.as_str())?;
+    calls.mkdir(format!(in alloc; "{long}c")?.as_str())?;
     Ok(calls)
 }
 
@@ -70,7 +65,7 @@ fn prepared(alloc: Global) -> Result<Calls, Refusal> {
 fn few_directories(alloc: Global) -> Result<Calls, Refusal> {
     let mut calls = Calls::new(alloc, Limits::full())?;
     for a in 0..10 {
-        make(&mut calls, format!(in alloc; "/d{a}")?.as_str())?;
+        calls.mkdir(format!(in alloc; "/d{a}")?.as_str())?;
     }
     Ok(calls)
 }
@@ -169,12 +164,12 @@ fn what_is_remembered_is_what_a_walk_finds(rt: HostRuntime) -> Result<(), Fail> 
     let mut made = Made { at: 20261127 };
     for _ in 0..3 {
         let is_alike = are_calls_alike(&mut one, &mut other, &mut made)?;
-        holds(&rt, "tables answer alike", is_alike);
+        assert!(rt; is_alike, "tables answer alike");
         // These forks do not come to twice as many nodes, so they walk.
         let mut fork = one.fork()?;
         let mut fork_of_other = other.fork()?;
         let is_alike = are_calls_alike(&mut fork, &mut fork_of_other, &mut made)?;
-        holds(&rt, "forks answer alike", is_alike);
+        assert!(rt; is_alike, "forks answer alike");
     }
     Ok(())
 }
@@ -191,9 +186,36 @@ fn what_a_fork_remembers_is_what_a_walk_finds(rt: HostRuntime) -> Result<(), Fai
     let mut made = Made { at: 20261128 };
     for _ in 0..3 {
         let is_alike = are_calls_alike(&mut fork, &mut fork_of_other, &mut made)?;
-        holds(&rt, "forks answer alike", is_alike);
+        assert!(rt; is_alike, "forks answer alike");
     }
     let count = fork.table.flat()?.len();
     assert!(rt; MANY < count, "{count} paths");
+    Ok(())
+}
+
+/// Whether a path is resolved as by a walk before a call, and after it.
+fn is_as_walked_after(calls: &mut Calls, ask: Ask) -> Result<bool, Refusal> {
+    let path = calls.path("/d1/inner3/f")?;
+    let is_alike = is_as_walked(&mut calls.table, &path);
+    let call = call_of(calls.alloc, ask)?;
+    calls.made(&call)?;
+    Ok(is_as_walked(&mut calls.table, &path) && is_alike)
+}
+
+/// The directory of the path, or one above it, moves or is removed.
+#[test]
+fn a_directory_that_moves_is_forgotten(rt: HostRuntime) -> Result<(), Fail> {
+    for ask in [
+        Ask::Rename("/d1/inner3", "/moved"),
+        Ask::Rename("/d1", "/moved"),
+        Ask::Rename("/d2/inner5", "/d1/inner3"),
+        Ask::Exchange("/d1/inner3", "/d2"),
+        Ask::Exchange("/d2", "/d1"),
+        Ask::Rmdir("/d1/inner3"),
+    ] {
+        let mut calls = prepared(rt.alloc())?;
+        let is_alike = is_as_walked_after(&mut calls, ask)?;
+        assert!(rt; is_alike, "{ask:?}");
+    }
     Ok(())
 }

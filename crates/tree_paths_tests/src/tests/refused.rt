@@ -7,69 +7,56 @@ use refuser::{refuse, refuse_from, was_refused};
 /// More allocations than a call here makes.
 const MOST: u32 = 50;
 
-/// A path of twelve short names.
+/// A path of twelve short names, and its text.
 const DEEP: &[u8] = b"/a/b/c//d/e/f/g/h/i/j/k/a_name_of_just_23_bytes";
+
+const DEEP_TEXT: &[u8] = b"/a/b/c/d/e/f/g/h/i/j/k/a_name_of_just_23_bytes";
 
 /// A path whose text is longer than what a path has in place.
 const THREE: &[u8] = b"/a_name_of_no_less_than_27_byte/b/c";
-
-const THREE_FIRST: &[u8] = b"a_name_of_no_less_than_27_byte";
 
 /// A path whose text is not the shortest one.
 const DOUBLED: &[u8] = b"/a/bb///ccc/d/e/a_name_of_just_23_bytes";
 
 const SQUEEZED: &[u8] = b"/a/bb/ccc/d/e/a_name_of_just_23_bytes";
 
-/// Two short names.
-fn names_of(alloc: Global) -> Result<Vec<Name>, Refusal> {
-    let mut names = Vec::with_capacity(alloc, 2)?;
-    for bytes in [b"a".as_slice(), b"b"] {
-        if let Some(name) = Name::new(alloc, bytes)? {
-            names.push(name)?;
-        }
-    }
-    Ok(names)
-}
-
 /// Makes a call. Whether its answer is right.
-fn is_right(alloc: Global, which: u32, path: &Path) -> Result<bool, Refusal> {
+fn is_right(alloc: Global, which: u32, path: &Path, names: &Names) -> Result<bool, Refusal> {
     Ok(match which {
-        0 => has_names(&Path::parse(alloc, THREE)?, &[THREE_FIRST, b"b", b"c"]),
+        0 => Path::parse(alloc, THREE)?.text() == Some(THREE),
         1 => Path::parse(alloc, DOUBLED)? == Path::parse(alloc, SQUEEZED)?,
         2 => path.copy()? == *path,
-        3 => count_of_names(&Path::parse(alloc, DEEP)?) == 12,
-        _ => {
-            let names = Names::from_vec(names_of(alloc)?);
-            names.copy()? == names
-        }
+        3 => Path::parse(alloc, DEEP)?.text() == Some(DEEP_TEXT),
+        _ => names.copy()? == *names,
     })
 }
 
-/// How many allocations of a call were made to fail, each with the right result. `None` if a result was wrong.
-fn refused_in_turn(alloc: Global, which: u32, path: &Path) -> Option<u32> {
+/// How many allocations a call makes, each of which fails in turn.
+fn fails_in_turn(rt: &impl Abort, alloc: Global, which: u32, path: &Path, names: &Names) -> u32 {
     for k in 1..MOST {
         let _ = refuse(alloc, k);
-        let told = is_right(alloc, which, path);
-        match (told, was_refused(alloc)) {
-            (Err(Refusal::Enomem), true) => {}
-            (Ok(true), false) => return Some(k - 1),
-            _ => return None,
+        let answer = is_right(alloc, which, path, names);
+        if !was_refused(alloc) {
+            equal(rt, (which, answer), (which, Ok(true)));
+            return k - 1;
         }
+        equal(rt, (which, answer), (which, Err(Refusal::Enomem)));
     }
-    None
+    MOST
 }
 
+/// A path of short names takes one allocation, however many they are.
 #[test]
 fn each_growth_of_each_call(rt: HostRuntime) {
     let alloc = rt.alloc();
     let has_refuser = refuse(alloc, MOST);
     let _ = was_refused(alloc);
     let path = path(&rt, alloc, SQUEEZED);
-    // A path of short names takes one allocation, however many they are.
-    for (which, growths) in [(0, 1), (1, 2), (2, 1), (3, 1), (4, 2)] {
-        let wanted = if has_refuser { growths } else { 0 };
-        let count = refused_in_turn(alloc, which, &path);
-        assert!(rt; count == Some(wanted), "call {which}: {count:?}");
+    let names = two_names(&rt, alloc);
+    for (which, count) in [(0, 1), (1, 2), (2, 1), (3, 1), (4, 1)] {
+        let wanted = if has_refuser { count } else { 0 };
+        let got = fails_in_turn(&rt, alloc, which, &path, &names);
+        equal(&rt, (which, got), (which, wanted));
     }
 }
 
@@ -82,7 +69,7 @@ fn are_refused(alloc: Global, long: &[u8]) -> bool {
 }
 
 /// Whether the calls of two paths that take no memory answer as they should.
-fn are_told(above: &Path, below: &Path) -> bool {
+fn are_answered(above: &Path, below: &Path) -> bool {
     let is_last = match below.last_name() {
         Some(name) => name.as_name().bytes() == b"c".as_slice(),
         None => false,
@@ -102,45 +89,38 @@ fn some_calls_take_no_memory(rt: HostRuntime) {
     let above = path(&rt, alloc, b"/a/b");
     let below = path(&rt, alloc, b"/a/b/c");
     let _ = refuse_from(alloc, 1);
-    let is_told = are_refused(alloc, &long) && are_told(&above, &below);
+    let are_answered = are_refused(alloc, &long) && are_answered(&above, &below);
     let is_refused = was_refused(alloc);
-    holds(&rt, "is_told && !is_refused", is_told && !is_refused);
+    equal(&rt, (are_answered, is_refused), (true, false));
 }
 
-/// Whether a path of these names is made and copied. `Err` means out of memory.
-fn is_made_and_copied(alloc: Global, text: &[u8], names: &[&[u8]]) -> Result<bool, Refusal> {
+/// Whether the path of a text is made and copied, and has the second text. `Err` means out of memory.
+fn is_made_and_copied(alloc: Global, (text, shortest): (&[u8], &[u8])) -> Result<bool, Refusal> {
     let path = Path::parse(alloc, text)?;
-    Ok(has_names(&path, names) && path.copy()? == path)
+    Ok(path.text() == Some(shortest) && path.copy()? == path)
 }
 
-/// Whether paths of short texts are made and copied.
-fn short_ones_are_made(alloc: Global) -> bool {
-    let texts: [(&[u8], &[&[u8]]); 4] = [
-        (b"/", &[]),
-        (b"/a_name_of_just_23_bytes", &[b"a_name_of_just_23_bytes"]),
-        (b"/a/b", &[b"a", b"b"]),
-        (b"///a", &[b"a"]),
-    ];
-    for (text, names) in texts {
-        if !matches!(is_made_and_copied(alloc, text, names), Ok(true)) {
-            return false;
-        }
-    }
-    true
-}
+/// Short texts of paths, and the shortest text of each.
+const SHORT: [(&[u8], &[u8]); 4] = [
+    (b"/", b""),
+    (b"/a_name_of_just_23_bytes", b"/a_name_of_just_23_bytes"),
+    (b"/a/b", b"/a/b"),
+    (b"///a", b"/a"),
+];
 
 #[test]
 fn a_path_of_a_short_text_takes_no_memory(rt: HostRuntime) {
     let alloc = rt.alloc();
     let has_refuser = refuse_from(alloc, 1);
-    let are_made = short_ones_are_made(alloc);
-    let is_refused = was_refused(alloc);
-    holds(&rt, "short ones", are_made && !is_refused);
+    let mut are_made = true;
+    for texts in &SHORT {
+        are_made &= is_made_and_copied(alloc, *texts) == Ok(true);
+    }
+    equal(&rt, (are_made, was_refused(alloc)), (true, false));
     let _ = refuse_from(alloc, 1);
-    let three = is_made_and_copied(alloc, THREE, &[THREE_FIRST, b"b", b"c"]);
-    let is_refused = was_refused(alloc);
-    equal(&rt, three.is_err(), has_refuser);
-    equal(&rt, is_refused, has_refuser);
-    let three = is_made_and_copied(alloc, THREE, &[THREE_FIRST, b"b", b"c"]);
+    let three = is_made_and_copied(alloc, (THREE, THREE));
+    let got = (three.is_err(), was_refused(alloc));
+    equal(&rt, got, (has_refuser, has_refuser));
+    let three = is_made_and_copied(alloc, (THREE, THREE));
     equal(&rt, three, Ok(true));
 }

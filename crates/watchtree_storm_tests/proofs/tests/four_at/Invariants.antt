@@ -1,4 +1,0 @@
-use Rattle.watchtree_storm_tests.proofs.tests.four_at.Given as goal
-
-abbrev pub ghosts-run : goal.ghosts-run
-ghosts-run g a = record { name = a.blank.name; parts = a.blank.parts }
