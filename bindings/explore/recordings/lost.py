@@ -31,7 +31,7 @@ from raised import read_lines  # noqa: E402
 
 REPLAYS = 20
 # The failing seeds whose schedules are replayed until one fails each time.
-TRIED = 3
+TRIED = 2
 # Milliseconds without work after which a client has started, and those that a run takes at most.
 START, LIMIT = 500, 180_000
 AT_REST = "rest"
