@@ -34,7 +34,7 @@ class Recordings(ToolTest):
                 self.assertRegex(file.read(), rf"^# (.*\n# )*Made by `make-recordings {name}` with [^,\n]+.*\.\n[^#]", name)
 
     def set_up_of(self, name: str) -> str:
-        """Writes a recording as one that `run` takes: today it takes no line --."""
+        """Writes a recording as lines that all run before a program starts."""
         return self.write(f"{name}.set-up", *(it for it in lines_of(f"{FOLDER}/{name}.script") if it != "--"))
 
     def test_each_runs_by_run_and_makes_the_same_tree(self) -> None:
@@ -45,7 +45,8 @@ class Recordings(ToolTest):
             with open(listing, "wb") as file:
                 subprocess.run([self.runner, set_up, "--", "sh", f"{UNDER_TESTS}/inside/listing", "/wt"], stdin=subprocess.DEVNULL,
                                stdout=file, check=True)
-            made = self.run_tool([sys.executable, f"{UNDER_TESTS}/run_listing.py", PROGRAM, set_up, listing])
+            script = self.write(f"{name}.script", *lines_of(f"{FOLDER}/{name}.script"))
+            made = self.run_tool([sys.executable, f"{UNDER_TESTS}/run_listing.py", PROGRAM, script, listing])
             self.assertEqual((made.returncode, made.stdout), (0, self.read(f"{name}.listing")), name)
 
     def test_each_runs_by_under(self) -> None:
