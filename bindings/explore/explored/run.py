@@ -11,6 +11,7 @@ A client is built first if it has to be. The runner is out/under of the reposito
 import argparse
 import collections
 import os
+import shlex
 import subprocess
 import sys
 import tempfile
@@ -31,14 +32,16 @@ printf '[package]\\nname = "client"\\nversion = "0.1.0"\\nedition = "2021"\\n[de
 printf '[source.crates-io]\\nreplace-with = "debian"\\n[source.debian]\\ndirectory = "/usr/share/cargo/registry"\\n' \
 >.cargo/config.toml && PATH=/usr/bin:$PATH cargo build --offline --quiet && cp target/debug/client {room}/client"""
 
-# kind: that of check.py. settle: milliseconds without work after which the client has no more to say.
-Client = collections.namedtuple("Client", "package kind settle start build", defaults=("",))
+# kind: that of check.py. settle: milliseconds without work after which the client has no more to say. ignore: a pattern of the
+# paths that it does not report.
+Client = collections.namedtuple("Client", "package kind settle start build ignore", defaults=("", ""))
 ALL = {
     "inotifywait": Client("inotify-tools", "inotifywait", 300,
                           "inotifywait -q -m -r -e create,delete,move --format %w%f|%e /wt/d"),
     "watchdog": Client("python3-watchdog", "signs", 2500, "/usr/bin/python3 {clients}/watchdog_observer.py /wt/d"),
     "pyinotify": Client("python3-pyinotify", "signs", 300, "/usr/bin/python3 {clients}/pyinotify_auto_add.py /wt/d"),
-    "chokidar": Client("node-chokidar", "whole", 2000, "env NODE_PATH=/usr/share/nodejs node {clients}/chokidar.js /wt/d"),
+    "chokidar": Client("node-chokidar", "whole", 2000, "env NODE_PATH=/usr/share/nodejs node {clients}/chokidar.js /wt/d",
+                       ignore=r"\..*\.(sw[px])$|~$|\.subl.*\.tmp"),
     "node": Client("nodejs", "marked", 1000, "node {clients}/fs_watch.js /wt/d"),
     "fsnotify": Client("golang-github-fsnotify-fsnotify-dev", "signs", 500, "{room}/client /wt/d", GO + "fsnotify_walk.go"),
     "notify-go": Client("golang-github-rjeczalik-notify-dev", "unordered", 500, "{room}/client /wt/d", GO + "notify.go"),
@@ -65,9 +68,10 @@ def build(client, room):
         subprocess.run(["sh", "-c", client.build.format(clients=CLIENTS, room=room)], check=True)
 
 
-def check_of(client, script):
+def check_of(client, script=""):
     """Returns the check of a client's runs of a script."""
-    return f"python3 {HERE}/check.py {client.kind} {CALLS.get(script, '')}"
+    ignore = f"--ignore {shlex.quote(client.ignore)}" if client.ignore else ""
+    return f"python3 {HERE}/check.py {ignore} {client.kind} {CALLS.get(script, '')}"
 
 
 def replay(runner, name, client, room):

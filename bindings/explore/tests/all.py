@@ -1,6 +1,6 @@
 """Runs the tests: all.py [--sanitized] RUNNER [CLASS..]. Two go at once.
 
-With --sanitized the tests that need no runner are not run again. The last line is 'explore: N passed, M failed'.
+With --sanitized the tests that need no runner, and those of the recordings, are not run again. The last line is 'explore: N passed, M failed'.
 """
 
 import importlib
@@ -18,7 +18,7 @@ sys.path[:0] = [HERE, os.path.dirname(HERE)]
 WITHOUT_RUNNER = ("units", "parts", "reported", "clients")
 WITH_RUNNER = ("folders", "replays", "found", "faults", "printed", "quiet", "ended", "many")
 # (the sanitized runner is slow, and they test no part of it)
-ONCE = ("recipes",)
+ONCE = ("recipes", "recordings")
 EXAMPLES = ("recursive", "renames", "overflow", "follow", "reload")
 AT_ONCE = 2
 

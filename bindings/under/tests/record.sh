@@ -67,8 +67,8 @@ try() {
     twice "$@"
 }
 
-files=60 seeds=5
-[ -z "${3-}" ] || { files=500; seeds=40; }
+files=500 seeds=5
+[ -z "${3-}" ] || seeds=40
 mkdir -p in/d/e 'in/a name' repository
 echo one >in/d/one
 ln in/d/one in/d/e/again
