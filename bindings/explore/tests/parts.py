@@ -213,6 +213,16 @@ class Kept(Parts):
         with self.assertRaisesRegex(Fault, "left other lines"):
             state.pack(moved, Schedule(7, base.setup, (Line("a"),)))
 
+    def test_turns_that_are_left(self) -> None:
+        base = Schedule(7, ("mkdir /d 755",), (Mark(), Line(None), Line(None), Line(None)))
+        items = (Mark(), Line(None), Line(None, 4), Line(None), ShortRead(9, 2))
+        moved = Moved(Schedule(7, base.setup, items), 2, (9, 1, 2), 1, "turn 2 before request 4, read 9 of at most 2")
+        packed = json.loads(json.dumps(state.pack(moved, base)))
+        self.assertEqual(packed["before"], [[1, 4]])
+        self.assertEqual(state.unpack(packed, base), moved)
+        with self.assertRaisesRegex(Fault, "left other lines or turns"):
+            state.pack(moved, Schedule(7, base.setup, (Mark(), Line(None))))
+
     def refused(self, why: str, folder: str, identity: Dict[str, Any] = SEEDS) -> None:
         """A folder is not taken."""
         with self.assertRaisesRegex(Fault, why):

@@ -105,7 +105,7 @@ class Json(unittest.TestCase):
                   "schedule": SCHEDULE.text()}
         self.assertEqual(said["failures"], [wanted])
         self.assertEqual((said["shrunk"]["replays"], said["shrunk"]["failed"], said["shrunk"]["lines"]), (20, 19, 2))
-        self.assertEqual(said["at_rest"], {"lines": 1, "requests": 0, "status": 0, "fails": False})
+        self.assertEqual(said["at_rest"], {"lines": 1, "turns": 0, "requests": 0, "status": 0, "fails": False})
         for form in ("utf-8", "ascii"):
             self.assertTrue(as_json(report()).decode(form, "ignore"))
 
