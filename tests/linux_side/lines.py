@@ -23,7 +23,7 @@ def lines_of(script):
     for line in script.split(b"\n"):
         words = line.split(b" ")
         words = [it.decode("latin-1") for it in words if it]
-        if words and not words[0].startswith("#"):
+        if words and not words[0].startswith("#") and line != b"--":
             found.append(Line(words[0], tuple(words[1:])))
     return found
 
