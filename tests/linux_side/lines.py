@@ -18,12 +18,12 @@ PATHS = {
 
 
 def lines_of(script):
-    """The lines of a script that are answered."""
+    """The lines of a script that are answered, and its lines `--`."""
     found = []
     for line in script.split(b"\n"):
         words = line.split(b" ")
         words = [it.decode("latin-1") for it in words if it]
-        if words and not words[0].startswith("#") and line != b"--":
+        if words and not words[0].startswith("#"):
             found.append(Line(words[0], tuple(words[1:])))
     return found
 
