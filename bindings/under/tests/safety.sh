@@ -7,16 +7,6 @@ room=$(mktemp -d)
 trap 'rm -rf "$room"' EXIT
 cd "$room" || exit 1
 
-# The processes below one.
-below() {
-    for child in $(cat /proc/"$1"/task/*/children 2>/dev/null); do
-        echo "$child"
-        below "$child"
-    done
-}
-
-# Whether none of these processes is left.
-gone() { for pid; do ! kill -0 "$pid" 2>/dev/null || return 1; done; }
 # The trees that these processes see mounted.
 mounts_of() { for pid; do grep -s 'fuse.watchtree' "/proc/$pid/mounts"; done; }
 

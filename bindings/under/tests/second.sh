@@ -94,13 +94,6 @@ ends() {
 }
 
 # ---- nothing stays behind, whichever process is killed
-below() {
-    for child in $(cat /proc/"$1"/task/*/children 2>/dev/null); do
-        echo "$child"
-        below "$child"
-    done
-}
-gone() { for pid; do ! kill -0 "$pid" 2>/dev/null || return 1; done; }
 # Kills a process of a run, the tool or the Nth below it, while a call of the second program waits.   killed NAME N STATUS
 killed() {
     rm -f out.said
