@@ -55,7 +55,7 @@ class Explorer:
         try:
             if not was_over:
                 self.search(state.found, base, deadline)
-        except (KeyboardInterrupt, Ended, Fault):
+        except (KeyboardInterrupt, Ended, Fault, OSError):
             self.leave(state, base, deadline, False)
             raise
         return self.finish(state, base, deadline, was_over)

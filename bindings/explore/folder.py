@@ -10,7 +10,7 @@ import os
 import re
 import stat
 import sys
-from contextlib import contextmanager
+from contextlib import contextmanager, suppress
 from typing import Callable, Dict, Iterator, Optional, TextIO, Tuple
 from urllib.parse import quote_from_bytes, unquote_to_bytes
 
@@ -77,7 +77,8 @@ class Folder:
             self._create(new, data)
             os.rename(new, name, src_dir_fd=self._top, dst_dir_fd=self._top)
         except OSError:
-            os.unlink(new, dir_fd=self._top)
+            with suppress(FileNotFoundError):
+                os.unlink(new, dir_fd=self._top)
             raise
         self._note(name, hashlib.sha256(data).hexdigest())
 

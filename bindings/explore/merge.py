@@ -40,7 +40,7 @@ def _sum(parts: List[Found]) -> Found:
     found = Found(left=[], is_complete=True)
     for part in parts:
         found.seconds += part.seconds
-        for name in ("runs", "undelivered", "unfinished", "stalled"):
+        for name in ("undelivered", "unfinished", "stalled"):
             setattr(found, name, getattr(found, name) + getattr(part, name))
         found.seeds |= part.seeds
         found.names += part.names

@@ -135,10 +135,11 @@ def by_moves(bench: Bench, base: Result, moves: int, vary: str, jobs: int, first
             if first and found.failures:
                 break
     finally:
+        # (first: a second signal may end the rest of this)
+        found.left = [*waiting.values(), *queue.left()]
+        found.seconds += progress.seconds()
         pool.shutdown(wait=True, cancel_futures=True)
         progress.close()
-        found.seconds += progress.seconds()
-        found.left = [*waiting.values(), *queue.left()]
     found.is_complete = not found.left or (first and bool(found.failures))
     return found
 

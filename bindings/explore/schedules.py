@@ -81,7 +81,9 @@ class Schedule:
     def order(self) -> List[Tuple[int, int, int]]:
         """Returns what is moved, by request: a line, a turn, or a read that is short. Schedules of one script sort by it."""
         lines = [(it.before, 0, at) for at, it in enumerate(self.steps()) if it.before is not None]
-        return sorted(lines + [(it.request, 1, it.records) for it in self.items if isinstance(it, ShortRead)])
+        reads = [(it.request, 1, it.records) for it in self.items if isinstance(it, ShortRead)]
+        # (they are compared item by item: a line comes before a read, as in a search)
+        return [(kind, request, which) for request, kind, which in sorted(lines + reads)]
 
     def size(self) -> Tuple[int, int, int]:
         """Returns what shrinking makes less: the lines, the changes, the marks."""

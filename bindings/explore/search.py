@@ -7,7 +7,7 @@ from typing import TYPE_CHECKING, Callable, Iterator, List, Optional, Set
 
 from deadline import Deadline
 from progress import Progress
-from runs import Bench, Result
+from runs import LINES_LEFT, STALLED, Bench, Result
 
 if TYPE_CHECKING:
     from moves import Moved
@@ -19,7 +19,6 @@ Step = Callable[[], Result]
 class Found:
     """What a search found, what it has searched, and what is left."""
 
-    runs: int = 0
     undelivered: int = 0
     unfinished: int = 0
     stalled: int = 0
@@ -35,16 +34,20 @@ class Found:
 
     def add(self, result: Result) -> None:
         """Counts a run, and keeps it if it fails."""
-        self.runs += 1
         self.undelivered += not result.delivered
-        self.unfinished += result.status == 123
-        self.stalled += result.status == 124
+        self.unfinished += result.status == LINES_LEFT
+        self.stalled += result.status == STALLED
         if result.fails:
             self.failures.append(result)
         if result.seed is not None:
             self.seeds.add(result.seed)
         else:
             self.names.append(result.name)
+
+    @property
+    def runs(self) -> int:
+        """How many runs there were."""
+        return len(self.seeds) + len(self.names)
 
     def rate(self) -> float:
         """Returns how many runs a second there were."""

@@ -18,7 +18,7 @@ from shards import Shard
 
 STATE, FORMAT = "search.json", 1
 # The numbers of a Found that are kept as they are.
-COUNTS = ("runs", "undelivered", "unfinished", "stalled", "seconds")
+COUNTS = ("undelivered", "unfinished", "stalled", "seconds")
 Ranges = List[List[int]]
 # The name of a failing schedule's file, and its run.
 Failing = Tuple[str, Result]
@@ -101,10 +101,12 @@ def numbers(rows: Ranges) -> List[int]:
 def pack(moved: Moved, base: Schedule) -> Dict[str, Any]:
     """Returns what a schedule has that the run at rest has not."""
     lines, reads = moved.schedule.steps(), [it for it in moved.schedule.items if isinstance(it, ShortRead)]
+    packed = {"moves": moved.name, "count": moved.count, "key": list(moved.key), "line": moved.line}
+    # (a run may have other turns than the one at rest)
     if [it.text for it in lines] != [it.text for it in base.steps()]:
-        raise Fault(f"the run of {moved.name} left other lines or turns than the run at rest")
+        return {**packed, "schedule": moved.schedule.text()}
     return {
-        "moves": moved.name, "count": moved.count, "key": list(moved.key), "line": moved.line,
+        **packed,
         "before": [[at, it.before] for at, it in enumerate(lines) if it.before is not None],
         "reads": [[it.request, it.records] for it in reads],
     }
@@ -112,15 +114,21 @@ def pack(moved: Moved, base: Schedule) -> Dict[str, Any]:
 
 def unpack(packed: Dict[str, Any], base: Schedule) -> Moved:
     """Returns the schedule that was packed."""
+    first, second, third = packed["key"]
+    schedule = parse(packed["schedule"]) if "schedule" in packed else _moved(packed, base)
+    return Moved(schedule, packed["count"], (first, second, third), packed["line"], packed["moves"])
+
+
+def _moved(packed: Dict[str, Any], base: Schedule) -> Schedule:
     before, at, items = dict(packed["before"]), -1, []
     for it in base.items:
         at += isinstance(it, Line)
         if not isinstance(it, ShortRead):
             items.append(replace(it, before=before.get(at)) if isinstance(it, Line) else it)
+    if max(before, default=0) > at:
+        raise Fault(f"{packed['moves']}: the run at rest has fewer lines or turns than when the search began")
     items += [ShortRead(request, records) for request, records in packed["reads"]]
-    schedule = replace(base, items=tuple(items))
-    first, second, third = packed["key"]
-    return Moved(schedule, packed["count"], (first, second, third), packed["line"], packed["moves"])
+    return replace(base, items=tuple(items))
 
 
 def read(folder: str) -> State:

@@ -57,8 +57,9 @@ class Pair:
     def bench(self) -> runs.Bench:
         """Returns what its runs have in common. What a check prints is a file of the folder, by the seed."""
         script = f"{self.room}/{self.recording}.script"
-        with open(script, "w", encoding="utf-8", errors="surrogateescape") as file:
-            file.write(script_of(self.recording))
+        if self.words.action == "search":  # (a replay has its schedule)
+            with open(script, "w", encoding="utf-8", errors="surrogateescape") as file:
+                file.write(script_of(self.recording))
         options = ["--quick", "--settle", str(self.client.settle), "--debounce", str(START), "--limit", str(LIMIT)]
         check = f'{explored.check_of(self.client)} 2>"{self.room}/{self.name}.${{WT_SEED:-{AT_REST}}}"'
         return runs.Bench(self.words.runner, options, script, check, explored.words_of(self.client, self.built), self.room, LIMIT)

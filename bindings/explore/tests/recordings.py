@@ -1,5 +1,6 @@
 """The recordings of real programs: each runs by `run`, `under` and `explore`, and is what its program does when it is made again."""
 
+import argparse
 import os
 import re
 import shutil
@@ -32,6 +33,19 @@ class Recordings(ToolTest):
         for name in NAMES:
             with open(f"{FOLDER}/{name}.script", encoding="utf-8") as file:
                 self.assertRegex(file.read(), rf"^# (.*\n# )*Made by `make-recordings {name}` with [^,\n]+.*\.\n[^#]", name)
+
+    def test_what_was_lost_can_be_replayed(self) -> None:
+        sys.path.insert(0, FOLDER)
+        import lost
+        schedules = sorted(os.listdir(lost.LOST))
+        self.assertIn("git-checkout-error.node.schedule", schedules)
+        for name in schedules:
+            recording, client, _ = name.split(".")
+            built = f"{self.room}/built"
+            os.makedirs(f"{built}/{client}", exist_ok=True)
+            words = argparse.Namespace(action="replay", runner="under", built=built)
+            bench = lost.Pair(words, client, recording, self.room).bench()
+            self.assertIn(f"{recording}.{client}", bench.check)
 
     def set_up_of(self, name: str) -> str:
         """Writes a recording as lines that all run before a program starts."""

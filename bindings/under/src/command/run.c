@@ -124,7 +124,8 @@ static void note_second_work(void) {
 static bool is_stalled(void) {
     int64_t now = clock_ms(), since = now - progress_at, last = worked_at > second_worked_at ? worked_at : second_worked_at;
     if (since < options.stall_ms) return false;
-    bool is_any_left = lines_left() || second_goes_on(), is_quiet = now - last >= options.stall_ms;
+    bool is_any_left = lines_left() || second_goes_on() || (options.second && !second_is_at_rest());
+    bool is_quiet = now - last >= options.stall_ms;
     if (!is_quiet && (!is_any_left || since < (int64_t)BUSY_STALLS * options.stall_ms)) return false;
     if (is_waiting_for_lines()) progress_at = now;
     return progress_at != now && (instance_counts.made || is_any_left);

@@ -1,6 +1,7 @@
 /* The filter of the program's system calls. Handed to the supervisor are those of inotify, FIONREAD, what asks for SIGIO,
  * mmap(2) of a file that others see written, which a recording names, and statfs(2), as programs look there whether inotify
- * works; of the second program also those that lock a directory. fanotify and dnotify are refused: they would see no line of the script. A 32-bit program runs without inotify. */
+ * works; of the second program also those that lock a directory. fanotify and dnotify are refused: they would see no line of
+ * the script. A 32-bit program runs without inotify. */
 #include "inotify/filter.h"
 #include "under.h"
 #include <errno.h>
@@ -61,12 +62,16 @@ static const struct sock_filter first[] = {
     RETURN(NONE),
 };
 
+/* The calls that make, move or remove a name, whatever their words. open(2) and openat(2) may. */
+#define NAMING(DO) DO(SYS_mkdir) DO(SYS_mkdirat) DO(SYS_mknod) DO(SYS_mknodat) DO(SYS_rmdir) DO(SYS_unlink) DO(SYS_unlinkat) \
+    DO(SYS_rename) DO(SYS_renameat) DO(SYS_renameat2) DO(SYS_link) DO(SYS_linkat) DO(SYS_symlink) DO(SYS_symlinkat) \
+    DO(SYS_creat) DO(SYS_openat2)
+#define HOLD(call) ON(call, HELD),
+#define CASE(call) case call:
+
 /* Of the second program. */
 static const struct sock_filter turns[] = {
-    ON(SYS_mkdir, HELD), ON(SYS_mkdirat, HELD), ON(SYS_mknod, HELD), ON(SYS_mknodat, HELD), ON(SYS_rmdir, HELD),
-    ON(SYS_unlink, HELD), ON(SYS_unlinkat, HELD), ON(SYS_rename, HELD), ON(SYS_renameat, HELD), ON(SYS_renameat2, HELD),
-    ON(SYS_link, HELD), ON(SYS_linkat, HELD), ON(SYS_symlink, HELD), ON(SYS_symlinkat, HELD), ON(SYS_creat, HELD),
-    ON(SYS_openat2, HELD),
+    NAMING(HOLD)
 
     UNLESS(SYS_open, 4),
     LOAD(args[1]),
@@ -117,9 +122,7 @@ static const struct sock_filter rest[] = {
 
 bool waits_for_turn(int call) {
     switch (call) {
-    case SYS_mkdir: case SYS_mkdirat: case SYS_mknod: case SYS_mknodat: case SYS_rmdir: case SYS_unlink: case SYS_unlinkat:
-    case SYS_rename: case SYS_renameat: case SYS_renameat2: case SYS_link: case SYS_linkat: case SYS_symlink:
-    case SYS_symlinkat: case SYS_creat: case SYS_openat2: case SYS_open: case SYS_openat: return true;
+    NAMING(CASE) case SYS_open: case SYS_openat: return true;
     default: return false;
     }
 }

@@ -247,6 +247,7 @@ static bool answer_readers(struct instance *it) {
     while (it->reader_count && waiting_in(it) > 0) {
         ask_instance("read", it->id);
         uint64_t request = run_lines_before_request();
+        if (!it->reader_count) break;       /* it was interrupted during a turn */
         struct reader first = it->readers[0];
         drop_reader(it, 0);
         answer_read(it, first.req, first.size, request);

@@ -97,6 +97,7 @@ enum second how_second_is(int *status) {
     if (report_fd >= 0 && size == 0) {
         close(report_fd);
         report_fd = -1;
+        second_keeper_pid = 0;      /* the number may be another process's by now */
         if (second.how == SECOND_GOES_ON) second.how = SECOND_IS_LOST;
     }
     *status = second.status;

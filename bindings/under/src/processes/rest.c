@@ -192,11 +192,17 @@ static pid_t parent_of(pid_t task, unsigned long long *started) {
     return parent;
 }
 
-enum side side_of(pid_t task, struct descent *out) {
+enum side side_of(pid_t first, struct descent *out) {
+    pid_t task = first;
     out->count = 0;
     while (task > 1 && task != getpid() && task != second_keeper_pid) {
         unsigned long long started;
         pid_t above = parent_of(task, &started);
+        if (!started && task != first) {    /* it ended meanwhile, and its child has another parent */
+            task = first;
+            out->count = 0;
+            continue;
+        }
         if (out->count < MOST_ANCESTORS) {
             out->of[out->count].started = started;
             out->of[out->count++].task = task;

@@ -13,8 +13,9 @@
 /* How many requests that only look, and calls that begin, a turn has at most: a program may ask again and again for what the
  * client is to do. */
 enum { MOST_LOOKS = 10000, MOST_CALLS = 100 };
-/* After a request more may come soon. And how long a program works at most in a turn without a request. */
-enum { FIRST_WAIT_US = 50, LONGEST_WAIT_US = 2000, LONGEST_NS = 1000000000, IDLE_MS = 20 };
+/* After a request more may come soon. And how long a program works at most in a turn without a request, and how long it is
+ * waited for. */
+enum { FIRST_WAIT_US = 50, LONGEST_WAIT_US = 2000, LONGEST_NS = 1000000000, LONGEST_MS = 10000, IDLE_MS = 20 };
 
 static enum second how;
 static int status;
@@ -48,12 +49,12 @@ static bool has_ended(void) {
 
 /* Waits until it is at rest: all its tasks slept at one moment, and one of them with a request, or for a while, as a task that
  * lost its CPU on its way to sleep seems to sleep too; or some of them wait for a lock, which the client has. It counts as at
- * rest too if it works for long without a request. */
+ * rest too if it works for long without a request, or wakes again and again for long. */
 static void await_rest(uint64_t looks) {
     struct tasks last = { 0 }, now;
     uint64_t worked = UINT64_MAX;
     int64_t same_since = 0, wait_us = FIRST_WAIT_US;
-    for (;; await_request(wait_us)) {
+    for (int64_t began = clock_ms(); clock_ms() - began < LONGEST_MS; await_request(wait_us)) {
         if (take_and_look(&looks)) {
             last = (struct tasks){ 0 };
             worked = UINT64_MAX;

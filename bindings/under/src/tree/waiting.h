@@ -15,7 +15,8 @@ bool take_request(struct fuse_session *session);
 /* Answers the first request of the client that waits. False if none does. */
 bool answer_client(struct fuse_session *session);
 /* Whether the kernel has a lock during the request of the client that is answered now: that of a directory which is listed or
- * changed, or in which it looks for a name. The second program could not change that directory, or look for that name. */
+ * changed, or in which it looks for a name, or that of a file which is written or synced or whose attributes change. The second
+ * program could not use that directory, or that file, meanwhile. */
 bool client_has_lock(void);
 /* Whether the client has a request that waits, and whether the second program has. */
 bool client_waits(void);
