@@ -20,10 +20,9 @@ RUST = set("u8 u16 u32 u64 u128 usize i8 i16 i32 i64 i128 isize Self Ok Err Some
            "FnOnce Drop Send Sync Copy Clone".split())
 DECLARED = ("struct", "enum", "trait", "const")
 NAME = re.compile(r"(?<![\w:])(?:\w+::)*[A-Z]\w*")
-# What is before the fields of a type or the value of a constant. What is there and is no type: attributes, texts, variants and
-# ghost fields.
+# What is before the fields of a type or the value of a constant, and what is no type there: attributes, variants, ghost fields.
 BEFORE = re.compile(r"[^({=]*[({=]")
-NO_TYPE = re.compile(r"#\[.*?\]$|\"(?:[^\"\\]|\\.)*\"|^    [A-Z]\w*|ghost \w+: \{.*?\},$", re.MULTILINE | re.DOTALL)
+NO_TYPE = re.compile(r"#\[.*?\]$|^    [A-Z]\w*|ghost \w+: \{.*?\},$", re.MULTILINE | re.DOTALL)
 # A trait at a type, and the end of the name of what a box of a trait has.
 INSTANCE = re.compile(r"⟦<.*? as (\w+)>⟧|-box\b")
 

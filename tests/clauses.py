@@ -1,7 +1,7 @@
 """The ghost texts of a source, for tests/headline.py: the clauses of contracts and the ghost members, with what each can name.
 
 A source is cut where a line begins with a letter. So a part is a function, a type, a constant, an `impl` or a trait, with all
-that is in it. Comments are skipped.
+that is in it. Comments are skipped, and texts in quotes are empty.
 """
 
 import dataclasses
@@ -9,9 +9,9 @@ import re
 
 from sources import owner_of
 
-COMMENT = re.compile(r"(\"(?:[^\"\\]|\\.)*\"|'(?:[^'\\\n]|\\.)')|//.*$", re.MULTILINE)
+QUOTED = re.compile(r"(\"(?:[^\"\\]|\\.)*\"|'(?:[^'\\\n]|\\.)')|//.*$", re.MULTILINE)
 PART = re.compile(r"^(?=[a-z])", re.MULTILINE)
-HEAD = re.compile(r"(?:pub(?:\(\w+\))? )?(?:unsafe )?(?:extern \"C\" )?(?:const (?=fn))?"
+HEAD = re.compile(r"(?:pub(?:\(\w+\))? )?(?:unsafe )?(?:extern \"\" )?(?:const (?=fn))?"
                   r"(impl|trait|struct|enum|const|type|fn|use|ghost use|mod|\w+!)\s*(\w*)")
 FUNCTION = re.compile(r"\b(?=fn \w)")
 GHOST = re.compile(r"\b(?:(requires|ensures)\*?(?: (\w+))?|ghost (\w+)(?: =|:)) (?=\{)")
@@ -70,7 +70,7 @@ def names_in(text):
 
 def parts_of(text):
     """Yields the parts of a source. Raises ValueError at a part of another kind."""
-    for part in PART.split(COMMENT.sub(lambda it: it[1] or "", text)):
+    for part in PART.split(QUOTED.sub(lambda it: '""' if it[1] else "", text)):
         head = HEAD.match(part)
         if head:
             yield Part(head[1], owner_of(part.splitlines()[0]) if head[1] == "impl" else head[2], part)
