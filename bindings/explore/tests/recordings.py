@@ -118,7 +118,8 @@ class Made(ToolTest):
                 if not self.make(name):
                     continue
                 stored, made = f"{FOLDER}/{name}.script", f"{self.room}/{name}.script"
-                if self.versions(stored) == self.versions(made):
+                # (those that are kept are root's, as whom tar and sqlite3 set modes too)
+                if self.versions(stored) == self.versions(made) and os.geteuid() == 0:
                     self.assertEqual(alike(stored, name), alike(made, name))
                 shutil.move(made, f"{made}.first")
                 self.make(name)
