@@ -1,7 +1,7 @@
 """The reports of --report: JUnit's XML for a server of continuous integration, and JSON.
 
-A report is there from the start of the search on. Until the search has stopped by itself it says so, so a search that could
-not run, or was killed, never looks like a success.
+A report is there from the start of the search on. Until the search has stopped by itself, it says that it has not. So a search
+that could not run, or was killed, never looks like a success.
 """
 
 import json
