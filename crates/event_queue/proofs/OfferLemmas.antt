@@ -82,6 +82,6 @@ after_marked b e p h m = after_offer-waiting b e Marked (offered_marked b.limit 
 
 pub ruleset offers = (offered_merged, offered_kept, offered_lost, offered_marked, after_merged, after_kept, after_lost, after_marked, is_mark-mark)
 
-pub ruleset joins = (marks-push_mark, marks-push_other, keep_last-room)
+pub ruleset enqueues = (marks-push_mark, marks-push_other, keep_last-room)
 
 pub ruleset takes = (marks-take_mark, marks-take_other)

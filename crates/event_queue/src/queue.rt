@@ -87,7 +87,7 @@ impl Queue {
         })
     }
 
-    /// Takes in an event that was raised.
+    /// Takes in an event that was delivered.
     ///
     /// - Where it is identical to the last record that waits (the same wd, mask, cookie and name), it is merged.
     ///   This is looked at first; Linux looks at the limit first.
@@ -104,13 +104,13 @@ impl Queue {
             return Offered::Merged;
         }
         if self.len() < self.limit as usize {
-            self.join(event);
+            self.enqueue(event);
             return Offered::Kept;
         }
         if self.has_mark() {
             return Offered::Lost;
         }
-        self.join(overflow_mark());
+        self.enqueue(overflow_mark());
         Offered::Marked
     }
 
@@ -243,11 +243,11 @@ impl Queue {
     }
 
     /// Appends a record. The slot beyond the limit is for a mark.
-    #[tactic(auto, using(crate::proofs::OfferLemmas::joins))]
+    #[tactic(auto, using(crate::proofs::OfferLemmas::enqueues))]
     #[inline(always)]
-    fn join(&mut self, event: Event)
+    fn enqueue(&mut self, event: Event)
         requires room { length self.old.waiting ≤ self.old.limit }
-        requires place { self.old.limit ≤ length self.old.waiting → is_mark event ≡ true }
+        requires slot { self.old.limit ≤ length self.old.waiting → is_mark event ≡ true }
         ensures { self.new ≡ record self.old { waiting = self.old.waiting ++ event ∷ [] } }
     {
         if is_mark(&event) {

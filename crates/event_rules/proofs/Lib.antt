@@ -10,3 +10,4 @@ pub mod Others
 pub mod Followed
 pub mod Lost
 mod Moving
+mod Hearing

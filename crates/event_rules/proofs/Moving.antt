@@ -60,11 +60,3 @@ pub next-fits : (w : World) (call : FileCall) (cookie : ℕ) → moves_of w call
 next-fits w call cookie e most =
     let two : cookies_of w call ≡ 2 = ap cookies_for e in
     omega arith
-
--- the notices of a link, by the paths of the call
-pub link-tells : (w : World) (call : FileCall) (cookie : ℕ) (old new : List (List ℕ)) → call ≡ Link old new
-    → notices_of w call cookie ≡ to_self (look w (path_of call)) IN_ATTRIB ++ to_dir (look w) (other_path_of call) Regular IN_CREATE NO_COOKIE
-unfolding link_told
-link-tells w call cookie old new is =
-    subst (λ (x : FileCall). notices_of w x cookie ≡ to_self (look w (path_of x)) IN_ATTRIB ++ to_dir (look w) (other_path_of x) Regular IN_CREATE NO_COOKIE)
-    (sym is) refl

@@ -14,7 +14,7 @@ use Rattle.event_rules.proofs.Removals.{dropped-other, dropped-was, left-either,
 -- ---- files that are not watched
 
 module _ (w : Watching) (n : Notice) (unwatched : watch_of w (told_number n) ≡ None) where
-  raised-none : raised w n ≡ []
+  pub raised-none : raised w n ≡ []
   unfolding raised
   raised-none = ap (raised_at n) unwatched
 
@@ -22,7 +22,7 @@ module _ (w : Watching) (n : Notice) (unwatched : watch_of w (told_number n) ≡
   unfolding ended
   ended-none = ap (ended_by n) unwatched
 
-  left-none : left w n ≡ w
+  pub left-none : left w n ≡ w
   unfolding left
   left-none = ap (left_by w n) unwatched
 
@@ -67,7 +67,7 @@ part-part a b c h k = record {
   last_wd = h.last_wd ∙ k.last_wd;
 }
 
-part-left : (w : Watching) (n : Notice) → IsPartOf (left w n) w
+pub part-left : (w : Watching) (n : Notice) → IsPartOf (left w n) w
 part-left w n = left-either (λ x. IsPartOf x w) w n (part-itself w) (part-dropped w (told_number n))
 
 pub part-after : (w : Watching) (ns : List Notice) → IsPartOf (watches_after w ns) w

@@ -5,7 +5,7 @@ use Rattle.std.proofs.lemmas.List.{append-nil, map-append, take_more}
 use Rattle.record_codec.specs.declared.event.Event.{Event}
 use Rattle.watch_table.specs.Watching.{Watch, Watching, removed, watch_of}
 use Rattle.event_rules.specs.declared.notice.Notice.{Notice}
-use Rattle.event_rules.specs.declared.staging.StagedEvent.{StagedEvent}
+use Rattle.event_rules.specs.declared.staged.StagedEvent.{StagedEvent}
 use Rattle.event_rules.specs.Raised.{raised, raised_at, ended, ended_by, ends_watch, event_told, ignored, left}
 use Rattle.event_rules.specs.Raised.{told_number, events_of, wds_ended, watches_after}
 use Rattle.event_rules.specs.Staging.{staged_event}

@@ -1,5 +1,6 @@
 -- The events that notices raise for one instance, by what it watches: inotify(7), "inotify events" and "Notes".
 use Rattle.std.specs.Prelude.{ℕ, ℤ, Bool, true, ◌&&◌, List, [], ◌∷◌, ◌++◌, Option, Some, None, bit_and, if◌then◌else◌}
+use Rattle.std.specs.List.{filter}
 use Rattle.record_codec.specs.declared.bits.TheConstants.{IN_ALL_EVENTS, IN_IGNORED, IN_ONESHOT}
 use Rattle.record_codec.specs.declared.event.Event.{Event}
 use Rattle.watch_table.specs.Masks.{has_any}
@@ -14,6 +15,10 @@ use Rattle.event_rules.specs.declared.notice.Notice.TheVariants.{Told, Gone}
 abbrev pub told_number : Notice → ℕ
 told_number (Told number bits cookie name) = number
 told_number (Gone number) = number
+
+-- the notices of the files that are watched
+abbrev pub heard : (ℕ → Bool) → List Notice → List Notice
+heard watches ns = filter (λ n. watches (told_number n)) ns
 
 -- the bit that says what happened
 abbrev pub event_bit : ℕ → ℕ

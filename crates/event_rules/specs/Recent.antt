@@ -1,8 +1,8 @@
 -- The watches that were searched for last. No public clause cites this module.
 use Rattle.std.specs.Prelude.{◌≡◌}
 use Rattle.watch_table.specs.Watching.{Watching, watch_of}
-use Rattle.event_rules.specs.declared.recent.Found.{Found}
-use Rattle.event_rules.specs.declared.recent.Recent.{Recent}
+use Rattle.event_rules.specs.declared.recent_watch.Found.{Found}
+use Rattle.event_rules.specs.declared.recent_watch.Recent.{Recent}
 
 -- it is the watch of the file
 abbrev pub IsWatchOf : Watching → Found → Type 0

@@ -6,8 +6,8 @@ use Rattle.watch_table.specs.Masks.{has_any}
 use Rattle.watch_table.specs.Watching.{Watch}
 use Rattle.event_rules.specs.declared.ended.EndedWatches.{EndedWatches}
 use Rattle.event_rules.specs.declared.notice.Notice.{Notice}
-use Rattle.event_rules.specs.declared.staging.StagedEvent.{StagedEvent}
-use Rattle.event_rules.specs.declared.staging.StagedEnd.{StagedEnd}
+use Rattle.event_rules.specs.declared.staged.StagedEvent.{StagedEvent}
+use Rattle.event_rules.specs.declared.staged.StagedEnd.{StagedEnd}
 use Rattle.event_rules.specs.Raised.{ends_watch, is_oneshot, told_number}
 
 -- an event that an instance gets

@@ -6,7 +6,7 @@ ghost use Rattle.event_rules.specs.Raised.{ends_watch, told_number};
 ghost use Rattle.event_rules.specs.Staging.{ended_before, is_ended};
 
 use crate::notice::Notice;
-use crate::staging::has_any;
+use crate::staged::has_any;
 use record_codec::bits;
 
 /// Which watches of a file notices of it ended: all of them where it is gone, else the one-shot watches that ask for an

@@ -1,7 +1,7 @@
 //! Laws of the definitions. Each is a function that does nothing, and its contract is the law.
 
 ghost use Rattle.std.specs.Prelude.{◌≡◌, ◌⊎◌, ◌++◌, ◌∷◌, [], ℕ, ℤ, List, All, Contains, Some, None, IsSome, filter};
-ghost use Rattle.std.specs.Prelude.{fold, map, IsTrue};
+ghost use Rattle.std.specs.Prelude.{fold, map, IsTrue, Bool, false};
 ghost use Rattle.std.specs.FinMap as finmap;
 ghost use Rattle.tree_paths.specs.declared.limits.Limits.{Limits};
 ghost use Rattle.inode_table.specs.World.{World, IsWorld};
@@ -15,7 +15,7 @@ ghost use Rattle.watch_table.specs.Watching.{HasEnded, IsSound, Watch, Watching,
 ghost use Rattle.event_rules.specs.declared.notice.Notice.{Notice};
 ghost use Rattle.event_rules.specs.declared.notice.Notice.TheVariants.{Gone};
 ghost use Rattle.event_rules.specs.Table.{notices_of};
-ghost use Rattle.event_rules.specs.Raised.{events_of, ignored, told_number, watches_after, wds_ended};
+ghost use Rattle.event_rules.specs.Raised.{events_of, heard, ignored, told_number, watches_after, wds_ended};
 ghost use Rattle.event_rules.specs.Laws.{AreTied, HasOneEvent, HasWatch, IsPartOf, Mark, TellsNothing, cookies_from};
 ghost use Rattle.event_rules.specs.Laws.{marks_of, marks_told, moves_with, says_ended, watch_without};
 
@@ -44,6 +44,16 @@ pub fn unwatched_files_raise_nothing()
         → wds_ended w ns ≡ [] }
     ensures watches { (w : Watching) (ns : List Notice) → All (λ n. watch_of w (told_number n) ≡ None) ns
         → watches_after w ns ≡ w }
+{}
+
+/// A law: notices of files that an instance does not watch change nothing among others.
+pub fn unwatched_files_need_no_notices()
+    ensures events { (w : Watching) (watches : ℕ → Bool) (ns : List Notice)
+        → ((number : ℕ) → watches number ≡ false → watch_of w number ≡ None)
+        → events_of w (heard watches ns) ≡ events_of w ns }
+    ensures watches { (w : Watching) (watches : ℕ → Bool) (ns : List Notice)
+        → ((number : ℕ) → watches number ≡ false → watch_of w number ≡ None)
+        → watches_after w (heard watches ns) ≡ watches_after w ns }
 {}
 
 /// A law: each event has the descriptor of a watch that was there.

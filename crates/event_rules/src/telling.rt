@@ -7,10 +7,13 @@ ghost use Rattle.record_codec.specs.declared.bits.TheConstants.{IN_ATTRIB, IN_CR
 ghost use Rattle.tree_ops.specs.After.{answer_of};
 ghost use Rattle.tree_ops.specs.Moves.{cookies_of, moves_of};
 ghost use Rattle.tree_ops.specs.declared.call.FileCall.TheVariants.{ReadFile};
+ghost use Rattle.event_rules.specs.Raised.{heard};
 ghost use Rattle.event_rules.specs.Table.{about, answers_byte, chmod_told, create_told, kind_seen, mkdir_told};
-ghost use Rattle.event_rules.specs.Table.{move_told, no_counts, notices_of, path_lost, read_told, rmdir_told};
-ghost use Rattle.event_rules.specs.Table.{swap_told, to_both, to_dir, to_self, truncate_told, unlink_told, write_told};
+ghost use Rattle.event_rules.specs.Table.{link_told, move_told, no_counts, notices_of, path_lost, read_told};
+ghost use Rattle.event_rules.specs.Table.{rmdir_told, swap_told, to_both, to_dir, to_self, truncate_told, unlink_told};
+ghost use Rattle.event_rules.specs.Table.{write_told};
 
+use crate::audience::Audience;
 use crate::notice::{NO_COOKIE, Notice, Notices};
 use crate::subject::Subject;
 use inode_table::{Kind, Seen};
@@ -41,20 +44,20 @@ fn about(kind: Kind, event: u32) -> u32
 impl Notices {
     /// Notifies the directory of a path's last name of an object of this kind there.
     #[tactic(auto, unfolding(crate::specs::Table::to_dir))]
-    fn notify_directory(
+    fn notify_directory<A: Audience>(
         &mut self,
-        at: &Subject,
+        at: &Subject<A>,
         kind: Kind,
         event: u32,
         cookie: u32,
     ) -> Result<(), AllocError>
-        ensures { OnOk result (self.new ≡ self.old
-            ++ to_dir (look (world_of at.now.tree)) at.now.path.names kind event cookie) }
+        ensures { OnOk result (self.new ≡ self.old ++ heard (A.may_watch at.now.audience)
+            (to_dir (look (world_of at.now.at.tree)) at.now.at.path.names kind event cookie)) }
     {
-        let Some(name) = at.as_path().last_place() else {
+        let Some(directory) = at.watched_directory() else {
             return Ok(());
         };
-        let Some(directory) = at.directory() else {
+        let Some(name) = at.as_path().last_name_ref() else {
             return Ok(());
         };
         self.push(Notice::Told {
@@ -82,13 +85,13 @@ impl Notices {
 
     /// Notifies both.
     #[tactic(auto, unfolding(crate::specs::Table::to_both))]
-    fn notify_both(&mut self, at: &Subject, event: u32) -> Result<(), AllocError>
-        ensures { OnOk result (self.new ≡ self.old ++ to_both (look (world_of at.now.tree)) at.now.path.names event) }
+    fn notify_both<A: Audience>(&mut self, at: &Subject<A>, event: u32) -> Result<(), AllocError>
+        ensures { OnOk result (self.new ≡ self.old ++ heard (A.may_watch at.now.audience)
+            (to_both (look (world_of at.now.at.tree)) at.now.at.path.names event)) }
     {
-        let seen = at.object();
-        let kind = kind_seen(seen);
+        let kind = kind_seen(at.object());
         self.notify_directory(at, kind, event, NO_COOKIE)?;
-        self.notify_file(seen, about(kind, event))
+        self.notify_file(at.watched(), about(kind, event))
     }
 
     /// Notifies an object that it loses a path.
@@ -113,9 +116,10 @@ impl Notices {
 }
 
 #[tactic(auto, unfolding(crate::specs::Table::create_told))]
-fn create(told: &mut Notices, at: &Subject) -> Result<(), AllocError>
+fn create<A: Audience>(told: &mut Notices, at: &Subject<A>) -> Result<(), AllocError>
     requires { told.old ≡ [] }
-    ensures { OnOk result (told.new ≡ create_told (look (world_of at.now.tree)) at.now.path.names) }
+    ensures { OnOk result (told.new
+        ≡ heard (A.may_watch at.now.audience) (create_told (look (world_of at.now.at.tree)) at.now.at.path.names)) }
 {
     told.notify_directory(at, Kind::Regular, bits::IN_CREATE, NO_COOKIE)?;
     told.notify_directory(at, Kind::Regular, bits::IN_OPEN, NO_COOKIE)?;
@@ -124,18 +128,20 @@ fn create(told: &mut Notices, at: &Subject) -> Result<(), AllocError>
 }
 
 #[tactic(auto, unfolding(crate::specs::Table::mkdir_told))]
-fn mkdir(told: &mut Notices, at: &Subject) -> Result<(), AllocError>
+fn mkdir<A: Audience>(told: &mut Notices, at: &Subject<A>) -> Result<(), AllocError>
     requires { told.old ≡ [] }
-    ensures { OnOk result (told.new ≡ mkdir_told (look (world_of at.now.tree)) at.now.path.names) }
+    ensures { OnOk result (told.new
+        ≡ heard (A.may_watch at.now.audience) (mkdir_told (look (world_of at.now.at.tree)) at.now.at.path.names)) }
 {
     told.notify_directory(at, Kind::Directory, bits::IN_CREATE, NO_COOKIE)?;
     Ok(())
 }
 
 #[tactic(auto, unfolding(crate::specs::Table::write_told))]
-fn write(told: &mut Notices, at: &Subject, is_given: bool) -> Result<(), AllocError>
+fn write<A: Audience>(told: &mut Notices, at: &Subject<A>, is_given: bool) -> Result<(), AllocError>
     requires { told.old ≡ [] }
-    ensures { OnOk result (told.new ≡ write_told (look (world_of at.now.tree)) at.now.path.names is_given) }
+    ensures { OnOk result (told.new ≡ heard (A.may_watch at.now.audience)
+        (write_told (look (world_of at.now.at.tree)) at.now.at.path.names is_given)) }
 {
     told.notify_both(at, bits::IN_OPEN)?;
     if is_given {
@@ -146,9 +152,9 @@ fn write(told: &mut Notices, at: &Subject, is_given: bool) -> Result<(), AllocEr
 }
 
 /// Whether a read answers a byte.
-fn is_answered(at: &Subject, offset: u64, count: u32) -> bool
+fn is_answered<A: Audience>(at: &Subject<A>, offset: u64, count: u32) -> bool
     ensures { result ≡ answers_byte
-        (answer_of (world_of at.now.tree) no_counts (ReadFile at.now.path.names offset count)) }
+        (answer_of (world_of at.now.at.tree) no_counts (ReadFile at.now.at.path.names offset count)) }
 {
     match at.object() {
         Some(_) => count > 0 && offset < at.content().len() as u64,
@@ -157,9 +163,14 @@ fn is_answered(at: &Subject, offset: u64, count: u32) -> bool
 }
 
 #[tactic(auto, unfolding(crate::specs::Table::read_told))]
-fn read(told: &mut Notices, at: &Subject, is_answered: bool) -> Result<(), AllocError>
+fn read<A: Audience>(
+    told: &mut Notices,
+    at: &Subject<A>,
+    is_answered: bool,
+) -> Result<(), AllocError>
     requires { told.old ≡ [] }
-    ensures { OnOk result (told.new ≡ read_told (look (world_of at.now.tree)) at.now.path.names is_answered) }
+    ensures { OnOk result (told.new ≡ heard (A.may_watch at.now.audience)
+        (read_told (look (world_of at.now.at.tree)) at.now.at.path.names is_answered)) }
 {
     told.notify_both(at, bits::IN_OPEN)?;
     if is_answered {
@@ -170,148 +181,194 @@ fn read(told: &mut Notices, at: &Subject, is_answered: bool) -> Result<(), Alloc
 }
 
 #[tactic(auto, unfolding(crate::specs::Table::truncate_told))]
-fn truncate(told: &mut Notices, at: &Subject) -> Result<(), AllocError>
+fn truncate<A: Audience>(told: &mut Notices, at: &Subject<A>) -> Result<(), AllocError>
     requires { told.old ≡ [] }
-    ensures { OnOk result (told.new ≡ truncate_told (look (world_of at.now.tree)) at.now.path.names) }
+    ensures { OnOk result (told.new
+        ≡ heard (A.may_watch at.now.audience) (truncate_told (look (world_of at.now.at.tree)) at.now.at.path.names)) }
 {
     told.notify_both(at, bits::IN_MODIFY)?;
     Ok(())
 }
 
 #[tactic(auto, unfolding(crate::specs::Table::chmod_told))]
-fn chmod(told: &mut Notices, at: &Subject) -> Result<(), AllocError>
+fn chmod<A: Audience>(told: &mut Notices, at: &Subject<A>) -> Result<(), AllocError>
     requires { told.old ≡ [] }
-    ensures { OnOk result (told.new ≡ chmod_told (look (world_of at.now.tree)) at.now.path.names) }
+    ensures { OnOk result (told.new
+        ≡ heard (A.may_watch at.now.audience) (chmod_told (look (world_of at.now.at.tree)) at.now.at.path.names)) }
 {
     told.notify_both(at, bits::IN_ATTRIB)?;
     Ok(())
 }
 
 #[tactic(auto, unfolding(crate::specs::Table::link_told))]
-fn link(told: &mut Notices, old: Option<Seen>, new: &Subject) -> Result<(), AllocError>
-    requires { told.old ≡ [] }
-    ensures { OnOk result (told.new ≡ to_self old IN_ATTRIB
-        ++ to_dir (look (world_of new.now.tree)) new.now.path.names Kind.Regular IN_CREATE NO_COOKIE) }
+fn link<A: Audience>(
+    told: &mut Notices,
+    old: &Subject<A>,
+    new: &Subject<A>,
+) -> Result<(), AllocError>
+    requires empty { told.old ≡ [] }
+    requires same { new.now.at.tree ≡ old.now.at.tree }
+    requires audience { new.now.audience ≡ old.now.audience }
+    ensures { OnOk result (told.new ≡ heard (A.may_watch old.now.audience)
+        (link_told (look (world_of old.now.at.tree)) old.now.at.path.names new.now.at.path.names)) }
 {
-    told.notify_file(old, bits::IN_ATTRIB)?;
+    told.notify_file(old.watched(), bits::IN_ATTRIB)?;
     told.notify_directory(new, Kind::Regular, bits::IN_CREATE, NO_COOKIE)?;
     Ok(())
 }
 
 #[tactic(auto, unfolding(crate::specs::Table::unlink_told))]
-fn unlink(told: &mut Notices, at: &Subject) -> Result<(), AllocError>
+fn unlink<A: Audience>(told: &mut Notices, at: &Subject<A>) -> Result<(), AllocError>
     requires { told.old ≡ [] }
-    ensures { OnOk result (told.new ≡ unlink_told (look (world_of at.now.tree)) at.now.path.names) }
+    ensures { OnOk result (told.new
+        ≡ heard (A.may_watch at.now.audience) (unlink_told (look (world_of at.now.at.tree)) at.now.at.path.names)) }
 {
-    told.notify_path_lost(at.object())?;
+    told.notify_path_lost(at.watched())?;
     told.notify_directory(at, Kind::Regular, bits::IN_DELETE, NO_COOKIE)?;
     Ok(())
 }
 
 #[tactic(auto, unfolding(crate::specs::Table::rmdir_told))]
-fn rmdir(told: &mut Notices, at: &Subject) -> Result<(), AllocError>
+fn rmdir<A: Audience>(told: &mut Notices, at: &Subject<A>) -> Result<(), AllocError>
     requires { told.old ≡ [] }
-    ensures { OnOk result (told.new ≡ rmdir_told (look (world_of at.now.tree)) at.now.path.names) }
+    ensures { OnOk result (told.new
+        ≡ heard (A.may_watch at.now.audience) (rmdir_told (look (world_of at.now.at.tree)) at.now.at.path.names)) }
 {
-    told.notify_path_lost(at.object())?;
+    told.notify_path_lost(at.watched())?;
     told.notify_directory(at, Kind::Directory, bits::IN_DELETE, NO_COOKIE)?;
     Ok(())
 }
 
 #[tactic(auto, unfolding(crate::specs::Table::move_told))]
-fn rename(told: &mut Notices, old: &Subject, new: &Subject, cookie: u32) -> Result<(), AllocError>
+fn rename<A: Audience>(
+    told: &mut Notices,
+    old: &Subject<A>,
+    new: &Subject<A>,
+    cookie: u32,
+) -> Result<(), AllocError>
     requires empty { told.old ≡ [] }
-    requires same { new.now.tree ≡ old.now.tree }
-    ensures { OnOk result (told.new
-        ≡ move_told (look (world_of old.now.tree)) old.now.path.names new.now.path.names cookie) }
+    requires same { new.now.at.tree ≡ old.now.at.tree }
+    requires audience { new.now.audience ≡ old.now.audience }
+    ensures { OnOk result (told.new ≡ heard (A.may_watch old.now.audience)
+        (move_told (look (world_of old.now.at.tree)) old.now.at.path.names new.now.at.path.names cookie)) }
 {
-    let moved = old.object();
-    let kind = kind_seen(moved);
+    let kind = kind_seen(old.object());
     told.notify_directory(old, kind, bits::IN_MOVED_FROM, cookie)?;
     told.notify_directory(new, kind, bits::IN_MOVED_TO, cookie)?;
-    told.notify_path_lost(new.object())?;
-    told.notify_file(moved, bits::IN_MOVE_SELF)?;
+    told.notify_path_lost(new.watched())?;
+    told.notify_file(old.watched(), bits::IN_MOVE_SELF)?;
     Ok(())
 }
 
 #[tactic(auto, unfolding(crate::specs::Table::swap_told))]
-fn exchange(told: &mut Notices, old: &Subject, new: &Subject, cookie: u32) -> Result<(), AllocError>
+fn exchange<A: Audience>(
+    told: &mut Notices,
+    old: &Subject<A>,
+    new: &Subject<A>,
+    cookie: u32,
+) -> Result<(), AllocError>
     requires empty { told.old ≡ [] }
-    requires same { new.now.tree ≡ old.now.tree }
+    requires same { new.now.at.tree ≡ old.now.at.tree }
+    requires audience { new.now.audience ≡ old.now.audience }
     requires next { cookie + 1 < 2 ^ 32 }
-    ensures { OnOk result (told.new
-        ≡ swap_told (look (world_of old.now.tree)) old.now.path.names new.now.path.names cookie) }
+    ensures { OnOk result (told.new ≡ heard (A.may_watch old.now.audience)
+        (swap_told (look (world_of old.now.at.tree)) old.now.at.path.names new.now.at.path.names cookie)) }
 {
     let next = cookie + 1;
-    let one = old.object();
-    let other = new.object();
-    let one_kind = kind_seen(one);
-    let other_kind = kind_seen(other);
+    let one_kind = kind_seen(old.object());
+    let other_kind = kind_seen(new.object());
     told.notify_directory(old, one_kind, bits::IN_MOVED_FROM, cookie)?;
     told.notify_directory(new, one_kind, bits::IN_MOVED_TO, cookie)?;
-    told.notify_file(one, bits::IN_MOVE_SELF)?;
+    told.notify_file(old.watched(), bits::IN_MOVE_SELF)?;
     told.notify_directory(new, other_kind, bits::IN_MOVED_FROM, next)?;
     told.notify_directory(old, other_kind, bits::IN_MOVED_TO, next)?;
-    told.notify_file(other, bits::IN_MOVE_SELF)?;
+    told.notify_file(new.watched(), bits::IN_MOVE_SELF)?;
     Ok(())
 }
 
 /// The notices of a call that moves nothing.
-fn notify_unmoved(told: &mut Notices, ready: &Ready, cookie: u32) -> Result<(), AllocError>
+fn notify_unmoved<A: Audience>(
+    told: &mut Notices,
+    ready: &Ready,
+    audience: &A,
+    cookie: u32,
+) -> Result<(), AllocError>
     requires empty { told.old ≡ [] }
     requires still { moves_of (world_of ready.now.tree) ready.now.plan.call ≡ Moves.Nothing }
-    ensures { OnOk result (told.new ≡ notices_of (world_of ready.now.tree) ready.now.plan.call cookie) }
+    ensures { OnOk result (told.new
+        ≡ heard (A.may_watch audience.now) (notices_of (world_of ready.now.tree) ready.now.plan.call cookie)) }
 {
     match ready.call() {
-        FileCall::Create { .. } => create(told, &Subject::at_path(ready)),
-        FileCall::Mkdir { .. } => mkdir(told, &Subject::at_path(ready)),
+        FileCall::Create { .. } => create(told, &Subject::at_path(ready, audience)),
+        FileCall::Mkdir { .. } => mkdir(told, &Subject::at_path(ready, audience)),
         FileCall::Write { bytes, .. } => {
-            write(told, &Subject::at_path(ready), !bytes.as_slice().is_empty())
+            write(
+                told,
+                &Subject::at_path(ready, audience),
+                !bytes.as_slice().is_empty(),
+            )
         }
         FileCall::ReadFile { offset, count, .. } => {
-            let at = Subject::at_path(ready);
+            let at = Subject::at_path(ready, audience);
             read(told, &at, is_answered(&at, *offset, *count))
         }
-        FileCall::Truncate { .. } => truncate(told, &Subject::at_path(ready)),
-        FileCall::Chmod { .. } => chmod(told, &Subject::at_path(ready)),
-        FileCall::Link { .. } => link(told, ready.path().seen(), &Subject::at_other_path(ready)),
-        FileCall::Unlink { .. } => unlink(told, &Subject::at_path(ready)),
-        FileCall::Rmdir { .. } => rmdir(told, &Subject::at_path(ready)),
+        FileCall::Truncate { .. } => truncate(told, &Subject::at_path(ready, audience)),
+        FileCall::Chmod { .. } => chmod(told, &Subject::at_path(ready, audience)),
+        FileCall::Link { .. } => link(
+            told,
+            &Subject::at_path(ready, audience),
+            &Subject::at_other_path(ready, audience),
+        ),
+        FileCall::Unlink { .. } => unlink(told, &Subject::at_path(ready, audience)),
+        FileCall::Rmdir { .. } => rmdir(told, &Subject::at_path(ready, audience)),
         FileCall::Rename { .. } | FileCall::Rename2 { .. } => Ok(()),
         FileCall::Stat { .. } | FileCall::List { .. } => Ok(()),
     }
 }
 
 /// The notices of a call.
-fn notify_call(told: &mut Notices, ready: &Ready, cookie: u32) -> Result<(), AllocError>
+fn notify_call<A: Audience>(
+    told: &mut Notices,
+    ready: &Ready,
+    audience: &A,
+    cookie: u32,
+) -> Result<(), AllocError>
     requires empty { told.old ≡ [] }
     requires cookies { cookie + cookies_of (world_of ready.now.tree) ready.now.plan.call ≤ 2 ^ 32 }
-    ensures { OnOk result (told.new ≡ notices_of (world_of ready.now.tree) ready.now.plan.call cookie) }
+    ensures { OnOk result (told.new
+        ≡ heard (A.may_watch audience.now) (notices_of (world_of ready.now.tree) ready.now.plan.call cookie)) }
 {
     match ready.moves() {
-        Moves::Nothing => notify_unmoved(told, ready, cookie),
+        Moves::Nothing => notify_unmoved(told, ready, audience, cookie),
         Moves::Move => {
-            let old = Subject::at_path(ready);
-            rename(told, &old, &Subject::at_other_path(ready), cookie)
+            let old = Subject::at_path(ready, audience);
+            rename(told, &old, &Subject::at_other_path(ready, audience), cookie)
         }
         Moves::Exchange => {
-            let old = Subject::at_path(ready);
-            exchange(told, &old, &Subject::at_other_path(ready), cookie)
+            let old = Subject::at_path(ready, audience);
+            exchange(told, &old, &Subject::at_other_path(ready, audience), cookie)
         }
     }
 }
 
-/// What an accepted call raises, in the table that it was checked on, in place of what `told` held. `cookie` is that of
-/// a rename that moves something, and the first of an exchange. Each cookie that the call uses fits in a record.
+/// The notices of an accepted call for the files that are watched, in the table that it was checked on, in place of
+/// what `told` held. `cookie` is that of a rename that moves something, and the first of an exchange. Each cookie that
+/// the call uses fits in a record.
 ///
 /// # Errors
 /// `ENOMEM` alone.
-pub fn notices(ready: &Ready, cookie: u32, told: &mut Notices) -> Result<(), Refusal>
+pub fn notices<A: Audience>(
+    ready: &Ready,
+    cookie: u32,
+    audience: &A,
+    told: &mut Notices,
+) -> Result<(), Refusal>
     requires cookies { cookie + cookies_of (world_of ready.now.tree) ready.now.plan.call ≤ 2 ^ 32 }
-    ensures told { OnOk result (told.new ≡ notices_of (world_of ready.now.tree) ready.now.plan.call cookie) }
+    ensures told { OnOk result (told.new
+        ≡ heard (A.may_watch audience.now) (notices_of (world_of ready.now.tree) ready.now.plan.call cookie)) }
     ensures memory { IfErr result (λ refusal. refusal ≡ Refusal.Enomem) }
 {
     told.clear();
-    notify_call(told, ready, cookie)?;
+    notify_call(told, ready, audience, cookie)?;
     Ok(())
 }

@@ -228,7 +228,7 @@ impl Calls {
     }
 
     /// The notices that a call would have.
-    fn noticed(&self, call: &FileCall) -> Result<Notices, Refusal> {
+    fn noticed<A: Audience>(&self, call: &FileCall, audience: &A) -> Result<Notices, Refusal> {
         let paths = Paths::resolve(&self.table, call);
         let ready = check(&paths, &self.counts, &Limits::full())?;
         let next_cookie = self.counts.next_cookie;
@@ -236,8 +236,37 @@ impl Calls {
             return Err(Refusal::CookiesSpent);
         }
         let mut told = Notices::new(self.alloc);
-        notices(&ready, next_cookie, &mut told)?;
+        notices(&ready, next_cookie, audience, &mut told)?;
         Ok(told)
+    }
+}
+
+/// Each file is watched.
+#[derive(Drop)]
+struct Everybody;
+
+impl Audience for Everybody {
+    ghost use Rattle.std.specs.Prelude.{true};
+
+    ghost may_watch = { λ _ _. true };
+
+    fn may_be_watched(&self, _number: u32) -> bool {
+        true
+    }
+}
+
+/// The files of these watches are watched.
+#[derive(Drop)]
+struct Watchers<'a>(&'a Watches);
+
+impl<'a> Audience for Watchers<'a> {
+    ghost use Rattle.std.specs.Prelude.{is_some};
+    ghost use Rattle.watch_table.specs.Watching.{watch_of};
+
+    ghost may_watch = { λ w number. is_some (watch_of w.0.now number) };
+
+    fn may_be_watched(&self, number: u32) -> bool {
+        self.0.of(number).is_some()
     }
 }
 
@@ -285,6 +314,29 @@ fn are_ended(staged: &Staged) -> bool {
     drops.next().is_none()
 }
 
+/// Whether these notices raise the events of the lines, and end the watches that say so.
+fn raise_lines(
+    alloc: Global,
+    watches: &Watches,
+    told: &Notices,
+    lines: &str,
+) -> Result<bool, Refusal> {
+    let mut staged = Staged::new(alloc);
+    stage(ID, watches, told.as_slice(), &mut staged)?;
+    let are_lines = lines_of(alloc, &staged)?.as_slice() == lines.as_bytes();
+    Ok(are_lines && are_ended(&staged))
+}
+
+/// Whether each notice is of a file that is watched.
+fn are_watched(watches: &Watches, told: &Notices) -> bool {
+    for notice in told.as_slice() {
+        if watches.of(notice.number()).is_none() {
+            return false;
+        }
+    }
+    true
+}
+
 #[test]
 fn calls_raise_events(rt: HostRuntime) -> Result<(), Fail> {
     let alloc = rt.alloc();
@@ -292,11 +344,14 @@ fn calls_raise_events(rt: HostRuntime) -> Result<(), Fail> {
     let watches = watching(alloc)?;
     for (ask, lines) in CALLS {
         let call = call_of(alloc, ask)?;
-        let told = calls.noticed(&call)?;
-        let mut staged = Staged::new(alloc);
-        stage(ID, &watches, told.as_slice(), &mut staged)?;
-        let is_right = lines_of(alloc, &staged)?.as_slice() == lines.as_bytes();
-        assert!(rt; is_right && are_ended(&staged), "{ask:?}");
+        let told = calls.noticed(&call, &Everybody)?;
+        let is_right = raise_lines(alloc, &watches, &told, lines)?;
+        let heard = calls.noticed(&call, &Watchers(&watches))?;
+        let is_enough = raise_lines(alloc, &watches, &heard, lines)?;
+        assert!(rt;
+            is_right && is_enough && are_watched(&watches, &heard),
+            "{ask:?}"
+        );
     }
     let mut text = Vec::new(alloc);
     append_record_line(&ignored(7), &mut text)?;

@@ -8,7 +8,7 @@ use Rattle.std.proofs.lemmas.Option.{slice_get-map, slice_get-get_or}
 use lib.Pointwise.{pointwise, bytes_decides}
 use borrow.Author.Tests.{eqb-true, eq-eqb}
 use Rattle.tree_paths.specs.Paths.{names_of}
-use Rattle.inode_table.specs.declared.recent.Slot.{Slot}
+use Rattle.inode_table.specs.declared.recent_directory.Slot.{Slot}
 use Rattle.inode_table.specs.Rows.{Label}
 use Rattle.inode_table.specs.Recent.{Known, IsKnown, IsRecent, known_in, known_of}
 use Rattle.inode_table.proofs.TreeLemmas.{some_none, same_some}

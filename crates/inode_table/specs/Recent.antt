@@ -2,7 +2,7 @@
 use Rattle.std.specs.Prelude.{◌≡◌, ◌≤◌, ◌==◌, ℕ, List, map, Option, Some, None, true}
 use Rattle.std.specs.Prelude.{take, slice_get, if◌then◌else◌}
 use Rattle.tree_paths.specs.Paths.{names_of}
-use Rattle.inode_table.specs.declared.recent.Slot.{Slot}
+use Rattle.inode_table.specs.declared.recent_directory.Slot.{Slot}
 use Rattle.inode_table.specs.Walk.{walk}
 use Rattle.inode_table.specs.Rows.{Label, Rows, child}
 use Rattle.inode_table.specs.Kept.{IsTable, is_directory}

@@ -13,7 +13,7 @@ use crate::content::Content;
 use record_codec::Name;
 use slab::Slab;
 use std::alloc::AllocError;
-use tree_paths::NamePlace;
+use tree_paths::NameRef;
 
 /// A file or a directory: its number, its mode bits, how many paths lead to it, and what it holds.
 pub struct Node {
@@ -203,7 +203,7 @@ pub(crate) fn is_directory(nodes: &Slab<Node>, key: usize) -> bool
 }
 
 /// The key under the name in the directory, if there is one.
-pub(crate) fn child(nodes: &Slab<Node>, directory: usize, name: &NamePlace) -> Option<usize>
+pub(crate) fn child(nodes: &Slab<Node>, directory: usize, name: &NameRef) -> Option<usize>
     ensures { result ≡ child (rows_of nodes.now) directory name.now }
 {
     match nodes.get(directory)? {

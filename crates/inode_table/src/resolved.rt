@@ -5,7 +5,7 @@ ghost use Rattle.inode_table.specs.Refusals.{parent_of};
 
 use crate::found::Found;
 use std::marker::Model;
-use tree_paths::{NamePlace, Path, PathName};
+use tree_paths::{NameRef, Path, PathName};
 
 /// A path, and what [`crate::Table::resolve`] found along it, in the table as it was then.
 #[derive(Drop)]
@@ -48,13 +48,13 @@ impl<'a> Resolved<'a> {
         self.path
     }
 
-    /// The last name of the path, where it stands.
+    /// A reference to the last name of the path.
     #[inline(always)]
-    pub(crate) fn last_place(&self) -> NamePlace<'a>
+    pub(crate) fn last_name_ref(&self) -> NameRef<'a>
         requires { self.now.names ≢ [] }
         ensures { self.now.names ≡ parent_of self.now.names ++ result ∷ [] }
     {
-        match self.path.last_place() {
+        match self.path.last_name_ref() {
             Some(name) => name,
             None => unreachable!(),
         }
@@ -66,6 +66,6 @@ impl<'a> Resolved<'a> {
         requires { self.now.names ≢ [] }
         ensures { self.now.names ≡ parent_of self.now.names ++ result ∷ [] }
     {
-        self.last_place().name()
+        self.last_name_ref().name()
     }
 }

@@ -12,7 +12,7 @@ use crate::content::Content;
 use crate::found::Found;
 use crate::key::Key;
 use crate::node::{Node, is_directory};
-use crate::recent::{NODES_MIN, Recent};
+use crate::recent_directory::{NODES_MIN, Recent};
 use record_codec::Name;
 use slab::Slab;
 use std::alloc::{AllocError, Global};

@@ -9,7 +9,8 @@ use Rattle.std.proofs.lemmas.Map.Entries.{entries_from_clone}
 use Rattle.instance_table.specs.declared.index.Index.{Index}
 use Rattle.instance_table.specs.declared.instances.Instances.TheInside.{Inside}
 use Rattle.instance_table.specs.Watchers.{WatchMap, row_or_none, watch_at}
-use Rattle.instance_table.specs.Index.{HasNoEmptyRow, watch_noted}
+use Rattle.instance_table.specs.Index.{HasSoundRows, watch_noted}
+use Rattle.instance_table.specs.Filters.{passes}
 use Rattle.instance_table.specs.Instances.{WaitingAreEvents, instance_of}
 use Rattle.instance_table.specs.Opened.{by_number, ids_of}
 use Rattle.instance_table.specs.Views.{NotesEveryWatch}
@@ -26,12 +27,14 @@ pub noted-copied : (a b : Index) → IsCopy a b → (n q : ℕ) → watch_noted 
 noted-copied a b h n q =
     ap (λ es. map.get (row_or_none (lookup (tree.is_at (nat_cmp n)) es)) q) (entries-copied a b h)
 
-pub rows-copied : (a b : Index) → IsCopy a b → HasNoEmptyRow a → HasNoEmptyRow b
-rows-copied a b h rows n ids e = rows n ids (sym (ap (lookup (tree.is_at (nat_cmp n))) (entries-copied a b h)) ∙ e)
+pub rows-copied : (a b : Index) → IsCopy a b → b.filter ≡ a.filter → HasSoundRows a → HasSoundRows b
+rows-copied a b h filter rows n ids e =
+    let row = rows n ids (sym (ap (lookup (tree.is_at (nat_cmp n))) (entries-copied a b h)) ∙ e) in
+    (row.0, ap (λ m. passes m n) filter ∙ row.1)
 
 -- the same instances, with an index that notes the same
 pub NotesEveryWatch-copied : (a b : Inside) → NotesEveryWatch a → b.opened.items ≡ a.opened.items
-    → ((n q : ℕ) → watch_noted b.index n q ≡ watch_noted a.index n q) → (HasNoEmptyRow a.index → HasNoEmptyRow b.index) → NotesEveryWatch b
+    → ((n q : ℕ) → watch_noted b.index n q ≡ watch_noted a.index n q) → (HasSoundRows a.index → HasSoundRows b.index) → NotesEveryWatch b
 NotesEveryWatch-copied a b whole same noted rows = record {
   noted = λ n q. noted n q ∙ whole.noted n q ∙ sym (ap (λ os. watch_at n (instance_of (by_number os) q)) same);
   rows = rows whole.rows;

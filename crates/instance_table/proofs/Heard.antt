@@ -1,6 +1,6 @@
 -- How instances receive what was staged for them, one after the other.
 use Rattle.std.proofs.Common.{◌≡◌, ℕ, is_some, get_or, true, false, cond, eqb, Option, Some, None, List, [], ◌∷◌, ◌++◌, map, append_assoc, refl, sym, ap, ◌∙◌}
-use Rattle.std.specs.Prelude.{ℤ, All, fold, option_map}
+use Rattle.std.specs.Prelude.{ℤ, Bool, All, fold, option_map}
 use Rattle.std.specs.FinMap as finmap
 use Rattle.std.specs.FinMap.{find, get-from_entries, get-entries, same_map, nat_cmp-IsAntisymmetric}
 use Rattle.std.specs.List.{filter}
@@ -11,13 +11,13 @@ use Rattle.record_codec.specs.declared.event.Event.{Event}
 use Rattle.event_queue.specs.Backlogs.{after_offer}
 use Rattle.event_rules.specs.Staging.{staged_event}
 use Rattle.event_rules.specs.declared.notice.Notice.{Notice}
-use Rattle.event_rules.specs.declared.staging.StagedEnd.{StagedEnd}
-use Rattle.event_rules.specs.declared.staging.StagedEvent.{StagedEvent}
+use Rattle.event_rules.specs.declared.staged.StagedEnd.{StagedEnd}
+use Rattle.event_rules.specs.declared.staged.StagedEvent.{StagedEvent}
 use Rattle.watch_table.specs.Watching.{Watching, removed, watch_of}
-use Rattle.event_rules.specs.Raised.{events_of, told_number, watches_after}
+use Rattle.event_rules.specs.Raised.{events_of, heard, told_number, watches_after}
 use Rattle.instance_table.specs.declared.instance.Instance.{Instance}
 use Rattle.instance_table.specs.declared.staging.Staging.{Staging}
-use Rattle.instance_table.specs.Instances.{Instances, NobodyWatches, instance_of, changed, all_changed, told, watches_file}
+use Rattle.instance_table.specs.Instances.{Instances, NobodyWatches, instance_of, PassesWatched, changed, all_changed, told, watches_file}
 use Rattle.instance_table.specs.Heard.{ended_all, ends, delivered_all, hears}
 use Rattle.instance_table.specs.Staging.{IsStaged, wds_to}
 use Rattle.instance_table.proofs.Indexed.{changed-there, changed-none, changed-not, changed-twice, get-put, is-same}
@@ -140,6 +140,39 @@ module _ (quiet : (w : Watching) (ns : List Notice) → All (λ n. watch_of w (t
           (λ k d p. none-of (watch_of i.watches (told_number (get_or ns k d)))
           (ap (watches_file (told_number (get_or ns k d))) (sym e) ∙ nobody (told_number (get_or ns k d)) q)) in
           ap Some (λ k. record i { watches = kept i.watches ns all k; queue = fold after_offer i.queue (quiet i.watches ns all k) })
+
+-- ---- notices of the files that are watched alone
+
+pub untold : (m : Instances) → all_changed m (told []) ≡ m
+untold m = same_map nat_cmp_total nat_cmp-IsAntisymmetric (all_changed m (told [])) m (λ q. get-all_changed m (told []) q ∙ by (instance_of m q))
+  where
+    by : (o : Option Instance) → option_map (told []) o ≡ o
+    by None = refl
+    by (Some i) = refl
+
+module _ (same : (w : Watching) (watches : ℕ → Bool) (ns : List Notice) → ((number : ℕ) → watches number ≡ false → watch_of w number ≡ None)
+    → events_of w (heard watches ns) ≡ events_of w ns)
+    (left : (w : Watching) (watches : ℕ → Bool) (ns : List Notice) → ((number : ℕ) → watches number ≡ false → watch_of w number ≡ None)
+    → watches_after w (heard watches ns) ≡ watches_after w ns) where
+  pub heard-enough : (m : Instances) (may_watch : ℕ → Bool) (ns : List Notice) → PassesWatched may_watch m
+      → all_changed m (told (heard may_watch ns)) ≡ all_changed m (told ns)
+  heard-enough m may_watch ns passes =
+      same_map nat_cmp_total nat_cmp-IsAntisymmetric (all_changed m (told (heard may_watch ns))) (all_changed m (told ns)) (λ q.
+      get-all_changed m (told (heard may_watch ns)) q ∙ by q (instance_of m q) refl ∙ sym (get-all_changed m (told ns) q))
+    where
+      none-of : (o : Option (ℤ × ℕ)) → is_some o ≡ false → o ≡ None
+      none-of None h = refl
+      none-of (Some x) h = absurd (Rattle.std.proofs.lemmas.Bool.false≢true (sym h))
+
+      by : (q : ℕ) (o : Option Instance) → instance_of m q ≡ o → option_map (told (heard may_watch ns)) o ≡ option_map (told ns) o
+      by q None e = refl
+      by q (Some i) e =
+          let unwatched : (number : ℕ) → may_watch number ≡ false → watch_of i.watches number ≡ None =
+          (λ number none. none-of (watch_of i.watches number) (ap (watches_file number) (sym e) ∙ passes number q none)) in
+          ap Some (λ k. record i {
+            watches = left i.watches may_watch ns unwatched k;
+            queue = fold after_offer i.queue (same i.watches may_watch ns unwatched k);
+          })
 
 -- ---- a run of events that one instance receives
 

@@ -17,10 +17,10 @@ use Rattle.tree_paths.specs.declared.refusal.Refusal.TheVariants.{Enotdir, Eexis
 use Rattle.instance_table.specs.declared.index.Index.{Index}
 use Rattle.instance_table.specs.declared.instance.Instance.{Instance}
 use Rattle.instance_table.specs.declared.instances.Instances.TheInside.{Inside}
-use Rattle.instance_table.specs.Index.{HasNoEmptyRow, watch_noted}
+use Rattle.instance_table.specs.Index.{HasSoundRows, watch_noted}
 use Rattle.instance_table.specs.Instances.{Instances, WaitingAreEvents, instance_of, changed, waiting_of}
 use Rattle.instance_table.specs.declared.opened.Opened.{Opened}
-use Rattle.instance_table.specs.Ids.{IsPlace}
+use Rattle.instance_table.specs.Ids.{IsIndex}
 use Rattle.instance_table.specs.Opened.{by_number, ids_of}
 use Rattle.instance_table.specs.Views.{instances_of, NotesEveryWatch}
 use Rattle.instance_table.specs.Watchers.{watch_at}
@@ -173,7 +173,7 @@ waiting-cut m id all q = subst (λ o. AreEvents (waiting_of o)) (sym (get-cut m 
 
 -- ---- the rows
 
-module _ (rows : List Opened) (id place : ℕ) (rising : IsStrictlySortedBy nat_cmp (ids_of rows)) (at : IsPlace (ids_of rows) id (Ok place)) where
+module _ (rows : List Opened) (id place : ℕ) (rising : IsStrictlySortedBy nat_cmp (ids_of rows)) (at : IsIndex (ids_of rows) id (Ok place)) where
   -- the instance at the index of a number
   pub instance-at : (row : Opened) → row ≡ get_or rows place row → instance_of (by_number rows) id ≡ Some row.instance
   instance-at row e =
@@ -201,11 +201,11 @@ module _ (rows : List Opened) (id place : ℕ) (rising : IsStrictlySortedBy nat_
   rows-cut = map-cut (λ (o : Opened). o.id) (λ (o : Opened). o.instance) rows place id rising at.0 at.1
 
 -- there is an instance at the index of a number
-some-at : (rows : List Opened) (id place : ℕ) → IsStrictlySortedBy nat_cmp (ids_of rows) → IsPlace (ids_of rows) id (Ok place)
+some-at : (rows : List Opened) (id slot : ℕ) → IsStrictlySortedBy nat_cmp (ids_of rows) → IsIndex (ids_of rows) id (Ok slot)
     → instance_of (by_number rows) id ≡ None → ⊥
-some-at [] id place rising at free = omega (arith, at.0)
-some-at (row ∷ rows) id place rising at free =
-    false≢true (ap is_some (sym free ∙ get-at (λ (o : Opened). o.id) (λ (o : Opened). o.instance) (row ∷ rows) place id row rising at.0 at.1))
+some-at [] id slot rising at free = omega (arith, at.0)
+some-at (row ∷ rows) id slot rising at free =
+    false≢true (ap is_some (sym free ∙ get-at (λ (o : Opened). o.id) (λ (o : Opened). o.instance) (row ∷ rows) slot id row rising at.0 at.1))
 
 -- ---- what the index notes of one instance
 
@@ -277,7 +277,7 @@ module _ (a : Inside) (whole : NotesEveryWatch a) (id : ℕ) (i : Instance) (was
 
 -- ---- the fields
 
-module _ (a b : Inside) (whole : NotesEveryWatch a) (rising : IsStrictlySortedBy nat_cmp (ids_of b.opened.items)) (rows : HasNoEmptyRow b.index) where
+module _ (a b : Inside) (whole : NotesEveryWatch a) (rising : IsStrictlySortedBy nat_cmp (ids_of b.opened.items)) (rows : HasSoundRows b.index) where
   -- one instance has changed
   module _ (id : ℕ) (i j : Instance) (was : instance_of (instances_of a) id ≡ Some i)
       (put : instances_of b ≡ map.insert (instances_of a) id j) (events : AreEvents j.queue.waiting) where
@@ -349,39 +349,39 @@ entries-opened a whole = entries-rising (λ (o : Opened). o.id) (λ (o : Opened)
 
 module _ (a : Inside) (whole : NotesEveryWatch a) (id : ℕ) (seen : List Opened) (is : seen ≡ a.opened.items) where
   -- none is there
-  pub absent : (i : ℕ) → IsPlace (ids_of seen) id (Err i) → instance_of (instances_of a) id ≡ None
-  absent i place = subst (λ rows. instance_of (by_number rows) id ≡ None) is (get-absent (λ (o : Opened). o.id) (λ (o : Opened). o.instance) seen i id place)
+  pub absent : (i : ℕ) → IsIndex (ids_of seen) id (Err i) → instance_of (instances_of a) id ≡ None
+  absent i slot = subst (λ rows. instance_of (by_number rows) id ≡ None) is (get-absent (λ (o : Opened). o.id) (λ (o : Opened). o.instance) seen i id slot)
 
   -- so nothing changes, and there is nothing to close
-  pub nothing-closed : (i : ℕ) → IsPlace (ids_of seen) id (Err i) → (m : Instances) → instances_of a ≡ m → m ≡ map.remove m id
-  nothing-closed i place m view = sym (cut-absent m id (ap (λ x. instance_of x id) (sym view) ∙ absent i place))
+  pub nothing-closed : (i : ℕ) → IsIndex (ids_of seen) id (Err i) → (m : Instances) → instances_of a ≡ m → m ≡ map.remove m id
+  nothing-closed i slot m view = sym (cut-absent m id (ap (λ x. instance_of x id) (sym view) ∙ absent i slot))
 
-  pub unchanged : (i : ℕ) → IsPlace (ids_of seen) id (Err i) → (m : Instances) → instances_of a ≡ m → (change : Instance → Instance) → m ≡ changed m id change
-  unchanged i place m view change = sym (changed-none m id change (ap (λ x. instance_of x id) (sym view) ∙ absent i place))
+  pub unchanged : (i : ℕ) → IsIndex (ids_of seen) id (Err i) → (m : Instances) → instances_of a ≡ m → (change : Instance → Instance) → m ≡ changed m id change
+  unchanged i slot m view change = sym (changed-none m id change (ap (λ x. instance_of x id) (sym view) ∙ absent i slot))
 
-  module _ (place : ℕ) (at : IsPlace (ids_of seen) id (Ok place)) where
-    at-rows : IsPlace (ids_of a.opened.items) id (Ok place)
-    at-rows = subst (λ rows. IsPlace (ids_of rows) id (Ok place)) is at
+  module _ (slot : ℕ) (at : IsIndex (ids_of seen) id (Ok slot)) where
+    at-rows : IsIndex (ids_of a.opened.items) id (Ok slot)
+    at-rows = subst (λ rows. IsIndex (ids_of rows) id (Ok slot)) is at
 
     pub taken : instance_of (instances_of a) id ≡ None → ⊥
-    taken = some-at a.opened.items id place whole.rising at-rows
+    taken = some-at a.opened.items id slot whole.rising at-rows
 
-    module _ (row : Opened) (e : row ≡ get_or a.opened.items place row) where
+    module _ (row : Opened) (e : row ≡ get_or a.opened.items slot row) where
       pub there : instance_of (instances_of a) id ≡ Some row.instance
-      there = instance-at a.opened.items id place whole.rising at-rows row e
+      there = instance-at a.opened.items id slot whole.rising at-rows row e
 
       module _ (j : Instance) where
         abbrev with_instance : Inside
-        with_instance = record a { opened = with_item a.opened place (record row { instance = j }) }
+        with_instance = record a { opened = with_item a.opened slot (record row { instance = j }) }
 
         same-number : row.id ≡ id
-        same-number = number-at a.opened.items id place whole.rising at-rows row e
+        same-number = number-at a.opened.items id slot whole.rising at-rows row e
 
         pub put : instances_of with_instance ≡ map.insert (instances_of a) id j
-        put = rows-set a.opened.items id place whole.rising at-rows (record row { instance = j }) same-number
+        put = rows-set a.opened.items id slot whole.rising at-rows (record row { instance = j }) same-number
 
         still-rising : IsStrictlySortedBy nat_cmp (ids_of with_instance.opened.items)
-        still-rising = numbers-set a.opened.items id place whole.rising at-rows (record row { instance = j }) same-number
+        still-rising = numbers-set a.opened.items id slot whole.rising at-rows (record row { instance = j }) same-number
 
         -- the instances after a change of it
         pub instances_of-changed : (m : Instances) → instances_of a ≡ m → (change : Instance → Instance) → change row.instance ≡ j
@@ -397,49 +397,49 @@ module _ (a : Inside) (whole : NotesEveryWatch a) (id : ℕ) (seen : List Opened
         -- its watches change as the index does
         pub NotesEveryWatch-changed : (index : Index)
             → ((n q : ℕ) → watch_noted index n q ≡ cond (eqb q id) (watch_of j.watches n) (watch_noted a.index n q))
-            → HasNoEmptyRow index → j.queue ≡ row.instance.queue
+            → HasSoundRows index → j.queue ≡ row.instance.queue
             → NotesEveryWatch (record with_instance { index = index })
         NotesEveryWatch-changed index noted rows queue =
             IsIndexed-changed a (record with_instance { index = index }) whole still-rising rows id row.instance j there put
             (subst (λ (q : Backlog). AreEvents q.waiting) (sym queue) (events-at a whole id row.instance there)) noted
 
   -- a new one, at its index
-  module _ (i : ℕ) (place : IsPlace (ids_of seen) id (Err i)) (j : Instance) (b : Inside)
+  module _ (i : ℕ) (slot : IsIndex (ids_of seen) id (Err i)) (j : Instance) (b : Inside)
       (with : b.opened.items ≡ take i a.opened.items ++ record { id = id; instance = j } ∷ drop i a.opened.items) where
-    free-place : IsPlace (ids_of a.opened.items) id (Err i)
-    free-place = subst (λ rows. IsPlace (ids_of rows) id (Err i)) is place
+    free-slot : IsIndex (ids_of a.opened.items) id (Err i)
+    free-slot = subst (λ rows. IsIndex (ids_of rows) id (Err i)) is slot
 
     pub instances_of-new : instances_of b ≡ map.insert (instances_of a) id j
     instances_of-new =
-        ap by_number with ∙ map-put (λ (o : Opened). o.id) (λ (o : Opened). o.instance) a.opened.items i (record { id = id; instance = j }) free-place
+        ap by_number with ∙ map-put (λ (o : Opened). o.id) (λ (o : Opened). o.instance) a.opened.items i (record { id = id; instance = j }) free-slot
 
     pub NotesEveryWatch-new : b.index ≡ a.index → ((n : ℕ) → watch_of j.watches n ≡ None) → AreEvents j.queue.waiting → NotesEveryWatch b
     NotesEveryWatch-new index none events =
         IsIndexed-new a b whole
         (subst (λ rows. IsStrictlySortedBy nat_cmp (ids_of rows)) (sym with)
-        (rises-put (λ (o : Opened). o.id) (λ (o : Opened). o.instance) a.opened.items i (record { id = id; instance = j }) whole.rising free-place))
-        (subst HasNoEmptyRow (sym index) whole.rows) id j instances_of-new (absent i place) none events index
+        (rises-put (λ (o : Opened). o.id) (λ (o : Opened). o.instance) a.opened.items i (record { id = id; instance = j }) whole.rising free-slot))
+        (subst HasSoundRows (sym index) whole.rows) id j instances_of-new (absent i slot) none events index
 
   -- one less
-  module _ (place : ℕ) (at : IsPlace (ids_of seen) id (Ok place)) (b : Inside)
-      (cut : b.opened.items ≡ take place a.opened.items ++ drop (suc place) a.opened.items) where
+  module _ (slot : ℕ) (at : IsIndex (ids_of seen) id (Ok slot)) (b : Inside)
+      (cut : b.opened.items ≡ take slot a.opened.items ++ drop (suc slot) a.opened.items) where
     pub instances_of-closed : (m : Instances) → instances_of a ≡ m → instances_of b ≡ map.remove m id
-    instances_of-closed m view = ap by_number cut ∙ rows-cut a.opened.items id place whole.rising (at-rows place at) ∙ ap (λ x. map.remove x id) view
+    instances_of-closed m view = ap by_number cut ∙ rows-cut a.opened.items id slot whole.rising (at-rows slot at) ∙ ap (λ x. map.remove x id) view
 
-    pub NotesEveryWatch-closed : (row : Opened) → row ≡ get_or a.opened.items place row
+    pub NotesEveryWatch-closed : (row : Opened) → row ≡ get_or a.opened.items slot row
         → ((n q : ℕ) → watch_noted b.index n q ≡ cond (is_some (watch_of row.instance.watches n) && eqb q id) None (watch_noted a.index n q))
-        → HasNoEmptyRow b.index → NotesEveryWatch b
+        → HasSoundRows b.index → NotesEveryWatch b
     NotesEveryWatch-closed row e forgotten rows =
         IsIndexed-closed a b whole
         (subst (λ rows. IsStrictlySortedBy nat_cmp (ids_of rows)) (sym cut)
-        (rises-cut (λ (o : Opened). o.id) (λ (o : Opened). o.instance) a.opened.items place whole.rising))
-        rows id row.instance (instances_of-closed (instances_of a) refl) (there place at row e) forgotten
+        (rises-cut (λ (o : Opened). o.id) (λ (o : Opened). o.instance) a.opened.items slot whole.rising))
+        rows id row.instance (instances_of-closed (instances_of a) refl) (there slot at row e) forgotten
 
 -- the same rows
 pub NotesEveryWatch-same : (a b : Inside) → NotesEveryWatch a → b.opened.items ≡ a.opened.items → b.index ≡ a.index → NotesEveryWatch b
 NotesEveryWatch-same a b whole rows index = record {
   noted = λ n q. ap (λ x. watch_noted x n q) index ∙ whole.noted n q ∙ sym (ap (λ os. watch_at n (instance_of (by_number os) q)) rows);
-  rows = subst HasNoEmptyRow (sym index) whole.rows;
+  rows = subst HasSoundRows (sym index) whole.rows;
   records = subst (λ os. WaitingAreEvents (by_number os)) (sym rows) whole.records;
   rising = subst (λ os. IsStrictlySortedBy nat_cmp (ids_of os)) (sym rows) whole.rising;
 }

@@ -7,7 +7,7 @@ use Rattle.std.proofs.lemmas.Bool.{eqb-true}
 use Rattle.record_codec.specs.declared.event.Event.{Event}
 use Rattle.watch_table.specs.Watching.{IsSound, Watch, Watching, dropped, removed, watch_of}
 use Rattle.event_rules.specs.declared.notice.Notice.{Notice}
-use Rattle.event_rules.specs.declared.staging.StagedEnd.{StagedEnd}
+use Rattle.event_rules.specs.declared.staged.StagedEnd.{StagedEnd}
 use Rattle.event_rules.specs.Raised.{ended, ended_by, ends_watch, events_of, left, left_by, raised_at, told_number, watches_after, wds_ended}
 use Rattle.event_rules.specs.Staging.{left_before, staged_end}
 use Rattle.event_rules.proofs.Earlier.{left-before}

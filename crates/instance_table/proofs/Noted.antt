@@ -9,9 +9,11 @@ use Rattle.std.specs.FinMap.{find, get-insert, get-remove, get-empty, same_map, 
 use Rattle.std.specs.Ordering.{nat_cmp, eq_by_cmp}
 use Rattle.std.specs.Cmp.{nat_cmp_total, unsigned_tied, eq_by_cmp_equiv}
 use Rattle.instance_table.specs.declared.index.Index.{Index}
+use Rattle.instance_table.specs.declared.filter.WatchFilter.{WatchFilter}
 use Rattle.watch_table.specs.Watching.{Watch}
 use Rattle.instance_table.specs.Watchers.{WatchMap, row_or_none}
-use Rattle.instance_table.specs.Index.{HasNoEmptyRow, row_under, watch_noted}
+use Rattle.instance_table.specs.Index.{HasSoundRows, row_under, watch_noted}
+use Rattle.instance_table.specs.Filters.{passes}
 
 -- nothing is noted under a file that has no entry
 pub none-noted : (index : Index) (n q : ℕ) → tree.get nat_cmp index.watchers n ≡ None → watch_noted index n q ≡ None
@@ -29,12 +31,15 @@ module _ (a b : Index) (number : ℕ) (w : Option WatchMap)
   under n = h n ∙ ap (λ t. cond t w (tree.get nat_cmp a.watchers n)) ((eq_by_cmp_equiv nat_cmp_total).symm number n ∙ unsigned_tied n number)
 
   -- no row is empty, where the entry is not
-  pub rows-kept : ((row : WatchMap) → w ≡ Some row → row ≢ map.empty) → HasNoEmptyRow a → HasNoEmptyRow b
-  rows-kept new rows n row e =
-      elim (eqb n number) as (λ t. cond t w (tree.get nat_cmp a.watchers n) ≡ Some row → row ≢ map.empty) [
-        | true ↦ new row
-        | false ↦ rows n row
-      ] (sym (under n) ∙ e)
+  pub rows-kept : ((n : ℕ) → passes a.filter n ≡ true → passes b.filter n ≡ true)
+      → ((row : WatchMap) → w ≡ Some row → passes b.filter number ≡ true)
+      → ((row : WatchMap) → w ≡ Some row → row ≢ map.empty) → HasSoundRows a → HasSoundRows b
+  rows-kept kept added new rows n row e =
+      elim (eqb n number) as (λ t. eqb n number ≡ t → cond t w (tree.get nat_cmp a.watchers n) ≡ Some row
+      → (row ≢ map.empty) × (passes b.filter n ≡ true)) [
+        | true ↦ λ t e. (new row e, ap (passes b.filter) (Rattle.std.proofs.lemmas.Bool.eqb-true n number t) ∙ added row e)
+        | false ↦ λ t e. ((rows n row e).0, kept n (rows n row e).1)
+      ] refl (sym (under n) ∙ e)
 
   -- the entry has the watch of one instance more, or another watch of it
   pub noted-put : (id : ℕ) (watch : Watch) → row_or_none w ≡ map.insert (row_under a number) id watch → (n q : ℕ)
@@ -96,6 +101,9 @@ row-is seen full row e none = full (ap (λ o. unwrap_or o seen) e ∙ none)
 pub no-row : (row : WatchMap) → ◌≡◌ {A = Option WatchMap} None (Some row) → row ≢ map.empty
 no-row row e = absurd (Rattle.std.proofs.lemmas.Bool.false≢true (ap is_some e))
 
+pub none-added : (filter : WatchFilter) (number : ℕ) (row : WatchMap) → ◌≡◌ {A = Option WatchMap} None (Some row) → passes filter number ≡ true
+none-added filter number row e = absurd (Rattle.std.proofs.lemmas.Bool.false≢true (ap is_some e))
+
 -- a row in which a watch was to be put
 pub row-added : {E : Type 0} (r : Result (Unit {0}) E) (was now : WatchMap) (id : ℕ) (watch : Watch)
     → OnOk r (now ≡ map.insert was id watch) → OnErr r (now ≡ was) → was ≢ map.empty → now ≢ map.empty
@@ -111,7 +119,7 @@ nothing-noted index none n q = none-noted index n q (ap (find nat_cmp n) (no-ite
     no-items [] h = refl
     no-items (e ∷ es) h = absurd (omega arith)
 
-pub noted-nothing : (index : Index) → HasNoEmptyRow index → ((n q : ℕ) → watch_noted index n q ≡ None) → length index.watchers.entries ≡ 0
+pub noted-nothing : (index : Index) → HasSoundRows index → ((n q : ℕ) → watch_noted index n q ≡ None) → length index.watchers.entries ≡ 0
 noted-nothing index rows none = by index.watchers.entries refl
   where
     by : (es : List (ℕ × WatchMap)) → index.watchers.entries ≡ es → length index.watchers.entries ≡ 0
@@ -122,4 +130,4 @@ noted-nothing index rows none = by index.watchers.entries refl
         ∙ ap (λ b. cond b (Some x.1) (find nat_cmp x.0 es)) (unsigned_tied x.0 x.0 ∙ Rattle.std.proofs.lemmas.Bool.eq-eqb x.0 x.0 refl) in
         let empty : x.1 ≡ map.empty = same_map nat_cmp_total nat_cmp-IsAntisymmetric x.1 map.empty
         (λ q. ap (λ row. map.get row q) (sym (row-some index x.0 x.1 there)) ∙ none x.0 q ∙ sym (get-empty nat_cmp q)) in
-        absurd (rows x.0 x.1 there empty)
+        absurd ((rows x.0 x.1 there).0 empty)

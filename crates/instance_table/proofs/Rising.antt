@@ -12,7 +12,7 @@ use Rattle.std.specs.FinMap as finmap
 use Rattle.std.specs.FinMap.{FinMap, find, from_entries, is_sorted, get-from_entries, get-from_sorted}
 use Rattle.std.specs.FinMap.{entries-from_sorted, get-insert, get-remove, same_map, nat_cmp-IsAntisymmetric}
 use Rattle.std.specs.FinMap.Entries.{below_all}
-use Rattle.instance_table.specs.Ids.{IdSet, IsPlace, marked, set_of}
+use Rattle.instance_table.specs.Ids.{IdSet, IsIndex, marked, set_of}
 use Rattle.std.proofs.lemmas.List.{get_or-map, map-id}
 use Rattle.std.proofs.lemmas.List.Sorted.{searched}
 use Rattle.std.proofs.lemmas.Map.Keys.{below_from_sorted}
@@ -78,14 +78,14 @@ numbers-cut [] (suc i) h = tt
 numbers-cut (y ∷ xs) zero h = h.1
 numbers-cut (y ∷ xs) (suc i) h = (all-cut (λ z. nat_cmp y z ≡ Less) xs i h.0, numbers-cut xs i h.1)
 
-at-place : (P : ℕ → Type 0) (xs : List ℕ) (i : ℕ) → AllByRecursion P xs → i < length xs → P (get_or xs i 0)
-at-place P [] i all h = absurd (omega arith)
-at-place P (x ∷ xs) zero all h = all.0
-at-place P (x ∷ xs) (suc i) all h = at-place P xs i all.1 (omega arith)
+at-slot : (P : ℕ → Type 0) (xs : List ℕ) (i : ℕ) → AllByRecursion P xs → i < length xs → P (get_or xs i 0)
+at-slot P [] i all h = absurd (omega arith)
+at-slot P (x ∷ xs) zero all h = all.0
+at-slot P (x ∷ xs) (suc i) all h = at-slot P xs i all.1 (omega arith)
 
 -- ---- where a number is
 
-pub found : (xs : List ℕ) (x : ℕ) (r : Result ℕ ℕ) → IsStrictlySortedBy nat_cmp xs → IsBinarySearchResult (λ y. nat_cmp y x) xs r → IsPlace xs x r
+pub found : (xs : List ℕ) (x : ℕ) (r : Result ℕ ℕ) → IsStrictlySortedBy nat_cmp xs → IsBinarySearchResult (λ y. nat_cmp y x) xs r → IsIndex xs x r
 found xs x r h position = searched xs x r position (λ i j p q. rising i j p q)
   where
     rising : (i j : ℕ) → i ≤ j → j < length xs → get_or xs i 0 ≤ get_or xs j 0
@@ -96,8 +96,8 @@ found xs x r h position = searched xs x r position (λ i j p q. rising i j p q)
     ]
 
 -- a number above the last of rising numbers belongs at their end
-pub place-last : (xs : List ℕ) (x : ℕ) → IsStrictlySortedBy nat_cmp xs → (0 < length xs → get_or xs (length xs - 1) 0 < x) → IsPlace xs x (Err (length xs))
-place-last xs x h last = ((omega arith), (λ k p. below k p), (λ k p q. absurd (omega arith)))
+pub index-last : (xs : List ℕ) (x : ℕ) → IsStrictlySortedBy nat_cmp xs → (0 < length xs → get_or xs (length xs - 1) 0 < x) → IsIndex xs x (Err (length xs))
+index-last xs x h last = ((omega arith), (λ k p. below k p), (λ k p q. absurd (omega arith)))
   where
     below : (k : ℕ) → k < length xs → get_or xs k 0 < x
     below k p = elim (Rattle.std.proofs.lemmas.Bool.cases_order k (length xs - 1)) [
@@ -117,7 +117,7 @@ module _ {R : Type 0} (key : R → ℕ) where
 
   -- what a binary search by the number found
   pub found-row : (rs : List R) (x : ℕ) (r : Result ℕ ℕ) → IsStrictlySortedBy nat_cmp (map key rs) → IsSearchInRange r (length rs)
-      → IsBinarySearchResult (λ y. nat_cmp (key y) x) rs r → IsPlace (map key rs) x r
+      → IsBinarySearchResult (λ y. nat_cmp (key y) x) rs r → IsIndex (map key rs) x r
   found-row [] x (Ok i) h bound position = absurd (omega arith)
   found-row [] x (Err i) h bound position = (omega arith, (λ k p. absurd (omega arith)), λ k p q. absurd (omega arith))
   found-row (y ∷ rs) x (Ok i) h bound position =
@@ -208,8 +208,8 @@ module _ {R X : Type 0} (key : R → ℕ) (value : R → X) where
   keys-put (x ∷ rs) zero r = refl
   keys-put (x ∷ rs) (suc i) r = ap (λ ks. key x ∷ ks) (keys-put rs i r)
 
-  pub rises-put : (rs : List R) (i : ℕ) (r : R) → IsRising rs → IsPlace (map key rs) (key r) (Err i) → IsRising (take i rs ++ r ∷ drop i rs)
-  rises-put rs i r h place = subst (IsStrictlySortedBy nat_cmp) (sym (keys-put rs i r)) (numbers-put (map key rs) i (key r) h (λ k p q. place.1 k p) place.2)
+  pub rises-put : (rs : List R) (i : ℕ) (r : R) → IsRising rs → IsIndex (map key rs) (key r) (Err i) → IsRising (take i rs ++ r ∷ drop i rs)
+  rises-put rs i r h slot = subst (IsStrictlySortedBy nat_cmp) (sym (keys-put rs i r)) (numbers-put (map key rs) i (key r) h (λ k p q. slot.1 k p) slot.2)
 
   find-put : (rs : List R) (i : ℕ) (r : R) (q : ℕ) → i ≤ length rs → ((k : ℕ) → k < i → get_or (map key rs) k 0 < key r)
       → find nat_cmp q (pairs (take i rs ++ r ∷ drop i rs)) ≡ cond (eq_by_cmp nat_cmp q (key r)) (Some (value r)) (find nat_cmp q (pairs rs))
@@ -222,11 +222,11 @@ module _ {R X : Type 0} (key : R → ℕ) (value : R → X) where
       ∙ swapped (eq_by_cmp nat_cmp q (key x)) (eq_by_cmp nat_cmp q (key r)) (Some (value x)) (Some (value r)) (find nat_cmp q (pairs rs))
       (λ t. ap (λ y. eq_by_cmp nat_cmp y (key r)) (is-same q (key x) t) ∙ apart (key x) (key r) (less (key x) (key r) first))
 
-  pub map-put : (rs : List R) (i : ℕ) (r : R) → IsPlace (map key rs) (key r) (Err i)
+  pub map-put : (rs : List R) (i : ℕ) (r : R) → IsIndex (map key rs) (key r) (Err i)
       → map_of (take i rs ++ r ∷ drop i rs) ≡ finmap.insert (map_of rs) (key r) (value r)
-  map-put rs i r place =
+  map-put rs i r slot =
       same_map nat_cmp_total nat_cmp-IsAntisymmetric (map_of (take i rs ++ r ∷ drop i rs)) (finmap.insert (map_of rs) (key r) (value r)) (λ q.
-      get-rows (take i rs ++ r ∷ drop i rs) q ∙ find-put rs i r q (omega (arith, length-keys key rs, place.0)) place.1
+      get-rows (take i rs ++ r ∷ drop i rs) q ∙ find-put rs i r q (omega (arith, length-keys key rs, slot.0)) slot.1
       ∙ sym (get-insert nat_cmp_total (map_of rs) (key r) (value r) q ∙ ap (cond (eq_by_cmp nat_cmp q (key r)) (Some (value r))) (get-rows rs q)))
 
   -- ---- one row less
@@ -249,7 +249,7 @@ module _ {R X : Type 0} (key : R → ℕ) (value : R → X) where
   behind : (x : R) (rs : List R) (i q : ℕ) → AllByRecursion (λ z. nat_cmp (key x) z ≡ Less) (map key rs) → i < length (map key rs)
       → eq_by_cmp nat_cmp q (key x) ≡ true → eq_by_cmp nat_cmp q (get_or (map key rs) i 0) ≡ false
   behind x rs i q all h t =
-      let here : nat_cmp (key x) (get_or (map key rs) i 0) ≡ Less = at-place (λ z. nat_cmp (key x) z ≡ Less) (map key rs) i all h in
+      let here : nat_cmp (key x) (get_or (map key rs) i 0) ≡ Less = at-slot (λ z. nat_cmp (key x) z ≡ Less) (map key rs) i all h in
       ap (λ y. eq_by_cmp nat_cmp y (get_or (map key rs) i 0)) (is-same q (key x) t) ∙ apart (key x) (get_or (map key rs) i 0) here
 
   find-cut : (rs : List R) (i q : ℕ) → IsRising rs → i < length (map key rs)
@@ -317,7 +317,7 @@ module _ {R X : Type 0} (key : R → ℕ) (value : R → X) where
   find-at (x ∷ rs) zero d h p = ap (λ b. cond b (Some (value x)) (find nat_cmp (key x) (pairs rs))) (itself (key x))
   find-at (x ∷ rs) (suc i) d h p =
       let id = get_or (map key rs) i 0 in
-      let here : nat_cmp (key x) id ≡ Less = at-place (λ z. nat_cmp (key x) z ≡ Less) (map key rs) i h.0 (omega arith) in
+      let here : nat_cmp (key x) id ≡ Less = at-slot (λ z. nat_cmp (key x) z ≡ Less) (map key rs) i h.0 (omega arith) in
       ap (λ b. cond b (Some (value x)) (find nat_cmp id (pairs rs))) (apart_back id (key x) here) ∙ find-at rs i d h.1 (omega arith)
 
   pub get-at : (rs : List R) (i x : ℕ) (d : R) → IsRising rs → i < length (map key rs) → get_or (map key rs) i 0 ≡ x
@@ -336,8 +336,8 @@ module _ {R X : Type 0} (key : R → ℕ) (value : R → X) where
       ap (λ b. cond b (Some (value r)) (find nat_cmp x (pairs rs))) (apart_back x (key r) (less (key r) x first))
       ∙ find-absent rs i x (λ k p. below (suc k) (omega arith)) (λ k p q. above (suc k) (omega arith) (omega arith))
 
-  pub get-absent : (rs : List R) (i x : ℕ) → IsPlace (map key rs) x (Err i) → finmap.get (map_of rs) x ≡ None
-  get-absent rs i x place = get-rows rs x ∙ find-absent rs i x place.1 place.2
+  pub get-absent : (rs : List R) (i x : ℕ) → IsIndex (map key rs) x (Err i) → finmap.get (map_of rs) x ≡ None
+  get-absent rs i x slot = get-rows rs x ∙ find-absent rs i x slot.1 slot.2
 
 -- ---- sets: rows with no value
 
@@ -364,8 +364,8 @@ same-set ks m same =
 as-rows : (ks : List ℕ) → IsStrictlySortedBy nat_cmp ks → IsStrictlySortedBy nat_cmp (map (λ (k : ℕ). k) ks)
 as-rows ks h = subst (IsStrictlySortedBy nat_cmp) (sym (map-id ks)) h
 
-place-of-row : (ks : List ℕ) (x : ℕ) (r : Result ℕ ℕ) → IsPlace ks x r → IsPlace (map (λ (k : ℕ). k) ks) x r
-place-of-row ks x r h = subst (λ xs. IsPlace xs x r) (sym (map-id ks)) h
+index-of-row : (ks : List ℕ) (x : ℕ) (r : Result ℕ ℕ) → IsIndex ks x r → IsIndex (map (λ (k : ℕ). k) ks) x r
+index-of-row ks x r h = subst (λ xs. IsIndex xs x r) (sym (map-id ks)) h
 
 -- the numbers of the set of a list that rises are the list
 pub items-rising : (ks : List ℕ) → IsStrictlySortedBy nat_cmp ks → finmap.keys (set_of ks) ≡ ks

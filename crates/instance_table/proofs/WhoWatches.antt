@@ -1,6 +1,8 @@
 -- The instances that the index notes for a file are those that watch it.
 use Rattle.std.proofs.Common.{◌≡◌, ℕ, Bool, true, false, cond, eqb, T, ◌||◌, ◌&&◌, Option, Some, None, is_some, List, [], ◌∷◌, map, refl, sym, ap, ◌∙◌}
+use Rattle.std.specs.BTreeMap as tree
 use Rattle.std.specs.FinMap as finmap
+use Rattle.std.proofs.lemmas.Bool.{false≢true}
 use Rattle.std.specs.FinMap.{is_sorted, entries, entries_sorted, contains_key-keys}
 use Rattle.std.specs.FinMap.Entries.{below_all}
 use Rattle.std.specs.List.{AllByRecursion, filter, list_any}
@@ -13,10 +15,12 @@ use Rattle.std.proofs.lemmas.List.Kept.{IsStrictlySortedBy-filter}
 use Rattle.instance_table.specs.declared.instance.Instance.{Instance}
 use Rattle.instance_table.specs.declared.instances.Instances.TheInside.{Inside}
 use Rattle.instance_table.specs.Ids.{IdSet, set_of}
-use Rattle.instance_table.specs.Index.{row_under}
+use Rattle.instance_table.specs.Index.{row_under, watch_noted}
+use Rattle.instance_table.specs.Filters.{passes}
 use Rattle.instance_table.specs.Instances.{instance_of, watchers_of, watches_file}
 use Rattle.instance_table.specs.Views.{instances_of, NotesEveryWatch}
-use Rattle.instance_table.specs.Watchers.{watch_at}
+use Rattle.instance_table.specs.Watchers.{WatchMap, watch_at}
+use Rattle.instance_table.proofs.Noted.{none-noted}
 use Rattle.instance_table.proofs.Rising.{get-set, mark, same-set, items-rising, is-same}
 
 first : (a b : Bool) → T (a && b) → T a
@@ -74,6 +78,17 @@ watches-there n (Some i) = refl
 has-watch : (n : ℕ) (o : Option Instance) → is_some (watch_at n o) ≡ watches_file n o
 has-watch n None = refl
 has-watch n (Some i) = refl
+
+-- a file that does not pass the filter is unwatched
+pub stopped-unwatched : (a : Inside) → NotesEveryWatch a → (number id : ℕ) → passes a.index.filter number ≡ false
+    → watches_file number (instance_of (instances_of a) id) ≡ false
+stopped-unwatched a whole number id none =
+    sym (has-watch number (instance_of (instances_of a) id)) ∙ ap is_some (sym (whole.noted number id))
+    ∙ ap is_some (by (tree.get nat_cmp a.index.watchers number) refl)
+  where
+    by : (o : Option WatchMap) → tree.get nat_cmp a.index.watchers number ≡ o → watch_noted a.index number id ≡ None
+    by None e = none-noted a.index number id e
+    by (Some row) e = absurd (false≢true (sym none ∙ (whole.rows number row e).1))
 
 pub watchers-noted : (a : Inside) (whole : NotesEveryWatch a) (number : ℕ) → finmap.keys (row_under a.index number) ≡ watchers_of (instances_of a) number
 unfolding watchers_of

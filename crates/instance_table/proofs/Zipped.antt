@@ -8,7 +8,7 @@ use Rattle.std.specs.List.{zip}
 use Rattle.std.specs.List.Sorted.{IsStrictlySortedBy}
 use Rattle.std.specs.Ordering.{nat_cmp}
 use Rattle.watch_table.specs.Watching.{Watch}
-use Rattle.instance_table.specs.Ids.{IsPlace}
+use Rattle.instance_table.specs.Ids.{IsIndex}
 use Rattle.instance_table.specs.Watchers.{AreWatchers, WatchMap, watchers_map}
 use Rattle.instance_table.proofs.Rising.{entries-rising, get-absent, get-at, map-cut, map-put, map-set, numbers-cut, numbers-put, rises-none}
 
@@ -107,41 +107,41 @@ module _ (ids : List ℕ) (ws : List Watch) (are : AreWatchers ids ws) where
       ap (λ (m : WatchMap). finmap.keys m) (sym is-map) ∙ ap (map number) (entries-rising number watch (zip ids ws) rises ∙ as-pairs (zip ids ws)) ∙ numbers
 
   -- an instance that has none gets a watch
-  module _ (i x : ℕ) (w : Watch) (place : IsPlace ids x (Err i)) where
+  module _ (i x : ℕ) (w : Watch) (slot : IsIndex ids x (Err i)) where
     pub watchers-put : watchers_map (take i ids ++ x ∷ drop i ids) (take i ws ++ w ∷ drop i ws) ≡ finmap.insert (watchers_map ids ws) x w
     watchers-put =
         ap paired (zip-put ids ws i x w are.same) ∙ sym (mapped-is (take i (zip ids ws) ++ (x, w) ∷ drop i (zip ids ws)))
-        ∙ map-put number watch (zip ids ws) i (x, w) (subst (λ ks. IsPlace ks x (Err i)) (sym numbers) place)
+        ∙ map-put number watch (zip ids ws) i (x, w) (subst (λ ks. IsIndex ks x (Err i)) (sym numbers) slot)
         ∙ ap (λ (m : WatchMap). finmap.insert m x w) is-map
 
     pub are-put : AreWatchers (take i ids ++ x ∷ drop i ids) (take i ws ++ w ∷ drop i ws)
     are-put = record {
-      rising = numbers-put ids i x are.rising (λ k p q. place.1 k p) place.2;
+      rising = numbers-put ids i x are.rising (λ k p q. slot.1 k p) slot.2;
       same = length-put ws i w ∙ ap suc are.same ∙ sym (length-put ids i x);
     }
 
-  watchers-absent : (i x : ℕ) → IsPlace ids x (Err i) → finmap.get (watchers_map ids ws) x ≡ None
-  watchers-absent i x place =
+  watchers-absent : (i x : ℕ) → IsIndex ids x (Err i) → finmap.get (watchers_map ids ws) x ≡ None
+  watchers-absent i x slot =
       ap (λ (m : WatchMap). finmap.get m x) (sym is-map)
-      ∙ get-absent number watch (zip ids ws) i x (subst (λ ks. IsPlace ks x (Err i)) (sym numbers) place)
+      ∙ get-absent number watch (zip ids ws) i x (subst (λ ks. IsIndex ks x (Err i)) (sym numbers) slot)
 
   -- the same of a slice of the numbers, and of the map that contracts see
-  pub watchers-absent_in : {slice : List ℕ} {m : WatchMap} → slice ≡ ids → watchers_map ids ws ≡ m → (i x : ℕ) → IsPlace slice x (Err i)
+  pub watchers-absent_in : {slice : List ℕ} {m : WatchMap} → slice ≡ ids → watchers_map ids ws ≡ m → (i x : ℕ) → IsIndex slice x (Err i)
       → finmap.get m x ≡ None
-  watchers-absent_in same view i x place =
-      ap (λ (n : WatchMap). finmap.get n x) (sym view) ∙ watchers-absent i x (subst (λ ks. IsPlace ks x (Err i)) same place)
+  watchers-absent_in same view i x slot =
+      ap (λ (n : WatchMap). finmap.get n x) (sym view) ∙ watchers-absent i x (subst (λ ks. IsIndex ks x (Err i)) same slot)
 
-  module _ (i x : ℕ) (place : IsPlace ids x (Ok i)) where
+  module _ (i x : ℕ) (slot : IsIndex ids x (Ok i)) where
     within : i < length (map number (zip ids ws))
-    within = subst (λ (ks : List ℕ). i < length ks) (sym numbers) place.0
+    within = subst (λ (ks : List ℕ). i < length ks) (sym numbers) slot.0
 
     there : get_or (map number (zip ids ws)) i 0 ≡ x
-    there = ap (λ (ks : List ℕ). get_or ks i 0) numbers ∙ place.1
+    there = ap (λ (ks : List ℕ). get_or ks i 0) numbers ∙ slot.1
 
     -- an instance gets another watch
     pub watchers-set : (w : Watch) → watchers_map ids (set ws i w) ≡ finmap.insert (watchers_map ids ws) x w
     watchers-set w =
-        ap paired (zip-set ids ws i x w are.same place.0 place.1) ∙ sym (mapped-is (set (zip ids ws) i (x, w)))
+        ap paired (zip-set ids ws i x w are.same slot.0 slot.1) ∙ sym (mapped-is (set (zip ids ws) i (x, w)))
         ∙ map-set number watch (zip ids ws) i (x, w) rises within there ∙ ap (λ (m : WatchMap). finmap.insert m x w) is-map
 
     -- an instance loses its watch
@@ -152,11 +152,11 @@ module _ (ids : List ℕ) (ws : List Watch) (are : AreWatchers ids ws) where
 
     pub are-cut : AreWatchers (take i ids ++ drop (suc i) ids) (take i ws ++ drop (suc i) ws)
     are-cut =
-        let a = length-cut ws i (omega (arith, are.same, place.0)) in
-        let b = length-cut ids i place.0 in record { rising = numbers-cut ids i are.rising; same = omega (arith, a, b, are.same) }
+        let a = length-cut ws i (omega (arith, are.same, slot.0)) in
+        let b = length-cut ids i slot.0 in record { rising = numbers-cut ids i are.rising; same = omega (arith, a, b, are.same) }
 
     -- the watch of an instance
     pub watchers-at : (d : Watch) → finmap.get (watchers_map ids ws) x ≡ Some (get_or ws i d)
     watchers-at d =
         ap (λ (m : WatchMap). finmap.get m x) (sym is-map) ∙ get-at number watch (zip ids ws) i x (0, d) rises within there
-        ∙ ap (λ (w : Watch). Some w) (watch-zip ids ws i d are.same place.0)
+        ∙ ap (λ (w : Watch). Some w) (watch-zip ids ws i d are.same slot.0)

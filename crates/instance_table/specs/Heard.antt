@@ -2,8 +2,8 @@
 use Rattle.std.specs.Prelude.{List, fold}
 use Rattle.watch_table.specs.Watching.{removed}
 use Rattle.event_queue.specs.Backlogs.{after_offer}
-use Rattle.event_rules.specs.declared.staging.StagedEvent.{StagedEvent}
-use Rattle.event_rules.specs.declared.staging.StagedEnd.{StagedEnd}
+use Rattle.event_rules.specs.declared.staged.StagedEvent.{StagedEvent}
+use Rattle.event_rules.specs.declared.staged.StagedEnd.{StagedEnd}
 use Rattle.instance_table.specs.declared.instance.Instance.{Instance}
 use Rattle.instance_table.specs.Instances.{Instances, changed}
 

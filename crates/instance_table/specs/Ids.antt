@@ -14,9 +14,9 @@ abbrev pub set_of : List ℕ → IdSet
 set_of ids = from_entries (marked ids)
 
 -- the index of a number among others, or else the index between those below it and those above
-abbrev pub IsPlace : List ℕ → ℕ → Result ℕ ℕ → Type 0
-IsPlace ids id place =
-    MatchResult place
+abbrev pub IsIndex : List ℕ → ℕ → Result ℕ ℕ → Type 0
+IsIndex ids id slot =
+    MatchResult slot
     (λ i. (i < length ids) × (slice_index_or ids i 0 ≡ id))
     (λ i.
     (i ≤ length ids) × ((k : ℕ) → k < i → slice_index_or ids k 0 < id)

@@ -79,3 +79,7 @@ NobodyWatches m = (number id : ℕ) → watches_file number (instance_of m id) �
 -- the numbers of the instances that watch a file, rising
 unfoldable pub watchers_of : Instances → ℕ → List ℕ
 watchers_of m number = filter (λ id. watches_file number (instance_of m id)) (finmap.keys m)
+
+-- each file that an instance watches passes a test
+abbrev pub PassesWatched : (ℕ → Bool) → Instances → Type 0
+PassesWatched may_watch m = (number id : ℕ) → may_watch number ≡ false → watches_file number (instance_of m id) ≡ false

@@ -1,6 +1,7 @@
 pub mod Ids
 pub mod Watchers
 pub mod WatcherRow
+pub mod Filters
 pub mod Index
 pub mod Instances
 pub mod Opened

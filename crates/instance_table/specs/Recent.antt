@@ -1,7 +1,7 @@
 -- The files whose watchers were looked up last. No public clause cites this module.
 use Rattle.std.specs.Option.{option_copied}
-use Rattle.instance_table.specs.declared.recent.FoundRow.{FoundRow}
-use Rattle.instance_table.specs.declared.recent.RecentRows.{RecentRows}
+use Rattle.instance_table.specs.declared.recent_row.FoundRow.{FoundRow}
+use Rattle.instance_table.specs.declared.recent_row.RecentRows.{RecentRows}
 use Rattle.instance_table.specs.Instances.{Instances}
 use Rattle.instance_table.specs.Watchers.{IsRowOf, row_or_none}
 

@@ -4,8 +4,8 @@ use Rattle.std.specs.List.{filter}
 use Rattle.record_codec.specs.declared.event.Event.{Event}
 use Rattle.watch_table.specs.Watching.{removed}
 use Rattle.event_rules.specs.declared.notice.Notice.{Notice}
-use Rattle.event_rules.specs.declared.staging.StagedEvent.{StagedEvent}
-use Rattle.event_rules.specs.declared.staging.StagedEnd.{StagedEnd}
+use Rattle.event_rules.specs.declared.staged.StagedEvent.{StagedEvent}
+use Rattle.event_rules.specs.declared.staged.StagedEnd.{StagedEnd}
 use Rattle.event_rules.specs.Raised.{events_of, watches_after}
 use Rattle.instance_table.specs.declared.instance.Instance.{Instance}
 use Rattle.instance_table.specs.declared.staging.Staging.{Staging}

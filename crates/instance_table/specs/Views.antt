@@ -3,7 +3,7 @@ use Rattle.std.specs.Prelude.{◌≡◌, ℕ}
 use Rattle.std.specs.List.Sorted.{IsStrictlySortedBy}
 use Rattle.std.specs.Ordering.{nat_cmp}
 use Rattle.instance_table.specs.declared.instances.Instances.TheInside.{Inside}
-use Rattle.instance_table.specs.Index.{HasNoEmptyRow, watch_noted}
+use Rattle.instance_table.specs.Index.{HasSoundRows, watch_noted}
 use Rattle.instance_table.specs.Instances.{Instances, WaitingAreEvents, instance_of}
 use Rattle.instance_table.specs.Opened.{by_number, ids_of}
 use Rattle.instance_table.specs.Watchers.{watch_at}
@@ -15,6 +15,6 @@ instances_of a = by_number a.opened.items
 -- are events; the instances are in strictly ascending order of their numbers
 pub record NotesEveryWatch (a : Inside) : Type 0 where
   pub noted : (number id : ℕ) → watch_noted a.index number id ≡ watch_at number (instance_of (instances_of a) id)
-  pub rows : HasNoEmptyRow a.index
+  pub rows : HasSoundRows a.index
   pub records : WaitingAreEvents (instances_of a)
   pub rising : IsStrictlySortedBy nat_cmp (ids_of a.opened.items)

@@ -3,7 +3,7 @@ ghost use Rattle.std.specs.Prelude.{◌≡◌, ◌≤◌, ◌<◌, true, false, 
 ghost use Rattle.std.specs.FinMap as map;
 ghost use Rattle.instance_table.specs.Watchers.{AreWatchers, watchers_map};
 
-use crate::ids::place_of;
+use crate::ids::index_of;
 use std::marker::Model;
 
 /// At most `N` instances that watch a file, by their numbers, rising; and the descriptor and the bits of the watch of
@@ -79,16 +79,16 @@ impl<const N: usize> Few<N> {
         ensures others { result ≡ false → map.get self.old id ≡ None }
         ensures full { result ≡ false → N ≤ length (map.keys self.old) }
     {
-        match place_of(&self.ids[..self.len], id) {
-            Ok(place) => self.watches[place] = watch,
-            Err(place) => {
+        match index_of(&self.ids[..self.len], id) {
+            Ok(index) => self.watches[index] = watch,
+            Err(index) => {
                 if self.len == N {
                     return false;
                 }
-                self.ids.copy_within(place..self.len, place + 1);
-                self.ids[place] = id;
-                self.watches.copy_within(place..self.len, place + 1);
-                self.watches[place] = watch;
+                self.ids.copy_within(index..self.len, index + 1);
+                self.ids[index] = id;
+                self.watches.copy_within(index..self.len, index + 1);
+                self.watches[index] = watch;
                 self.len += 1;
             }
         }
@@ -100,19 +100,19 @@ impl<const N: usize> Few<N> {
         requires { IsSome (map.get self.old id) }
         ensures { self.new ≡ map.insert self.old id watch }
     {
-        let Ok(place) = place_of(&self.ids[..self.len], id) else {
+        let Ok(index) = index_of(&self.ids[..self.len], id) else {
             unreachable!()
         };
-        self.watches[place] = watch;
+        self.watches[index] = watch;
     }
 
     /// Takes out an instance, if it is there.
     pub fn remove(&mut self, id: u32)
         ensures { self.new ≡ map.remove self.old id }
     {
-        if let Ok(place) = place_of(&self.ids[..self.len], id) {
-            self.ids.copy_within(place + 1..self.len, place);
-            self.watches.copy_within(place + 1..self.len, place);
+        if let Ok(index) = index_of(&self.ids[..self.len], id) {
+            self.ids.copy_within(index + 1..self.len, index);
+            self.watches.copy_within(index + 1..self.len, index);
             self.len -= 1;
         }
     }

@@ -5,8 +5,9 @@ ghost use Rattle.std.specs.FinMap as map;
 ghost use Rattle.std.specs.BTreeMap as tree;
 ghost use Rattle.std.specs.Option.{option_copied};
 ghost use Rattle.std.specs.Ordering.{nat_cmp};
-ghost use Rattle.instance_table.specs.Index.{HasNoEmptyRow, watch_noted, row_under};
+ghost use Rattle.instance_table.specs.Index.{HasSoundRows, watch_noted, row_under};
 
+use crate::filter::WatchFilter;
 use crate::watchers::Watchers;
 use std::alloc::{AllocError, Global};
 use std::collections::BTreeMap;
@@ -15,6 +16,7 @@ use std::collections::BTreeMap;
 pub struct Index {
     alloc: Global,
     watchers: BTreeMap<u32, Watchers>,
+    filter: WatchFilter,
 }
 
 impl Drop for Index {
@@ -22,6 +24,7 @@ impl Drop for Index {
         let Index {
             alloc: _,
             watchers: _,
+            filter: _,
         } = self;
     }
 }
@@ -30,22 +33,24 @@ impl Index {
     /// No file is watched. It takes no memory.
     pub fn new(alloc: Global) -> Index
         ensures noted { (number id : ℕ) → watch_noted result number id ≡ None }
-        ensures rows { HasNoEmptyRow result }
+        ensures rows { HasSoundRows result }
     {
         Index {
             alloc,
             watchers: BTreeMap::new(alloc),
+            filter: WatchFilter::new(),
         }
     }
 
     /// Returns a copy. `Err` is out of memory.
     pub fn copy(&self) -> Result<Index, AllocError>
         ensures noted { IfOk result (λ index. (n q : ℕ) → watch_noted index n q ≡ watch_noted self.now n q) }
-        ensures rows { IfOk result (λ index. HasNoEmptyRow self.now → HasNoEmptyRow index) }
+        ensures rows { IfOk result (λ index. HasSoundRows self.now → HasSoundRows index) }
     {
         Ok(Index {
             alloc: self.alloc,
             watchers: self.watchers.clone()?,
+            filter: self.filter,
         })
     }
 
@@ -54,13 +59,14 @@ impl Index {
         ensures ok { OnOk result ((n q : ℕ)
             → watch_noted self.new n q ≡ (if n == number && q == id then Some watch else watch_noted self.old n q)) }
         ensures err { OnErr result ((n q : ℕ) → watch_noted self.new n q ≡ watch_noted self.old n q) }
-        ensures rows { HasNoEmptyRow self.old → HasNoEmptyRow self.new }
+        ensures rows { HasSoundRows self.old → HasSoundRows self.new }
     {
         let alloc = self.alloc;
         if let Some(row) = self.watchers.get_mut(&number) {
             return row.put(alloc, id, watch);
         }
         self.watchers.insert(number, Watchers::one(id, watch))?;
+        self.filter.add(number);
         Ok(())
     }
 
@@ -69,7 +75,7 @@ impl Index {
         requires { IsSome (watch_noted self.old number id) }
         ensures noted { (n q : ℕ)
             → watch_noted self.new n q ≡ (if n == number && q == id then Some watch else watch_noted self.old n q) }
-        ensures rows { HasNoEmptyRow self.old → HasNoEmptyRow self.new }
+        ensures rows { HasSoundRows self.old → HasSoundRows self.new }
     {
         let Some(row) = self.watchers.get_mut(&number) else {
             unreachable!()
@@ -81,7 +87,7 @@ impl Index {
     pub fn remove(&mut self, number: u32, id: u32)
         ensures noted { (n q : ℕ)
             → watch_noted self.new n q ≡ (if n == number && q == id then None else watch_noted self.old n q) }
-        ensures rows { HasNoEmptyRow self.old → HasNoEmptyRow self.new }
+        ensures rows { HasSoundRows self.old → HasSoundRows self.new }
     {
         let Some(row) = self.watchers.get_mut(&number) else {
             return;
@@ -108,9 +114,17 @@ impl Index {
         }
     }
 
+    /// The filter: each file that has a row passes.
+    #[inline(always)]
+    pub fn filter(&self) -> &WatchFilter
+        ensures { result.now ≡ self.now.filter }
+    {
+        &self.filter
+    }
+
     /// Whether no file is watched.
     pub fn is_empty(&self) -> bool
-        ensures { HasNoEmptyRow self.now → IsTrue result ↔ ((n q : ℕ) → watch_noted self.now n q ≡ None) }
+        ensures { HasSoundRows self.now → IsTrue result ↔ ((n q : ℕ) → watch_noted self.now n q ≡ None) }
     {
         self.watchers.is_empty()
     }

@@ -10,16 +10,19 @@ ghost use Rattle.tree_paths.specs.declared.refusal.Refusal.TheVariants.{Enomem};
 ghost use Rattle.event_queue.specs.Backlogs.{IsLimit, after_offer};
 ghost use Rattle.watch_table.specs.Masks.{mask_fault, stored};
 ghost use Rattle.watch_table.specs.Watching.{IsSound, add_refusal, added, removed, watch_of, wd_added};
-ghost use Rattle.instance_table.specs.Index.{HasNoEmptyRow, watch_noted};
+ghost use Rattle.instance_table.specs.Index.{HasSoundRows, watch_noted};
+ghost use Rattle.instance_table.specs.Filters.{passes};
 ghost use Rattle.instance_table.specs.Rows.{instance_row};
 ghost use Rattle.instance_table.specs.Heard.{delivered_all};
-ghost use Rattle.instance_table.specs.Instances.{NobodyWatches, WaitingAreEvents, after_read, changed, instance_of};
+ghost use Rattle.instance_table.specs.Instances.{NobodyWatches, PassesWatched, WaitingAreEvents, after_read, changed};
 ghost use Rattle.instance_table.specs.Watchers.{IsRowOf, row_or_none};
-ghost use Rattle.instance_table.specs.Instances.{new_instance, unwatching, waiting_of, watchers_of, watching};
+ghost use Rattle.instance_table.specs.Instances.{instance_of, new_instance, unwatching, waiting_of, watchers_of};
+ghost use Rattle.instance_table.specs.Instances.{watching};
 
+use crate::filter::WatchFilter;
 use crate::index::Index;
 use crate::instance::Instance;
-use crate::opened::{Opened, place_of};
+use crate::opened::{Opened, index_of};
 use crate::rows::{InstanceRow, instance_row};
 use crate::staging::{offer_one, offer_run};
 use crate::watchers::Watchers;
@@ -100,15 +103,15 @@ impl Instances {
         self.find(id, &mut 0)
     }
 
-    /// The open instance of a number. The index `place` is tried first, and is then the instance's index among the open
+    /// The open instance of a number. `index` is tried first, and is then the instance's index among the open
     /// ones: a call for the same instance that gets it need not search again. Any index gives the same answer.
-    pub fn find(&self, id: u32, place: &mut usize) -> Option<&Instance>
+    pub fn find(&self, id: u32, index: &mut usize) -> Option<&Instance>
         ensures { option_copied result ≡ instance_of self.now id }
     {
-        let Ok(found) = place_of(&self.opened, id, *place) else {
+        let Ok(found) = index_of(&self.opened, id, *index) else {
             return None;
         };
-        *place = found;
+        *index = found;
         Some(&self.opened[found].instance)
     }
 
@@ -126,11 +129,19 @@ impl Instances {
         self.index.row(number)
     }
 
-    /// Whether any instance watches a file. It takes no memory.
+    /// Whether any instance watches any file. It takes no memory.
     pub fn is_watching(&self) -> bool
         ensures { (result ≡ false) ↔ NobodyWatches self.now }
     {
         !self.index.is_empty()
+    }
+
+    /// The files that may be watched: each that an instance watches, and some others. It takes no memory.
+    #[inline(always)]
+    pub fn watch_filter(&self) -> &WatchFilter
+        ensures { PassesWatched (passes result.now) self.now }
+    {
+        self.index.filter()
     }
 
     /// The open instances in the order of their numbers.
@@ -159,7 +170,7 @@ impl Instances {
         ensures err { OnErr result (self.new ≡ self.old) }
         ensures memory { IfErr result (λ refusal. refusal ≡ Enomem) }
     {
-        let Err(place) = place_of(&self.opened, id, 0) else {
+        let Err(index) = index_of(&self.opened, id, 0) else {
             unreachable!()
         };
         let instance = Instance {
@@ -167,31 +178,31 @@ impl Instances {
             watches: Watches::new(self.alloc, limits),
             queue: Queue::with_limit(self.alloc, limit)?,
         };
-        match self.opened.insert(place, Opened { id, instance }) {
+        match self.opened.insert(index, Opened { id, instance }) {
             Ok(()) => Ok(()),
             Err(_) => Err(Refusal::Enomem),
         }
     }
 
-    /// Closes an instance: its watches are gone, and what waited is given up. It takes no memory. The index `place` is
+    /// Closes an instance: its watches are gone, and what waited is given up. It takes no memory. `index` is
     /// tried first.
-    pub fn close(&mut self, id: u32, place: usize)
+    pub fn close(&mut self, id: u32, index: usize)
         ensures { self.new ≡ finmap.remove self.old id }
     {
-        let Ok(found) = place_of(&self.opened, id, place) else {
+        let Ok(found) = index_of(&self.opened, id, index) else {
             return;
         };
         let closed = self.opened.remove(found);
         forget(&mut self.index, &closed.instance.watches, id);
     }
 
-    /// Watches a file for an instance, and answers the descriptor of the watch. The index `place` is tried first.
+    /// Watches a file for an instance, and answers the descriptor of the watch. `index` is tried first.
     ///
     /// It is refused as [`Watches::add`] says; then all is as it was.
     pub fn watch(
         &mut self,
         id: u32,
-        place: usize,
+        index: usize,
         number: u32,
         mask: Mask,
         is_directory: bool,
@@ -208,7 +219,7 @@ impl Instances {
             (λ i. (add_refusal i.watches number mask.0 is_directory ≡ Some r) ⊎ (r ≡ Enomem))) }
         ensures err { OnErr result (self.new ≡ self.old) }
     {
-        let Ok(found) = place_of(&self.opened, id, place) else {
+        let Ok(found) = index_of(&self.opened, id, index) else {
             unreachable!()
         };
         add_noted(
@@ -221,52 +232,52 @@ impl Instances {
         )
     }
 
-    /// Ends the watch of a descriptor: the instance receives `IN_IGNORED`. It takes no memory. The index `place` is
+    /// Ends the watch of a descriptor: the instance receives `IN_IGNORED`. It takes no memory. `index` is
     /// tried first.
-    pub fn unwatch(&mut self, id: u32, place: usize, wd: i32)
+    pub fn unwatch(&mut self, id: u32, index: usize, wd: i32)
         ensures { self.new ≡ changed self.old id (unwatching wd) }
     {
-        let mut next = place;
+        let mut next = index;
         self.end_watch(id, wd, &mut next);
-        self.offer(id, place, ignored(wd));
+        self.offer(id, index, ignored(wd));
     }
 
-    /// Takes the oldest records out of an instance's queue. It takes no memory. The index `place` is tried first.
-    pub fn drop_oldest(&mut self, id: u32, place: usize, count: usize)
+    /// Takes the oldest records out of an instance's queue. It takes no memory. `index` is tried first.
+    pub fn drop_oldest(&mut self, id: u32, index: usize, count: usize)
         ensures { self.new ≡ changed self.old id (after_read count) }
     {
-        let Ok(found) = place_of(&self.opened, id, place) else {
+        let Ok(found) = index_of(&self.opened, id, index) else {
             return;
         };
         self.opened[found].instance.queue.drop_oldest(count);
     }
 
     /// Moves the oldest records out of an instance's queue, to the end of a vector that has the capacity for them. It
-    /// takes no memory. The index `place` is tried first.
-    pub fn move_oldest(&mut self, id: u32, place: usize, count: usize, records: &mut Vec<Event>)
+    /// takes no memory. `index` is tried first.
+    pub fn move_oldest(&mut self, id: u32, index: usize, count: usize, records: &mut Vec<Event>)
         requires room { vec_len records.old + count ≤ vec_capacity records.old }
         ensures instances { self.new ≡ changed self.old id (after_read count) }
         ensures records { records.new.items ≡ records.old.items ++ take count (waiting_of (instance_of self.old id)) }
     {
-        let Ok(found) = place_of(&self.opened, id, place) else {
+        let Ok(found) = index_of(&self.opened, id, index) else {
             return;
         };
         move_oldest(&mut self.opened[found].instance.queue, count, records);
     }
 
-    /// The open instance of a number. The index `next` is tried first, and is then the one behind the instance.
+    /// The open instance of a number. `next` is tried first, and is then the one behind the instance.
     pub(crate) fn get_next(&self, id: u32, next: &mut usize) -> Option<&Instance>
         ensures { option_copied result ≡ instance_of self.now id }
     {
-        let Ok(place) = place_of(&self.opened, id, *next) else {
+        let Ok(index) = index_of(&self.opened, id, *next) else {
             return None;
         };
-        *next = place + 1;
-        Some(&self.opened[place].instance)
+        *next = index + 1;
+        Some(&self.opened[index].instance)
     }
 
-    /// Raises an event, and the events for the same instance that directly follow it. The index `next` is tried first,
-    /// and is then the one behind the instance.
+    /// Delivers an event to its instance, and the events for it that directly follow. `next` is tried first, and is
+    /// then the one behind the instance.
     pub(crate) fn deliver_to(
         &mut self,
         first: StagedEvent,
@@ -276,33 +287,33 @@ impl Instances {
         ensures heard { delivered_all self.new events.new.items ≡ delivered_all self.old (first ∷ events.old.items) }
         ensures fewer { deque_len events.new ≤ deque_len events.old }
     {
-        let Ok(place) = place_of(&self.opened, first.id, *next) else {
+        let Ok(index) = index_of(&self.opened, first.id, *next) else {
             return;
         };
-        *next = place + 1;
-        offer_run(&mut self.opened[place].instance.queue, first, events);
+        *next = index + 1;
+        offer_run(&mut self.opened[index].instance.queue, first, events);
     }
 
-    /// Raises an event. The index `place` is tried first.
-    pub(crate) fn offer(&mut self, id: u32, place: usize, event: Event)
+    /// Offers an event to the queue of an instance. `index` is tried first.
+    pub(crate) fn offer(&mut self, id: u32, index: usize, event: Event)
         ensures { self.new ≡ changed self.old id (λ i. record i { queue = after_offer i.queue event }) }
     {
-        let Ok(found) = place_of(&self.opened, id, place) else {
+        let Ok(found) = index_of(&self.opened, id, index) else {
             return;
         };
         offer_one(&mut self.opened[found].instance.queue, event);
     }
 
-    /// Ends the watch of a descriptor, if there is one. The index `next` is tried first, and is then the one behind the
+    /// Ends the watch of a descriptor, if there is one. `next` is tried first, and is then the one behind the
     /// instance.
     pub(crate) fn end_watch(&mut self, id: u32, wd: i32, next: &mut usize)
         ensures { self.new ≡ changed self.old id (λ i. record i { watches = removed i.watches wd }) }
     {
-        let Ok(place) = place_of(&self.opened, id, *next) else {
+        let Ok(index) = index_of(&self.opened, id, *next) else {
             return;
         };
-        *next = place + 1;
-        let watches = &mut self.opened[place].instance.watches;
+        *next = index + 1;
+        let watches = &mut self.opened[index].instance.watches;
         let Some(number) = watches.watched_by(wd) else {
             return;
         };
@@ -332,7 +343,7 @@ fn add_noted(
     ensures refusals { IfErr result (λ r. (add_refusal watches.old number mask.0 is_directory ≡ Some r)
         ⊎ (r ≡ Enomem)) }
     ensures err { OnErr result (watches.new ≡ watches.old) }
-    ensures rows { HasNoEmptyRow index.old → HasNoEmptyRow index.new }
+    ensures rows { HasSoundRows index.old → HasSoundRows index.new }
     ensures err_noted { OnErr result ((n q : ℕ) → watch_noted index.new n q ≡ watch_noted index.old n q) }
 {
     match watches.of(number) {
@@ -369,7 +380,7 @@ fn add_first(
     ensures refusals { IfErr result (λ r. (add_refusal watches.old number mask.0 is_directory ≡ Some r)
         ⊎ (r ≡ Enomem)) }
     ensures err { OnErr result (watches.new ≡ watches.old) }
-    ensures rows { HasNoEmptyRow index.old → HasNoEmptyRow index.new }
+    ensures rows { HasSoundRows index.old → HasSoundRows index.new }
     ensures err_noted { OnErr result ((n q : ℕ) → watch_noted index.new n q ≡ watch_noted index.old n q) }
 {
     // A call that a row refuses allocates nothing.
@@ -389,7 +400,7 @@ fn add_first(
 
 /// Takes the watches of an instance out of the index.
 fn forget(index: &mut Index, watches: &Watches, id: u32)
-    ensures rows { HasNoEmptyRow index.old → HasNoEmptyRow index.new }
+    ensures rows { HasSoundRows index.old → HasSoundRows index.new }
     ensures noted { (n q : ℕ)
         → watch_noted index.new n q
         ≡ (if is_some (watch_of watches.now n) && q == id then None else watch_noted index.old n q) }

@@ -2,21 +2,23 @@
 #![tactic(auto)]
 
 mod few;
+mod filter;
 mod ids;
 mod index;
 mod instance;
 mod instances;
 mod laws;
 mod opened;
-mod recent;
+mod recent_row;
 mod row;
 mod rows;
 mod several;
 mod staging;
 mod watchers;
 
+pub use filter::WatchFilter;
 pub use instance::Instance;
 pub use instances::Instances;
-pub use laws::unwatched_instances_stay;
+pub use laws::{unwatched_files_need_no_telling, unwatched_instances_stay};
 pub use rows::InstanceRow;
 pub use staging::Staging;

@@ -1,7 +1,7 @@
 //! Open instances in the order of their numbers.
 ghost use Rattle.std.specs.List.Sorted.{IsStrictlySortedBy};
 ghost use Rattle.std.specs.Ordering.{nat_cmp};
-ghost use Rattle.instance_table.specs.Ids.{IsPlace};
+ghost use Rattle.instance_table.specs.Ids.{IsIndex};
 ghost use Rattle.instance_table.specs.Opened.{ids_of};
 
 use crate::instance::Instance;
@@ -13,12 +13,12 @@ pub(crate) struct Opened {
     pub(crate) instance: Instance,
 }
 
-/// The index of the instance of a number among open ones, or else the index at which to insert it. The index `first` is
+/// The index of the instance of a number among open ones, or else the index at which to insert it. `first` is
 /// tried before any other.
 #[inline(always)]
-pub(crate) fn place_of(rows: &[Opened], id: u32, first: usize) -> Result<usize, usize>
+pub(crate) fn index_of(rows: &[Opened], id: u32, first: usize) -> Result<usize, usize>
     requires { IsStrictlySortedBy nat_cmp (ids_of rows.now) }
-    ensures { IsPlace (ids_of rows.now) id result }
+    ensures { IsIndex (ids_of rows.now) id result }
 {
     if let Some(row) = rows.get(first)
         && row.id == id
@@ -32,7 +32,7 @@ pub(crate) fn place_of(rows: &[Opened], id: u32, first: usize) -> Result<usize, 
 /// first one and it was closed is tried first.
 fn find_near(rows: &[Opened], id: u32) -> Result<usize, usize>
     requires { IsStrictlySortedBy nat_cmp (ids_of rows.now) }
-    ensures { IsPlace (ids_of rows.now) id result }
+    ensures { IsIndex (ids_of rows.now) id result }
 {
     let index = match rows.first() {
         Some(front) => id.saturating_sub(front.id) as usize,
@@ -48,7 +48,7 @@ fn find_near(rows: &[Opened], id: u32) -> Result<usize, usize>
 /// come rising.
 fn find_row(rows: &[Opened], id: u32) -> Result<usize, usize>
     requires { IsStrictlySortedBy nat_cmp (ids_of rows.now) }
-    ensures { IsPlace (ids_of rows.now) id result }
+    ensures { IsIndex (ids_of rows.now) id result }
 {
     match rows.last() {
         Some(last) if id <= last.id => rows.binary_search_by_key(&id, |row| row.id),

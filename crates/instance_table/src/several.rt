@@ -3,7 +3,7 @@ ghost use Rattle.std.specs.Prelude.{◌≡◌, ◌↔◌, IsTrue, IsSome, IfOk, 
 ghost use Rattle.std.specs.FinMap as map;
 ghost use Rattle.instance_table.specs.Watchers.{AreWatchers, watchers_map};
 
-use crate::ids::place_of;
+use crate::ids::index_of;
 use std::alloc::{AllocError, Global};
 use std::marker::Model;
 
@@ -84,12 +84,12 @@ impl Several {
         ensures ok { OnOk result (self.new ≡ map.insert self.old id watch) }
         ensures err { OnErr result (self.new ≡ self.old) }
     {
-        match place_of(self.ids.as_slice(), id) {
-            Ok(place) => self.watches[place] = watch,
-            Err(place) => {
+        match index_of(self.ids.as_slice(), id) {
+            Ok(index) => self.watches[index] = watch,
+            Err(index) => {
                 self.watches.reserve(1)?;
-                self.ids.insert(place, id)?;
-                let Ok(()) = self.watches.insert(place, watch) else {
+                self.ids.insert(index, id)?;
+                let Ok(()) = self.watches.insert(index, watch) else {
                     unreachable!()
                 };
             }
@@ -102,19 +102,19 @@ impl Several {
         requires { IsSome (map.get self.old id) }
         ensures { self.new ≡ map.insert self.old id watch }
     {
-        let Ok(place) = place_of(self.ids.as_slice(), id) else {
+        let Ok(index) = index_of(self.ids.as_slice(), id) else {
             unreachable!()
         };
-        self.watches[place] = watch;
+        self.watches[index] = watch;
     }
 
     /// Takes out an instance, if it is there. It takes no memory.
     pub fn remove(&mut self, id: u32)
         ensures { self.new ≡ map.remove self.old id }
     {
-        if let Ok(place) = place_of(self.ids.as_slice(), id) {
-            self.ids.remove(place);
-            self.watches.remove(place);
+        if let Ok(index) = index_of(self.ids.as_slice(), id) {
+            self.ids.remove(index);
+            self.watches.remove(index);
         }
     }
 

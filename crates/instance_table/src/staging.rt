@@ -15,7 +15,7 @@ ghost use Rattle.instance_table.specs.Heard.{ended_all, delivered_all};
 ghost use Rattle.instance_table.specs.Staging.{IsStaged, events_to, wds_to};
 
 use crate::instances::Instances;
-use crate::recent::RecentRows;
+use crate::recent_row::RecentRows;
 use crate::row::stage_row;
 use event_queue::Queue;
 use event_rules::{Notice, Staged, StagedEnd, StagedEvent, removals_leave_the_rest};
@@ -70,9 +70,9 @@ impl Instances {
             return Ok(());
         };
         let mut recent = RecentRows::of(self, first.number());
-        for (place, notice) in notices.iter().enumerate() {
+        for (index, notice) in notices.iter().enumerate() {
             let row = recent.row_of(self, notice.number());
-            stage_row(row, &notices[..place], notice, staged)?;
+            stage_row(row, &notices[..index], notice, staged)?;
         }
         Ok(())
     }
@@ -107,7 +107,7 @@ impl Instances {
         self.end_each(&staging.staged.drops);
     }
 
-    /// Raises events, one after the other.
+    /// Delivers events, one after the other.
     fn deliver_each(&mut self, events: &mut VecDeque<StagedEvent>)
         ensures { self.new ≡ delivered_all self.old events.old.items }
     {
@@ -148,7 +148,7 @@ pub(crate) fn offer_one(queue: &mut Queue, event: Event)
     queue.offer(event);
 }
 
-/// Raises an event, and those behind it of the same number.
+/// Offers an event to a queue, and those behind it for the same instance.
 pub(crate) fn offer_run(queue: &mut Queue, first: StagedEvent, events: &mut VecDeque<StagedEvent>)
     ensures queue { (es : List Event) × (first ∷ events.old.items ≡ map (staged_event first.id) es ++ events.new.items)
         × (queue.new ≡ fold after_offer queue.old es) }

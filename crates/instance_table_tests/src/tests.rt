@@ -3,7 +3,7 @@
 mod model;
 mod refused;
 
-use event_rules::Notice;
+use event_rules::{Audience, Notice};
 use instance_table::{Instances, Staging};
 use record_codec::bits::{
     IN_ALL_EVENTS, IN_CREATE, IN_DELETE_SELF, IN_IGNORED, IN_ONESHOT, IN_ONLYDIR,
@@ -265,6 +265,37 @@ fn watchers_among_many_receive_events(rt: HostRuntime) -> Result<(), Fail> {
             let is_right = waits(&instances, id, letters.as_bytes());
             assert!(rt; is_right, "{id} of {count}");
         }
+    }
+    Ok(())
+}
+
+/// Numbers with the remainder of the file's, and others.
+const NUMBERS: [(u32, bool); 6] = [
+    (FILE, true),
+    (FILE + 1024, true),
+    (0, false),
+    (FILE - 1, false),
+    (FILE + 1023, false),
+    (u32::MAX, false),
+];
+
+/// No file passes before one is watched. Then those with its remainder do, also of a copy, and after the watch ended.
+#[test]
+fn a_file_that_was_watched_passes(rt: HostRuntime) -> Result<(), Fail> {
+    let alloc = rt.alloc();
+    let mut instances = opened(alloc, 1)?;
+    for has_watched in [false, true] {
+        let copy = instances.copy()?;
+        for (number, is_like) in NUMBERS {
+            let passes = instances.watch_filter().may_be_watched(number);
+            assert!(rt; passes == (is_like && has_watched), "{number}");
+            assert!(rt;
+                copy.watch_filter().may_be_watched(number) == passes,
+                "{number} of a copy"
+            );
+        }
+        watch(&mut instances, 1, FILE, IN_CREATE)?;
+        instances.unwatch(1, 0, 1);
     }
     Ok(())
 }

@@ -95,12 +95,12 @@ module _ (m : FileSystem) (pumps : Bool) (id bytes : ℕ) where
       failed-attempts m new (reading pumps id bytes) result r is (inl (read-refusal pumps (tree_in m) id bytes ∙ refused)) same
 
   -- the records that fit are left to be taken
-  pub read-attempts : (i : Instance) (place count : ℕ) (records : List ℕ) → IsNumbered (tree_in m) → instance_of m.instances id ≡ Some i
+  pub read-attempts : (i : Instance) (index count : ℕ) (records : List ℕ) → IsNumbered (tree_in m) → instance_of m.instances id ≡ Some i
       → first_row (read_rows pumps bytes (instance_of m.instances id)) ≡ None → count ≡ fitting bytes i.queue.waiting
       → records ≡ spelling (take count i.queue.waiting)
-      → Attempts m (reading pumps id bytes) (Ok (record { reply = reply.Records records; rest = Take id place count })) m
+      → Attempts m (reading pumps id bytes) (Ok (record { reply = reply.Records records; rest = Take id index count })) m
   unfolding after_accepted_read
-  read-attempts i place count records numbered at passes fits said = record {
+  read-attempts i index count records numbered at passes fits said = record {
     passes = read-refusal pumps (tree_in m) id bytes ∙ passes;
     reply =
         ap reply.Records (said ∙ ap (λ n. spelling (take n i.queue.waiting)) fits)
@@ -117,9 +117,9 @@ module _ (m : FileSystem) (pumps : Bool) (id bytes : ℕ) where
   }
 
 -- what a read takes
-pub read-taken : (m : FileSystem) (id bytes : ℕ) (i : Instance) (place count : ℕ) → instance_of m.instances id ≡ Some i → count ≡ fitting bytes i.queue.waiting
-    → taken m (Take id place count) ≡ option_map (oldest bytes) (instance_of m.instances id)
-read-taken m id bytes i place count at fits =
+pub read-taken : (m : FileSystem) (id bytes : ℕ) (i : Instance) (index count : ℕ) → instance_of m.instances id ≡ Some i → count ≡ fitting bytes i.queue.waiting
+    → taken m (Take id index count) ≡ option_map (oldest bytes) (instance_of m.instances id)
+read-taken m id bytes i index count at fits =
     ap (λ o. Some (take count (waiting_of o))) at ∙ ap (λ n. Some (take n i.queue.waiting)) fits ∙ ap (option_map (oldest bytes)) (sym at)
 
 -- what a pump takes, also where it is refused

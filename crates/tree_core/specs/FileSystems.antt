@@ -41,19 +41,19 @@ tree_in m = record {
 abbrev pub CanFinish : FileSystem → Rest → Type 0
 CanFinish m Nothing = ⊤
 CanFinish m Notify = IsStaged m.instances m.notices m.staging
-CanFinish m (Take id place count) = ⊤
+CanFinish m (Take id index count) = ⊤
 
 -- the tree once it is done
 abbrev pub finished : FileSystem → Rest → Tree
 finished m Nothing = tree_in m
 finished m Notify = record (tree_in m) { instances = all_changed m.instances (told m.notices) }
-finished m (Take id place count) = record (tree_in m) { instances = changed m.instances id (after_read count) }
+finished m (Take id index count) = record (tree_in m) { instances = changed m.instances id (after_read count) }
 
 -- the records that it takes out of a queue
 abbrev pub taken : FileSystem → Rest → Option (List Event)
 taken m Nothing = None
 taken m Notify = None
-taken m (Take id place count) = Some (take count (waiting_of (instance_of m.instances id)))
+taken m (Take id index count) = Some (take count (waiting_of (instance_of m.instances id)))
 
 -- what is left to do of a call on files, by whether events are staged
 abbrev pub rest_of : Bool → Rest

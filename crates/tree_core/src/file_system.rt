@@ -21,7 +21,9 @@ use crate::snapshot::Snapshot;
 use event_queue::{Fit, Queue};
 use event_rules::{Notices, notices};
 use inode_table::{Kind, Table};
-use instance_table::{Instance, Instances, Staging, unwatched_instances_stay};
+use instance_table::{
+    Instance, Instances, Staging, unwatched_files_need_no_telling, unwatched_instances_stay,
+};
 use record_codec::{Bytes, Events, append};
 use std::alloc::{AllocError, Global};
 use tree_ops::{CallPaths, Counts, FileCall, Paths, Ready, carry_out, check};
@@ -75,10 +77,10 @@ pub enum Rest {
     Nothing,
     /// The staged events are delivered.
     Notify,
-    /// The oldest records leave the queue of an instance. The index `place` is tried first.
+    /// The oldest records leave the queue of an instance. `index` is tried first.
     Take {
         instance: u32,
-        place: usize,
+        index: usize,
         count: usize,
     },
 }
@@ -180,9 +182,9 @@ impl FileSystem {
                 .deliver(self.notices.as_slice(), &mut self.staging),
             Rest::Take {
                 instance,
-                place,
+                index,
                 count,
-            } => self.instances.drop_oldest(instance, place, count),
+            } => self.instances.drop_oldest(instance, index, count),
         }
     }
 
@@ -196,7 +198,7 @@ impl FileSystem {
     {
         let Rest::Take {
             instance,
-            place,
+            index,
             count,
         } = rest
         else {
@@ -205,7 +207,7 @@ impl FileSystem {
         };
         let mut records = Vec::with_capacity(self.alloc, count)?;
         self.instances
-            .move_oldest(instance, place, count, &mut records);
+            .move_oldest(instance, index, count, &mut records);
         Ok(Some(Events::from_vec(records)))
     }
 
@@ -305,19 +307,19 @@ impl FileSystem {
         requires { IsNumbered (tree_in self.old) }
         ensures { Attempts self.old (Call.AddWatch id path.now mask) result self.new }
     {
-        let mut place = 0;
-        if self.instances.find(id, &mut place).is_none() {
+        let mut index = 0;
+        if self.instances.find(id, &mut index).is_none() {
             return Err(Refusal::Ebadf);
         }
         let mask = Mask::of(mask);
         if let Some(refusal) = mask.fault() {
             return Err(refusal);
         }
-        let seen = self.table.look(&self.table.resolve(path))?;
+        let seen = self.table.lookup(&self.table.resolve(path))?;
         let is_directory = seen.kind == Kind::Directory;
         let wd = self
             .instances
-            .watch(id, place, seen.number, mask, is_directory)?;
+            .watch(id, index, seen.number, mask, is_directory)?;
         Ok(Begun::complete(Reply::Wd(wd)))
     }
 
@@ -326,9 +328,9 @@ impl FileSystem {
         requires { IsNumbered (tree_in self.old) }
         ensures { Attempts self.old (Call.RmWatch id wd) result self.new }
     {
-        let mut place = 0;
-        check_rm_watch(self.instances.find(id, &mut place), wd)?;
-        self.instances.unwatch(id, place, wd);
+        let mut index = 0;
+        check_rm_watch(self.instances.find(id, &mut index), wd)?;
+        self.instances.unwatch(id, index, wd);
         Ok(Begun::complete(Reply::Done))
     }
 
@@ -339,15 +341,15 @@ impl FileSystem {
         ensures records { IfOk result (λ b.
             taken self.now b.rest ≡ option_map (oldest bytes) (instance_of self.now.instances id)) }
     {
-        let mut place = 0;
-        let instance = check_read(self.instances.find(id, &mut place), bytes, pumps)?;
+        let mut index = 0;
+        let instance = check_read(self.instances.find(id, &mut index), bytes, pumps)?;
         let fit = instance.queue.fit_len(bytes as usize);
         let records = spelled(self.alloc, &instance.queue, fit)?;
         Ok(Begun {
             reply: Reply::Records(records),
             rest: Rest::Take {
                 instance: id,
-                place,
+                index,
                 count: fit.count,
             },
         })
@@ -358,9 +360,9 @@ impl FileSystem {
         requires { IsNumbered (tree_in self.old) }
         ensures { Attempts self.old (Call.Close id) result self.new }
     {
-        let mut place = 0;
-        check_close(self.instances.find(id, &mut place))?;
-        self.instances.close(id, place);
+        let mut index = 0;
+        check_close(self.instances.find(id, &mut index))?;
+        self.instances.close(id, index);
         Ok(Begun::complete(Reply::Done))
     }
 }
@@ -391,8 +393,9 @@ fn rest_of(is_staged: bool) -> Rest
     }
 }
 
-/// Stages what an accepted call raises, if any file is watched. Otherwise it has no recipients, and nothing is staged.
-/// The answer says which.
+/// Stages what an accepted call raises for the files that are watched. If it concerns no such file, it has no
+/// recipients, and nothing is staged. The answer says which.
+#[inline(always)]
 fn stage_notices(
     instances: &Instances,
     ready: &Ready,
@@ -406,10 +409,14 @@ fn stage_notices(
     ensures memory { IfErr result (λ refusal. refusal ≡ Enomem) }
 {
     unwatched_instances_stay();
+    unwatched_files_need_no_telling();
     if !instances.is_watching() {
         return Ok(false);
     }
-    notices(ready, cookie, noted)?;
+    notices(ready, cookie, instances.watch_filter(), noted)?;
+    if noted.as_slice().is_empty() {
+        return Ok(false);
+    }
     instances.stage(noted.as_slice(), staging)?;
     Ok(true)
 }

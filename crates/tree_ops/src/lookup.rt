@@ -73,7 +73,7 @@ impl<'a> Lookup<'a> {
         ensures seen { result_ok result ≡ look (world_of self.now.tree) self.now.path.names }
         ensures missing { result_err result ≡ find (look (world_of self.now.tree)) self.now.path.names }
     {
-        self.table.look(self.path)
+        self.table.lookup(self.path)
     }
 
     /// What stands there, if anything does.
@@ -90,7 +90,7 @@ impl<'a> Lookup<'a> {
         ensures seen { result_ok result ≡ look (world_of self.now.tree) (parent_of self.now.path.names) }
         ensures missing { result_err result ≡ find (look (world_of self.now.tree)) (parent_of self.now.path.names) }
     {
-        self.table.look_parent(self.path)
+        self.table.lookup_parent(self.path)
     }
 
     /// The bytes of the file that is there. A directory has none.

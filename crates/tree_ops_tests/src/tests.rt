@@ -414,12 +414,12 @@ fn sets_content(
     wanted: &[u8],
 ) -> Result<bool, Refusal> {
     let found = table.resolve(path);
-    if table.look(&found)?.kind == Kind::Directory {
+    if table.lookup(&found)?.kind == Kind::Directory {
         return Ok(false);
     }
     table.set_content(&found, bytes);
     let found = table.resolve(path);
-    table.look(&found)?;
+    table.lookup(&found)?;
     Ok(table.content(table.key(&found)) == wanted)
 }
 

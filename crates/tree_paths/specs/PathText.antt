@@ -13,8 +13,8 @@ use Rattle.tree_paths.specs.declared.left.Left.TheVariants.{InText, InList}
 use Rattle.tree_paths.specs.declared.parse.Shape.{Shape}
 use Rattle.tree_paths.specs.declared.path_name.Found.{Found}
 use Rattle.tree_paths.specs.declared.path_name.Found.TheVariants.{InPlace, Lent}
-use Rattle.tree_paths.specs.declared.path_name.Place.{Place}
-use Rattle.tree_paths.specs.declared.path_name.Place.TheVariants as place
+use Rattle.tree_paths.specs.declared.path_name.Source.{Source}
+use Rattle.tree_paths.specs.declared.path_name.Source.TheVariants as source
 use Rattle.tree_paths.specs.Paths.{names_of, is_in_place, slash, slashed}
 
 -- how many names there are, how long their text is, and whether none needs an allocation
@@ -74,14 +74,14 @@ abbrev pub found_name : Found → List ℕ
 found_name (InPlace name) = name
 found_name (Lent name) = name.now
 
-abbrev pub place_name : Place → List ℕ
-place_name (place.InText name) = name.now
-place_name (place.InList name) = name.now
+abbrev pub source_name : Source → List ℕ
+source_name (source.InText name) = name.now
+source_name (source.InList name) = name.now
 
--- what every NamePlace keeps
-abbrev pub IsPlace : Place → Type 0
-IsPlace (place.InText name) = IsTrue (is_name name.now) × (length name.now ≤ NAME_IN_PLACE)
-IsPlace (place.InList name) = Unit {0}
+-- what every NameRef keeps
+abbrev pub IsSource : Source → Type 0
+IsSource (source.InText name) = IsTrue (is_name name.now) × (length name.now ≤ NAME_IN_PLACE)
+IsSource (source.InList name) = Unit {0}
 
 -- a byte of a name, in a text
 abbrev pub is_other : ℕ → Bool

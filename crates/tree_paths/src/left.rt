@@ -4,7 +4,7 @@ ghost use Rattle.std.specs.Prelude.{◌≡◌, ◌∷◌, [], ◌<◌, length, d
 ghost use Rattle.tree_paths.specs.PathText.{left_names, IsLeft, IsSlashed, IsSplit, IsMarked};
 ghost use Rattle.tree_paths.specs.Paths.{names_of};
 
-use crate::path_name::{NamePlace, PathName};
+use crate::path_name::{NameRef, PathName};
 use crate::stops::{next_stop, stops_of};
 use record_codec::Name;
 use std::marker::Model;
@@ -61,9 +61,9 @@ impl<'a> PathNames<'a> {
         PathNames { left }
     }
 
-    /// The next name, where it stands.
+    /// A reference to the next name.
     #[inline(always)]
-    pub fn next_place(&mut self) -> Option<NamePlace<'a>>
+    pub fn next_name_ref(&mut self) -> Option<NameRef<'a>>
         ensures { MatchOption result ((self.old ≡ []) × (self.new ≡ [])) (λ name. self.old ≡ name ∷ self.new) }
     {
         match self.left {
@@ -76,12 +76,12 @@ impl<'a> PathNames<'a> {
                     text: behind,
                     stops,
                 };
-                Some(NamePlace::in_text(name))
+                Some(NameRef::in_text(name))
             }
             Left::InList(names) => {
                 let (name, behind) = names.split_first()?;
                 self.left = Left::InList(behind);
-                Some(NamePlace::in_list(name))
+                Some(NameRef::in_list(name))
             }
         }
     }
@@ -91,7 +91,7 @@ impl<'a> PathNames<'a> {
     pub fn next(&mut self) -> Option<PathName<'a>>
         ensures { MatchOption result ((self.old ≡ []) × (self.new ≡ [])) (λ name. self.old ≡ name ∷ self.new) }
     {
-        Some(self.next_place()?.name())
+        Some(self.next_name_ref()?.name())
     }
 
     /// Whether no name is left.

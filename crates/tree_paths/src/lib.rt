@@ -17,5 +17,5 @@ pub use left::PathNames;
 pub use limits::Limits;
 pub use names::Names;
 pub use path::Path;
-pub use path_name::{NamePlace, PathName};
+pub use path_name::{NameRef, PathName};
 pub use refusal::Refusal;

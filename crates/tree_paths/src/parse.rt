@@ -132,7 +132,7 @@ pub(crate) fn names_in(alloc: Global, text: &[u8], count: usize) -> Result<Vec<N
     loop {
         let len = front_len(rest);
         if 0 < len {
-            names.push(Name::of(alloc, &rest[..len])?)?;
+            names.push(Name::from_bytes(alloc, &rest[..len])?)?;
         }
         if len == rest.len() {
             return Ok(names);

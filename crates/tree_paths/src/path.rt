@@ -14,7 +14,7 @@ ghost use Rattle.tree_paths.specs.Paths.{is_below, is_in_place, names_of, slashe
 use crate::Refusal;
 use crate::left::PathNames;
 use crate::parse::{SEPARATOR, shape_of_text};
-use crate::path_name::{NamePlace, PathName};
+use crate::path_name::{NameRef, PathName};
 use crate::path_text::PathText;
 use record_codec::Name;
 use std::alloc::{AllocError, Global};
@@ -98,9 +98,9 @@ impl Path {
         PathNames::of(self.kept.left())
     }
 
-    /// The last name, where it stands. `None` for the root.
+    /// A reference to the last name. `None` for the root.
     #[inline(always)]
-    pub fn last_place(&self) -> Option<NamePlace<'_>>
+    pub fn last_name_ref(&self) -> Option<NameRef<'_>>
         ensures parts { MatchOption result (self.now ≡ [])
             (λ name. self.now ≡ take (length self.now - 1) self.now ++ name ∷ []) }
         ensures some { IsSome result ↔ (0 < length self.now) }
@@ -140,7 +140,7 @@ impl Path {
             (λ name. self.now ≡ take (length self.now - 1) self.now ++ name ∷ []) }
         ensures some { IsSome result ↔ (0 < length self.now) }
     {
-        Some(self.last_place()?.name())
+        Some(self.last_name_ref()?.name())
     }
 
     /// Whether it is the root's.

@@ -12,7 +12,7 @@ use std::alloc::AllocError;
 use std::collections::BTreeMap;
 use std::marker::Model;
 
-/// Where a name of a path stands.
+/// What a reference to a name of a path is to: bytes of its text, or a name of a list.
 #[derive(Drop)]
 pub(crate) enum Found<'a> {
     InPlace(Name),
@@ -67,50 +67,50 @@ impl<'a> PathName<'a> {
     }
 }
 
-/// Where a name of a path stands.
+/// What a reference to a name of a path is to: bytes of its text, or a name of a list.
 #[derive(Clone, Copy)]
-pub(crate) enum Place<'a> {
+pub(crate) enum Source<'a> {
     InText(&'a [u8]),
     InList(&'a Name),
 }
 
-/// A name of a path where it stands: its bytes in a text, or a name of a list. It is moved in three words.
+/// A reference to a name of a path: to its bytes in a text, or to a name of a list. It is moved in three words.
 #[derive(Drop)]
-pub struct NamePlace<'a> {
-    place: Place<'a>,
+pub struct NameRef<'a> {
+    source: Source<'a>,
 }
 
-impl<'a> Model for NamePlace<'a> {
+impl<'a> Model for NameRef<'a> {
     ghost use Rattle.std.specs.Prelude.{ℕ, List};
-    ghost use Rattle.tree_paths.specs.PathText.{place_name, IsPlace};
+    ghost use Rattle.tree_paths.specs.PathText.{source_name, IsSource};
 
     ghost Value = { List ℕ };
 
-    ghost view = { λ name. place_name name.place };
+    ghost view = { λ name. source_name name.source };
 
-    ghost invariant = { λ name. IsPlace name.place };
+    ghost invariant = { λ name. IsSource name.source };
 }
 
-impl<'a> NamePlace<'a> {
+impl<'a> NameRef<'a> {
     /// The name of these bytes.
     #[inline(always)]
-    pub(crate) fn in_text(bytes: &'a [u8]) -> NamePlace<'a>
+    pub(crate) fn in_text(bytes: &'a [u8]) -> NameRef<'a>
         requires name { IsTrue (is_name bytes.now) }
         requires short { length bytes.now ≤ NAME_IN_PLACE }
         ensures { result ≡ bytes.entry.now }
     {
-        NamePlace {
-            place: Place::InText(bytes),
+        NameRef {
+            source: Source::InText(bytes),
         }
     }
 
     /// This name.
     #[inline(always)]
-    pub(crate) fn in_list(name: &'a Name) -> NamePlace<'a>
+    pub(crate) fn in_list(name: &'a Name) -> NameRef<'a>
         ensures { result ≡ name.now }
     {
-        NamePlace {
-            place: Place::InList(name),
+        NameRef {
+            source: Source::InList(name),
         }
     }
 
@@ -119,12 +119,12 @@ impl<'a> NamePlace<'a> {
     pub fn value_in<V: Copy>(&self, map: &BTreeMap<Name, V>) -> Option<V>
         ensures { result ≡ get (slice_cmp nat_cmp) map.now self.now }
     {
-        match self.place {
-            Place::InText(bytes) => {
+        match self.source {
+            Source::InText(bytes) => {
                 let name = Name::in_place(bytes);
                 map.get(&name).copied()
             }
-            Place::InList(name) => map.get(name).copied(),
+            Source::InList(name) => map.get(name).copied(),
         }
     }
 
@@ -133,9 +133,9 @@ impl<'a> NamePlace<'a> {
     pub fn name(&self) -> PathName<'a>
         ensures { result ≡ self.now }
     {
-        match self.place {
-            Place::InText(bytes) => PathName::in_place(bytes),
-            Place::InList(name) => PathName::lent(name),
+        match self.source {
+            Source::InText(bytes) => PathName::in_place(bytes),
+            Source::InList(name) => PathName::lent(name),
         }
     }
 
@@ -148,9 +148,9 @@ impl<'a> NamePlace<'a> {
         ensures short { length self.now ≤ NAME_IN_PLACE → IsOk result }
         ensures same { IfOk result (λ name. name ≡ self.now) }
     {
-        match self.place {
-            Place::InText(bytes) => Ok(Name::in_place(bytes)),
-            Place::InList(name) => name.copy(),
+        match self.source {
+            Source::InText(bytes) => Ok(Name::in_place(bytes)),
+            Source::InList(name) => name.copy(),
         }
     }
 }

@@ -12,7 +12,7 @@ ghost use Rattle.tree_paths.specs.Paths.{is_in_place, names_of, parsed, slashed,
 
 use crate::left::{Left, PathNames};
 use crate::parse::{SEPARATOR, Shape, names_in, put_name, squeeze};
-use crate::path_name::NamePlace;
+use crate::path_name::NameRef;
 use crate::stops::BLOCK;
 use record_codec::{NAME_IN_PLACE, Name};
 use std::alloc::{AllocError, Global};
@@ -142,7 +142,7 @@ impl PathText {
 
     /// The last name.
     #[inline(always)]
-    pub(crate) fn last(&self) -> Option<NamePlace<'_>>
+    pub(crate) fn last(&self) -> Option<NameRef<'_>>
         requires { IsKept self.now }
         ensures { MatchOption result (kept_names self.now ≡ [])
             (λ name. kept_names self.now ≡ take (length (kept_names self.now) - 1) (kept_names self.now) ++ name ∷ []) }
@@ -152,7 +152,7 @@ impl PathText {
             PathText::Text(text) => last_in(text),
             PathText::Names(names) => {
                 let (name, _) = names.split_last()?;
-                Some(NamePlace::in_list(name))
+                Some(NameRef::in_list(name))
             }
         }
     }
@@ -232,7 +232,7 @@ impl PathText {
 
 /// The last name of a text.
 #[inline(always)]
-fn last_in(text: &[u8]) -> Option<NamePlace<'_>>
+fn last_in(text: &[u8]) -> Option<NameRef<'_>>
     requires { IsSlashed text.now }
     ensures { MatchOption result (names_of text.now ≡ [])
         (λ name. names_of text.now ≡ take (length (names_of text.now) - 1) (names_of text.now) ++ name ∷ []) }
@@ -240,7 +240,7 @@ fn last_in(text: &[u8]) -> Option<NamePlace<'_>>
     if text.is_empty() {
         return None;
     }
-    Some(NamePlace::in_text(&text[last_start(text)..]))
+    Some(NameRef::in_text(&text[last_start(text)..]))
 }
 
 /// The text before the last name's slash, if there is a name.

@@ -17,9 +17,9 @@ abbrev pub is_line_byte : ℕ → Bool
 is_line_byte b = (b == byte " ") || is_ascii_graphic b
 
 -- a line that is empty or has spaces alone, or whose first byte past spaces is a '#'
-abbrev pub is_comment : List ℕ → Bool
-is_comment [] = true
-is_comment (b ∷ bs) = if b == byte " " then is_comment bs else b == byte "#"
+abbrev pub is_blank_or_comment : List ℕ → Bool
+is_blank_or_comment [] = true
+is_blank_or_comment (b ∷ bs) = if b == byte " " then is_blank_or_comment bs else b == byte "#"
 
 -- two dashes alone: they say where the set-up of a client's tree ends (`watchtree under`)
 abbrev pub is_divider : List ℕ → Bool
@@ -27,4 +27,4 @@ is_divider line = bytes_eq line (codes "--")
 
 -- a line that asks for nothing
 abbrev pub is_silent : List ℕ → Bool
-is_silent line = is_comment line || is_divider line
+is_silent line = is_blank_or_comment line || is_divider line

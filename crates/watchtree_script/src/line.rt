@@ -2,7 +2,7 @@
 
 ghost use Rattle.std.specs.Prelude.{◌≡◌};
 ghost use Rattle.std.specs.List.{list_all};
-ghost use Rattle.watchtree_script.specs.Lines.{is_comment, is_line_byte, is_silent};
+ghost use Rattle.watchtree_script.specs.Lines.{is_blank_or_comment, is_line_byte, is_silent};
 ghost use Rattle.watchtree_script.specs.Commands.{command_of, file_command_of, path_command_of, instance_command_of};
 ghost use Rattle.watchtree_script.specs.Commands.{words_line, line_of};
 ghost use Rattle.watchtree_script.specs.Reading.{GivesLine};
@@ -114,12 +114,12 @@ pub(crate) fn read_line(alloc: Global, queue: u32, line: ScriptLine<'_>) -> Resu
 fn is_silent(line: &[u8]) -> bool
     ensures { result ≡ is_silent line.now }
 {
-    is_comment(line) || line == b"--".as_slice()
+    is_blank_or_comment(line) || line == b"--".as_slice()
 }
 
 /// Whether a line is empty, of spaces alone, or a comment.
-fn is_comment(line: &[u8]) -> bool
-    ensures { result ≡ is_comment line.now }
+fn is_blank_or_comment(line: &[u8]) -> bool
+    ensures { result ≡ is_blank_or_comment line.now }
 {
     for b in line {
         if *b != b' ' {

@@ -11,7 +11,7 @@ const MOST: u32 = 60;
 fn notices_refused(calls: &Calls, call: &FileCall, wanted: &Notices) -> Option<u32> {
     for k in 1..MOST {
         let _ = refuse(calls.alloc, k);
-        let told = calls.noticed(call);
+        let told = calls.noticed(call, &Everybody);
         match (told, was_refused(calls.alloc)) {
             (Err(Refusal::Enomem), true) => {}
             (Ok(told), false) if told.as_slice() == wanted.as_slice() => return Some(k - 1),
@@ -87,7 +87,7 @@ fn each_allocation_of_notices_and_events(rt: HostRuntime) -> Result<(), Fail> {
     let watches = watching(alloc)?;
     for (ask, lines) in CALLS {
         let call = call_of(alloc, ask)?;
-        let wanted = calls.noticed(&call)?;
+        let wanted = calls.noticed(&call, &Everybody)?;
         let counts = [
             notices_refused(&calls, &call, &wanted),
             stage_refused(alloc, &watches, wanted.as_slice(), false)?,

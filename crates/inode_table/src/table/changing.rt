@@ -44,7 +44,7 @@ impl Table {
         ensures memory { IfErr result (λ refusal. refusal ≡ Refusal.Enomem) }
     {
         self.rows_law();
-        let last = path.last_place();
+        let last = path.last_name_ref();
         let name = last.to_name()?;
         let directory = self.directory_at(path);
         let content = Content::empty(self.alloc, kind);
@@ -69,7 +69,7 @@ impl Table {
         ensures memory { IfErr result (λ refusal. refusal ≡ Refusal.Enomem) }
     {
         self.rows_law();
-        let last = new.last_place();
+        let last = new.last_name_ref();
         let name = last.to_name()?;
         let key = self.key_at(old);
         let directory = self.directory_at(new);
@@ -190,7 +190,7 @@ impl Table {
         self.rows_law();
         let last = old.last_name();
         let name = last.as_name();
-        let other_last = new.last_place();
+        let other_last = new.last_name_ref();
         let other_name = other_last.to_name()?;
         let key = self.key_at(old);
         let replaced = self.key_if(new);

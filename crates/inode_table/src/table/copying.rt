@@ -6,7 +6,7 @@ ghost use Rattle.inode_table.specs.Copies.{IsContentCopy, IsNodeCopy};
 use super::Table;
 use crate::content::Content;
 use crate::node::Node;
-use crate::recent::{NODES_MIN, Recent};
+use crate::recent_directory::{NODES_MIN, Recent};
 use std::alloc::AllocError;
 use tree_paths::Refusal;
 

@@ -11,7 +11,7 @@ use crate::node::{
     Node, lose_any_link, point_child, remove_node, reserve_bytes, set_bytes, set_child, set_len,
     set_links, set_mode, unset_child, write_bytes,
 };
-use crate::recent::{forget_any_directory, forget_directory};
+use crate::recent_directory::{forget_any_directory, forget_directory};
 use record_codec::Name;
 use std::alloc::AllocError;
 

@@ -12,10 +12,10 @@ use super::{ROOT, Table, missing_at};
 use crate::found::Found;
 use crate::key::Key;
 use crate::node::{child, is_directory};
-use crate::recent::{TEXT_MAX, TEXT_MIN};
+use crate::recent_directory::{TEXT_MAX, TEXT_MIN};
 use crate::resolved::Resolved;
 use crate::seen::Seen;
-use tree_paths::{NamePlace, Path, PathNames, Refusal};
+use tree_paths::{NameRef, Path, PathNames, Refusal};
 
 impl Table {
     ghost use Rattle.inode_table.specs.World.{look};
@@ -32,7 +32,7 @@ impl Table {
     {
         self.rows_law();
         let mut names = path.names();
-        let Some(first) = names.next_place() else {
+        let Some(first) = names.next_name_ref() else {
             return Resolved {
                 path,
                 directory: Found::at(Key::of(ROOT)),
@@ -49,7 +49,7 @@ impl Table {
 
     /// The keys of the directory of the last name and of what stands under that, or why there are none.
     #[inline(always)]
-    fn walk<'a>(&self, first: NamePlace<'a>, behind: PathNames<'a>) -> (Found, Found)
+    fn walk<'a>(&self, first: NameRef<'a>, behind: PathNames<'a>) -> (Found, Found)
         ensures directory { IsFound self.now (parent_of (first.entry ∷ behind.entry)) (found_of result.0) }
         ensures here { IsFound self.now (first.entry ∷ behind.entry) (found_of result.1) }
     {
@@ -57,7 +57,7 @@ impl Table {
         let mut name = first;
         let mut names = behind;
         let mut directory = ROOT;
-        while let Some(next) = names.next_place() {
+        while let Some(next) = names.next_name_ref() {
             match child(&self.nodes, directory, &name) {
                 Some(key) => directory = key,
                 None => {
@@ -122,7 +122,7 @@ impl Table {
         ensures resolved { IsResolved self.now result }
     {
         self.rows_law();
-        let Some(name) = path.last_place() else {
+        let Some(name) = path.last_name_ref() else {
             unreachable!()
         };
         Resolved {
@@ -160,7 +160,7 @@ impl Table {
     }
 
     /// What stands at a resolved path, or why nothing does: `ENOENT` below a directory, `ENOTDIR` below a file.
-    pub fn look(&self, path: &Resolved) -> Result<Seen, Refusal>
+    pub fn lookup(&self, path: &Resolved) -> Result<Seen, Refusal>
         requires resolved { IsResolved self.now path.now }
         ensures seen { IfOk result (λ seen. look (world_of self.now) path.now.names ≡ Some seen) }
         ensures none { IfOk result (λ _. find (look (world_of self.now)) path.now.names ≡ None) }
@@ -179,12 +179,12 @@ impl Table {
         requires { IsResolved self.now path.now }
         ensures { result ≡ look (world_of self.now) path.now.names }
     {
-        self.look(path).ok()
+        self.lookup(path).ok()
     }
 
     /// What stands at the directory of a resolved path's last name, or why nothing does. Of the root it is the root
     /// itself.
-    pub fn look_parent(&self, path: &Resolved) -> Result<Seen, Refusal>
+    pub fn lookup_parent(&self, path: &Resolved) -> Result<Seen, Refusal>
         requires resolved { IsResolved self.now path.now }
         ensures seen { IfOk result (λ seen. look (world_of self.now) (parent_of path.now.names) ≡ Some seen) }
         ensures none { IfOk result (λ _. find (look (world_of self.now)) (parent_of path.now.names) ≡ None) }
@@ -214,7 +214,7 @@ impl Table {
     }
 
     /// What stands under a name at a key.
-    fn resolve_in(&self, directory: usize, name: &NamePlace) -> Found
+    fn resolve_in(&self, directory: usize, name: &NameRef) -> Found
         requires there { IsSome (what_at self.now directory) }
         ensures { (p : List Label) → at self.now p ≡ Some directory
             → IsFound self.now (p ++ name.now ∷ []) (found_of result) }

@@ -120,8 +120,8 @@ fn is_as_walked(table: &mut Table, path: &Path) -> bool
 {
     let recent = table.resolve_recent(path);
     let walked = table.resolve(path);
-    number_in(table.look(&recent)) == number_in(table.look(&walked))
-        && number_in(table.look_parent(&recent)) == number_in(table.look_parent(&walked))
+    number_in(table.lookup(&recent)) == number_in(table.lookup(&walked))
+        && number_in(table.lookup_parent(&recent)) == number_in(table.lookup_parent(&walked))
 }
 
 /// The same call, whose paths are resolved by what is remembered.

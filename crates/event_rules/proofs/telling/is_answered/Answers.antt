@@ -5,7 +5,7 @@ use Rattle.event_rules.proofs.Reading.{bytes-none, nothing-read}
 use Rattle.event_rules.proofs.telling.is_answered.Goals as goal
 
 pub returns-in-None : goal.returns-in-None
-returns-in-None c =
-    let w = world_of c.args.at.now.tree in
-    sym (ap (λ bytes. has_byte (take c.args.count (drop c.args.offset bytes))) (bytes-none w c.args.at.now.path.names (sym c.object.ensures ∙ c.in-None.is))
+returns-in-None g c =
+    let w = world_of c.args.at.now.at.tree in
+    sym (ap (λ bytes. has_byte (take c.args.count (drop c.args.offset bytes))) (bytes-none w c.args.at.now.at.path.names (sym c.object.ensures ∙ c.in-None.is))
     ∙ nothing-read c.args.offset c.args.count)

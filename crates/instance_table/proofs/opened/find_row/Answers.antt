@@ -5,9 +5,9 @@ use Rattle.std.proofs.lemmas.List.{get_or-map}
 use Rattle.std.proofs.lemmas.List.Sorted.{answers_always}
 use Rattle.std.proofs.lemmas.Option.{get_or_from_slice_get}
 use Rattle.instance_table.specs.declared.opened.Opened.{Opened}
-use Rattle.instance_table.specs.Ids.{IsPlace}
+use Rattle.instance_table.specs.Ids.{IsIndex}
 use Rattle.instance_table.specs.Opened.{ids_of}
-use Rattle.instance_table.proofs.Rising.{found-row, length-keys, place-last}
+use Rattle.instance_table.proofs.Rising.{found-row, length-keys, index-last}
 use Rattle.instance_table.proofs.opened.find_row.Goals as goal
 
 pub returns-in-Some : goal.returns-in-Some
@@ -20,8 +20,8 @@ returns-in_default c =
     let rows = c.args.rows.now in
     let same : length (ids_of rows) ≡ length rows = length-keys (λ (o : Opened). o.id) rows in
     let under = c.if-id-last.false in
-    subst (λ n. IsPlace (ids_of rows) c.args.id (Err n)) same
-    (place-last (ids_of rows) c.args.id c.requires (λ there.
+    subst (λ n. IsIndex (ids_of rows) c.args.id (Err n)) same
+    (index-last (ids_of rows) c.args.id c.requires (λ there.
     let last : get_or rows (length rows - 1) c.in-Some.last.now ≡ c.in-Some.last.now =
     get_or_from_slice_get rows (length rows - 1) c.in-Some.last.now _ (sym c.last.ensures.value ∙ ap option_copied c.in-Some.is) in
     let number : get_or (ids_of rows) (length (ids_of rows) - 1) 0 ≡ c.in-Some.last.now.id =

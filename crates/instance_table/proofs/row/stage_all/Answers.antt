@@ -2,8 +2,8 @@ use Rattle.std.proofs.Common.{refl, sym}
 use Rattle.std.proofs.lemmas.List.{append-nil}
 use Rattle.std.specs.Prelude.{Option}
 use Rattle.watch_table.specs.Watching.{Watch}
-use Rattle.event_rules.specs.declared.staging.StagedEnd.{StagedEnd}
-use Rattle.event_rules.specs.declared.staging.StagedEvent.{StagedEvent}
+use Rattle.event_rules.specs.declared.staged.StagedEnd.{StagedEnd}
+use Rattle.event_rules.specs.declared.staged.StagedEvent.{StagedEvent}
 use Rattle.event_rules.specs.Raised.{ended_by, raised_at}
 use Rattle.event_rules.specs.Staging.{staged_end, staged_event}
 use Rattle.instance_table.specs.Staging.{events_to, wds_to}

@@ -1,5 +1,5 @@
 use Rattle.std.proofs.Common.{◌≡◌, ◌++◌, ◌∷◌, [], true, eqb, get_or, refl, sym, ap, ◌∙◌, arith}
-use Rattle.event_rules.specs.declared.staging.StagedEvent.{StagedEvent}
+use Rattle.event_rules.specs.declared.staged.StagedEvent.{StagedEvent}
 use Rattle.instance_table.proofs.Heard.{queue-more, run-more}
 use Rattle.instance_table.proofs.staging.offer_run.Goals as goal
 

@@ -7,7 +7,7 @@ use Rattle.tree_paths.proofs.FrontLemmas.{IsFront, behind_front, is_path, behind
 use Rattle.tree_paths.proofs.FrontLemmas.{names_step, named_step, null_step, names_end, pushed, passed}
 use Rattle.tree_paths.specs.Pieces.{pieces}
 use Rattle.tree_paths.proofs.parse.names_in.Goals as goal
-use Rattle.tree_paths.proofs.parse.names_in.Goals.{then-len-gt0+in_ok-of+in_ok-push, else-len-gt0}
+use Rattle.tree_paths.proofs.parse.names_in.Goals.{then-len-gt0+in_ok-from_bytes+in_ok-push, else-len-gt0}
 
 pub slice_bounds-rest-count : goal.slice_bounds-rest-count
 slice_bounds-rest-count c = let is = is_path c.args.text.now c.requires in omega (arith, is.some)
@@ -27,8 +27,8 @@ loop-names-init c =
       no_null = ap (list_any is_null) (sym e) ∙ is.no_null;
     }
 
-pub of-requires : goal.of-requires
-of-requires c =
+pub from_bytes-requires : goal.from_bytes-requires
+from_bytes-requires c =
     let w = c.loop-names.rest.now in
     let n = c.front_len-len.result in
     let ens = c.front_len-len.ensures in
@@ -46,9 +46,9 @@ returns-then-len-rest c =
     let t = take n w in
     let len : length t ≡ n = length-take-le n w ens.within in
     let all : names_of c.args.text.now ≡ c.if-len-gt0.names.items ++ [] = elim c.if-len-gt0.branch [
-      | then-len-gt0+in_ok-of+in_ok-push b ↦
+      | then-len-gt0+in_ok-from_bytes+in_ok-push b ↦
           pushed (names_of c.args.text.now) c.loop-names.names.items c.if-len-gt0.names.items t [] e (omega (arith, len, b.if-len-gt0.true))
-          (ap (λ v. v.items) b.names-is ∙ b.in_ok-push.ensures.items ∙ ap (λ x. c.loop-names.names.items ++ x ∷ []) b.in_ok-of.ensures.same)
+          (ap (λ v. v.items) b.names-is ∙ b.in_ok-push.ensures.items ∙ ap (λ x. c.loop-names.names.items ++ x ∷ []) b.in_ok-from_bytes.ensures.same)
       | else-len-gt0 b ↦
           passed (names_of c.args.text.now) c.loop-names.names.items c.if-len-gt0.names.items t [] e
           (omega (arith, len, b.if-len-gt0.false)) (ap (λ v. v.items) b.names-is)
@@ -69,9 +69,9 @@ loop-names-preserved c =
     let len : length t ≡ n = length-take-le n w ens.within in
     record {
       names = elim c.if-len-gt0.branch [
-        | then-len-gt0+in_ok-of+in_ok-push b ↦
+        | then-len-gt0+in_ok-from_bytes+in_ok-push b ↦
             pushed (names_of c.args.text.now) c.loop-names.names.items c.if-len-gt0.names.items t ps e (omega (arith, len, b.if-len-gt0.true))
-            (ap (λ v. v.items) b.names-is ∙ b.in_ok-push.ensures.items ∙ ap (λ x. c.loop-names.names.items ++ x ∷ []) b.in_ok-of.ensures.same)
+            (ap (λ v. v.items) b.names-is ∙ b.in_ok-push.ensures.items ∙ ap (λ x. c.loop-names.names.items ++ x ∷ []) b.in_ok-from_bytes.ensures.same)
         | else-len-gt0 b ↦
             passed (names_of c.args.text.now) c.loop-names.names.items c.if-len-gt0.names.items t ps e
             (omega (arith, len, b.if-len-gt0.false)) (ap (λ v. v.items) b.names-is)

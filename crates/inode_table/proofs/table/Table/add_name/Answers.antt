@@ -16,7 +16,7 @@ add_name_at-requires-clause-free c =
     c.directory_at-directory.result c.directory_at-directory.ensures
     (ap (look_in c.args.self.now)
     ((λ i. (parent_of c.args.new.now.names) ++ c.in_ok-name.ensures.same i ∷ [])
-    ∙ sym c.last_place-last.ensures)
+    ∙ sym c.last_name_ref-last.ensures)
     ∙ (ap (λ l. l c.args.new.now.names) (sym c.rows_law.ensures.looks) ∙ c.requires.free))
 
 pub returns-clause-world : goal.returns-clause-world
@@ -31,6 +31,6 @@ returns-clause-world c =
     subst (λ o. Stands c.add_name_at.new.self (linked w c.args.new.now.names o)) (sym (number-at stands c.args.old.now.names c.key_at-key.result v.0 found v.1))
     (subst (λ p. Stands c.add_name_at.new.self (with_path w p v.0.number))
     ((λ i. (parent_of c.args.new.now.names) ++ c.in_ok-name.ensures.same i ∷ [])
-    ∙ sym c.last_place-last.ensures)
+    ∙ sym c.last_name_ref-last.ensures)
     (c.in_ok-add_name_at.ensures.world w (parent_of c.args.new.now.names) v.0 stands c.directory_at-directory.ensures v.1))
     )

@@ -36,7 +36,8 @@ replace_name_at-requires-clause-there c =
 pub replace_name_at-requires-clause-replaced : goal.replace_name_at-requires-clause-replaced
 replace_name_at-requires-clause-replaced c =
     key-under c.args.self.now c.args.new.now.names (parent_of c.args.new.now.names) c.in_ok-other_name.other_name
-    (named c.args.new.now.names c.last_place-other_last.result c.in_ok-other_name.other_name c.last_place-other_last.ensures c.in_ok-other_name.ensures.same)
+    (named c.args.new.now.names c.last_name_ref-other_last.result c.in_ok-other_name.other_name c.last_name_ref-other_last.ensures
+    c.in_ok-other_name.ensures.same)
     c.directory_at-other_directory.result c.directory_at-other_directory.ensures c.key_if-replaced.result (sym c.key_if-replaced.ensures)
 
 pub replace_name_at-requires-clause-apart : goal.replace_name_at-requires-clause-apart
@@ -44,14 +45,14 @@ replace_name_at-requires-clause-apart c p q to_p to_q =
     let t = c.args.self.now in
     let table = c.rows_law.ensures.table in
     let other_parent = parent_of c.args.new.now.names in
-    let other_name = c.last_place-other_last.result in
+    let other_name = c.last_name_ref-other_last.result in
     let from = parent-open t table c.args.old.now.names (parent_of c.args.old.now.names) c.as_name-name.result.now
     (named c.args.old.now.names c.last_name-last.result c.as_name-name.result.now c.last_name-last.ensures c.as_name-name.ensures)
     c.requires.source c.directory_at-directory.result c.directory_at-directory.ensures in
     let directory : is_directory_seen (look_in t other_parent) ≡ true = c.requires.directory in
     let to = open-directory t table other_parent c.directory_at-other_directory.result c.directory_at-other_directory.ensures directory in
     let off = avoids-seen t table c.args.old.now.names c.args.new.now.names other_parent other_name
-    c.last_place-other_last.ensures
+    c.last_name_ref-other_last.ensures
     c.requires.source directory c.requires.other c.requires.below in
     avoids-any t table c.directory_at-directory.result c.directory_at-other_directory.result
     (parent_of c.args.old.now.names) other_parent p q c.as_name-name.result.now c.in_ok-other_name.other_name
@@ -59,7 +60,7 @@ replace_name_at-requires-clause-apart c p q to_p to_q =
     (subst (λ x. Avoids x (other_parent ++ c.in_ok-other_name.other_name ∷ []))
     (named c.args.old.now.names c.last_name-last.result c.as_name-name.result.now c.last_name-last.ensures c.as_name-name.ensures)
     (subst (Avoids c.args.old.now.names)
-    (c.last_place-other_last.ensures
+    (c.last_name_ref-other_last.ensures
     ∙ (λ i. other_parent ++ sym c.in_ok-other_name.ensures.same i ∷ []))
     off))
 
@@ -70,7 +71,7 @@ replace_name_at-requires-clause-empty c =
     empty-below t c.rows_law.ensures.table other_parent c.in_ok-other_name.other_name c.directory_at-other_directory.result
     c.directory_at-other_directory.ensures
     (subst (λ x. IfSome (look_in t x) (λ (s : Seen). s.has_names ≡ false))
-    (c.last_place-other_last.ensures
+    (c.last_name_ref-other_last.ensures
     ∙ (λ i. other_parent ++ sym c.in_ok-other_name.ensures.same i ∷ []))
     c.requires.empty)
 
@@ -85,9 +86,9 @@ after-move mid w parent other_parent old new name other_name copy e f g h =
 pub returns-clause-world : goal.returns-clause-world
 returns-clause-world c w stands =
     after-move c.replace_name_at.new.self w (parent_of c.args.old.now.names) (parent_of c.args.new.now.names) c.args.old.now.names
-    c.args.new.now.names c.as_name-name.result.now c.last_place-other_last.result c.in_ok-other_name.other_name
+    c.args.new.now.names c.as_name-name.result.now c.last_name_ref-other_last.result c.in_ok-other_name.other_name
     (named c.args.old.now.names c.last_name-last.result c.as_name-name.result.now c.last_name-last.ensures c.as_name-name.ensures)
-    c.last_place-other_last.ensures
+    c.last_name_ref-other_last.ensures
     c.in_ok-other_name.ensures.same
     (c.in_ok-replace_name_at.ensures.world w (parent_of c.args.old.now.names)
     (parent_of c.args.new.now.names) stands c.directory_at-directory.ensures c.directory_at-other_directory.ensures)

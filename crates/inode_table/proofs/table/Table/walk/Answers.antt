@@ -15,7 +15,7 @@ use Rattle.inode_table.proofs.table.Table.walk.Goals.{After-missing_at-missing}
 pub loop-next-preserved : goal.loop-next-preserved
 loop-next-preserved c =
     let rows = rows_of c.self.inside.nodes in
-    walks-on (child rows) (c.args.first ∷ c.args.behind) c.loop-next.name c.in-Some.next c.loop-next.names c.next_place.new.self
+    walks-on (child rows) (c.args.first ∷ c.args.behind) c.loop-next.name c.in-Some.next c.loop-next.names c.next_name_ref.new.self
     c.loop-next.directory c.in-Some-child.key
     c.loop-next.invariant c.in-Some.ensures (sym c.in-Some-child.ensures)
 
@@ -30,7 +30,7 @@ stops c =
     subst (λ (s : TableValue). WalksTo (child s.rows) whole name c.loop-next.names key) c.self.view_is c.loop-next.invariant in
     let refusal = cond (is_directory (rows_of c.self.inside.nodes) key) Enoent Enotdir in
     subst (λ (r : Result ℕ Refusal). IsFound t whole r × IsFound t (parent_of whole) r) (sym c.missing_at-missing.ensures)
-    (walk-stops t c.rows_law.ensures.table whole name c.in-Some.next c.loop-next.names c.next_place.new.self key refusal walks c.in-Some.ensures
+    (walk-stops t c.rows_law.ensures.table whole name c.in-Some.next c.loop-next.names c.next_name_ref.new.self key refusal walks c.in-Some.ensures
     (ap (λ (s : TableValue). child s.rows key name) (sym c.self.view_is)
     ∙ sym c.in-None.ensures)
     (ap (λ (s : TableValue). cond (is_directory s.rows key) Enoent Enotdir) c.self.view_is))

@@ -10,7 +10,7 @@ pub returns-then-self-clause-others : goal.returns-then-self-clause-others
 returns-then-self-clause-others g c h =
     let n = c.self.inside.len in
     watchers-absent_in (take n c.self.inside.ids) (take n c.self.inside.watches) c.self.invariant.3 refl c.self.view_is
-    c.in-Err.place c.args.id c.in-Err.ensures
+    c.in-Err.index c.args.id c.in-Err.ensures
 
 pub returns-then-self-clause-full : goal.returns-then-self-clause-full
 returns-then-self-clause-full g c h =
@@ -25,7 +25,7 @@ returns-then-self-clause-full g c h =
 pub invariant_of-self-in-Err : goal.invariant_of-self-in-Err
 invariant_of-self-in-Err g c =
     let few = c.self.inside in
-    let i = c.in-Err.place in
+    let i = c.in-Err.index in
     let other = c.if-self.false in
     let at-most = c.self.invariant.0 in (
       omega (arith, at-most, other),
@@ -38,7 +38,7 @@ invariant_of-self-in-Err g c =
 pub returns-in-Ok-clause-put : goal.returns-in-Ok-clause-put
 returns-in-Ok-clause-put g c h =
     let few = c.self.inside in
-    few-set g.row.N few.len few.ids few.watches c.self.invariant c.in-Ok.place c.args.id c.in-Ok.ensures c.args.watch
+    few-set g.row.N few.len few.ids few.watches c.self.invariant c.in-Ok.index c.args.id c.in-Ok.ensures c.args.watch
     ∙ ap (λ (m : WatchMap). finmap.insert m c.args.id c.args.watch) c.self.view_is
 
 pub returns-else-self-clause-put : goal.returns-else-self-clause-put
@@ -46,6 +46,6 @@ returns-else-self-clause-put g c h =
     let few = c.self.inside in
     let other = c.if-self.false in
     let at-most = c.self.invariant.0 in
-    few-put g.row.N few.len few.ids few.watches c.self.invariant c.in-Err.place c.args.id c.args.watch (omega (arith, at-most, other)) c.in-Err.ensures
+    few-put g.row.N few.len few.ids few.watches c.self.invariant c.in-Err.index c.args.id c.args.watch (omega (arith, at-most, other)) c.in-Err.ensures
     c.copy_within.new.self c.copy_within-in-Err.new.self c.copy_within.ensures.after c.copy_within-in-Err.ensures.after
     ∙ ap (λ (m : WatchMap). finmap.insert m c.args.id c.args.watch) c.self.view_is

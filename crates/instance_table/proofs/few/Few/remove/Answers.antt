@@ -9,7 +9,7 @@ use Rattle.instance_table.proofs.few.Few.remove.Goals as goal
 pub returns-in-Ok : goal.returns-in-Ok
 returns-in-Ok g c =
     let few = c.self.inside in
-    few-cut g.row.N few.len few.ids few.watches c.self.invariant c.in-Ok.place c.args.id c.in-Ok.ensures
+    few-cut g.row.N few.len few.ids few.watches c.self.invariant c.in-Ok.index c.args.id c.in-Ok.ensures
     c.copy_within.new.self c.copy_within-in-Ok.new.self c.copy_within.ensures.after c.copy_within-in-Ok.ensures.after
     ∙ ap (λ (m : WatchMap). finmap.remove m c.args.id) c.self.view_is
 
@@ -20,7 +20,7 @@ invariant_of-self g c =
       omega (arith, at-most),
       c.copy_within.ensures.len ∙ c.self.invariant.1,
       c.copy_within-in-Ok.ensures.len ∙ c.self.invariant.2,
-      few-are-cut g.row.N few.len few.ids few.watches c.self.invariant c.in-Ok.place c.args.id c.in-Ok.ensures
+      few-are-cut g.row.N few.len few.ids few.watches c.self.invariant c.in-Ok.index c.args.id c.in-Ok.ensures
           c.copy_within.new.self c.copy_within-in-Ok.new.self c.copy_within.ensures.after c.copy_within-in-Ok.ensures.after,
     )
 

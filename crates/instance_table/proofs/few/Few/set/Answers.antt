@@ -16,5 +16,5 @@ unreachable-requires g c =
 pub returns : goal.returns
 returns g c =
     let few = c.self.inside in
-    few-set g.row.N few.len few.ids few.watches c.self.invariant c.in-Ok.place c.args.id c.in-Ok.ensures c.args.watch
+    few-set g.row.N few.len few.ids few.watches c.self.invariant c.in-Ok.index c.args.id c.in-Ok.ensures c.args.watch
     ∙ ap (λ (m : WatchMap). finmap.insert m c.args.id c.args.watch) c.self.view_is

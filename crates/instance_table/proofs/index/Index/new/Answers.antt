@@ -8,7 +8,8 @@ use Rattle.instance_table.proofs.index.Index.new.Goals as goal
 
 pub returns-clause-noted : goal.returns-clause-noted
 returns-clause-noted c number id =
-    none-noted (record { alloc = c.args.alloc; watchers = c.new.result }) number id (ap (lookup (tree.is_at (nat_cmp number))) c.new.ensures.empty)
+    none-noted (record { alloc = c.args.alloc; watchers = c.new.result; filter = c.new-2.result }) number id
+    (ap (lookup (tree.is_at (nat_cmp number))) c.new.ensures.empty)
 
 pub returns-clause-rows : goal.returns-clause-rows
-returns-clause-rows c number ids e none = false≢true (ap is_some (sym (ap (lookup (tree.is_at (nat_cmp number))) c.new.ensures.empty) ∙ e))
+returns-clause-rows c number ids e = absurd (false≢true (ap is_some (sym (ap (lookup (tree.is_at (nat_cmp number))) c.new.ensures.empty) ∙ e)))

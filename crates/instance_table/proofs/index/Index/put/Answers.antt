@@ -19,7 +19,7 @@ pub returns-clause-ok : goal.returns-clause-ok
 returns-clause-ok c =
     let a = c.args.self.now in
     let none : tree.get nat_cmp a.watchers c.args.number ≡ None = sym c.in_default.ensures.value in
-    noted-put a (record a { watchers = c.insert.new.self }) c.args.number (Some c.one.result)
+    noted-put a (record a { watchers = c.insert.new.self; filter = c.add.new.self }) c.args.number (Some c.one.result)
     (λ n. c.in_ok-insert.ensures.updates.0 n
     ∙ ap (λ m. cond (eq_by_cmp nat_cmp c.args.number n) (Some c.one.result) (tree.get nat_cmp m n)) c.get_mut.follows.holds-at-none)
     c.args.id c.args.watch
@@ -31,14 +31,16 @@ returns-in-Some-clause-rows c rows =
     let there : tree.get nat_cmp a.watchers c.args.number ≡ Some c.in-Some.row.now = sym c.in-Some.ensures.value in
     let put = (c.get_mut.follows.holds c.put.new.self).3 (subst (λ o. IsSome o) (sym there) refl) in
     rows-kept a (record a { watchers = c.get_mut.follows.lender c.put.new.self }) c.args.number (Some c.put.new.self) put.0
+    (λ n added. added) (λ row e. (rows c.args.number c.in-Some.row.now there).1)
     (row-is c.put.new.self (row-added c.put.result c.in-Some.row.now c.put.new.self c.args.id c.args.watch c.put.ensures.ok c.put.ensures.err
-    (rows c.args.number c.in-Some.row.now there)))
+    (rows c.args.number c.in-Some.row.now there).0))
     rows
 
 pub returns-clause-rows : goal.returns-clause-rows
 returns-clause-rows c rows =
     let a = c.args.self.now in
-    rows-kept a (record a { watchers = c.insert.new.self }) c.args.number (Some c.one.result)
+    rows-kept a (record a { watchers = c.insert.new.self; filter = c.add.new.self }) c.args.number (Some c.one.result)
     (λ n. c.in_ok-insert.ensures.updates.0 n
     ∙ ap (λ m. cond (eq_by_cmp nat_cmp c.args.number n) (Some c.one.result) (tree.get nat_cmp m n)) c.get_mut.follows.holds-at-none)
+    c.add.ensures.kept (λ row e. c.add.ensures.added)
     (row-is c.one.result (λ none. put-not-empty map.empty c.args.id c.args.watch (sym c.one.ensures ∙ none))) rows

@@ -29,4 +29,5 @@ returns-clause-rows c rows =
     let there : tree.get nat_cmp a.watchers c.args.number ≡ Some c.in-Some.row.now = sym c.in-Some.ensures.value in
     let put = (c.get_mut.follows.holds c.set.new.self).3 (subst (λ o. IsSome o) (sym there) refl) in
     rows-kept a (record a { watchers = c.get_mut.follows.lender c.set.new.self }) c.args.number (Some c.set.new.self) put.0
+    (λ n marked. marked) (λ row e. (rows c.args.number c.in-Some.row.now there).1)
     (row-is c.set.new.self (λ none. put-not-empty c.in-Some.row.now c.args.id c.args.watch (sym c.set.ensures ∙ none))) rows

@@ -16,9 +16,9 @@ returns-in_default-clause-heard c =
 pub invariant_of-self : goal.invariant_of-self
 invariant_of-self c =
     let row = c.index_mut.result.now in
-    let was = there c.self.inside c.self.invariant c.args.first.id c.deref.result.now c.deref.ensures.value c.in-Ok.place
+    let was = there c.self.inside c.self.invariant c.args.first.id c.deref.result.now c.deref.ensures.value c.in-Ok.index
     c.in-Ok.ensures row c.index_mut.ensures.value in
-    NotesEveryWatch-kept c.self.inside c.self.invariant c.args.first.id c.deref.result.now c.deref.ensures.value c.in-Ok.place
+    NotesEveryWatch-kept c.self.inside c.self.invariant c.args.first.id c.deref.result.now c.deref.ensures.value c.in-Ok.index
     c.in-Ok.ensures row c.index_mut.ensures.value (record row.instance { queue = c.offer_run.new.queue }) refl
     (c.offer_run.ensures.events (events-at c.self.inside c.self.invariant c.args.first.id row.instance was))
 
@@ -28,6 +28,6 @@ returns-clause-heard c =
     let run = c.offer_run.ensures.queue in
     let change : Instance → Instance = (λ i. record i { queue = fold after_offer i.queue run.0 }) in
     run-heard c.args.self.now _ c.args.first.id run.0 (c.args.first ∷ c.args.events.now.items) c.offer_run.new.events.items run.1
-    (instances_of-changed c.self.inside c.self.invariant c.args.first.id c.deref.result.now c.deref.ensures.value c.in-Ok.place
+    (instances_of-changed c.self.inside c.self.invariant c.args.first.id c.deref.result.now c.deref.ensures.value c.in-Ok.index
     c.in-Ok.ensures row c.index_mut.ensures.value (record row.instance { queue = c.offer_run.new.queue }) c.args.self.now
     c.self.view_is change (ap (λ q. record row.instance { queue = q }) (sym run.2)))

@@ -10,6 +10,6 @@ returns-in_default c =
 
 pub returns : goal.returns
 returns c =
-    sym (there c.self.inside c.self.invariant c.args.id c.deref.result.now c.deref.ensures.value c.in-Ok.place c.in-Ok.ensures
+    sym (there c.self.inside c.self.invariant c.args.id c.deref.result.now c.deref.ensures.value c.in-Ok.index c.in-Ok.ensures
     c.index.result.now c.index.ensures)
     ∙ ap (λ m. instance_of m c.args.id) c.self.view_is

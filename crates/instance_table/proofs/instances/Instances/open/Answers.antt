@@ -23,7 +23,7 @@ invariant_of-self c =
     let i : Instance = record { is_piped = c.args.is_piped; watches = c.new.result; queue = c.in_ok-with_limit.field-0 } in
     elim c.match-insert.branch [
       | in-Ok w ↦
-          NotesEveryWatch-new a c.self.invariant c.args.id c.deref.result.now c.deref.ensures.value c.in-Err.place
+          NotesEveryWatch-new a c.self.invariant c.args.id c.deref.result.now c.deref.ensures.value c.in-Err.index
           c.in-Err.ensures i b w.in-Ok.ensures.items refl
           (λ n. ap (λ w. watch_of w n) c.new.ensures ∙ map.get-empty nat_cmp n) (subst (λ q. AreEvents q.waiting) (sym c.in_ok-with_limit.ensures.queue) tt)
       | in-Err-insert w ↦ NotesEveryWatch-same a b c.self.invariant w.in-Err-insert.ensures.items refl
@@ -40,7 +40,7 @@ returns-clause-ok c =
     ∙ ap (λ q. record i { watches = no_watches c.args.limits.now; queue = q }) c.in_ok-with_limit.ensures.queue in
     elim c.match-insert.branch [
       | in-Ok w ↦ subst (λ r. OnOk r (instances_of b ≡ map.insert c.args.self.now c.args.id new)) (sym w.result-is)
-          (instances_of-new a c.self.invariant c.args.id c.deref.result.now c.deref.ensures.value c.in-Err.place c.in-Err.ensures i b w.in-Ok.ensures.items
+          (instances_of-new a c.self.invariant c.args.id c.deref.result.now c.deref.ensures.value c.in-Err.index c.in-Err.ensures i b w.in-Ok.ensures.items
           ∙ ap (map.insert (instances_of a) c.args.id) made ∙ ap (λ m. map.insert m c.args.id new) c.self.view_is)
       | in-Err-insert w ↦ subst (λ r. OnOk r (instances_of b ≡ map.insert c.args.self.now c.args.id new)) (sym w.result-is) tt
     ]

@@ -2,7 +2,7 @@ use Rattle.std.proofs.Common.{ap, subst, ◌∙◌, IsSome}
 use Rattle.std.specs.Prelude.{Ok}
 use Rattle.std.specs.FinMap as finmap
 use Rattle.std.proofs.lemmas.Bool.{false≢true}
-use Rattle.instance_table.specs.Ids.{IsPlace}
+use Rattle.instance_table.specs.Ids.{IsIndex}
 use Rattle.instance_table.specs.Watchers.{WatchMap}
 use Rattle.instance_table.proofs.Zipped.{watchers-absent_in, watchers-set}
 use Rattle.instance_table.proofs.several.Several.set.Goals as goal
@@ -17,6 +17,6 @@ pub returns : goal.returns
 returns c =
     let ids = c.self.inside.ids.items in
     let ws = c.self.inside.watches.items in
-    let i = c.in-Ok.place in
-    let place : IsPlace ids c.args.id (Ok i) = subst (λ xs. IsPlace xs c.args.id (Ok i)) c.as_slice.ensures.value c.in-Ok.ensures in
-    watchers-set ids ws c.self.invariant i c.args.id place c.args.watch ∙ ap (λ (m : WatchMap). finmap.insert m c.args.id c.args.watch) c.self.view_is
+    let i = c.in-Ok.index in
+    let slot : IsIndex ids c.args.id (Ok i) = subst (λ xs. IsIndex xs c.args.id (Ok i)) c.as_slice.ensures.value c.in-Ok.ensures in
+    watchers-set ids ws c.self.invariant i c.args.id slot c.args.watch ∙ ap (λ (m : WatchMap). finmap.insert m c.args.id c.args.watch) c.self.view_is

@@ -16,5 +16,5 @@ returns-clause-begun c =
 pub returns-clause-records : goal.returns-clause-records
 returns-clause-records c =
     let m = c.args.self.now in
-    read-taken m c.args.id c.args.bytes c.in_ok-instance.instance.now c.find.new.place c.fit_len-fit.result.count
+    read-taken m c.args.id c.args.bytes c.in_ok-instance.instance.now c.find.new.index c.fit_len-fit.result.count
     (sym c.find.ensures ∙ c.in_ok-instance.ensures.there) c.fit_len-fit.ensures.count

@@ -1,0 +1,4 @@
+use Rattle.inode_table.proofs.recent_directory.forget_directory.Goals as goal
+
+pub returns-then-is_directory : goal.returns-then-is_directory
+returns-then-is_directory c p k at = absurd (c.forget.ensures p k at)
