@@ -5,7 +5,7 @@ use Rattle.std.specs.Option.{option_map_or}
 use Rattle.record_codec.specs.declared.event.Event.{Event}
 use Rattle.record_codec.specs.declared.bits.TheConstants.{IN_Q_OVERFLOW}
 use Rattle.record_codec.specs.Equality.{event_eq}
-use Rattle.tree_paths.specs.Greatest.{most_queue}
+use Rattle.tree_paths.specs.Greatest.{most}
 use Rattle.event_queue.specs.declared.offered.Offered.{Offered}
 use Rattle.event_queue.specs.declared.offered.Offered.TheVariants.{Kept, Merged, Marked, Lost}
 
@@ -16,7 +16,7 @@ pub record Backlog : Type 0 where
 
 -- a limit that a queue can have: inotify(7)'s max_queued_events
 abbrev pub IsLimit : ℕ → Type 0
-IsLimit limit = (1 ≤ limit) × (limit ≤ most_queue)
+IsLimit limit = (1 ≤ limit) × (limit ≤ most.queue)
 
 -- the record that says that events were lost (inotify(7), IN_Q_OVERFLOW: its wd is -1)
 unfoldable pub overflow_mark : Event

@@ -8,14 +8,15 @@ use Rattle.std.proofs.lemmas.Bool.{eqb-true, false≢true, ne_eqb}
 use Rattle.std.proofs.lemmas.Nat.{and_le_r}
 use Rattle.std.proofs.lemmas.Nat.Bits.{bit_at_and, bit_at_or, same_from_bits}
 use Rattle.watch_table.specs.Masks.{has_any}
-use Rattle.watch_table.specs.Watching.{Watch, Watching, dropped, watch_of}
+use Rattle.watch_table.specs.declared.watch.Watch.{Watch}
+use Rattle.watch_table.specs.Watching.{Watching, dropped, watch_of}
 use Rattle.event_rules.specs.declared.notice.Notice.{Notice}
 use Rattle.record_codec.specs.declared.bits.TheConstants.{IN_ALL_EVENTS}
 use Rattle.event_rules.specs.declared.notice.Notice.TheVariants.{Told}
 use Rattle.event_rules.specs.declared.ended.EndedWatches.{EndedWatches}
-use Rattle.event_rules.specs.Raised.{ends_watch, event_bit, is_oneshot, left, left_by, told_number, watches_after}
+use Rattle.event_rules.specs.Raised.{ends_watch, event_bit, is_oneshot, left, told_number, watches_after}
 use Rattle.event_rules.specs.Staging.{ended_before, is_ended, left_before}
-use Rattle.event_rules.proofs.Removals.{dropped-here, dropped-other, left-either}
+use Rattle.event_rules.proofs.Removals.{left_by, dropped-here, dropped-other, left-either}
 
 -- ---- the watch that notices leave
 
@@ -108,5 +109,5 @@ pub ended-told : (e : EndedWatches) (number bits cookie : ℕ) (name : Option (L
     → is_ended (record { is_gone = e.is_gone; bits = bit_or e.bits (bit_and bits IN_ALL_EVENTS) }) watch
     ≡ (is_ended e watch || ends_watch (Told number bits cookie name) watch)
 ended-told e number bits cookie name watch =
-    ap (λ b. e.is_gone || (b && is_oneshot watch)) (any-or watch.1 e.bits (event_bit bits))
-    ∙ either e.is_gone (has_any watch.1 e.bits) (has_any watch.1 (event_bit bits)) (is_oneshot watch)
+    ap (λ b. e.is_gone || (b && is_oneshot watch)) (any-or watch.mask e.bits (event_bit bits))
+    ∙ either e.is_gone (has_any watch.mask e.bits) (has_any watch.mask (event_bit bits)) (is_oneshot watch)

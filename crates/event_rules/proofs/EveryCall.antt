@@ -1,5 +1,5 @@
 -- What is true of each notice of every call.
-use Rattle.std.proofs.Common.{ℕ, ◌+◌, Bool, true, false, ◌==◌, if◌then◌else◌, List, [], ◌∷◌, ◌++◌, Option, Some, None, refl, lit<}
+use Rattle.std.proofs.Common.{ℕ, ◌+◌, Bool, true, false, ◌==◌, ◌||◌, nat_lt, length, if◌then◌else◌, List, [], ◌∷◌, ◌++◌, Option, Some, None, refl, lit<}
 use Rattle.std.specs.Prelude.{All, Contains}
 use Rattle.std.specs.List.{last_or}
 use Rattle.std.proofs.lemmas.List.Elements.{All-nil, All-cons, All-append}
@@ -10,7 +10,7 @@ use Rattle.record_codec.specs.Bits.{event_bits}
 use Rattle.inode_table.specs.declared.seen.Kind.{Kind}
 use Rattle.inode_table.specs.declared.seen.Kind.TheVariants.{Regular, Directory}
 use Rattle.inode_table.specs.declared.seen.Seen.{Seen}
-use Rattle.inode_table.specs.Refusals.{Look, parent_of}
+use Rattle.inode_table.specs.Refusals.{Look, is_directory_kind, parent_of}
 use Rattle.inode_table.specs.World.{World, look}
 use Rattle.tree_ops.specs.declared.call.TheConstants.{RENAME_EXCHANGE}
 use Rattle.tree_ops.specs.declared.call.FileCall.{FileCall}
@@ -21,12 +21,29 @@ use Rattle.tree_ops.specs.Refused.{are_same_seen}
 use Rattle.event_rules.specs.declared.notice.TheConstants.{NO_COOKIE}
 use Rattle.event_rules.specs.declared.notice.Notice.{Notice}
 use Rattle.event_rules.specs.declared.notice.Notice.TheVariants.{Told, Gone}
-use Rattle.event_rules.specs.Table.{about, answers_byte, chmod_told, create_told, deleted_told, exchange_told, has_byte}
-use Rattle.event_rules.specs.Table.{kind_seen, link_told, lost_told, mkdir_told, move_told, no_counts, notices_of}
+use Rattle.event_rules.specs.Table.{about, answers_byte, chmod_told, create_told}
+use Rattle.event_rules.specs.Table.{kind_seen, link_told, mkdir_told, move_told, no_counts, notices_of}
 use Rattle.event_rules.specs.Table.{path_lost, read_told, rename_told, rmdir_told, swap_told, to_both, to_dir, to_self}
 use Rattle.event_rules.specs.Table.{told_in, truncate_told, unlink_told, write_told}
 use Rattle.event_rules.specs.Raised.{event_bit}
 use Rattle.event_rules.specs.Laws.{HasOneEvent}
+
+-- ---- parts of the table
+
+abbrev pub has_byte : List ℕ → Bool
+has_byte bytes = nat_lt 0 (length bytes)
+
+abbrev pub deleted_told : ℕ → List Notice
+deleted_told number = Told number IN_DELETE_SELF NO_COOKIE None ∷ Gone number ∷ []
+
+abbrev pub lost_told : Kind → ℕ → ℕ → List Notice
+lost_told kind number links =
+    (if is_directory_kind kind then [] else Told number IN_ATTRIB NO_COOKIE None ∷ [])
+    ++ (if is_directory_kind kind || (links == 1) then deleted_told number else [])
+
+abbrev pub exchange_told : Look → List (List ℕ) → List (List ℕ) → ℕ → List Notice
+exchange_told seen_at old new cookie =
+    if are_same_seen (seen_at old) (seen_at new) then [] else swap_told seen_at old new cookie
 
 -- it is true of each notice of the event, whatever the file, the kind of object and the name
 abbrev pub Holds : (Notice → Type 0) → ℕ → ℕ → Type 0
@@ -189,7 +206,6 @@ module _ (P : Notice → Type 0) (holds : HoldsOfLines P) where
     exchange-by false at old new = swap at old new
 
     exchange : (at : Look) (old new : List (List ℕ)) → All P (exchange_told at old new cookie)
-    unfolding exchange_told
     exchange at old new = exchange-by (are_same_seen (at old) (at new)) at old new
 
     rename2-by : (b : Bool) (at : Look) (old new : List (List ℕ)) → All P (if b then exchange_told at old new cookie else rename_told at old new cookie)

@@ -8,13 +8,14 @@ use Rattle.std.proofs.lemmas.List.{map-append}
 use Rattle.std.proofs.lemmas.List.Elements.{All-nil, All-append, All-cons, All-weaker, filter-append}
 use Rattle.record_codec.specs.declared.bits.TheConstants.{IN_IGNORED}
 use Rattle.record_codec.specs.declared.event.Event.{Event}
-use Rattle.watch_table.specs.Watching.{HasEnded, IsSound, Watch, Watching, dropped, watch_of, wd_of}
+use Rattle.watch_table.specs.declared.watch.Watch.{Watch}
+use Rattle.watch_table.specs.Watching.{HasEnded, IsSound, Watching, dropped, watch_of, wd_of}
 use Rattle.event_rules.specs.declared.notice.Notice.{Notice}
 use Rattle.event_rules.specs.declared.notice.Notice.TheVariants.{Told, Gone}
 use Rattle.event_rules.specs.Raised.{asks_for, ended, ended_by, ends_watch, events_of, ignored, is_oneshot, left}
-use Rattle.event_rules.specs.Raised.{left_by, raised, raised_at, told_number, watches_after, wds_ended}
+use Rattle.event_rules.specs.Raised.{raised_at, told_number, watches_after, wds_ended}
 use Rattle.event_rules.specs.Laws.{TellsNothing, says_ended}
-use Rattle.event_rules.proofs.Removals.{Known, left-IsSound, left-either, some_none, wd-of}
+use Rattle.event_rules.proofs.Removals.{left_by, raised, Known, left-IsSound, left-either, some_none, wd-of}
 use Rattle.event_rules.proofs.Others.{raised-All}
 
 -- what is known of descriptors whose watches end
@@ -26,7 +27,7 @@ pub record Ending : Type 0 where
 -- ---- an event that was asked for does not say so
 
 asks_nothing : (watch : Watch) → asks_for watch IN_IGNORED ≡ false
-asks_nothing watch = ap (λ n. not (n == 0)) (and_zero_r watch.1)
+asks_nothing watch = ap (λ n. not (n == 0)) (and_zero_r watch.mask)
 
 true_false : {b : Bool} → b ≡ true → b ≡ false → ⊥
 true_false h k = cc
@@ -42,15 +43,15 @@ not_ended watch bits asked =
 
 module _ (n : Notice) (watch : Watch) where
   said-told : (number bits cookie : ℕ) (name : Option (List ℕ)) (b c : Bool) → asks_for watch bits ≡ b
-      → filter says_ended ((if b then record { wd = watch.0; mask = bits; cookie = cookie; name = name } ∷ [] else [])
-      ++ (if b && c then ignored watch.0 ∷ [] else []))
-      ≡ map ignored (if b && c then watch.0 ∷ [] else [])
+      → filter says_ended ((if b then record { wd = watch.wd; mask = bits; cookie = cookie; name = name } ∷ [] else [])
+      ++ (if b && c then ignored watch.wd ∷ [] else []))
+      ≡ map ignored (if b && c then watch.wd ∷ [] else [])
   said-told number bits cookie name false c is = refl
   said-told number bits cookie name true true is =
-      ap (λ b. if b then record { wd = watch.0; mask = bits; cookie = cookie; name = name } ∷ ignored watch.0 ∷ [] else ignored watch.0 ∷ [])
+      ap (λ b. if b then record { wd = watch.wd; mask = bits; cookie = cookie; name = name } ∷ ignored watch.wd ∷ [] else ignored watch.wd ∷ [])
       (not_ended watch bits is)
   said-told number bits cookie name true false is =
-      ap (λ b. if b then record { wd = watch.0; mask = bits; cookie = cookie; name = name } ∷ [] else []) (not_ended watch bits is)
+      ap (λ b. if b then record { wd = watch.wd; mask = bits; cookie = cookie; name = name } ∷ [] else []) (not_ended watch bits is)
 
 said-by : (n : Notice) (o : Option Watch) → filter says_ended (raised_at n o) ≡ map ignored (ended_by n o)
 said-by n None = refl
@@ -58,7 +59,7 @@ said-by (Told number bits cookie name) (Some watch) = said-told (Gone number) wa
 said-by (Gone number) (Some watch) = refl
 
 said-one : (w : Watching) (n : Notice) → filter says_ended (raised w n) ≡ map ignored (ended w n)
-unfolding raised ended
+unfolding ended
 said-one w n = said-by n (watch_of w (told_number n))
 
 pub says_ended-wds : (w : Watching) (ns : List Notice) → filter says_ended (events_of w ns) ≡ map ignored (wds_ended w ns)
@@ -92,10 +93,10 @@ module _ (ending : Ending) where
   one-ended w n None sound is = All-nil (HasEnded w)
   one-ended w n (Some watch) sound is = by (ends_watch n watch)
     where
-      by : (b : Bool) → All (HasEnded (if b then dropped w (told_number n) else w)) (if b then watch.0 ∷ [] else [])
+      by : (b : Bool) → All (HasEnded (if b then dropped w (told_number n) else w)) (if b then watch.wd ∷ [] else [])
       by true =
-          All-cons (HasEnded (dropped w (told_number n))) watch.0 []
-          (ending.ends w watch.0 (told_number n) sound (wd-of w (told_number n) watch is)) (All-nil (HasEnded (dropped w (told_number n))))
+          All-cons (HasEnded (dropped w (told_number n))) watch.wd []
+          (ending.ends w watch.wd (told_number n) sound (wd-of w (told_number n) watch is)) (All-nil (HasEnded (dropped w (told_number n))))
       by false = All-nil (HasEnded w)
 
   ended-HasEnded : (w : Watching) (n : Notice) → IsSound w → All (HasEnded (left w n)) (ended w n)
@@ -122,8 +123,8 @@ quiet-behind [] after e q said = q.0 said
 quiet-behind (x ∷ before) after e q said = quiet-behind before after e q.1 said
 
 quiet-told : (watch : Watch) (bits cookie : ℕ) (name : Option (List ℕ)) (rest : List Event) (b c : Bool) → asks_for watch bits ≡ b → Quiet rest
-    → ((b && c) ≡ true → TellsNothing watch.0 rest)
-    → Quiet (((if b then record { wd = watch.0; mask = bits; cookie = cookie; name = name } ∷ [] else []) ++ (if b && c then ignored watch.0 ∷ [] else []))
+    → ((b && c) ≡ true → TellsNothing watch.wd rest)
+    → Quiet (((if b then record { wd = watch.wd; mask = bits; cookie = cookie; name = name } ∷ [] else []) ++ (if b && c then ignored watch.wd ∷ [] else []))
     ++ rest)
 quiet-told watch bits cookie name rest false c is q over = q
 quiet-told watch bits cookie name rest true true is q over = (λ said. absurd (true_false said (not_ended watch bits is)), (λ said. over refl, q))
@@ -135,13 +136,13 @@ module _ (ending : Ending) where
   quiet-by w n None rest sound is q over = q
   quiet-by w (Told number bits cookie name) (Some watch) rest sound is q over =
       quiet-told watch bits cookie name rest (asks_for watch bits) (is_oneshot watch) refl q
-      (λ both. over watch.0 (subst (λ b. HasEnded (if b then dropped w number else w) watch.0) (sym both)
-      (ending.ends w watch.0 number sound (wd-of w number watch is))))
-  quiet-by w (Gone number) (Some watch) rest sound is q over = (λ said. over watch.0 (ending.ends w watch.0 number sound (wd-of w number watch is)), q)
+      (λ both. over watch.wd (subst (λ b. HasEnded (if b then dropped w number else w) watch.wd) (sym both)
+      (ending.ends w watch.wd number sound (wd-of w number watch is))))
+  quiet-by w (Gone number) (Some watch) rest sound is q over = (λ said. over watch.wd (ending.ends w watch.wd number sound (wd-of w number watch is)), q)
 
   quiet-one : (w : Watching) (n : Notice) (rest : List Event) → IsSound w → Quiet rest
       → ((wd : ℤ) → HasEnded (left w n) wd → TellsNothing wd rest) → Quiet (raised w n ++ rest)
-  unfolding raised left
+  unfolding left
   quiet-one w n rest sound q over = quiet-by w n (watch_of w (told_number n)) rest sound refl q over
 
   quiet-events : (w : Watching) (ns : List Notice) → IsSound w → Quiet (events_of w ns)

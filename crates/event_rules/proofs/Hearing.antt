@@ -6,11 +6,14 @@ use Rattle.inode_table.specs.declared.seen.Seen.{Seen}
 use Rattle.inode_table.specs.Refusals.{Look, parent_of}
 use Rattle.inode_table.specs.declared.seen.Kind.{Kind}
 use Rattle.inode_table.specs.declared.seen.Kind.TheVariants.{Regular, Directory}
-use Rattle.watch_table.specs.Watching.{Watch, Watching, watch_of}
+use Rattle.watch_table.specs.declared.watch.Watch.{Watch}
+use Rattle.watch_table.specs.Watching.{Watching, watch_of}
 use Rattle.event_rules.specs.declared.notice.Notice.{Notice}
-use Rattle.event_rules.specs.Raised.{events_of, heard, left, raised, told_number, watches_after}
+use Rattle.event_rules.specs.Raised.{events_of, heard, left, told_number, watches_after}
+use Rattle.event_rules.proofs.Removals.{raised}
 use Rattle.event_rules.specs.Subjects.{seen_watched}
-use Rattle.event_rules.specs.Table.{about, path_lost, lost_told, deleted_told, to_dir, to_self, told_in}
+use Rattle.event_rules.specs.Table.{about, path_lost, to_dir, to_self, told_in}
+use Rattle.event_rules.proofs.EveryCall.{lost_told, deleted_told}
 use Rattle.event_rules.proofs.Others.{raised-none, left-none, part-left}
 
 module _ (watches : ℕ → Bool) where

@@ -6,7 +6,7 @@ use Rattle.record_codec.specs.declared.bits.TheConstants.{IN_ATTRIB, IN_DELETE, 
 use Rattle.inode_table.specs.declared.seen.Kind.{Kind}
 use Rattle.inode_table.specs.declared.seen.Kind.TheVariants.{Regular, Directory}
 use Rattle.inode_table.specs.Rows.{Label}
-use Rattle.inode_table.specs.World.{World, look, links, seen_as}
+use Rattle.inode_table.specs.World.{World, look, links}
 use Rattle.inode_table.proofs.SeenLemmas.{is_value}
 use Rattle.tree_ops.specs.declared.call.FileCall.{FileCall}
 use Rattle.tree_ops.specs.declared.call.FileCall.TheVariants.{Create, Write, ReadFile, Truncate, Chmod, Mkdir, Link}
@@ -17,10 +17,11 @@ use Rattle.watch_table.specs.Watching.{Watching, watch_of}
 use Rattle.event_rules.specs.declared.notice.TheConstants.{NO_COOKIE}
 use Rattle.event_rules.specs.declared.notice.Notice.{Notice}
 use Rattle.event_rules.specs.declared.notice.Notice.TheVariants.{Told, Gone}
-use Rattle.event_rules.specs.Table.{deleted_told, exchange_told, kind_seen, lost_told, move_told, notices_of, path_lost}
+use Rattle.event_rules.specs.Table.{kind_seen, move_told, notices_of, path_lost}
 use Rattle.event_rules.specs.Table.{rename_told, rmdir_told, to_dir, to_self, unlink_told}
-use Rattle.event_rules.specs.Raised.{left, left_by, watches_after}
-use Rattle.event_rules.proofs.Removals.{dropped-here, some_none}
+use Rattle.event_rules.proofs.EveryCall.{deleted_told, exchange_told, lost_told}
+use Rattle.event_rules.specs.Raised.{left, watches_after}
+use Rattle.event_rules.proofs.Removals.{left_by, dropped-here, some_none}
 use Rattle.event_rules.proofs.Others.{part-after}
 
 -- ---- the notices
@@ -32,7 +33,7 @@ lost-told Regular number count e =
 lost-told Directory number count e = (1, lit< tt, refl)
 
 path-lost : (w : World) (p : List Label) (n : ℕ) → IsThere w n → IsAlone w p n → Contains (path_lost (look w p)) (Gone n)
-unfolding path_lost seen_as
+unfolding path_lost
 path-lost w p n h is =
     let f = is_value _ h in
     subst (λ o. Contains (path_lost o) (Gone n)) (sym (look-is w p n f.0 is.there f.1)) (lost-told f.0.kind n (links w n) is.links)

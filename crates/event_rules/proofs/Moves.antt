@@ -20,11 +20,16 @@ use Rattle.tree_ops.specs.Refused.{are_same_seen}
 use Rattle.event_rules.specs.declared.notice.TheConstants.{NO_COOKIE}
 use Rattle.event_rules.specs.declared.notice.Notice.{Notice}
 use Rattle.event_rules.specs.declared.notice.Notice.TheVariants.{Told, Gone}
-use Rattle.event_rules.specs.Table.{about, answers_byte, exchange_told, has_byte, kind_seen, move_told, no_counts}
+use Rattle.event_rules.specs.Table.{about, answers_byte, kind_seen, move_told, no_counts}
 use Rattle.event_rules.specs.Table.{notices_of, path_lost, rename_told, swap_told, to_dir, to_self, told_in}
+use Rattle.event_rules.proofs.EveryCall.{exchange_told, has_byte}
 use Rattle.event_rules.specs.Raised.{event_bit}
-use Rattle.event_rules.specs.Laws.{IsSubsequence, AreTied, IsTied, Mark, cookies_from, is_move, marks_told, moves_in, moves_with}
+use Rattle.event_rules.specs.Laws.{IsSubsequence, AreTied, Mark, cookies_from, is_move, marks_told, moves_in, moves_with}
 use Rattle.event_rules.proofs.EveryCall as every
+
+-- the event is that of a move, or has no cookie
+abbrev pub IsTied : Mark → Type 0
+IsTied m = is_move m ≡ false → m.1 ≡ NO_COOKIE
 
 -- ---- some of a list, in order
 
@@ -205,7 +210,7 @@ exchange-tied false at old new cookie = swap-tied at old new cookie
 rename2-tied : (exchanges : Bool) (at : Look) (old new : List (List ℕ)) (cookie : ℕ)
     → AreTied (moves_with (cookies_from cookie (cookies_for (if are_same_seen (at old) (at new) then Nothing else (if exchanges then Exchange else Move)))))
     (marks_told (if exchanges then exchange_told at old new cookie else rename_told at old new cookie))
-unfolding rename_told exchange_told
+unfolding rename_told
 rename2-tied true at old new cookie = exchange-tied (are_same_seen (at old) (at new)) at old new cookie
 rename2-tied false at old new cookie = rename-tied (are_same_seen (at old) (at new)) at old new cookie
 

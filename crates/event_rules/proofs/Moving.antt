@@ -9,7 +9,8 @@ use Rattle.tree_ops.specs.CallPaths.{path_of, other_path_of}
 use Rattle.tree_ops.specs.Moves.{moves_of, cookies_of, cookies_for}
 use Rattle.tree_ops.specs.Refused.{are_same_seen}
 use Rattle.tree_ops.proofs.Moving.{moved, exchanged, stays}
-use Rattle.event_rules.specs.Table.{link_told, notices_of, rename_told, exchange_told, move_told, swap_told, to_dir, to_self}
+use Rattle.event_rules.specs.Table.{link_told, notices_of, rename_told, move_told, swap_told, to_dir, to_self}
+use Rattle.event_rules.proofs.EveryCall.{exchange_told}
 use Rattle.inode_table.specs.declared.seen.Kind.TheVariants.{Regular}
 use Rattle.record_codec.specs.declared.bits.TheConstants.{IN_ATTRIB, IN_CREATE}
 use Rattle.event_rules.specs.declared.notice.TheConstants.{NO_COOKIE}
@@ -21,7 +22,6 @@ rename-by w old new cookie b e = ap (λ c. if c then [] else move_told (look w) 
 
 exchange-by : (w : World) (old new : List (List ℕ)) (cookie : ℕ) (b : Bool) → are_same_seen (look w old) (look w new) ≡ b
     → exchange_told (look w) old new cookie ≡ (if b then [] else swap_told (look w) old new cookie)
-unfolding exchange_told
 exchange-by w old new cookie b e = ap (λ c. if c then [] else swap_told (look w) old new cookie) e
 
 pub rename-tells-nothing : (w : World) (old new : List (List ℕ)) (cookie : ℕ) → moves_of w (Rename old new) ≡ Nothing

@@ -3,19 +3,19 @@ use Rattle.std.proofs.Common.{◌≡◌, ◌⊎◌, ℕ, Bool, true, false, if�
 use Rattle.std.specs.Prelude.{ℤ, All, Contains, option_map}
 use Rattle.std.proofs.lemmas.List.Elements.{All-nil, All-append, All-cons, All-head, All-tail, All-weaker, Contains-append_left, Contains-append_right}
 use Rattle.record_codec.specs.declared.event.Event.{Event}
-use Rattle.watch_table.specs.Watching.{IsSound, Watch, Watching, dropped, watch_of}
+use Rattle.watch_table.specs.declared.watch.Watch.{Watch}
+use Rattle.watch_table.specs.Watching.{IsSound, Watching, dropped, watch_of}
 use Rattle.event_rules.specs.declared.notice.Notice.{Notice}
 use Rattle.event_rules.specs.declared.notice.Notice.TheVariants.{Told, Gone}
 use Rattle.event_rules.specs.Raised.{asks_for, ended, ended_by, ends_watch, event_told, events_of, ignored, left}
-use Rattle.event_rules.specs.Raised.{left_by, raised, raised_at, told_number, watches_after, wds_ended, where_ended}
+use Rattle.event_rules.specs.Raised.{raised_at, told_number, watches_after, wds_ended, where_ended}
 use Rattle.event_rules.specs.Laws.{HasWatch, IsPartOf}
-use Rattle.event_rules.proofs.Removals.{dropped-other, dropped-was, left-either, same_or_not, same_some, some_none, wd-of}
+use Rattle.event_rules.proofs.Removals.{left_by, raised, dropped-other, dropped-was, left-either, same_or_not, same_some, some_none, wd-of}
 
 -- ---- files that are not watched
 
 module _ (w : Watching) (n : Notice) (unwatched : watch_of w (told_number n) ≡ None) where
   pub raised-none : raised w n ≡ []
-  unfolding raised
   raised-none = ap (raised_at n) unwatched
 
   ended-none : ended w n ≡ []
@@ -82,62 +82,62 @@ after-IsSound by_drop w (n ∷ ns) sound = after-IsSound by_drop (left w n) ns (
 -- ---- a watch that was there is left, or has ended
 
 module _ (w : Watching) (number : ℕ) (watch : Watch) (is : watch_of w number ≡ Some watch) where
-  alone : (x : Watch) → watch_of w number ≡ Some x → Contains (x.0 ∷ []) watch.0
-  alone x h = (0, lit< tt, ap (λ (y : Watch). y.0) (same_some (sym h ∙ is)))
+  alone : (x : Watch) → watch_of w number ≡ Some x → Contains (x.wd ∷ []) watch.wd
+  alone x h = (0, lit< tt, ap (λ (y : Watch). y.wd) (same_some (sym h ∙ is)))
 
-  stays-by : (n : Notice) (o : Option Watch) → watch_of w (told_number n) ≡ o → (watch_of (left_by w n o) number ≡ Some watch) ⊎ Contains (ended_by n o) watch.0
+  stays-by : (n : Notice) (o : Option Watch) → watch_of w (told_number n) ≡ o
+      → (watch_of (left_by w n o) number ≡ Some watch) ⊎ Contains (ended_by n o) watch.wd
   stays-by n None at = inl is
   stays-by n (Some x) at = by (ends_watch n x)
     where
-      by : (b : Bool) → (watch_of (if b then dropped w (told_number n) else w) number ≡ Some watch) ⊎ Contains (if b then x.0 ∷ [] else []) watch.0
+      by : (b : Bool) → (watch_of (if b then dropped w (told_number n) else w) number ≡ Some watch) ⊎ Contains (if b then x.wd ∷ [] else []) watch.wd
       by true = elim (same_or_not number (told_number n)) [
         | inl t ↦ inr (alone x (ap (watch_of w) t.0 ∙ at))
         | inr t ↦ inl (dropped-other w (told_number n) number t.0 ∙ is)
       ]
       by false = inl is
 
-  stays : (n : Notice) → (watch_of (left w n) number ≡ Some watch) ⊎ Contains (ended w n) watch.0
+  stays : (n : Notice) → (watch_of (left w n) number ≡ Some watch) ⊎ Contains (ended w n) watch.wd
   unfolding left ended
   stays n = stays-by n (watch_of w (told_number n)) refl
 
 pub stays_or_ended : (w : Watching) (ns : List Notice) (number : ℕ) (watch : Watch) → watch_of w number ≡ Some watch
-    → (watch_of (watches_after w ns) number ≡ Some watch) ⊎ Contains (wds_ended w ns) watch.0
+    → (watch_of (watches_after w ns) number ≡ Some watch) ⊎ Contains (wds_ended w ns) watch.wd
 stays_or_ended w [] number watch is = inl is
 stays_or_ended w (n ∷ ns) number watch is =
     elim (stays w number watch is n) [
       | inl t ↦ elim (stays_or_ended (left w n) ns number watch t) [
         | inl u ↦ inl u
-        | inr u ↦ inr (Contains-append_right (ended w n) (wds_ended (left w n) ns) watch.0 u)
+        | inr u ↦ inr (Contains-append_right (ended w n) (wds_ended (left w n) ns) watch.wd u)
       ]
-      | inr t ↦ inr (Contains-append_left (ended w n) (wds_ended (left w n) ns) watch.0 t)
+      | inr t ↦ inr (Contains-append_left (ended w n) (wds_ended (left w n) ns) watch.wd t)
     ]
 
 -- ---- whose events are raised
 
-module _ (P : ℤ → Type 0) (watch : Watch) (holds : P watch.0) where
+module _ (P : ℤ → Type 0) (watch : Watch) (holds : P watch.wd) where
   if-All : (b : Bool) (e : Event) → P e.wd → All (λ (x : Event). P x.wd) (if b then e ∷ [] else [])
   if-All true e h = All-cons (λ (x : Event). P x.wd) e [] h (All-nil (λ (x : Event). P x.wd))
   if-All false e h = All-nil (λ (x : Event). P x.wd)
 
   told-All : (n : Notice) → All (λ (x : Event). P x.wd) (event_told n watch)
-  told-All (Told number bits cookie name) = if-All (asks_for watch bits) (record { wd = watch.0; mask = bits; cookie = cookie; name = name }) holds
+  told-All (Told number bits cookie name) = if-All (asks_for watch bits) (record { wd = watch.wd; mask = bits; cookie = cookie; name = name }) holds
   told-All (Gone number) = All-nil (λ (x : Event). P x.wd)
 
   pub raised_at-All : (n : Notice) → All (λ (x : Event). P x.wd) (raised_at n (Some watch))
   raised_at-All n =
-      All-append (λ (x : Event). P x.wd) (event_told n watch) (where_ended n watch (ignored watch.0 ∷ [])) (told-All n)
-      (if-All (ends_watch n watch) (ignored watch.0) holds)
+      All-append (λ (x : Event). P x.wd) (event_told n watch) (where_ended n watch (ignored watch.wd ∷ [])) (told-All n)
+      (if-All (ends_watch n watch) (ignored watch.wd) holds)
 
 module _ (P : ℤ → Type 0) (w : Watching) (n : Notice) where
-  raised-All-by : (o : Option Watch) → ((watch : Watch) → o ≡ Some watch → P watch.0) → All (λ (x : Event). P x.wd) (raised_at n o)
+  raised-All-by : (o : Option Watch) → ((watch : Watch) → o ≡ Some watch → P watch.wd) → All (λ (x : Event). P x.wd) (raised_at n o)
   raised-All-by None h = All-nil (λ (x : Event). P x.wd)
   raised-All-by (Some watch) h = raised_at-All P watch (h watch refl) n
 
-  pub raised-All : ((watch : Watch) → watch_of w (told_number n) ≡ Some watch → P watch.0) → All (λ (x : Event). P x.wd) (raised w n)
-  unfolding raised
+  pub raised-All : ((watch : Watch) → watch_of w (told_number n) ≡ Some watch → P watch.wd) → All (λ (x : Event). P x.wd) (raised w n)
   raised-All h = raised-All-by (watch_of w (told_number n)) h
 
-a_watch : (o : Option Watch) (wd : ℤ) → option_map (λ (x : Watch). x.0) o ≡ Some wd → (watch : Watch) × ((o ≡ Some watch) × (watch.0 ≡ wd))
+a_watch : (o : Option Watch) (wd : ℤ) → option_map (λ (x : Watch). x.wd) o ≡ Some wd → (watch : Watch) × ((o ≡ Some watch) × (watch.wd ≡ wd))
 a_watch None wd h = absurd (some_none refl h)
 a_watch (Some watch) wd h = (watch, (refl, same_some h))
 

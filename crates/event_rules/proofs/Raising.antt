@@ -4,12 +4,14 @@ use Rattle.std.specs.Prelude.{All}
 use Rattle.std.proofs.lemmas.List.{map-append}
 use Rattle.std.proofs.lemmas.List.Elements.{All-nil, All-cons, All-head, All-tail}
 use Rattle.record_codec.specs.declared.event.Event.{Event}
-use Rattle.watch_table.specs.Watching.{Watch, Watching, watch_of}
+use Rattle.watch_table.specs.declared.watch.Watch.{Watch}
+use Rattle.watch_table.specs.Watching.{Watching, watch_of}
 use Rattle.event_rules.specs.declared.notice.Notice.{Notice}
 use Rattle.event_rules.specs.declared.notice.Notice.TheVariants.{Told, Gone}
-use Rattle.event_rules.specs.Raised.{asks_for, ends_watch, event_told, events_of, ignored, left, raised, raised_at, told_number, where_ended}
-use Rattle.event_rules.specs.Laws.{AreTied, IsTied, Mark, marks_of, marks_told, moves_in}
-use Rattle.event_rules.proofs.Moves.{among-itself, among-trans, marks_told-append, moves_in-append, tied-append}
+use Rattle.event_rules.specs.Raised.{asks_for, ends_watch, event_told, events_of, ignored, left, raised_at, told_number, where_ended}
+use Rattle.event_rules.proofs.Removals.{raised}
+use Rattle.event_rules.specs.Laws.{AreTied, Mark, marks_of, marks_told, moves_in}
+use Rattle.event_rules.proofs.Moves.{IsTied, among-itself, among-trans, marks_told-append, moves_in-append, tied-append}
 
 abbrev mark : Event → Mark
 mark e = (e.mask, e.cookie)
@@ -28,8 +30,8 @@ nothing-tied : (moves : List Mark) → AreTied moves []
 nothing-tied moves = record { among = tt; others = All-nil IsTied }
 
 -- the event that a watch has ended is that of no move
-end-tied : (b : Bool) (watch : Watch) → AreTied [] (marks_of (if b then ignored watch.0 ∷ [] else []))
-end-tied true watch = record { among = tt; others = All-cons IsTied (mark (ignored watch.0)) [] (λ _. refl) (All-nil IsTied) }
+end-tied : (b : Bool) (watch : Watch) → AreTied [] (marks_of (if b then ignored watch.wd ∷ [] else []))
+end-tied true watch = record { among = tt; others = All-cons IsTied (mark (ignored watch.wd)) [] (λ _. refl) (All-nil IsTied) }
 end-tied false watch = nothing-tied []
 
 append-nothing : (xs : List Mark) → xs ++ [] ≡ xs
@@ -39,7 +41,7 @@ append-nothing (x ∷ xs) = ap (λ (l : List Mark). x ∷ l) (append-nothing xs)
 told-keeps : (n : Notice) (watch : Watch) → All IsTied (marks_told (n ∷ [])) → Keeps (marks_told (n ∷ [])) (event_told n watch)
 told-keeps (Told number bits cookie name) watch h = by (asks_for watch bits)
   where
-    by : (b : Bool) → Keeps ((bits, cookie) ∷ []) (if b then record { wd = watch.0; mask = bits; cookie = cookie; name = name } ∷ [] else [])
+    by : (b : Bool) → Keeps ((bits, cookie) ∷ []) (if b then record { wd = watch.wd; mask = bits; cookie = cookie; name = name } ∷ [] else [])
     by true = itself-tied ((bits, cookie) ∷ []) h
     by false = nothing-tied (moves_in ((bits, cookie) ∷ []))
 told-keeps (Gone number) watch h = nothing-tied []
@@ -48,13 +50,12 @@ keeps-by : (n : Notice) (o : Option Watch) → All IsTied (marks_told (n ∷ [])
 keeps-by n None h = nothing-tied (moves_in (marks_told (n ∷ [])))
 keeps-by n (Some watch) h =
     let told = event_told n watch in
-    let end = where_ended n watch (ignored watch.0 ∷ []) in
+    let end = where_ended n watch (ignored watch.wd ∷ []) in
     subst (λ l. AreTied l (marks_of (told ++ end))) (append-nothing (moves_in (marks_told (n ∷ []))))
     (subst (AreTied (moves_in (marks_told (n ∷ [])) ++ [])) (sym (marks_of-append told end))
     (tied-append (moves_in (marks_told (n ∷ []))) [] (marks_of told) (marks_of end) (told-keeps n watch h) (end-tied (ends_watch n watch) watch)))
 
 keeps-one : (w : Watching) (n : Notice) → All IsTied (marks_told (n ∷ [])) → Keeps (marks_told (n ∷ [])) (raised w n)
-unfolding raised
 keeps-one w n h = keeps-by n (watch_of w (told_number n)) h
 
 All-first : (xs ys : List Mark) → All IsTied (xs ++ ys) → All IsTied xs

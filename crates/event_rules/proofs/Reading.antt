@@ -2,9 +2,10 @@
 use Rattle.std.proofs.Common.{◌≡◌, ℕ, zero, suc, false, List, [], take, drop, Some, None, refl}
 use Rattle.std.specs.Option.{option_and_then, option_map, unwrap_or}
 use Rattle.std.specs.FinMap as finmap
-use Rattle.inode_table.specs.World.{World, File, look, seen_as}
+use Rattle.inode_table.specs.World.{World, File, look}
+use Rattle.inode_table.proofs.WorldLemmas.{seen_as}
 use Rattle.tree_ops.specs.After.{bytes_at}
-use Rattle.event_rules.specs.Table.{has_byte}
+use Rattle.event_rules.proofs.EveryCall.{has_byte}
 
 -- where nothing is seen there are no bytes
 pub bytes-none : (w : World) (p : List (List ℕ)) → look w p ≡ None → bytes_at w p ≡ []

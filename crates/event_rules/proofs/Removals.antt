@@ -3,15 +3,29 @@ use Rattle.std.proofs.Common.{◌≡◌, ◌≢◌, ◌⊎◌, ◌↔◌, ℕ, B
 use Rattle.std.proofs.Common.{Option, Some, None, refl, sym, ap, ◌∙◌, inl, inr}
 use Rattle.std.specs.Prelude.{ℤ, fold, option_map}
 use Rattle.std.specs.List.{list_any}
+use Rattle.std.specs.Option.{option_map_or}
 use Rattle.std.specs.FinMap.{get-remove, nat_cmp-IsAntisymmetric}
 use Rattle.std.specs.Cmp.{nat_cmp_total, signed_Decides, tied_itself, int_eq_equiv}
 use Rattle.std.specs.Ordering.{nat_cmp, int_eq, eq_by_cmp, is_eq}
 use Rattle.std.specs.declared.cmp.Ordering.TheVariants.{Less, Equal, Greater}
 use Rattle.std.proofs.lemmas.List.Sums.{fold-append}
-use Rattle.watch_table.specs.Watching.{IsSound, Watch, Watching, dropped, has_wd, watched_by, removed, watch_of, wd_of, without}
+use Rattle.watch_table.specs.declared.watch.Watch.{Watch}
+use Rattle.watch_table.specs.Watching.{IsSound, Watching, dropped, watched_by, removed, watch_of, wd_of}
+use Rattle.watch_table.proofs.Watched.{has_wd, without}
 use Rattle.event_rules.specs.declared.notice.Notice.{Notice}
-use Rattle.event_rules.specs.Raised.{told_number, ends_watch, ended, ended_by, left, left_by, watches_after, wds_ended}
+use Rattle.event_rules.specs.Raised.{told_number, ends_watch, ended, ended_by, left, raised_at, watches_after, wds_ended}
+use Rattle.record_codec.specs.declared.event.Event.{Event}
 use Rattle.event_rules.specs.Laws.{watch_without}
+
+-- ---- parts of definitions
+
+-- the events that a notice raises
+abbrev pub raised : Watching → Notice → List Event
+raised w n = raised_at n (watch_of w (told_number n))
+
+-- the watches that it leaves, where its file has this one
+abbrev pub left_by : Watching → Notice → Option Watch → Watching
+left_by w n o = option_map_or (λ watch. if ends_watch n watch then dropped w (told_number n) else w) o w
 
 -- ---- the watches without that of a file
 
@@ -63,8 +77,8 @@ dropped-was w number n watch h =
       | inr t ↦ (t.0, sym (dropped-other w number n t.0) ∙ h)
     ]
 
-pub wd-of : (w : Watching) (number : ℕ) (watch : Watch) → watch_of w number ≡ Some watch → wd_of w number ≡ Some watch.0
-wd-of w number watch there = ap (option_map (λ (x : Watch). x.0)) there
+pub wd-of : (w : Watching) (number : ℕ) (watch : Watch) → watch_of w number ≡ Some watch → wd_of w number ≡ Some watch.wd
+wd-of w number watch there = ap (option_map (λ (x : Watch). x.wd)) there
 
 -- ---- the watches that a notice leaves
 
@@ -90,10 +104,10 @@ pub record Known : Type 0 where
   pub after_removed : (w : Watching) (wd : ℤ) → IsSound w → IsSound (removed w wd)
   pub after_dropped : (w : Watching) (number : ℕ) → IsSound w → IsSound (dropped w number)
 
-has_wd-none : (wd : ℤ) (o : Option Watch) → option_map (λ (x : Watch). x.0) o ≢ Some wd → has_wd wd o ≡ false
+has_wd-none : (wd : ℤ) (o : Option Watch) → option_map (λ (x : Watch). x.wd) o ≢ Some wd → has_wd wd o ≡ false
 has_wd-none wd None h = refl
-has_wd-none wd (Some watch) h = elim (test (int_eq watch.0 wd)) [
-  | inl t ↦ absurd (h (ap Some ((signed_Decides watch.0 wd).0 t)))
+has_wd-none wd (Some watch) h = elim (test (int_eq watch.wd wd)) [
+  | inl t ↦ absurd (h (ap Some ((signed_Decides watch.wd wd).0 t)))
   | inr t ↦ t
 ]
 
@@ -104,9 +118,9 @@ unless_of wd o = if has_wd wd o then None else o
 watch_without-cons : (wd : ℤ) (wds : List ℤ) (o : Option Watch) → watch_without wds (unless_of wd o) ≡ watch_without (wd ∷ wds) o
 watch_without-cons wd wds None = refl
 watch_without-cons wd wds (Some watch) =
-    by (int_eq watch.0 wd) ∙ ap (λ b. if b || list_any (λ x. int_eq x watch.0) wds then None else Some watch) (int_eq_equiv.symm watch.0 wd)
+    by (int_eq watch.wd wd) ∙ ap (λ b. if b || list_any (λ x. int_eq x watch.wd) wds then None else Some watch) (int_eq_equiv.symm watch.wd wd)
   where
-    by : (b : Bool) → watch_without wds (if b then None else Some watch) ≡ (if b || list_any (λ x. int_eq x watch.0) wds then None else Some watch)
+    by : (b : Bool) → watch_without wds (if b then None else Some watch) ≡ (if b || list_any (λ x. int_eq x watch.wd) wds then None else Some watch)
     by true = refl
     by false = refl
 
@@ -116,8 +130,8 @@ watch_without-none (Some watch) = refl
 
 module _ (known : Known) where
   -- the descriptor of a file that is watched
-  pub removed-dropped : (w : Watching) (number : ℕ) (watch : Watch) → IsSound w → watch_of w number ≡ Some watch → removed w watch.0 ≡ dropped w number
-  removed-dropped w number watch sound there = ap (without w) ((known.tells w watch.0 number sound).1 (wd-of w number watch there))
+  pub removed-dropped : (w : Watching) (number : ℕ) (watch : Watch) → IsSound w → watch_of w number ≡ Some watch → removed w watch.wd ≡ dropped w number
+  removed-dropped w number watch sound there = ap (without w) ((known.tells w watch.wd number sound).1 (wd-of w number watch there))
 
   watch-removed-by : (w : Watching) (wd : ℤ) (n : ℕ) (o : Option ℕ) → IsSound w → watched_by w wd ≡ o → watch_of (without w o) n ≡ unless_of wd (watch_of w n)
   watch-removed-by w wd n None sound is =
@@ -127,10 +141,10 @@ module _ (known : Known) where
       elim (same_or_not n number) [
         | inl t ↦ elim (watched_or_not (watch_of w n)) [
           | inl there ↦
-              let same : Some there.0.0 ≡ Some wd = sym (wd-of w n there.0 there.1) ∙ ap (wd_of w) t.0 ∙ (known.tells w wd number sound).0 is in
-              let has : has_wd wd (watch_of w n) ≡ true = ap (has_wd wd) there.1 ∙ (signed_Decides there.0.0 wd).1 (same_some same) in
+              let same : Some there.0.wd ≡ Some wd = sym (wd-of w n there.0 there.1) ∙ ap (wd_of w) t.0 ∙ (known.tells w wd number sound).0 is in
+              let has : has_wd wd (watch_of w n) ≡ true = ap (has_wd wd) there.1 ∙ (signed_Decides there.0.wd wd).1 (same_some same) in
               ap (watch_of (dropped w number)) t.0 ∙ dropped-here w number ∙ ap (λ b. if b then None else watch_of w n) (sym has)
-          | inr none ↦ absurd (some_none (ap (option_map (λ (x : Watch). x.0)) none) (ap (wd_of w) t.0 ∙ (known.tells w wd number sound).0 is))
+          | inr none ↦ absurd (some_none (ap (option_map (λ (x : Watch). x.wd)) none) (ap (wd_of w) t.0 ∙ (known.tells w wd number sound).0 is))
         ]
         | inr t ↦
             let off : has_wd wd (watch_of w n) ≡ false = has_wd-none wd (watch_of w n) (λ h. t.0 (same_some (sym ((known.tells w wd n sound).1 h) ∙ is))) in
@@ -153,7 +167,7 @@ module _ (known : Known) where
   left-by w n None sound is = refl
   left-by w n (Some watch) sound is = by (ends_watch n watch)
     where
-      by : (b : Bool) → fold removed w (if b then watch.0 ∷ [] else []) ≡ (if b then dropped w (told_number n) else w)
+      by : (b : Bool) → fold removed w (if b then watch.wd ∷ [] else []) ≡ (if b then dropped w (told_number n) else w)
       by true = removed-dropped w (told_number n) watch sound is
       by false = refl
 

@@ -3,11 +3,13 @@ use Rattle.std.proofs.Common.{◌≡◌, ℕ, true, ◌+◌, ◌<◌, List, [], 
 use Rattle.std.specs.Prelude.{ℤ, Option, fold, if◌then◌else◌}
 use Rattle.std.proofs.lemmas.List.{append-nil, map-append, take_more}
 use Rattle.record_codec.specs.declared.event.Event.{Event}
-use Rattle.watch_table.specs.Watching.{Watch, Watching, removed, watch_of}
+use Rattle.watch_table.specs.declared.watch.Watch.{Watch}
+use Rattle.watch_table.specs.Watching.{Watching, removed, watch_of}
 use Rattle.event_rules.specs.declared.notice.Notice.{Notice}
 use Rattle.event_rules.specs.declared.staged.StagedEvent.{StagedEvent}
-use Rattle.event_rules.specs.Raised.{raised, raised_at, ended, ended_by, ends_watch, event_told, ignored, left}
+use Rattle.event_rules.specs.Raised.{raised_at, ended, ended_by, ends_watch, event_told, ignored, left}
 use Rattle.event_rules.specs.Raised.{told_number, events_of, wds_ended, watches_after}
+use Rattle.event_rules.proofs.Removals.{raised}
 use Rattle.event_rules.specs.Staging.{staged_event}
 
 pub events_of-push : (w : Watching) (ns : List Notice) (n : Notice) → events_of w (ns ++ n ∷ []) ≡ events_of w ns ++ raised (watches_after w ns) n
@@ -46,7 +48,6 @@ module _ (w : Watching) (left_by_removals : (ns : List Notice) → fold removed 
 
 -- what a notice raises, and the watch that it ends, by the watch of its file
 pub raised_with : (w : Watching) (n : Notice) (o : Option Watch) → o ≡ watch_of w (told_number n) → raised_at n o ≡ raised w n
-unfolding raised
 raised_with w n o is = ap (raised_at n) is
 
 pub ended_with : (w : Watching) (n : Notice) (o : Option Watch) → o ≡ watch_of w (told_number n) → ended_by n o ≡ ended w n
@@ -55,10 +56,10 @@ ended_with w n o is = ap (ended_by n) is
 
 -- the events of a notice that ends the watch
 pub heard_ended : (id : ℕ) (n : Notice) (watch : Watch) (was told new : List StagedEvent) → ends_watch n watch ≡ true
-    → told ≡ was ++ map (staged_event id) (event_told n watch) → new ≡ told ++ staged_event id (ignored watch.0) ∷ []
+    → told ≡ was ++ map (staged_event id) (event_told n watch) → new ≡ told ++ staged_event id (ignored watch.wd) ∷ []
     → new ≡ was ++ map (staged_event id) (raised_at n (Some watch))
 heard_ended id n watch was told new ends so_far is =
-    is ∙ ap (λ hs. hs ++ staged_event id (ignored watch.0) ∷ []) so_far
-    ∙ append_assoc was (map (staged_event id) (event_told n watch)) (staged_event id (ignored watch.0) ∷ [])
-    ∙ ap (λ hs. was ++ hs) (sym (map-append (staged_event id) (event_told n watch) (ignored watch.0 ∷ []))
-    ∙ ap (λ b. map (staged_event id) (event_told n watch ++ (if b then ignored watch.0 ∷ [] else []))) (sym ends))
+    is ∙ ap (λ hs. hs ++ staged_event id (ignored watch.wd) ∷ []) so_far
+    ∙ append_assoc was (map (staged_event id) (event_told n watch)) (staged_event id (ignored watch.wd) ∷ [])
+    ∙ ap (λ hs. was ++ hs) (sym (map-append (staged_event id) (event_told n watch) (ignored watch.wd ∷ []))
+    ∙ ap (λ b. map (staged_event id) (event_told n watch ++ (if b then ignored watch.wd ∷ [] else []))) (sym ends))

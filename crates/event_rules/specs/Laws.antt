@@ -6,7 +6,8 @@ use Rattle.std.specs.Ordering.{int_eq}
 use Rattle.record_codec.specs.declared.bits.TheConstants.{IN_IGNORED, IN_MOVED_FROM, IN_MOVED_TO}
 use Rattle.record_codec.specs.declared.event.Event.{Event}
 use Rattle.record_codec.specs.Bits.{event_bits}
-use Rattle.watch_table.specs.Watching.{Watch, Watching, watch_of, wd_of}
+use Rattle.watch_table.specs.declared.watch.Watch.{Watch}
+use Rattle.watch_table.specs.Watching.{Watching, watch_of, wd_of}
 use Rattle.event_rules.specs.declared.notice.TheConstants.{NO_COOKIE}
 use Rattle.event_rules.specs.declared.notice.Notice.{Notice}
 use Rattle.event_rules.specs.declared.notice.Notice.TheVariants.{Told, Gone}
@@ -57,14 +58,10 @@ IsSubsequence [] ys = Unit {0}
 IsSubsequence (x ∷ xs) [] = ⊥
 IsSubsequence (x ∷ xs) (y ∷ ys) = ((x ≡ y) × IsSubsequence xs ys) ⊎ IsSubsequence (x ∷ xs) ys
 
--- the event is that of a move, or has no cookie
-abbrev pub IsTied : Mark → Type 0
-IsTied m = is_move m ≡ false → m.1 ≡ NO_COOKIE
-
 -- the events of moves are some of these, in their order, and all other events have no cookie
 pub record AreTied (moves ms : List Mark) : Type 0 where
   pub among : IsSubsequence (moves_in ms) moves
-  pub others : All IsTied ms
+  pub others : All (λ m. is_move m ≡ false → m.1 ≡ NO_COOKIE) ms
 
 -- ---- of events
 
@@ -85,7 +82,7 @@ TellsNothing wd events = All (λ e. e.wd ≢ wd) events
 -- the watch, where its descriptor is not among these
 abbrev pub watch_without : List ℤ → Option Watch → Option Watch
 watch_without wds None = None
-watch_without wds (Some watch) = if list_any (λ wd. int_eq wd watch.0) wds then None else Some watch
+watch_without wds (Some watch) = if list_any (λ wd. int_eq wd watch.wd) wds then None else Some watch
 
 -- no watch is other than before, and the counts are as they were
 pub record IsPartOf (part w : Watching) : Type 0 where

@@ -3,7 +3,7 @@ use Rattle.std.specs.Prelude.{ℕ, ℤ, Bool, ◌==◌, ◌&&◌, ◌||◌, List
 use Rattle.std.specs.List.{list_any}
 use Rattle.record_codec.specs.declared.event.Event.{Event}
 use Rattle.watch_table.specs.Masks.{has_any}
-use Rattle.watch_table.specs.Watching.{Watch}
+use Rattle.watch_table.specs.declared.watch.Watch.{Watch}
 use Rattle.event_rules.specs.declared.ended.EndedWatches.{EndedWatches}
 use Rattle.event_rules.specs.declared.notice.Notice.{Notice}
 use Rattle.event_rules.specs.declared.staged.StagedEvent.{StagedEvent}
@@ -29,4 +29,4 @@ left_before ns number (Some watch) = if ended_before ns number watch then None e
 
 -- whether a watch of the file has ended
 abbrev pub is_ended : EndedWatches → Watch → Bool
-is_ended ended watch = ended.is_gone || (has_any watch.1 ended.bits && is_oneshot watch)
+is_ended ended watch = ended.is_gone || (has_any watch.mask ended.bits && is_oneshot watch)

@@ -1,7 +1,7 @@
 -- The notices of an accepted call: inotify(7), "inotify events". That page does not say in which order one call raises
 -- several events, nor which of them have IN_ISDIR; here the lines of the table say so.
-use Rattle.std.specs.Prelude.{ℕ, ◌+◌, Bool, true, false, List, [], ◌∷◌, ◌++◌, Option, Some, None, bit_or, ◌==◌}
-use Rattle.std.specs.Prelude.{if◌then◌else◌}
+use Rattle.std.specs.Prelude.{ℕ, ◌+◌, Bool, false, List, [], ◌∷◌, ◌++◌, Option, Some, None, bit_or, ◌==◌}
+use Rattle.std.specs.Prelude.{◌||◌, nat_lt, length, if◌then◌else◌}
 use Rattle.std.specs.List.{last_or}
 use Rattle.record_codec.specs.declared.bits.TheConstants.{IN_ACCESS, IN_MODIFY, IN_ATTRIB, IN_CLOSE_WRITE}
 use Rattle.record_codec.specs.declared.bits.TheConstants.{IN_CLOSE_NOWRITE, IN_OPEN, IN_MOVED_FROM, IN_MOVED_TO}
@@ -10,7 +10,7 @@ use Rattle.inode_table.specs.declared.seen.Kind.{Kind}
 use Rattle.inode_table.specs.declared.seen.Kind.TheVariants.{Regular, Directory}
 use Rattle.inode_table.specs.declared.seen.Seen.{Seen}
 use Rattle.inode_table.specs.Rows.{Label}
-use Rattle.inode_table.specs.Refusals.{Look, parent_of}
+use Rattle.inode_table.specs.Refusals.{Look, is_directory_kind, parent_of}
 use Rattle.inode_table.specs.World.{World, look}
 use Rattle.tree_ops.specs.declared.answer.Answer.{Answer}
 use Rattle.tree_ops.specs.declared.answer.Answer.TheVariants.{Bytes}
@@ -59,20 +59,15 @@ unfoldable pub to_both : Look → List Label → ℕ → List Notice
 to_both seen_at p event = to_dir seen_at p (kind_seen (seen_at p)) event NO_COOKIE
     ++ to_self (seen_at p) (about (kind_seen (seen_at p)) event)
 
--- it is notified that it is deleted, and is gone
-abbrev pub deleted_told : ℕ → List Notice
-deleted_told number = Told number IN_DELETE_SELF NO_COOKIE None ∷ Gone number ∷ []
-
--- a regular file that loses a path is notified that its links changed, and is deleted with its last path.
--- A directory has one path
-abbrev pub lost_told : Kind → ℕ → ℕ → List Notice
-lost_told Regular number links = Told number IN_ATTRIB NO_COOKIE None ∷ (if links == 1 then deleted_told number else [])
-lost_told Directory number links = deleted_told number
-
--- the object itself is notified that it loses a path
+-- the object itself is notified when it loses a path. A regular file is notified that its links changed. An object that
+-- loses its last path is notified that it is deleted, and is gone. A directory has one path
 unfoldable pub path_lost : Option Seen → List Notice
 path_lost None = []
-path_lost (Some s) = lost_told s.kind s.number s.links
+path_lost (Some s) =
+    (if is_directory_kind s.kind then [] else Told s.number IN_ATTRIB NO_COOKIE None ∷ [])
+    ++ (if is_directory_kind s.kind || (s.links == 1)
+    then Told s.number IN_DELETE_SELF NO_COOKIE None ∷ Gone s.number ∷ []
+    else [])
 
 -- ---- the table of events
 
@@ -134,17 +129,8 @@ swap_told seen_at old new cookie =
     ++ to_dir seen_at old (kind_seen (seen_at new)) IN_MOVED_TO (cookie + 1)
     ++ to_self (seen_at new) IN_MOVE_SELF
 
--- where both paths are of one file nothing is moved
-unfoldable pub exchange_told : Look → List Label → List Label → ℕ → List Notice
-exchange_told seen_at old new cookie =
-    if are_same_seen (seen_at old) (seen_at new) then [] else swap_told seen_at old new cookie
-
-abbrev pub has_byte : List ℕ → Bool
-has_byte [] = false
-has_byte (b ∷ bytes) = true
-
 abbrev pub answers_byte : Answer → Bool
-answers_byte (Bytes bytes) = has_byte bytes
+answers_byte (Bytes bytes) = nat_lt 0 (length bytes)
 answers_byte _ = false
 
 -- what a read answers does not depend on the counts
@@ -152,11 +138,11 @@ abbrev pub no_counts : Counts
 no_counts = record { next_number = 0; next_cookie = 0 }
 
 -- the notices of an accepted call, in the world before it. A rename that moves something has the cookie, and an
--- exchange the next one too
+-- exchange the next one too. Where both paths are of one file nothing is moved
 abbrev pub notices_of : World → FileCall → ℕ → List Notice
 notices_of w (Create p mode) cookie = create_told (look w) p
 notices_of w (Mkdir p mode) cookie = mkdir_told (look w) p
-notices_of w (Write p offset bytes) cookie = write_told (look w) p (has_byte bytes)
+notices_of w (Write p offset bytes) cookie = write_told (look w) p (nat_lt 0 (length bytes))
 notices_of w (ReadFile p offset count) cookie =
     read_told (look w) p (answers_byte (answer_of w no_counts (ReadFile p offset count)))
 notices_of w (Truncate p len) cookie = truncate_told (look w) p
@@ -166,6 +152,8 @@ notices_of w (Unlink p) cookie = unlink_told (look w) p
 notices_of w (Rmdir p) cookie = rmdir_told (look w) p
 notices_of w (Rename old new) cookie = rename_told (look w) old new cookie
 notices_of w (Rename2 old new flags) cookie =
-    if flags == RENAME_EXCHANGE then exchange_told (look w) old new cookie else rename_told (look w) old new cookie
+    if flags == RENAME_EXCHANGE
+    then (if are_same_seen (look w old) (look w new) then [] else swap_told (look w) old new cookie)
+    else rename_told (look w) old new cookie
 notices_of w (Stat p) cookie = []
 notices_of w (Listed p) cookie = []

@@ -1,13 +1,14 @@
 //! The watches of a file that earlier notices ended.
 
 ghost use Rattle.std.specs.Prelude.{◌≡◌, ◌==◌, ◌&&◌, ◌||◌};
-ghost use Rattle.watch_table.specs.Watching.{Watch};
+ghost use Rattle.watch_table.specs.declared.watch.Watch.{Watch};
 ghost use Rattle.event_rules.specs.Raised.{ends_watch, told_number};
 ghost use Rattle.event_rules.specs.Staging.{ended_before, is_ended};
 
 use crate::notice::Notice;
 use crate::staged::has_any;
 use record_codec::bits;
+use watch_table::Watch;
 
 /// Which watches of a file notices of it ended: all of them where it is gone, else the one-shot watches that ask for an
 /// event that it had.
@@ -35,10 +36,10 @@ impl EndedWatches {
 
     /// Whether a watch of the file has ended.
     #[inline(always)]
-    pub fn has_ended(&self, watch: (i32, u32)) -> bool
+    pub fn has_ended(&self, watch: Watch) -> bool
         ensures { result ≡ is_ended self.now watch }
     {
-        self.is_gone || has_any(watch.1, self.bits) && has_any(watch.1, bits::IN_ONESHOT)
+        self.is_gone || has_any(watch.mask, self.bits) && has_any(watch.mask, bits::IN_ONESHOT)
     }
 
     /// And those that one more notice ends, if it is of the file.

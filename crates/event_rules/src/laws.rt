@@ -11,7 +11,8 @@ ghost use Rattle.tree_ops.specs.declared.call.FileCall.{FileCall};
 ghost use Rattle.tree_ops.specs.Moves.{cookies_of};
 ghost use Rattle.tree_ops.specs.Refused.{refused};
 ghost use Rattle.tree_ops.specs.After.{after};
-ghost use Rattle.watch_table.specs.Watching.{HasEnded, IsSound, Watch, Watching, removed, watch_of};
+ghost use Rattle.watch_table.specs.declared.watch.Watch.{Watch};
+ghost use Rattle.watch_table.specs.Watching.{HasEnded, IsSound, Watching, removed, watch_of};
 ghost use Rattle.event_rules.specs.declared.notice.Notice.{Notice};
 ghost use Rattle.event_rules.specs.declared.notice.Notice.TheVariants.{Gone};
 ghost use Rattle.event_rules.specs.Table.{notices_of};
@@ -92,7 +93,7 @@ pub fn lost_files_are_gone()
 pub fn other_watches_stay()
     ensures part { (w : Watching) (ns : List Notice) → IsPartOf (watches_after w ns) w }
     ensures rest { (w : Watching) (ns : List Notice) (number : ℕ) (watch : Watch) → watch_of w number ≡ Some watch
-        → (watch_of (watches_after w ns) number ≡ Some watch) ⊎ Contains (wds_ended w ns) watch.0 }
+        → (watch_of (watches_after w ns) number ≡ Some watch) ⊎ Contains (wds_ended w ns) watch.wd }
     ensures sound { (w : Watching) (ns : List Notice) → IsSound w → IsSound (watches_after w ns) }
 {
     watches_stay_sound();

@@ -4,13 +4,13 @@ ghost use Rattle.std.specs.Prelude.{◌≡◌};
 ghost use Rattle.watch_table.specs.Watching.{watch_of};
 ghost use Rattle.event_rules.specs.Recent.{AreFound};
 
-use watch_table::Watches;
+use watch_table::{Watch, Watches};
 
 /// A file, and its watch.
 #[derive(Clone, Copy)]
 pub(crate) struct Found {
     number: u32,
-    watch: Option<(i32, u32)>,
+    watch: Option<Watch>,
 }
 
 /// What was found of the two files that were searched for last. The notices of a call are mostly of an object and of
@@ -39,7 +39,7 @@ impl Recent {
 
     /// The watch of a file.
     #[inline(always)]
-    pub(crate) fn watch_of(&mut self, watches: &Watches, number: u32) -> Option<(i32, u32)>
+    pub(crate) fn watch_of(&mut self, watches: &Watches, number: u32) -> Option<Watch>
         requires { AreFound watches.now self.old }
         ensures watch { result ≡ watch_of watches.now number }
         ensures found { AreFound watches.now self.new }

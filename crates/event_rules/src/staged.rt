@@ -15,7 +15,7 @@ use record_codec::{Event, bits};
 use std::alloc::{AllocError, Global};
 use std::collections::VecDeque;
 use tree_paths::Refusal;
-use watch_table::Watches;
+use watch_table::{Watch, Watches};
 
 /// An event that an instance gets.
 #[derive(Debug, Drop, PartialEq, Eq)]
@@ -115,7 +115,7 @@ pub fn stage(
 #[inline(always)]
 pub fn stage_watch(
     id: u32,
-    watch: (i32, u32),
+    watch: Watch,
     notice: &Notice,
     staged: &mut Staged,
 ) -> Result<(), Refusal>
@@ -126,7 +126,7 @@ pub fn stage_watch(
     ensures memory { IfErr result (λ refusal. refusal ≡ Refusal.Enomem) }
 {
     if push_events(id, watch, notice, &mut staged.events)? {
-        staged.drops.push(StagedEnd { id, wd: watch.0 })?;
+        staged.drops.push(StagedEnd { id, wd: watch.wd })?;
     }
     Ok(())
 }
@@ -171,7 +171,7 @@ fn stage_ends(id: u32, wds: &[i32], drops: &mut Vec<StagedEnd>) -> Result<(), Al
 #[inline(always)]
 fn stage_notice(
     id: u32,
-    watch: Option<(i32, u32)>,
+    watch: Option<Watch>,
     notice: &Notice,
     events: &mut VecDeque<StagedEvent>,
     wds: &mut Vec<i32>,
@@ -184,7 +184,7 @@ fn stage_notice(
         return Ok(());
     };
     if push_events(id, watch, notice, events)? {
-        wds.push(watch.0)?;
+        wds.push(watch.wd)?;
     }
     Ok(())
 }
@@ -193,7 +193,7 @@ fn stage_notice(
 #[inline(always)]
 fn push_events(
     id: u32,
-    watch: (i32, u32),
+    watch: Watch,
     notice: &Notice,
     events: &mut VecDeque<StagedEvent>,
 ) -> Result<bool, AllocError>
@@ -204,7 +204,7 @@ fn push_events(
     push_told(id, notice, watch, events)?;
     let ends = ends_watch(notice, watch);
     if ends {
-        let event = ignored(watch.0);
+        let event = ignored(watch.wd);
         events.push_back(StagedEvent { id, event })?;
     }
     Ok(ends)
@@ -215,7 +215,7 @@ fn push_events(
 fn push_told(
     id: u32,
     notice: &Notice,
-    watch: (i32, u32),
+    watch: Watch,
     events: &mut VecDeque<StagedEvent>,
 ) -> Result<(), AllocError>
     ensures { OnOk result (events.new.items ≡ events.old.items ++ map (staged_event id) (event_told notice.now watch)) }
@@ -240,7 +240,7 @@ fn push_told(
     events.push_back_reserved(StagedEvent {
         id,
         event: Event {
-            wd: watch.0,
+            wd: watch.wd,
             mask: *bits,
             cookie: *cookie,
             name,
@@ -251,12 +251,7 @@ fn push_told(
 
 /// The watch of a file, where it is left without the descriptors.
 #[inline(always)]
-fn watch_left(
-    watches: &Watches,
-    wds: &[i32],
-    number: u32,
-    recent: &mut Recent,
-) -> Option<(i32, u32)>
+fn watch_left(watches: &Watches, wds: &[i32], number: u32, recent: &mut Recent) -> Option<Watch>
     requires { AreFound watches.now recent.old }
     ensures watch { result ≡ watch_of (fold removed watches.now wds.now) number }
     ensures found { AreFound watches.now recent.new }
@@ -264,7 +259,7 @@ fn watch_left(
     removed_watches_are_left_out();
     let _next_wd = watches.next_wd();
     let watch = recent.watch_of(watches, number)?;
-    if wds.contains(&watch.0) {
+    if wds.contains(&watch.wd) {
         return None;
     }
     Some(watch)
@@ -278,18 +273,19 @@ pub(crate) fn has_any(mask: u32, bits: u32) -> bool
 }
 
 /// Whether a watch asks for the event of these bits.
-fn asks_for(watch: (i32, u32), bits: u32) -> bool
+fn asks_for(watch: Watch, bits: u32) -> bool
     ensures { result ≡ asks_for watch bits }
 {
-    has_any(watch.1, bits & bits::IN_ALL_EVENTS)
+    has_any(watch.mask, bits & bits::IN_ALL_EVENTS)
 }
 
 /// Whether a notice ends the watch of its file.
-fn ends_watch(notice: &Notice, watch: (i32, u32)) -> bool
+fn ends_watch(notice: &Notice, watch: Watch) -> bool
     ensures { result ≡ ends_watch notice.now watch }
 {
     match notice {
-        Notice::Told { bits, .. } => asks_for(watch, *bits) && has_any(watch.1, bits::IN_ONESHOT),
+        Notice::Told { bits, .. } => asks_for(watch, *bits)
+            && has_any(watch.mask, bits::IN_ONESHOT),
         Notice::Gone { .. } => true,
     }
 }

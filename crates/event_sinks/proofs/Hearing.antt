@@ -10,7 +10,7 @@ use Rattle.event_sinks.specs.declared.listener.Cause.{Cause}
 use Rattle.event_sinks.specs.declared.listener.Cause.TheVariants as cause
 use Rattle.event_sinks.specs.declared.listener.Step.{Step}
 use Rattle.event_sinks.specs.declared.listener.Step.TheVariants as step
-use Rattle.event_sinks.specs.Listeners.{ListenerState, HasRecords, IsEndedBy, IsSoundListener, TookBatches, IsTurn, Puts, Reaches, Steps, Takes}
+use Rattle.event_sinks.specs.Listeners.{ListenerState, IsEndedBy, IsSoundListener, TookBatches, IsTurn, Puts, Reaches, Steps, Takes}
 use Rattle.shared_tree.specs.Handed.{records_of}
 
 records_of-snoc : (bs : List Batch) (b : Batch) → records_of (bs ++ b ∷ []) ≡ records_of bs ++ b.records
@@ -64,6 +64,9 @@ within_after started list records list' (Some cause.Given) within puts = absurd 
 within_after started list records list' (Some cause.Memory) within puts = absurd puts
 
 -- where one of the records was refused, there are some
+abbrev HasRecords : Batch → Type 0
+HasRecords b = b.records ≢ []
+
 has_one : (b : Batch) (k : ℕ) → k < length b.records → HasRecords b
 has_one b k below none = absurd (omega (arith, below, ap length none))
 

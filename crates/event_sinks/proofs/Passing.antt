@@ -10,12 +10,15 @@ use Rattle.tree_core.specs.declared.call.Call.TheVariants as call
 use Rattle.tree_core.specs.declared.reply.Entry.{Entry}
 use Rattle.tree_core.specs.declared.reply.Reply.{Reply}
 use Rattle.tree_core.specs.declared.reply.Reply.TheVariants as reply
-use Rattle.tree_core.specs.Histories.{where_records}
+use Rattle.tree_core.specs.Histories.{read_by}
 use Rattle.tree_core.specs.Tree.{Tree, after, reply_of}
 use Rattle.tree_core.specs.Journal.{IsLawfulFrom}
+use Rattle.tree_core.proofs.Parts.{where_records}
 use Rattle.shared_tree.specs.declared.pipe.Batch.{Batch}
 use Rattle.shared_tree.specs.Calls.{BookContents}
-use Rattle.shared_tree.specs.Handed.{AreOfEvents, BatchesAreAnswered, batch, handed_by, handed_from, handed_since, hands, where_done}
+use Rattle.shared_tree.specs.Handed.{AreOfEvents, BatchesAreAnswered, batch, handed_by, handed_from, handed_since, hands}
+use Rattle.shared_tree.specs.Held.{where_done}
+use Rattle.shared_tree.proofs.Answered.{handed-close, handed-pump}
 use Rattle.event_sinks.specs.declared.served.Track.{Track}
 use Rattle.event_sinks.specs.Audited.{Outcome, batches_of}
 use Rattle.event_sinks.specs.Tracks.{Goes, HandsOver, IsSpelled, IsTracked, given_by}
@@ -44,8 +47,9 @@ none-given t place (call.Init limit piped) e = refl
 none-given t place (call.AddWatch id path mask) e = refl
 none-given t place (call.RmWatch id wd) e = refl
 none-given t place (call.Read id bytes) e = refl
-none-given t place (call.Pump id most) e = none-pump id most place (reply_of t (call.Pump id most)) _ e
-none-given t place (call.Close id) e = none-close id place (reply_of t (call.Close id)) e
+none-given t place (call.Pump id most) e =
+    none-pump id most place (reply_of t (call.Pump id most)) (read_by t (call.Pump id most) id) (sym (handed-pump t place id most) ∙ e)
+none-given t place (call.Close id) e = none-close id place (reply_of t (call.Close id)) (sym (handed-close t place id) ∙ e)
 
 -- what an accepted pump or a close hands over is given by its answer
 module _ (answered : BatchesAreAnswered) (t : Tree) (place : ℕ) (b : Batch) (events : AreEvents b.records) where

@@ -37,35 +37,31 @@ listener_state number feed handed started list is_open cause =
       cause = cause;
     }
 
--- the meaning of what a listener has, by what its sink took and whether that is open, and by its cause to end
-abbrev pub state_of : {S : Type 0} → (S → List Event) → (S → Bool) → Intake S → Option Cause → ListenerState
-state_of record_list is_open i cause =
-    listener_state i.number i.feed i.handed.items i.started (record_list i.sink) (is_open i.sink) cause
-
--- of one that listens, and of one that has ended
+-- the meaning of what a listener has, by what its sink took and whether that is open, and by its cause to end: of one
+-- that listens, and of one that has ended
 abbrev pub state_of_listener : {S : Type 0} → (S → List Event) → (S → Bool) → Listening S → ListenerState
-state_of_listener record_list is_open l = state_of record_list is_open l.intake l.cause
+state_of_listener record_list is_open l =
+    listener_state l.intake.number l.intake.feed l.intake.handed.items l.intake.started
+    (record_list l.intake.sink) (is_open l.intake.sink) l.cause
 
 abbrev pub state_of_ended : {S : Type 0} → (S → List Event) → (S → Bool) → Ended S → ListenerState
-state_of_ended record_list is_open e = state_of record_list is_open e.intake (Some e.cause)
+state_of_ended record_list is_open e =
+    listener_state e.intake.number e.intake.feed e.intake.handed.items e.intake.started
+    (record_list e.intake.sink) (is_open e.intake.sink) (Some e.cause)
 
--- the first of some records, and not all
-abbrev pub IsProperPrefix : List Event → List Event → Type 0
-IsProperPrefix all part = (k : ℕ) × (k < length all) × (part ≡ take k all)
-
--- the sink took the records that were handed, in order; where it refused one, those before it
+-- the sink took the records that were handed, in order; where it refused one, those before it, which are the first of
+-- them, and not all
 abbrev pub TookBatches : List Batch → List Event → Option Cause → Type 0
-TookBatches handed taken (Some (cause.Sink fault)) = IsProperPrefix (records_of handed) taken
+TookBatches handed taken (Some (cause.Sink fault)) =
+    (k : ℕ) × (k < length (records_of handed)) × (taken ≡ take k (records_of handed))
 TookBatches handed taken _ = taken ≡ records_of handed
 
-abbrev pub HasRecords : Batch → Type 0
-HasRecords b = b.records ≢ []
-
--- where it ended by the end batch, that came last, and once; else none came
+-- the end batch has no records. Where it ended by that batch, this came last, and once; else none came
 abbrev pub IsEndedBy : List Batch → Option Cause → Type 0
 IsEndedBy handed (Some cause.Last) =
-    (before : List Batch) × (b : Batch) × (handed ≡ before ++ b ∷ []) × (b.records ≡ []) × All HasRecords before
-IsEndedBy handed _ = All HasRecords handed
+    (before : List Batch) × (b : Batch) × (handed ≡ before ++ b ∷ []) × (b.records ≡ [])
+    × All (λ c. c.records ≢ []) before
+IsEndedBy handed _ = All (λ b. b.records ≢ []) handed
 
 -- what holds of every listener: it was handed what its feed has received since the listener was made, its sink took the
 -- records of that, and is open until there is a cause to end

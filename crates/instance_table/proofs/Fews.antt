@@ -4,7 +4,7 @@ use Rattle.std.proofs.Common.{sym, ap, ◌∙◌, subst, arith, length-take-le}
 use Rattle.std.proofs.Math.Seq.{paste}
 use Rattle.std.specs.Prelude.{Ok, Err}
 use Rattle.std.specs.FinMap as finmap
-use Rattle.watch_table.specs.Watching.{Watch}
+use Rattle.watch_table.specs.declared.watch.Watch.{Watch}
 use Rattle.instance_table.specs.Ids.{IsIndex}
 use Rattle.instance_table.specs.Watchers.{AreFew, AreWatchers, watchers_map}
 use Rattle.instance_table.proofs.Arrays.{take-in, take-out, take-set}

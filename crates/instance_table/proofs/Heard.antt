@@ -1,6 +1,6 @@
 -- How instances receive what was staged for them, one after the other.
 use Rattle.std.proofs.Common.{◌≡◌, ℕ, is_some, get_or, true, false, cond, eqb, Option, Some, None, List, [], ◌∷◌, ◌++◌, map, append_assoc, refl, sym, ap, ◌∙◌}
-use Rattle.std.specs.Prelude.{ℤ, Bool, All, fold, option_map}
+use Rattle.std.specs.Prelude.{Bool, All, fold, option_map}
 use Rattle.std.specs.FinMap as finmap
 use Rattle.std.specs.FinMap.{find, get-from_entries, get-entries, same_map, nat_cmp-IsAntisymmetric}
 use Rattle.std.specs.List.{filter}
@@ -13,12 +13,13 @@ use Rattle.event_rules.specs.Staging.{staged_event}
 use Rattle.event_rules.specs.declared.notice.Notice.{Notice}
 use Rattle.event_rules.specs.declared.staged.StagedEnd.{StagedEnd}
 use Rattle.event_rules.specs.declared.staged.StagedEvent.{StagedEvent}
+use Rattle.watch_table.specs.declared.watch.Watch.{Watch}
 use Rattle.watch_table.specs.Watching.{Watching, removed, watch_of}
 use Rattle.event_rules.specs.Raised.{events_of, heard, told_number, watches_after}
 use Rattle.instance_table.specs.declared.instance.Instance.{Instance}
 use Rattle.instance_table.specs.declared.staging.Staging.{Staging}
 use Rattle.instance_table.specs.Instances.{Instances, NobodyWatches, instance_of, PassesWatched, changed, all_changed, told, watches_file}
-use Rattle.instance_table.specs.Heard.{ended_all, ends, delivered_all, hears}
+use Rattle.instance_table.specs.Heard.{ended_all, ends, delivered_all, with_event}
 use Rattle.instance_table.specs.Staging.{IsStaged, wds_to}
 use Rattle.instance_table.proofs.Indexed.{changed-there, changed-none, changed-not, changed-twice, get-put, is-same}
 
@@ -85,22 +86,22 @@ module _ {X : Type 0} (id_of : X → ℕ) (act : X → Instance → Instance) wh
       twice None = refl
       twice (Some i) = refl
 
-fold-hears : (hs : List StagedEvent) (i : Instance)
-    → fold (λ i h. hears h i) i hs ≡ record i { queue = fold after_offer i.queue (map (λ (h : StagedEvent). h.event) hs) }
-fold-hears [] i = refl
-fold-hears (h ∷ hs) i = fold-hears hs (hears h i)
+fold-with_event : (hs : List StagedEvent) (i : Instance)
+    → fold (λ i h. with_event h i) i hs ≡ record i { queue = fold after_offer i.queue (map (λ (h : StagedEvent). h.event) hs) }
+fold-with_event [] i = refl
+fold-with_event (h ∷ hs) i = fold-with_event hs (with_event h i)
 
 fold-ends : (ds : List StagedEnd) (i : Instance)
     → fold (λ i d. ends d i) i ds ≡ record i { watches = fold removed i.watches (map (λ (d : StagedEnd). d.wd) ds) }
 fold-ends [] i = refl
 fold-ends (d ∷ ds) i = fold-ends ds (ends d i)
 
-pub heard-told : (s : Staging) (m : Instances) (ns : List Notice) → IsStaged m ns s
+pub delivered-told : (s : Staging) (m : Instances) (ns : List Notice) → IsStaged m ns s
     → ended_all (delivered_all m s.staged.events.items) s.staged.drops.items ≡ all_changed m (told ns)
-heard-told s m ns staged =
+delivered-told s m ns staged =
     same_map nat_cmp_total nat_cmp-IsAntisymmetric (ended_all (delivered_all m hs) ds) (all_changed m (told ns)) (λ q.
     get-steps (λ (d : StagedEnd). d.id) ends ds (delivered_all m hs) q
-    ∙ ap (option_map (λ i. fold (λ i d. ends d i) i (filter (λ (d : StagedEnd). eqb q d.id) ds))) (get-steps (λ (h : StagedEvent). h.id) hears hs m q)
+    ∙ ap (option_map (λ i. fold (λ i d. ends d i) i (filter (λ (d : StagedEnd). eqb q d.id) ds))) (get-steps (λ (h : StagedEvent). h.id) with_event hs m q)
     ∙ both q (instance_of m q) refl ∙ sym (get-all_changed m (told ns) q))
   where
     hs : List StagedEvent
@@ -111,14 +112,14 @@ heard-told s m ns staged =
 
     both : (q : ℕ) (o : Option Instance) → instance_of m q ≡ o
         → option_map (λ i. fold (λ i d. ends d i) i (filter (λ (d : StagedEnd). eqb q d.id) ds))
-        (option_map (λ i. fold (λ i h. hears h i) i (filter (λ (h : StagedEvent). eqb q h.id) hs)) o)
+        (option_map (λ i. fold (λ i h. with_event h i) i (filter (λ (h : StagedEvent). eqb q h.id) hs)) o)
         ≡ option_map (told ns) o
     both q None e = refl
     both q (Some i) e =
         let mine : List StagedEvent = filter (λ (h : StagedEvent). eqb q h.id) hs in
         let gone : List StagedEnd = filter (λ (d : StagedEnd). eqb q d.id) ds in
-        ap Some (fold-ends gone (fold (λ i h. hears h i) i mine)
-        ∙ ap (λ (j : Instance). record j { watches = fold removed j.watches (wds_to q ds) }) (fold-hears mine i)
+        ap Some (fold-ends gone (fold (λ i h. with_event h i) i mine)
+        ∙ ap (λ (j : Instance). record j { watches = fold removed j.watches (wds_to q ds) }) (fold-with_event mine i)
         ∙ (λ k. record i { watches = staged.drops q i e k; queue = fold after_offer i.queue (staged.events q i e k) }))
 
 -- ---- where no file is watched
@@ -129,7 +130,7 @@ module _ (quiet : (w : Watching) (ns : List Notice) → All (λ n. watch_of w (t
   unwatched-stay m ns nobody =
       same_map nat_cmp_total nat_cmp-IsAntisymmetric (all_changed m (told ns)) m (λ q. get-all_changed m (told ns) q ∙ by q (instance_of m q) refl)
     where
-      none-of : (o : Option (ℤ × ℕ)) → is_some o ≡ false → o ≡ None
+      none-of : (o : Option Watch) → is_some o ≡ false → o ≡ None
       none-of None h = refl
       none-of (Some x) h = absurd (Rattle.std.proofs.lemmas.Bool.false≢true (sym h))
 
@@ -160,7 +161,7 @@ module _ (same : (w : Watching) (watches : ℕ → Bool) (ns : List Notice) → 
       same_map nat_cmp_total nat_cmp-IsAntisymmetric (all_changed m (told (heard may_watch ns))) (all_changed m (told ns)) (λ q.
       get-all_changed m (told (heard may_watch ns)) q ∙ by q (instance_of m q) refl ∙ sym (get-all_changed m (told ns) q))
     where
-      none-of : (o : Option (ℤ × ℕ)) → is_some o ≡ false → o ≡ None
+      none-of : (o : Option Watch) → is_some o ≡ false → o ≡ None
       none-of None h = refl
       none-of (Some x) h = absurd (Rattle.std.proofs.lemmas.Bool.false≢true (sym h))
 
@@ -181,26 +182,26 @@ fold-more : (b : Rattle.event_queue.specs.Backlogs.Backlog) (es : List Event) (e
 fold-more b [] e = refl
 fold-more b (x ∷ es) e = fold-more (after_offer b x) es e
 
-heard-append : (xs ys : List StagedEvent) (m : Instances) → delivered_all m (xs ++ ys) ≡ delivered_all (delivered_all m xs) ys
-heard-append [] ys m = refl
-heard-append (x ∷ xs) ys m = heard-append xs ys (changed m x.id (hears x))
+delivered-append : (xs ys : List StagedEvent) (m : Instances) → delivered_all m (xs ++ ys) ≡ delivered_all (delivered_all m xs) ys
+delivered-append [] ys m = refl
+delivered-append (x ∷ xs) ys m = delivered-append xs ys (changed m x.id (with_event x))
 
-pub hears-all : List Event → Instance → Instance
-hears-all es i = record i { queue = fold after_offer i.queue es }
+pub with_events : List Event → Instance → Instance
+with_events es i = record i { queue = fold after_offer i.queue es }
 
-heard-run : (id : ℕ) (es : List Event) (m : Instances) → delivered_all m (map (staged_event id) es) ≡ changed m id (hears-all es)
-unfolding hears-all
-heard-run id [] m = sym (changed-not m id)
-heard-run id (e ∷ es) m =
-    heard-run id es (changed m id (hears (staged_event id e)))
-    ∙ changed-twice m id (hears (staged_event id e)) (hears-all es) (hears-all (e ∷ es)) (λ i. refl)
+delivered-run : (id : ℕ) (es : List Event) (m : Instances) → delivered_all m (map (staged_event id) es) ≡ changed m id (with_events es)
+unfolding with_events
+delivered-run id [] m = sym (changed-not m id)
+delivered-run id (e ∷ es) m =
+    delivered-run id es (changed m id (with_event (staged_event id e)))
+    ∙ changed-twice m id (with_event (staged_event id e)) (with_events es) (with_events (e ∷ es)) (λ i. refl)
 
 -- the instances after a run, and then the others
-pub run-heard : (m n : Instances) (id : ℕ) (es : List Event) (all rest : List StagedEvent) → all ≡ map (staged_event id) es ++ rest
+pub run-delivered : (m n : Instances) (id : ℕ) (es : List Event) (all rest : List StagedEvent) → all ≡ map (staged_event id) es ++ rest
     → n ≡ changed m id (λ i. record i { queue = fold after_offer i.queue es }) → delivered_all n rest ≡ delivered_all m all
-unfolding hears-all
-run-heard m n id es all rest is so =
-    ap (λ x. delivered_all x rest) (so ∙ sym (heard-run id es m)) ∙ sym (heard-append (map (staged_event id) es) rest m) ∙ ap (delivered_all m) (sym is)
+unfolding with_events
+run-delivered m n id es all rest is so =
+    ap (λ x. delivered_all x rest) (so ∙ sym (delivered-run id es m)) ∙ sym (delivered-append (map (staged_event id) es) rest m) ∙ ap (delivered_all m) (sym is)
 
 -- one event more of a run
 pub run-more : (id : ℕ) (es : List Event) (h : StagedEvent) (all rest more : List StagedEvent) → eqb h.id id ≡ true

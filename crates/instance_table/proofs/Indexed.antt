@@ -2,6 +2,7 @@
 use Rattle.std.proofs.Common.{◌≡◌, ℕ, Bool, true, false, cond, ◌&&◌, ◌++◌, ◌∷◌, [], suc, List, take, drop}
 use Rattle.std.proofs.Common.{set, get_or, eqb, Option, Some, None, is_some, is_none, refl, sym, ap, ◌∙◌, subst, arith, ◌<◌, ◌^◌, ◌||◌, nat_le, nat_lt}
 use Rattle.std.specs.Prelude.{pos, ℤ, Result, Ok, Err, OnOk, OnErr}
+use Rattle.std.specs.Option.{option_map_or}
 use Rattle.record_codec.specs.Records.{AreEvents}
 use Rattle.tree_paths.specs.declared.refusal.Refusal.{Refusal}
 use Rattle.std.specs.Vec.{with_item}
@@ -10,7 +11,10 @@ use Rattle.std.specs.FinMap.{get-insert, get-remove, same_map, nat_cmp-IsAntisym
 use Rattle.std.specs.Ordering.{nat_cmp}
 use Rattle.std.specs.Cmp.{nat_cmp_total, unsigned_tied}
 use Rattle.event_queue.specs.Backlogs.{Backlog}
-use Rattle.watch_table.specs.Watching.{Watch, Watching, IsSound, watch_of, added, wd_added, with_new_watch, dropped, add_refusal}
+use Rattle.watch_table.specs.declared.watch.Watch.{Watch}
+use Rattle.watch_table.specs.Masks.{stored}
+use Rattle.watch_table.specs.Watching.{Watching, IsSound, next_bits, watch_of, added, wd_added, with_new_watch, dropped, add_refusal}
+use Rattle.watch_table.proofs.Watched.{added_to, wd_or}
 use Rattle.watch_table.specs.Watching.{is_barred, is_taken, is_full}
 use Rattle.tree_paths.specs.Rows.{row, first_row}
 use Rattle.tree_paths.specs.declared.refusal.Refusal.TheVariants.{Enotdir, Eexist, Enospc}
@@ -32,14 +36,18 @@ use Rattle.std.specs.List.Sorted.{IsStrictlySortedBy}
 
 -- ---- one instance changes
 
+-- the instances after a change of one that may be there
+abbrev changed_by : Instances → ℕ → (Instance → Instance) → Option Instance → Instances
+changed_by m id change o = option_map_or (λ i. map.insert m id (change i)) o m
+
 pub changed-there : (m : Instances) (id : ℕ) (change : Instance → Instance) (i : Instance) → instance_of m id ≡ Some i
     → changed m id change ≡ map.insert m id (change i)
 unfolding changed
-changed-there m id change i h = ap (Rattle.instance_table.specs.Instances.changed_by m id change) h
+changed-there m id change i h = ap (changed_by m id change) h
 
 pub changed-none : (m : Instances) (id : ℕ) (change : Instance → Instance) → instance_of m id ≡ None → changed m id change ≡ m
 unfolding changed
-changed-none m id change h = ap (Rattle.instance_table.specs.Instances.changed_by m id change) h
+changed-none m id change h = ap (changed_by m id change) h
 
 pub get-put : (m : Instances) (id : ℕ) (i : Instance) (q : ℕ) → instance_of (map.insert m id i) q ≡ cond (eqb q id) (Some i) (instance_of m q)
 get-put m id i q = get-insert nat_cmp_total m id i q ∙ ap (λ t. cond t (Some i) (instance_of m q)) (unsigned_tied q id)
@@ -93,40 +101,40 @@ pub watched-added : (w : Watching) (number mask n : ℕ)
 unfolding added
 watched-added w number mask n = by (watch_of w number)
   where
-    by : (o : Option Watch) → watch_of (Rattle.watch_table.specs.Watching.added_to w number mask o) n
-        ≡ cond (eqb n number) (watch_of (Rattle.watch_table.specs.Watching.added_to w number mask o) number) (watch_of w n)
-    by None = watched-inserted w.watches number n (pos w.next_wd, Rattle.watch_table.specs.Masks.stored mask)
-    by (Some watch) = watched-inserted w.watches number n (watch.0, Rattle.watch_table.specs.Watching.next_bits mask watch.1)
+    by : (o : Option Watch) → watch_of (added_to w number mask o) n
+        ≡ cond (eqb n number) (watch_of (added_to w number mask o) number) (watch_of w n)
+    by None = watched-inserted w.watches number n (record { wd = pos w.next_wd; mask = stored mask })
+    by (Some watch) = watched-inserted w.watches number n (record watch { mask = next_bits mask watch.mask })
 
 -- what a file gets which has no watch
 pub first-watch : (w : Watching) (number mask : ℕ) → watch_of w number ≡ None
-    → watch_of (added w number mask) number ≡ Some (pos w.next_wd, Rattle.watch_table.specs.Masks.stored mask)
+    → watch_of (added w number mask) number ≡ Some (record { wd = pos w.next_wd; mask = stored mask })
 unfolding added
 first-watch w number mask none =
-    ap (λ o. watch_of (Rattle.watch_table.specs.Watching.added_to w number mask o) number) none
-    ∙ get-insert nat_cmp_total w.watches number (pos w.next_wd, Rattle.watch_table.specs.Masks.stored mask) number
-    ∙ ap (λ t. cond t (Some (pos w.next_wd, Rattle.watch_table.specs.Masks.stored mask)) (watch_of w number))
+    ap (λ o. watch_of (added_to w number mask o) number) none
+    ∙ get-insert nat_cmp_total w.watches number (record { wd = pos w.next_wd; mask = stored mask }) number
+    ∙ ap (λ t. cond t (Some (record { wd = pos w.next_wd; mask = stored mask })) (watch_of w number))
     (unsigned_tied number number ∙ Rattle.std.proofs.lemmas.Bool.eq-eqb number number refl)
 
 -- what a file gets which has one
 pub next-watch : (w : Watching) (number mask : ℕ) (watch : Watch) → watch_of w number ≡ Some watch
-    → watch_of (added w number mask) number ≡ Some (watch.0, Rattle.watch_table.specs.Watching.next_bits mask watch.1)
+    → watch_of (added w number mask) number ≡ Some (record watch { mask = next_bits mask watch.mask })
 unfolding added
 next-watch w number mask watch there =
-    ap (λ o. watch_of (Rattle.watch_table.specs.Watching.added_to w number mask o) number) there
-    ∙ get-insert nat_cmp_total w.watches number (watch.0, Rattle.watch_table.specs.Watching.next_bits mask watch.1) number
-    ∙ ap (λ t. cond t (Some (watch.0, Rattle.watch_table.specs.Watching.next_bits mask watch.1)) (watch_of w number))
+    ap (λ o. watch_of (added_to w number mask o) number) there
+    ∙ get-insert nat_cmp_total w.watches number (record watch { mask = next_bits mask watch.mask }) number
+    ∙ ap (λ t. cond t (Some (record watch { mask = next_bits mask watch.mask })) (watch_of w number))
     (unsigned_tied number number ∙ Rattle.std.proofs.lemmas.Bool.eq-eqb number number refl)
 
 -- so the watches have a new one, under the next descriptor
 pub added-first : (w : Watching) (number mask : ℕ) → watch_of w number ≡ None
-    → added w number mask ≡ with_new_watch w number (Rattle.watch_table.specs.Masks.stored mask)
+    → added w number mask ≡ with_new_watch w number (stored mask)
 unfolding added
-added-first w number mask none = ap (Rattle.watch_table.specs.Watching.added_to w number mask) none
+added-first w number mask none = ap (added_to w number mask) none
 
 pub wd-first : (w : Watching) (number : ℕ) → watch_of w number ≡ None → wd_added w number ≡ pos w.next_wd
 unfolding wd_added
-wd-first w number none = ap (λ o. Rattle.watch_table.specs.Watching.wd_or o (pos w.next_wd)) none
+wd-first w number none = ap (λ o. wd_or o (pos w.next_wd)) none
 
 -- where it is accepted, one more can be watched
 pub room-left : (w : Watching) (number mask : ℕ) (is_directory : Bool) → watch_of w number ≡ None

@@ -5,10 +5,12 @@ use Rattle.std.specs.Prelude.{ℤ, fold}
 use Rattle.std.proofs.lemmas.List.{take_more}
 use Rattle.std.proofs.lemmas.Bool.{eqb-true}
 use Rattle.record_codec.specs.declared.event.Event.{Event}
-use Rattle.watch_table.specs.Watching.{IsSound, Watch, Watching, dropped, removed, watch_of}
+use Rattle.watch_table.specs.declared.watch.Watch.{Watch}
+use Rattle.watch_table.specs.Watching.{IsSound, Watching, dropped, removed, watch_of}
 use Rattle.event_rules.specs.declared.notice.Notice.{Notice}
 use Rattle.event_rules.specs.declared.staged.StagedEnd.{StagedEnd}
-use Rattle.event_rules.specs.Raised.{ended, ended_by, ends_watch, events_of, left, left_by, raised_at, told_number, watches_after, wds_ended}
+use Rattle.event_rules.specs.Raised.{ended, ended_by, ends_watch, events_of, left, raised_at, told_number, watches_after, wds_ended}
+use Rattle.event_rules.proofs.Removals.{left_by}
 use Rattle.event_rules.specs.Staging.{left_before, staged_end}
 use Rattle.event_rules.proofs.Earlier.{left-before}
 use Rattle.event_rules.proofs.Stages.{ended_with, events_of-push, raised_with, wds_ended-push}
@@ -57,7 +59,7 @@ left-all w n h = by (watch_of w (told_number n)) h
 
     by : (o : Option Watch) → ended_by n o ≡ [] → left_by w n o ≡ w
     by None h = refl
-    by (Some watch) h = by-test watch.0 (ends_watch n watch) h
+    by (Some watch) h = by-test watch.wd (ends_watch n watch) h
 
 none-ended : (w : Watching) (ns : List Notice) → wds_ended w ns ≡ [] → watches_after w ns ≡ w
 none-ended w [] h = refl

@@ -10,7 +10,7 @@ use Rattle.std.specs.Ordering.{nat_cmp, eq_by_cmp}
 use Rattle.std.specs.Cmp.{nat_cmp_total, unsigned_tied, eq_by_cmp_equiv}
 use Rattle.instance_table.specs.declared.index.Index.{Index}
 use Rattle.instance_table.specs.declared.filter.WatchFilter.{WatchFilter}
-use Rattle.watch_table.specs.Watching.{Watch}
+use Rattle.watch_table.specs.declared.watch.Watch.{Watch}
 use Rattle.instance_table.specs.Watchers.{WatchMap, row_or_none}
 use Rattle.instance_table.specs.Index.{HasSoundRows, row_under, watch_noted}
 use Rattle.instance_table.specs.Filters.{passes}

@@ -11,7 +11,7 @@ use Rattle.std.specs.Cmp.{unsigned_tied}
 use Rattle.std.specs.declared.cmp.Ordering.TheVariants.{Less}
 use Rattle.std.proofs.lemmas.List.{append-nil, take_all}
 use Rattle.std.proofs.lemmas.List.Folds.{list_any_more}
-use Rattle.watch_table.specs.Watching.{Watch}
+use Rattle.watch_table.specs.declared.watch.Watch.{Watch}
 use Rattle.instance_table.specs.Watchers.{AreWatchers, watchers_map}
 use Rattle.instance_table.proofs.Indexed.{is-same}
 use Rattle.instance_table.proofs.WhoWatches.{same-tests}
@@ -99,12 +99,12 @@ module _ {X Y : Type 0} (id_of : X → ℕ) (what : X → Y) (label : ℕ → Y 
 
   -- what one more of them gets
   pub row-more : (xs new : List X) → k < length ids → to id_of what label named same q xs ≡ front ++ cond (is_among ids k q) mine []
-      → new ≡ xs ++ map (label (get_or ids k 0)) (f (Some (get_or ws k (pos 0, 0))))
+      → new ≡ xs ++ map (label (get_or ids k 0)) (f (Some (get_or ws k (record { wd = pos 0; mask = 0 }))))
       → to id_of what label named same q new ≡ front ++ cond (is_among ids (k + 1) q) mine []
   row-more xs new within so_far is =
       let id = get_or ids k 0 in
-      let w : Watch = get_or ws k (pos 0, 0) in
-      let at : finmap.get (watchers_map ids ws) id ≡ Some w = watchers-at ids ws are k id (within, refl) (pos 0, 0) in
+      let w : Watch = get_or ws k (record { wd = pos 0; mask = 0 }) in
+      let at : finmap.get (watchers_map ids ws) id ≡ Some w = watchers-at ids ws are k id (within, refl) (record { wd = pos 0; mask = 0 }) in
       ap (to id_of what label named same q) is
       ∙ step-behind id_of what label named same q id xs (f (Some w)) mine front (is_among ids k q) so_far
       (λ t. (ap (is_among ids k) (is-same q id t) ∙ once ids k are.rising within, ap f (sym (ap (finmap.get (watchers_map ids ws)) (is-same q id t) ∙ at))))

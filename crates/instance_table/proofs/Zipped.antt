@@ -7,7 +7,7 @@ use Rattle.std.specs.FinMap.{from_entries}
 use Rattle.std.specs.List.{zip}
 use Rattle.std.specs.List.Sorted.{IsStrictlySortedBy}
 use Rattle.std.specs.Ordering.{nat_cmp}
-use Rattle.watch_table.specs.Watching.{Watch}
+use Rattle.watch_table.specs.declared.watch.Watch.{Watch}
 use Rattle.instance_table.specs.Ids.{IsIndex}
 use Rattle.instance_table.specs.Watchers.{AreWatchers, WatchMap, watchers_map}
 use Rattle.instance_table.proofs.Rising.{entries-rising, get-absent, get-at, map-cut, map-put, map-set, numbers-cut, numbers-put, rises-none}

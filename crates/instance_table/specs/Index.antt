@@ -3,7 +3,7 @@ use Rattle.std.specs.Prelude.{◌≡◌, ◌≢◌, ℕ, Option, Some, true}
 use Rattle.std.specs.BTreeMap as tree
 use Rattle.std.specs.FinMap as map
 use Rattle.std.specs.Ordering.{nat_cmp}
-use Rattle.watch_table.specs.Watching.{Watch}
+use Rattle.watch_table.specs.declared.watch.Watch.{Watch}
 use Rattle.instance_table.specs.declared.index.Index.{Index}
 use Rattle.instance_table.specs.Filters.{passes}
 use Rattle.instance_table.specs.Watchers.{WatchMap, row_or_none}

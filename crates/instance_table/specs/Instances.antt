@@ -2,6 +2,7 @@
 use Rattle.std.specs.Prelude.{◌≡◌, ℕ, ℤ, Bool, false, List, [], Option, Some, None, map, fold, drop, is_some}
 use Rattle.std.specs.FinMap as finmap
 use Rattle.std.specs.List.{filter}
+use Rattle.std.specs.Option.{option_map_or}
 use Rattle.std.specs.Ordering.{nat_cmp}
 use Rattle.record_codec.specs.declared.event.Event.{Event}
 use Rattle.record_codec.specs.Records.{AreEvents}
@@ -54,13 +55,9 @@ after_read count i = record i { queue = record i.queue { waiting = drop count i.
 
 -- ---- changes of all
 
-abbrev pub changed_by : Instances → ℕ → (Instance → Instance) → Option Instance → Instances
-changed_by m id change None = m
-changed_by m id change (Some i) = finmap.insert m id (change i)
-
 -- the instances after a change of one of them
 unfoldable pub changed : Instances → ℕ → (Instance → Instance) → Instances
-changed m id change = changed_by m id change (instance_of m id)
+changed m id change = option_map_or (λ i. finmap.insert m id (change i)) (instance_of m id) m
 
 -- the instances after a change of each
 unfoldable pub all_changed : Instances → (Instance → Instance) → Instances

@@ -6,7 +6,8 @@ use Rattle.std.specs.FinMap.{FinMap, from_entries}
 use Rattle.std.specs.List.{zip}
 use Rattle.std.specs.List.Sorted.{IsStrictlySortedBy}
 use Rattle.std.specs.Ordering.{nat_cmp}
-use Rattle.watch_table.specs.Watching.{Watch, watch_of}
+use Rattle.watch_table.specs.declared.watch.Watch.{Watch}
+use Rattle.watch_table.specs.Watching.{watch_of}
 use Rattle.event_rules.specs.declared.ended.EndedWatches.{EndedWatches}
 use Rattle.event_rules.specs.Staging.{is_ended}
 use Rattle.instance_table.specs.declared.instance.Instance.{Instance}

@@ -5,13 +5,14 @@ ghost use Rattle.instance_table.specs.Watchers.{AreWatchers, watchers_map};
 
 use crate::ids::index_of;
 use std::marker::Model;
+use watch_table::Watch;
 
-/// At most `N` instances that watch a file, by their numbers, rising; and the descriptor and the bits of the watch of
-/// each. They take no memory of their own. What stands behind the first `len` has no meaning.
+/// At most `N` instances that watch a file, by their numbers, rising; and the watch of each. They take no
+/// memory of their own. What stands behind the first `len` has no meaning.
 pub struct Few<const N: usize> {
     len: usize,
     ids: [u32; N],
-    watches: [(i32, u32); N],
+    watches: [Watch; N],
 }
 
 impl<const N: usize> Drop for Few<N> {
@@ -26,13 +27,14 @@ impl<const N: usize> Drop for Few<N> {
 
 impl<const N: usize> Model for Few<N> {
     ghost use Rattle.std.specs.Prelude.{take};
-    ghost use Rattle.std.specs.Coded.{coded×, coded_ℕ, coded_ℤ};
+    ghost use Rattle.std.specs.Coded.{coded_ℕ};
     ghost use Rattle.std.specs.FinMap as finmap;
+    ghost use Rattle.watch_table.specs.Watching.{watch_code};
     ghost use Rattle.instance_table.specs.Watchers.{AreFew, WatchMap, watchers_map};
 
     ghost Value = { WatchMap };
 
-    ghost coded = { finmap.code coded_ℕ (coded× coded_ℤ coded_ℕ) };
+    ghost coded = { finmap.code coded_ℕ watch_code };
 
     ghost view = { λ a. watchers_map (take a.len a.ids) (take a.len a.watches) };
 
@@ -41,14 +43,14 @@ impl<const N: usize> Model for Few<N> {
 
 impl<const N: usize> Few<N> {
     /// At most `N` instances, each with its watch.
-    pub fn of(ids: &[u32], watches: &[(i32, u32)]) -> Few<N>
+    pub fn of(ids: &[u32], watches: &[Watch]) -> Few<N>
         requires watchers { AreWatchers ids.now watches.now }
         requires count { length ids.now ≤ N }
         ensures { result ≡ watchers_map ids.now watches.now }
     {
         let len = ids.len();
         let mut its_ids = [0; N];
-        let mut its_watches = [(0, 0); N];
+        let mut its_watches = [Watch { wd: 0, mask: 0 }; N];
         its_ids[..len].copy_from_slice(ids);
         its_watches[..len].copy_from_slice(watches);
         Few {
@@ -59,7 +61,7 @@ impl<const N: usize> Few<N> {
     }
 
     /// Fewer than `N` instances, each with its watch, and one more.
-    pub fn with(ids: &[u32], watches: &[(i32, u32)], id: u32, watch: (i32, u32)) -> Few<N>
+    pub fn with(ids: &[u32], watches: &[Watch], id: u32, watch: Watch) -> Few<N>
         requires watchers { AreWatchers ids.now watches.now }
         requires count { length ids.now < N }
         ensures { result ≡ map.insert (watchers_map ids.now watches.now) id watch }
@@ -73,7 +75,7 @@ impl<const N: usize> Few<N> {
 
     /// Puts in an instance with its watch, in place of the one that it has. Where `N` others are there, the answer is
     /// `false`, and nothing changes.
-    pub fn put(&mut self, id: u32, watch: (i32, u32)) -> bool
+    pub fn put(&mut self, id: u32, watch: Watch) -> bool
         ensures put { result ≡ true → self.new ≡ map.insert self.old id watch }
         ensures rest { result ≡ false → self.new ≡ self.old }
         ensures others { result ≡ false → map.get self.old id ≡ None }
@@ -96,7 +98,7 @@ impl<const N: usize> Few<N> {
     }
 
     /// Gives an instance that is there another watch.
-    pub fn set(&mut self, id: u32, watch: (i32, u32))
+    pub fn set(&mut self, id: u32, watch: Watch)
         requires { IsSome (map.get self.old id) }
         ensures { self.new ≡ map.insert self.old id watch }
     {
@@ -119,7 +121,7 @@ impl<const N: usize> Few<N> {
 
     /// The numbers of the instances, rising, and the watch of each.
     #[inline(always)]
-    pub fn as_slices(&self) -> (&[u32], &[(i32, u32)])
+    pub fn as_slices(&self) -> (&[u32], &[Watch])
         ensures watchers { AreWatchers result.0.now result.1.now }
         ensures map { watchers_map result.0.now result.1.now ≡ self.now }
         ensures few { length result.0.now ≤ N }
@@ -131,6 +133,7 @@ impl<const N: usize> Few<N> {
     pub fn is_empty(&self) -> bool
         ensures { IsTrue result ↔ (self.now ≡ map.empty) }
     {
-        self.len == 0
+        let (ids, _) = self.as_slices();
+        ids.is_empty()
     }
 }

@@ -11,6 +11,7 @@ use crate::filter::WatchFilter;
 use crate::watchers::Watchers;
 use std::alloc::{AllocError, Global};
 use std::collections::BTreeMap;
+use watch_table::Watch;
 
 /// The instances that watch each file and their watches, by the number of the file.
 pub struct Index {
@@ -55,7 +56,7 @@ impl Index {
     }
 
     /// Notes the watch of an instance for a file, in place of the one that is noted. `Err` is out of memory.
-    pub fn put(&mut self, number: u32, id: u32, watch: (i32, u32)) -> Result<(), AllocError>
+    pub fn put(&mut self, number: u32, id: u32, watch: Watch) -> Result<(), AllocError>
         ensures ok { OnOk result ((n q : ℕ)
             → watch_noted self.new n q ≡ (if n == number && q == id then Some watch else watch_noted self.old n q)) }
         ensures err { OnErr result ((n q : ℕ) → watch_noted self.new n q ≡ watch_noted self.old n q) }
@@ -71,7 +72,7 @@ impl Index {
     }
 
     /// Notes another watch of an instance that watches a file. It takes no memory.
-    pub fn set(&mut self, number: u32, id: u32, watch: (i32, u32))
+    pub fn set(&mut self, number: u32, id: u32, watch: Watch)
         requires { IsSome (watch_noted self.old number id) }
         ensures noted { (n q : ℕ)
             → watch_noted self.new n q ≡ (if n == number && q == id then Some watch else watch_noted self.old n q) }

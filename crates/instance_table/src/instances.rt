@@ -33,7 +33,7 @@ use std::alloc::Global;
 use std::collections::VecDeque;
 use std::marker::Model;
 use tree_paths::{Limits, Refusal};
-use watch_table::{Mask, Watches};
+use watch_table::{Mask, Watch, Watches};
 
 mod copying;
 mod ready;
@@ -284,7 +284,8 @@ impl Instances {
         events: &mut VecDeque<StagedEvent>,
         next: &mut usize,
     )
-        ensures heard { delivered_all self.new events.new.items ≡ delivered_all self.old (first ∷ events.old.items) }
+        ensures delivered { delivered_all self.new events.new.items
+            ≡ delivered_all self.old (first ∷ events.old.items) }
         ensures fewer { deque_len events.new ≤ deque_len events.old }
     {
         let Ok(index) = index_of(&self.opened, first.id, *next) else {
@@ -349,7 +350,11 @@ fn add_noted(
     match watches.of(number) {
         Some(before) => match watches.add(number, mask, is_directory) {
             Ok(wd) => {
-                index.set(number, id, (before.0, mask.next_bits(before.1)));
+                let watch = Watch {
+                    wd: before.wd,
+                    mask: mask.next_bits(before.mask),
+                };
+                index.set(number, id, watch);
                 Ok(wd)
             }
             Err(refusal) => Err(refusal),
@@ -388,7 +393,11 @@ fn add_first(
         return Err(refusal);
     }
     let bits = mask.stored();
-    index.put(number, id, (watches.next_wd() as i32, bits))?;
+    let watch = Watch {
+        wd: watches.next_wd() as i32,
+        mask: bits,
+    };
+    index.put(number, id, watch)?;
     match watches.add_new(number, bits) {
         Ok(wd) => Ok(wd),
         Err(_) => {

@@ -11,6 +11,7 @@ ghost use Rattle.instance_table.specs.Watchers.{AreWatchers, row_or_none, unless
 use crate::watchers::Watchers;
 use event_rules::{EndedWatches, Notice, Staged, stage_watch};
 use tree_paths::Refusal;
+use watch_table::Watch;
 
 /// Stages what a notice raises for the instances that watch its file, behind what was staged, by the watches that the
 /// notices before it left. Where none is staged as ended, these are all.
@@ -46,7 +47,7 @@ pub(crate) fn stage_row(
 /// Stages what a notice raises for each of the watches of its file.
 fn stage_all(
     ids: &[u32],
-    watches: &[(i32, u32)],
+    watches: &[Watch],
     notice: &Notice,
     staged: &mut Staged,
 ) -> Result<(), Refusal>
@@ -68,7 +69,7 @@ fn stage_all(
 /// Stages what a notice raises for those of the watches of its file that have not ended.
 fn stage_rest(
     ids: &[u32],
-    watches: &[(i32, u32)],
+    watches: &[Watch],
     ended: &EndedWatches,
     notice: &Notice,
     staged: &mut Staged,
@@ -92,7 +93,7 @@ fn stage_rest(
 #[inline(always)]
 fn stage_left(
     id: u32,
-    watch: (i32, u32),
+    watch: Watch,
     ended: &EndedWatches,
     notice: &Notice,
     staged: &mut Staged,

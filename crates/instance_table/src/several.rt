@@ -6,12 +6,12 @@ ghost use Rattle.instance_table.specs.Watchers.{AreWatchers, watchers_map};
 use crate::ids::index_of;
 use std::alloc::{AllocError, Global};
 use std::marker::Model;
+use watch_table::Watch;
 
-/// The numbers of the instances that watch a file, each once, rising; and the descriptor and the bits of the watch of
-/// each.
+/// The numbers of the instances that watch a file, each once, rising; and the watch of each.
 pub struct Several {
     ids: Vec<u32>,
-    watches: Vec<(i32, u32)>,
+    watches: Vec<Watch>,
 }
 
 impl Drop for Several {
@@ -21,13 +21,14 @@ impl Drop for Several {
 }
 
 impl Model for Several {
-    ghost use Rattle.std.specs.Coded.{coded×, coded_ℕ, coded_ℤ};
+    ghost use Rattle.std.specs.Coded.{coded_ℕ};
     ghost use Rattle.std.specs.FinMap as finmap;
+    ghost use Rattle.watch_table.specs.Watching.{watch_code};
     ghost use Rattle.instance_table.specs.Watchers.{AreWatchers, WatchMap, watchers_map};
 
     ghost Value = { WatchMap };
 
-    ghost coded = { finmap.code coded_ℕ (coded× coded_ℤ coded_ℕ) };
+    ghost coded = { finmap.code coded_ℕ watch_code };
 
     ghost view = { λ a. watchers_map a.ids.items a.watches.items };
 
@@ -36,7 +37,7 @@ impl Model for Several {
 
 impl Several {
     /// Instances, each with its watch. `Err` is out of memory.
-    pub fn of(alloc: Global, ids: &[u32], watches: &[(i32, u32)]) -> Result<Several, AllocError>
+    pub fn of(alloc: Global, ids: &[u32], watches: &[Watch]) -> Result<Several, AllocError>
         requires watchers { AreWatchers ids.now watches.now }
         ensures { IfOk result (λ several. several ≡ watchers_map ids.now watches.now) }
     {
@@ -47,9 +48,9 @@ impl Several {
     pub fn with(
         alloc: Global,
         ids: &[u32],
-        watches: &[(i32, u32)],
+        watches: &[Watch],
         id: u32,
-        watch: (i32, u32),
+        watch: Watch,
     ) -> Result<Several, AllocError>
         requires watchers { AreWatchers ids.now watches.now }
         ensures { IfOk result (λ several. several ≡ map.insert (watchers_map ids.now watches.now) id watch) }
@@ -64,7 +65,7 @@ impl Several {
         alloc: Global,
         capacity: usize,
         ids: &[u32],
-        watches: &[(i32, u32)],
+        watches: &[Watch],
     ) -> Result<Several, AllocError>
         requires watchers { AreWatchers ids.now watches.now }
         ensures { IfOk result (λ several. several ≡ watchers_map ids.now watches.now) }
@@ -80,7 +81,7 @@ impl Several {
     }
 
     /// Puts in an instance with its watch, in place of the one that it has. `Err` is out of memory.
-    pub fn put(&mut self, id: u32, watch: (i32, u32)) -> Result<(), AllocError>
+    pub fn put(&mut self, id: u32, watch: Watch) -> Result<(), AllocError>
         ensures ok { OnOk result (self.new ≡ map.insert self.old id watch) }
         ensures err { OnErr result (self.new ≡ self.old) }
     {
@@ -98,7 +99,7 @@ impl Several {
     }
 
     /// Gives an instance that is there another watch. It takes no memory.
-    pub fn set(&mut self, id: u32, watch: (i32, u32))
+    pub fn set(&mut self, id: u32, watch: Watch)
         requires { IsSome (map.get self.old id) }
         ensures { self.new ≡ map.insert self.old id watch }
     {
@@ -119,7 +120,7 @@ impl Several {
     }
 
     /// The numbers of the instances, rising, and the watch of each.
-    pub fn as_slices(&self) -> (&[u32], &[(i32, u32)])
+    pub fn as_slices(&self) -> (&[u32], &[Watch])
         ensures watchers { AreWatchers result.0.now result.1.now }
         ensures map { watchers_map result.0.now result.1.now ≡ self.now }
     {

@@ -10,9 +10,10 @@ use std::alloc::{AllocError, Global};
 use std::marker::Model;
 use std::mem::size_of;
 use std::slice;
+use watch_table::Watch;
 
-/// The instances that watch a file, by their numbers; and the descriptor and the bits of the watch of each. There is at
-/// least one, since an unwatched file has no row. The first is in place, and takes no memory of its own.
+/// The instances that watch a file, by their numbers; and the watch of each. There is at least one, since an unwatched
+/// file has no row. The first is in place, and takes no memory of its own.
 pub struct Watchers {
     row: Row,
 }
@@ -21,7 +22,7 @@ pub struct Watchers {
 /// A copy takes the smallest form that fits, but `Four` for one that is left in a larger row.
 #[derive(Drop)]
 enum Row {
-    One(u32, (i32, u32)),
+    One(u32, Watch),
     Four(Box<Few<4>>),
     Eight(Box<Few<8>>),
     Sixteen(Box<Few<16>>),
@@ -38,13 +39,14 @@ impl Drop for Watchers {
 }
 
 impl Model for Watchers {
-    ghost use Rattle.std.specs.Coded.{coded×, coded_ℕ, coded_ℤ};
+    ghost use Rattle.std.specs.Coded.{coded_ℕ};
     ghost use Rattle.std.specs.FinMap as finmap;
+    ghost use Rattle.watch_table.specs.Watching.{watch_code};
     ghost use Rattle.instance_table.specs.Watchers.{WatchMap};
 
     ghost Value = { WatchMap };
 
-    ghost coded = { finmap.code coded_ℕ (coded× coded_ℤ coded_ℕ) };
+    ghost coded = { finmap.code coded_ℕ watch_code };
 
     ghost use Rattle.instance_table.specs.WatcherRow.{row_map};
 
@@ -70,7 +72,7 @@ impl Clone for Watchers {
 
 impl Watchers {
     /// One instance with its watch. It takes no memory.
-    pub fn one(id: u32, watch: (i32, u32)) -> Watchers
+    pub fn one(id: u32, watch: Watch) -> Watchers
         ensures { result ≡ map.insert map.empty id watch }
     {
         Watchers {
@@ -79,7 +81,7 @@ impl Watchers {
     }
 
     /// Puts in an instance with its watch, in place of the one that it has. `Err` is out of memory.
-    pub fn put(&mut self, alloc: Global, id: u32, watch: (i32, u32)) -> Result<(), AllocError>
+    pub fn put(&mut self, alloc: Global, id: u32, watch: Watch) -> Result<(), AllocError>
         ensures ok { OnOk result (self.new ≡ map.insert self.old id watch) }
         ensures err { OnErr result (self.new ≡ self.old) }
     {
@@ -104,7 +106,7 @@ impl Watchers {
     }
 
     /// Gives an instance that is there another watch. It takes no memory.
-    pub fn set(&mut self, id: u32, watch: (i32, u32))
+    pub fn set(&mut self, id: u32, watch: Watch)
         requires { IsSome (map.get self.old id) }
         ensures { self.new ≡ map.insert self.old id watch }
     {
@@ -146,7 +148,7 @@ impl Watchers {
 
     /// The numbers of the instances, rising, and the watch of each.
     #[inline(always)]
-    pub fn as_slices(&self) -> (&[u32], &[(i32, u32)])
+    pub fn as_slices(&self) -> (&[u32], &[Watch])
         ensures watchers { AreWatchers result.0.now result.1.now }
         ensures map { watchers_map result.0.now result.1.now ≡ self.now }
     {
@@ -169,7 +171,7 @@ impl Watchers {
 }
 
 /// The smallest row, of four or more, for these instances, each with its watch. `Err` is out of memory.
-fn row_of(alloc: Global, ids: &[u32], watches: &[(i32, u32)]) -> Result<Row, AllocError>
+fn row_of(alloc: Global, ids: &[u32], watches: &[Watch]) -> Result<Row, AllocError>
     requires { AreWatchers ids.now watches.now }
     ensures { IfOk result (λ row. row_map row ≡ watchers_map ids.now watches.now) }
 {
@@ -185,9 +187,9 @@ fn row_of(alloc: Global, ids: &[u32], watches: &[(i32, u32)]) -> Result<Row, All
 fn larger_row(
     alloc: Global,
     ids: &[u32],
-    watches: &[(i32, u32)],
+    watches: &[Watch],
     id: u32,
-    watch: (i32, u32),
+    watch: Watch,
 ) -> Result<Row, AllocError>
     requires { AreWatchers ids.now watches.now }
     ensures { IfOk result (λ row. row_map row ≡ map.insert (watchers_map ids.now watches.now) id watch) }

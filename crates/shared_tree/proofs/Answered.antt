@@ -10,10 +10,27 @@ use Rattle.tree_core.specs.declared.call.Call.{Call}
 use Rattle.tree_core.specs.declared.call.Call.TheVariants as call
 use Rattle.tree_core.specs.declared.reply.Reply.{Reply}
 use Rattle.tree_core.specs.declared.reply.Reply.TheVariants as reply
-use Rattle.tree_core.specs.Tree.{Tree, read_answer, refusal_of, reply_by, reply_of}
-use Rattle.tree_core.specs.Histories.{oldest, read_by, records_for, where_open, where_records, if_same}
+use Rattle.tree_core.specs.Tree.{Tree, refusal_of, reply_of, oldest}
+use Rattle.tree_core.specs.Histories.{read_by, records_for, where_open, if_same}
+use Rattle.tree_core.proofs.Parts.{read_answer, reply_by, where_accepted, where_records}
+use Rattle.tree_core.proofs.Pumping.{pumped-replied}
 use Rattle.shared_tree.specs.declared.pipe.Batch.{Batch}
-use Rattle.shared_tree.specs.Handed.{batch, handed_by, where_done, IsAnswered}
+use Rattle.shared_tree.specs.Handed.{batch, handed_by, IsAnswered}
+use Rattle.shared_tree.specs.Held.{where_done}
+
+-- what a pump hands over is what it reads, where its reply has records
+pub handed-pump : (t : Tree) (place id bytes : ℕ)
+    → handed_by t place (call.Pump id bytes)
+    ≡ option_map (batch id place) (where_records (reply_of t (call.Pump id bytes)) (read_by t (call.Pump id bytes) id))
+handed-pump t place id bytes = ap (λ (o : Option (List Event)). option_map (batch id place) o) (pumped-replied t id bytes)
+
+done-accepted : (r : Option Refusal) (b : Batch) → where_accepted r b ≡ where_done (reply_by r reply.Done) b
+done-accepted None b = refl
+done-accepted (Some why) b = refl
+
+-- a close hands the end batch over, where it is done
+pub handed-close : (t : Tree) (place id : ℕ) → handed_by t place (call.Close id) ≡ where_done (reply_of t (call.Close id)) (batch id place [])
+handed-close t place id = done-accepted (refusal_of t (call.Close id)) (batch id place [])
 
 same-id : (id : ℕ) (xs : List Event) → if_same id id xs ≡ xs
 same-id id xs = by (eqb id id) refl
@@ -56,8 +73,8 @@ answered t place (call.AddWatch from p mask) b e = absurd (cc)
 answered t place (call.RmWatch from wd) b e = absurd (cc)
 answered t place (call.Read from bytes) b e = absurd (cc)
 answered t place (call.Pump from bytes) b e =
-    let h = pump-answered place from bytes b (refusal_of t (call.Pump from bytes)) (instance_of t.instances from) e in
+    let h = pump-answered place from bytes b (refusal_of t (call.Pump from bytes)) (instance_of t.instances from) (sym (handed-pump t place from bytes) ∙ e) in
     (h.0, (h.1, h.2))
 answered t place (call.Close from) b e =
-    let h = close-answered place from b (reply_of t (call.Close from)) e in
+    let h = close-answered place from b (reply_of t (call.Close from)) (sym (handed-close t place from) ∙ e) in
     (h.0, (h.1, h.2, h.3))

@@ -17,15 +17,18 @@ use Rattle.tree_core.specs.declared.call.Call.TheVariants as call
 use Rattle.tree_core.specs.declared.reply.Entry.{Entry}
 use Rattle.tree_core.specs.declared.reply.Reply.{Reply}
 use Rattle.tree_core.specs.declared.reply.Reply.TheVariants as reply
-use Rattle.tree_core.specs.Tree.{Tree, opening, accepted, after, read_rows, refusal_of, reply_by, reply_of, tree_by}
-use Rattle.tree_core.specs.Histories.{oldest, pumped}
+use Rattle.tree_core.specs.Tree.{Tree, opening, accepted, after, read_rows, refusal_of, reply_of, oldest}
+use Rattle.tree_core.specs.Histories.{pumped}
 use Rattle.tree_core.specs.Journal.{tree_after}
+use Rattle.tree_core.proofs.Parts.{reply_by, tree_by}
 use Rattle.tree_core.proofs.Counted.{each-passes, row-passes}
 use Rattle.tree_core.proofs.Opened.{instance_of-accepted}
 use Rattle.tree_core.proofs.Pumping.{pumped-accepted, pumped-refused}
 use Rattle.tree_core.proofs.Untouched.{none-after, none-opening}
 use Rattle.shared_tree.specs.declared.pipe.Batch.{Batch}
-use Rattle.shared_tree.specs.Handed.{batch, handed, handed_by, handed_from, hands, where_done, EndBatchesComeLast, NothingFollowsTheEnd}
+use Rattle.shared_tree.specs.Handed.{batch, handed, handed_by, handed_from, hands, EndBatchesComeLast, NothingFollowsTheEnd}
+use Rattle.shared_tree.specs.Held.{where_done}
+use Rattle.shared_tree.proofs.Answered.{handed-close}
 use Rattle.shared_tree.proofs.Steps.{hands-none, opened-by, IsMade, Told, WasOpen}
 
 -- ---- a pump that hands over has records
@@ -40,8 +43,8 @@ unfolding read_rows
 some-oldest bytes i passes none =
     let each = each-passes (read_rows true bytes (Some i)) passes in
     some-taken (fitting bytes i.queue.waiting) i.queue.waiting
-    (row-passes (fitting bytes i.queue.waiting == 0) Einval each.1.1.0)
-    (row-passes (length i.queue.waiting == 0) Eagain each.1.0) none
+    (row-passes (fitting bytes i.queue.waiting == 0) Einval each.1.1.1.0)
+    (row-passes (length i.queue.waiting == 0) Eagain each.1.1.0) none
 
 some-is : (xs ys : List Event) → ◌≡◌ {A = Option (List Event)} (Some xs) (Some ys) → xs ≡ ys
 some-is xs ys e = cc
@@ -142,7 +145,9 @@ module _ (tells : Told) (t : Tree) (place id : ℕ) (below : AreBelow t) where
   hands-one (call.RmWatch from wd) = inl refl
   hands-one (call.Read from bytes) = inl refl
   hands-one (call.Pump from bytes) = pump-one from bytes (IsGone (after t (call.Pump from bytes)) id) (pumped t from bytes) refl
-  hands-one (call.Close from) = close-one from (reply_of t (call.Close from)) refl
+  hands-one (call.Close from) =
+      subst (λ (o : Option Batch). HandsOne (hands o id) (IsGone (after t (call.Close from)) id)) (sym (handed-close t place from))
+      (close-one from (reply_of t (call.Close from)) refl)
 
 -- ---- a journal
 

@@ -9,6 +9,7 @@ use Rattle.std.specs.Prelude.{IfSome, IsSome, IsTrue, ◌↔◌, slice_get, unwr
 use Rattle.record_codec.specs.declared.event.Event.{Event}
 use Rattle.record_codec.specs.Records.{AreEvents}
 use Rattle.tree_paths.specs.declared.limits.Limits.{Limits}
+use Rattle.tree_paths.specs.declared.refusal.Refusal.{Refusal}
 use Rattle.instance_table.specs.declared.instance.Instance.{Instance}
 use Rattle.instance_table.specs.Instances.{instance_of}
 use Rattle.tree_core.specs.declared.call.Call.{Call}
@@ -17,18 +18,20 @@ use Rattle.tree_core.specs.declared.reply.Entry.{Entry}
 use Rattle.tree_core.specs.declared.reply.Receipt.{Receipt}
 use Rattle.tree_core.specs.declared.reply.Reply.{Reply}
 use Rattle.tree_core.specs.declared.reply.Reply.TheVariants as reply
-use Rattle.tree_core.specs.Tree.{Tree, opening, reply_of, after}
+use Rattle.tree_core.specs.Tree.{Tree, opening, refusal_of, reply_of, after}
 use Rattle.tree_core.specs.Journal.{Journaled, last_place, now, opened, tree_after, waiting_in, with_entry}
 use Rattle.tree_core.proofs.Lawful.{now-entry}
+use Rattle.tree_core.proofs.Parts.{where_accepted, where_records}
 use Rattle.shared_tree.specs.declared.pipe.Batch.{Batch}
 use Rattle.tree_core.specs.Calls.{is_plain}
-use Rattle.tree_core.specs.Histories.{pumped, read_by, where_records}
+use Rattle.tree_core.specs.Histories.{pumped, read_by}
 use Rattle.shared_tree.specs.Pipes.{IsIn}
 use Rattle.shared_tree.specs.PipeEnds.{Piped}
 use Rattle.shared_tree.specs.Seats.{Seated}
-use Rattle.shared_tree.specs.Handed.{AreOfEvents, batch, handed_by, handed_from, handed_since, hands, piped_by, piped_of, where_done, deliver}
+use Rattle.shared_tree.specs.Handed.{AreOfEvents, batch, handed_by, handed_from, handed_since, hands, piped_by, piped_of, deliver}
 use Rattle.shared_tree.specs.Calls.{JoinsJournal, HasPipe, IsForPipe}
-use Rattle.shared_tree.specs.Held.{closed_of, end_of, IsFilled, IsHeldWhole, IsPipeFound, IsReady, Rises}
+use Rattle.shared_tree.specs.Held.{closed_of, end_of, IsFilled, IsHeldWhole, IsPipeFound, IsReady, Rises, where_done}
+use Rattle.shared_tree.proofs.Answered.{handed-pump}
 use Rattle.shared_tree.proofs.Steps.{Told, end_of-handed, hands-none, next-init, plain-makes-none, opened-by, piped_by-cases, IsMade, WasOpen}
 
 -- ---- lists of numbers
@@ -374,7 +377,9 @@ module _ (tells : Told) (ns : List ℕ) (ps : List Piped) (t : Tree) (place : �
   pumps-ready id bytes rs (reply.Refused why) looked e = tt
 
   pub pump-ready : (id bytes : ℕ) → IsPipeFound ns ps t (Some id) at → IsReady ns ps at (handed_by t place (call.Pump id bytes))
-  pump-ready id bytes looked = pumps-ready id bytes (read_by t (call.Pump id bytes) id) (reply_of t (call.Pump id bytes)) looked refl
+  pump-ready id bytes looked =
+      subst (λ (o : Option Batch). IsReady ns ps at o) (sym (handed-pump t place id bytes))
+      (pumps-ready id bytes (read_by t (call.Pump id bytes) id) (reply_of t (call.Pump id bytes)) looked refl)
 
   closes-ready : (id : ℕ) (r : Reply) → IsPipeFound ns ps t (Some id) at → reply_of t (call.Close id) ≡ r → IsReady ns ps at (where_done r (batch id place []))
   closes-ready id reply.Done looked e = let there = (tells t (call.Close id)).closed id refl e in looked (some-open (instance_of t.instances id) there)
@@ -442,13 +447,9 @@ next-place s longer e place is at =
     let same : last_place longer ≡ last_place (with_entry s e) = ap (λ (j : Journaled). last_place j) is in
     omega (arith, at, same, more)
 
-done-sound : (id place : ℕ) (r : Reply) → IfSome (where_done r (batch id place [])) IsOfEvents
-done-sound id place reply.Done = tt
-done-sound id place (reply.Records bs) = tt
-done-sound id place (reply.File a) = tt
-done-sound id place (reply.Instance n) = tt
-done-sound id place (reply.Wd wd) = tt
-done-sound id place (reply.Refused why) = tt
+done-sound : (id place : ℕ) (r : Option Refusal) → IfSome (where_accepted r (batch id place [])) IsOfEvents
+done-sound id place None = tt
+done-sound id place (Some why) = tt
 
 end-sound : (t : Tree) (place : ℕ) (c : Call) → IsTrue (is_plain c) → IfSome (handed_by t place c) IsOfEvents
 end-sound t place (call.File f) plain = tt
@@ -457,7 +458,7 @@ end-sound t place (call.AddWatch from p mask) plain = tt
 end-sound t place (call.RmWatch from wd) plain = tt
 end-sound t place (call.Read from bytes) plain = tt
 end-sound t place (call.Pump from bytes) plain = absurd (cc)
-end-sound t place (call.Close from) plain = done-sound from place (reply_of t (call.Close from))
+end-sound t place (call.Close from) plain = done-sound from place (refusal_of t (call.Close from))
 
 pump-sound : (id place : ℕ) (x : Option (List Event)) → IfSome x AreEvents → IfSome (option_map (batch id place) x) IsOfEvents
 pump-sound id place None is = tt

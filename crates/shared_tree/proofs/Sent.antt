@@ -16,11 +16,12 @@ use Rattle.tree_core.specs.declared.call.Call.TheVariants as call
 use Rattle.tree_core.specs.declared.reply.Entry.{Entry}
 use Rattle.tree_core.specs.declared.reply.Reply.{Reply}
 use Rattle.tree_core.specs.declared.reply.Reply.TheVariants as reply
-use Rattle.tree_core.specs.Tree.{Tree, opening, read_answer, refusal_of, reply_by, reply_of, after}
-use Rattle.tree_core.specs.Histories.{oldest, pumped, read_by, read_in, records_for, where_open, where_records, if_same}
+use Rattle.tree_core.specs.Tree.{Tree, opening, refusal_of, reply_of, after, oldest}
+use Rattle.tree_core.specs.Histories.{pumped, read_by, read_in, records_for, where_open, if_same}
 use Rattle.tree_core.specs.Journal.{IsLawful, IsLawfulFrom}
+use Rattle.tree_core.proofs.Parts.{read_answer, reply_by, where_accepted}
 use Rattle.shared_tree.specs.declared.pipe.Batch.{Batch}
-use Rattle.shared_tree.specs.Handed.{batch, handed, handed_by, handed_from, hands, piped_by, piped_of, records_of, where_done, SentIsRead}
+use Rattle.shared_tree.specs.Handed.{batch, handed, handed_by, handed_from, hands, piped_by, piped_of, records_of, SentIsRead}
 use Rattle.shared_tree.specs.Pipes.{IsIn}
 use Rattle.tree_core.proofs.Untouched.{none-opening}
 use Rattle.shared_tree.proofs.Steps.{next-init, opened-by, piped_by-cases, IsMade, Told, WasOpen}
@@ -49,20 +50,15 @@ given-records : (from place id : ℕ) (o : Option (List Event)) → records_of (
 given-records from place id None = no-records (eqb from id)
 given-records from place id (Some rs) = records-where (eqb from id) (batch from place rs)
 
-done-records : (from place id : ℕ) (r : Reply) → records_of (hands (where_done r (batch from place [])) id) ≡ []
-done-records from place id reply.Done = records-where (eqb from id) (batch from place []) ∙ sym (no-records (eqb from id))
-done-records from place id (reply.Records bs) = refl
-done-records from place id (reply.File a) = refl
-done-records from place id (reply.Instance n) = refl
-done-records from place id (reply.Wd wd) = refl
-done-records from place id (reply.Refused why) = refl
+done-records : (from place id : ℕ) (r : Option Refusal) → records_of (hands (where_accepted r (batch from place [])) id) ≡ []
+done-records from place id None = records-where (eqb from id) (batch from place []) ∙ sym (no-records (eqb from id))
+done-records from place id (Some why) = refl
 
 -- what a pump hands over is what it reads
-pump-reads : (bytes : ℕ) (r : Option Refusal) (o : Option Instance) (f : Instance → List Event)
-    → unwrap_or (where_records (reply_by r (read_answer bytes o)) (where_open r o f)) [] ≡ where_open r o f
-pump-reads bytes (Some why) o f = refl
-pump-reads bytes None None f = refl
-pump-reads bytes None (Some i) f = refl
+pump-reads : (r : Option Refusal) (o : Option Instance) (f : Instance → List Event)
+    → unwrap_or (where_accepted r (where_open r o f)) [] ≡ where_open r o f
+pump-reads (Some why) o f = refl
+pump-reads None o f = refl
 
 -- a pump reads of one instance
 pump-here : (t : Tree) (from bytes id : ℕ) → if_same from id (read_by t (call.Pump from bytes) from) ≡ read_by t (call.Pump from bytes) id
@@ -108,10 +104,10 @@ module _ (tells : Told) (t : Tree) (place id : ℕ) (pipes : (i : Instance) → 
   sent-by (call.Read from bytes) = sym (reads-none from bytes (eqb from id) refl (refusal_of t (call.Read from bytes)) refl (instance_of t.instances id) refl)
   sent-by (call.Pump from bytes) =
       given-records from place id (pumped t from bytes)
-      ∙ ap (if_same from id) (pump-reads bytes (refusal_of t (call.Pump from bytes)) (instance_of t.instances from) (records_for (call.Pump from bytes) from))
+      ∙ ap (if_same from id) (pump-reads (refusal_of t (call.Pump from bytes)) (instance_of t.instances from) (records_for (call.Pump from bytes) from))
       ∙ pump-here t from bytes id
   sent-by (call.Close from) =
-      done-records from place id (reply_of t (call.Close from))
+      done-records from place id (refusal_of t (call.Close from))
       ∙ sym (none-open (refusal_of t (call.Close from)) (instance_of t.instances id) (records_for (call.Close from) id) (λ i. refl))
 
 -- ---- the instances with a pipe that a journal makes

@@ -12,14 +12,16 @@ use Rattle.tree_core.specs.declared.call.Call.{Call}
 use Rattle.tree_core.specs.declared.call.Call.TheVariants as call
 use Rattle.tree_core.specs.declared.reply.Reply.{Reply}
 use Rattle.tree_core.specs.declared.reply.Reply.TheVariants as reply
-use Rattle.tree_core.specs.Tree.{Tree, cookie_now, number_seen, refusal_of, reply_by, reply_of, accepted, tree_by, after, after_init, after_reading}
-use Rattle.tree_core.specs.Histories.{read_by, where_records, if_same}
+use Rattle.tree_core.specs.Tree.{Tree, cookie_now, refusal_of, reply_of, accepted, after}
+use Rattle.tree_core.specs.Histories.{read_by, if_same}
 use Rattle.tree_core.specs.TurnLaws.{RepliesTell}
 use Rattle.tree_core.proofs.Opened.{left_of, instance_of-accepted}
 use Rattle.shared_tree.specs.declared.pipe.Batch.{Batch}
-use Rattle.shared_tree.specs.Handed.{batch, where_done, handed_by, hands, piped_by}
-use Rattle.shared_tree.specs.Held.{closed_of, end_of}
+use Rattle.shared_tree.specs.Handed.{batch, handed_by, hands, piped_by}
+use Rattle.shared_tree.specs.Held.{closed_of, end_of, where_done}
+use Rattle.shared_tree.proofs.Answered.{handed-close, handed-pump}
 use Rattle.tree_core.specs.Calls.{is_plain}
+use Rattle.tree_core.proofs.Parts.{reply_by, tree_by, after_reading, where_records, number_seen}
 use Rattle.std.specs.Prelude.{IsTrue}
 
 -- what every reply says about its tree
@@ -69,8 +71,11 @@ module _ (tells : Told) (t : Tree) (place id : ℕ) (none : instance_of t.instan
   hands-none (call.AddWatch from p mask) = refl
   hands-none (call.RmWatch from wd) = refl
   hands-none (call.Read from bytes) = refl
-  hands-none (call.Pump from bytes) = pumps-none from bytes (read_by t (call.Pump from bytes) from) (reply_of t (call.Pump from bytes)) refl
-  hands-none (call.Close from) = closes-none from (reply_of t (call.Close from)) refl
+  hands-none (call.Pump from bytes) =
+      ap (λ (o : Option Batch). hands o id) (handed-pump t place from bytes)
+      ∙ pumps-none from bytes (read_by t (call.Pump from bytes) from) (reply_of t (call.Pump from bytes)) refl
+  hands-none (call.Close from) =
+      ap (λ (o : Option Batch). hands o id) (handed-close t place from) ∙ closes-none from (reply_of t (call.Close from)) refl
 
 -- the end batch of a plain call is what it hands over
 pub end_of-handed : (t : Tree) (c : Call) (place : ℕ) → IsTrue (is_plain c) → end_of (closed_of c) place (reply_of t c) ≡ handed_by t place c
@@ -80,7 +85,7 @@ end_of-handed t (call.AddWatch from p mask) place plain = refl
 end_of-handed t (call.RmWatch from wd) place plain = refl
 end_of-handed t (call.Read from bytes) place plain = refl
 end_of-handed t (call.Pump from bytes) place plain = absurd (cc)
-end_of-handed t (call.Close from) place plain = refl
+end_of-handed t (call.Close from) place plain = sym (handed-close t place from)
 
 -- ---- instances with a pipe that a call makes
 
@@ -148,7 +153,6 @@ closed-there false o A i e = inl (i, e, refl)
 
 made-there : (t : Tree) (limit : ℕ) (p : Bool) (id : ℕ) (i : Instance) → refusal_of t (call.Init limit p) ≡ None
     → id ≡ t.next_id → i ≡ new_instance t.limits limit p → IsMade t (call.Init limit p) id i
-unfolding after_init
 made-there t limit p id i e next is = record {
   limit = limit;
   is_next = next;
@@ -191,7 +195,6 @@ opened-by t c id i h = by-refusal t c id i (refusal_of t c) refl h
 next-by : (t : Tree) (limit : ℕ) (p : Bool) (id : ℕ) (o : Option Refusal)
     → reply_by o (reply.Instance t.next_id) ≡ reply.Instance id
     → (tree_by o t (accepted t (call.Init limit p))).next_id ≡ t.next_id + 1
-unfolding after_init
 next-by t limit p id (Some r) e = absurd (cc)
 next-by t limit p id None e = refl
 

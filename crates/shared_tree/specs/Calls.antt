@@ -14,7 +14,7 @@ use Rattle.tree_core.specs.declared.reply.Entry.{Entry}
 use Rattle.tree_core.specs.Journal.{Journaled, IsPast, last_place, now, with_entry}
 use Rattle.shared_tree.specs.declared.pipe.Batch.{Batch}
 use Rattle.shared_tree.specs.Seats.{Seated, seated}
-use Rattle.shared_tree.specs.Handed.{handed_all, handed_by, piped_by, piped_of, deliver}
+use Rattle.shared_tree.specs.Handed.{handed, handed_by, piped_by, piped_of, deliver}
 
 -- the tree with its journal, the instances that were made with a pipe, what each pipe was sent in the order in which
 -- the pipes were made, and the ledger's total
@@ -33,7 +33,7 @@ pub record IsSent (state : Journaled) (pipes : List ℕ) (sent : List (List Batc
   pub past : List Entry
   pub is_past : IsPast state.start state.place past
   pub pipes_are : pipes ≡ piped_of (past ++ state.entries)
-  pub sent_are : sent ≡ handed_all state.start.limits (past ++ state.entries)
+  pub sent_are : sent ≡ map (handed state.start.limits (past ++ state.entries)) (piped_of (past ++ state.entries))
 
 -- what a call does beside its entry: an instance with a pipe that it made has a pipe more, which was sent nothing; the
 -- batch that it hands over joins what the pipe of its instance was sent; and the ledger's total is one more

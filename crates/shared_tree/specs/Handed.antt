@@ -1,6 +1,6 @@
 -- What a journal hands to the pipes of its instances.
-use Rattle.std.specs.Prelude.{◌≡◌, ℕ, ◌+◌, ◌<◌, ◌≤◌, true, List, [], ◌∷◌, ◌++◌, Option, Some, None, option_map, map}
-use Rattle.std.specs.Prelude.{flat_map}
+use Rattle.std.specs.Prelude.{◌≡◌, ℕ, ◌+◌, ◌<◌, ◌≤◌, true, List, [], ◌∷◌, ◌++◌, Option, Some, None, is_none, option_map}
+use Rattle.std.specs.Prelude.{if◌then◌else◌, flat_map}
 use Rattle.std.specs.List.{AllByRecursion}
 use Rattle.record_codec.specs.declared.event.Event.{Event}
 use Rattle.record_codec.specs.Records.{AreEvents, spelling}
@@ -11,7 +11,7 @@ use Rattle.tree_core.specs.declared.call.Call.TheVariants as call
 use Rattle.tree_core.specs.declared.reply.Entry.{Entry}
 use Rattle.tree_core.specs.declared.reply.Reply.{Reply}
 use Rattle.tree_core.specs.declared.reply.Reply.TheVariants as reply
-use Rattle.tree_core.specs.Tree.{Tree, opening, reply_of, after}
+use Rattle.tree_core.specs.Tree.{Tree, opening, refusal_of, reply_of, after}
 use Rattle.tree_core.specs.Histories.{pumped, read_in, if_same}
 use Rattle.tree_core.specs.Journal.{Journaled, IsLawful, IsPast}
 use Rattle.shared_tree.specs.declared.pipe.Batch.{Batch}
@@ -19,15 +19,11 @@ use Rattle.shared_tree.specs.declared.pipe.Batch.{Batch}
 abbrev pub batch : ℕ → ℕ → List Event → Batch
 batch instance place records = record { instance = instance; place = place; records = records }
 
-abbrev pub where_done : Reply → Batch → Option Batch
-where_done reply.Done b = Some b
-where_done _ b = None
-
 -- the batch that a call with this sequence number hands over: a pump its records, a close the end batch, which has
 -- none. A refused call hands over nothing
 abbrev pub handed_by : Tree → ℕ → Call → Option Batch
 handed_by t place (call.Pump id bytes) = option_map (batch id place) (pumped t id bytes)
-handed_by t place (call.Close id) = where_done (reply_of t (call.Close id)) (batch id place [])
+handed_by t place (call.Close id) = if is_none (refusal_of t (call.Close id)) then Some (batch id place []) else None
 handed_by t place _ = None
 
 -- that batch, where it is the instance's
@@ -62,10 +58,6 @@ piped_by _ _ = []
 abbrev pub piped_of : List Entry → List ℕ
 piped_of [] = []
 piped_of (e ∷ es) = piped_by e.call e.reply ++ piped_of es
-
--- what a journal hands to each of these
-abbrev pub handed_all : Limits → List Entry → List (List Batch)
-handed_all limits es = map (handed limits es) (piped_of es)
 
 -- each batch is of events, whose values fit their types
 abbrev pub AreOfEvents : List Batch → Type 0

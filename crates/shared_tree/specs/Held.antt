@@ -8,13 +8,14 @@ use Rattle.instance_table.specs.Instances.{instance_of}
 use Rattle.tree_core.specs.declared.call.Call.{Call}
 use Rattle.tree_core.specs.declared.call.Call.TheVariants as call
 use Rattle.tree_core.specs.declared.reply.Reply.{Reply}
+use Rattle.tree_core.specs.declared.reply.Reply.TheVariants as reply
 use Rattle.tree_core.specs.declared.reply.Entry.{Entry}
 use Rattle.tree_core.specs.Tree.{Tree, opening}
 use Rattle.tree_core.specs.Journal.{IsPast, IsSpent, Journaled, last_place, now}
 use Rattle.shared_tree.specs.declared.pipe.Batch.{Batch}
 use Rattle.shared_tree.specs.PipeEnds.{Piped}
 use Rattle.shared_tree.specs.Pipes.{IsIn, Lacks}
-use Rattle.shared_tree.specs.Handed.{AreOfEvents, batch, handed_since, piped_of, where_done}
+use Rattle.shared_tree.specs.Handed.{AreOfEvents, batch, handed_since, piped_of}
 
 -- ---- what is wanting
 
@@ -69,6 +70,10 @@ IsFilled ns t (Some id) = (i : Instance) × (instance_of t.instances id ≡ Some
 abbrev pub closed_of : Call → Option ℕ
 closed_of (call.Close id) = Some id
 closed_of _ = None
+
+abbrev pub where_done : Reply → Batch → Option Batch
+where_done reply.Done b = Some b
+where_done _ b = None
 
 -- the end batch of that instance, where it is closed
 abbrev pub end_of : Option ℕ → ℕ → Reply → Option Batch

@@ -28,7 +28,7 @@ use Rattle.tree_core.specs.declared.call.Call.TheVariants as call
 use Rattle.tree_core.specs.declared.reply.Entry.{Entry}
 use Rattle.tree_core.specs.Tree.{Tree, cookie_now, refusal_of, rm_watch_rows, after}
 use Rattle.tree_core.specs.Histories.{Raised, where_open, events_for, raised_to, raised_by, raised_in, fate, is_keeping}
-use Rattle.tree_core.specs.Histories.{is_merging, is_losing, events, joined, kept}
+use Rattle.tree_core.specs.Histories.{is_merging, is_losing, events, joined}
 use Rattle.tree_core.specs.QueueLaws.{EventsAreAccountedFor}
 use Rattle.tree_core.proofs.SoundWatches.{WatchLaws, HasSoundWatches, WatchesAreSound, WatchesAreSound-after}
 use Rattle.tree_core.proofs.SoundTrees.{sound-watches}
@@ -68,6 +68,10 @@ IsNoMark e = is_mark e ≡ false
 
 abbrev AreNoMarks : List Raised → Type 0
 AreNoMarks rs = All (λ r. IsNoMark r.event) rs
+
+-- the events that were kept
+abbrev kept : List Raised → List Event
+kept rs = events (filter (λ r. is_keeping (fate r)) rs)
 
 abbrev unmarked : List Event → List Event
 unmarked es = filter (λ e. not (is_mark e)) es

@@ -1,6 +1,7 @@
 -- The bytes that reads answered are those of the records that were read.
 use Rattle.std.proofs.Common.{◌≡◌, ℕ, Bool, true, false, if◌then◌else◌, ◌==◌, List, [], ◌∷◌, ◌++◌, Option, Some, None, refl, sym, ap, ◌∙◌}
 use Rattle.std.proofs.lemmas.Bool.{eqb-true}
+use Rattle.std.specs.Option.{option_map_or}
 use Rattle.std.proofs.lemmas.Grind.{flat_map-append}
 use Rattle.record_codec.specs.Records.{record_bytes, spelling}
 use Rattle.tree_paths.specs.declared.refusal.Refusal.{Refusal}
@@ -11,14 +12,15 @@ use Rattle.tree_core.specs.declared.call.Call.TheVariants as call
 use Rattle.tree_core.specs.declared.reply.Entry.{Entry}
 use Rattle.tree_core.specs.declared.reply.Reply.{Reply}
 use Rattle.tree_core.specs.declared.reply.Reply.TheVariants as reply
-use Rattle.tree_core.specs.Tree.{Tree, refusal_of, accepted_reply, read_answer, reply_by, reply_of, after}
+use Rattle.tree_core.specs.Tree.{Tree, refusal_of, accepted_reply, reply_of, after, oldest}
 use Rattle.tree_core.specs.Journal.{IsLawfulFrom}
-use Rattle.tree_core.specs.Histories.{where_open, oldest, records_for, read_by, read_in}
-use Rattle.tree_core.specs.QueueLaws.{bytes_in, bytes_of, bytes_read, BytesAreOfRecords}
+use Rattle.tree_core.specs.Histories.{where_open, records_for, read_by, read_in}
+use Rattle.tree_core.specs.QueueLaws.{bytes_of, bytes_read, BytesAreOfRecords}
+use Rattle.tree_core.proofs.Parts.{read_answer, reply_by}
 
 -- ---- one call
 
-none-of-none : (b : Bool) → let none : List ℕ = [] in (if b then none else none) ≡ none
+none-of-none : (b : Bool) → let none : List ℕ = [] in none ≡ (if b then none else none)
 none-of-none true = refl
 none-of-none false = refl
 
@@ -27,22 +29,36 @@ refused-bytes id (call.File f) r = refl
 refused-bytes id (call.Init limit is_piped) r = refl
 refused-bytes id (call.AddWatch from p mask) r = refl
 refused-bytes id (call.RmWatch from wd) r = refl
-refused-bytes id (call.Read from count) r = none-of-none (from == id)
-refused-bytes id (call.Pump from count) r = none-of-none (from == id)
+refused-bytes id (call.Read from count) r = refl
+refused-bytes id (call.Pump from count) r = refl
 refused-bytes id (call.Close from) r = refl
+
+-- the bytes of the records that a read answers
+abbrev answer_bytes : ℕ → Option Instance → List ℕ
+answer_bytes bytes o = option_map_or (λ i. spelling (oldest bytes i)) o []
+
+read-bytes : (from id bytes : ℕ) (o : Option Instance)
+    → bytes_of id (call.Read from bytes) (read_answer bytes o) ≡ (if from == id then answer_bytes bytes o else [])
+read-bytes from id bytes None = none-of-none (from == id)
+read-bytes from id bytes (Some i) = refl
+
+pump-bytes : (from id bytes : ℕ) (o : Option Instance)
+    → bytes_of id (call.Pump from bytes) (read_answer bytes o) ≡ (if from == id then answer_bytes bytes o else [])
+pump-bytes from id bytes None = none-of-none (from == id)
+pump-bytes from id bytes (Some i) = refl
 
 -- what a read of one instance answers, and what is read of the other
 answered : (m : Bool) (bytes : ℕ) (o : Option Instance)
-    → (if m then bytes_in (read_answer bytes o) else []) ≡ spelling (where_open None o (λ i. if m then oldest bytes i else []))
+    → (if m then answer_bytes bytes o else []) ≡ spelling (where_open None o (λ i. if m then oldest bytes i else []))
 answered true bytes None = refl
 answered true bytes (Some i) = refl
 answered false bytes None = refl
 answered false bytes (Some i) = refl
 
 same-answer : (t : Tree) (from id bytes : ℕ) (m : Bool) → (from == id) ≡ m
-    → (if m then bytes_in (read_answer bytes (instance_of t.instances from)) else [])
-    ≡ (if m then bytes_in (read_answer bytes (instance_of t.instances id)) else [])
-same-answer t from id bytes true e = ap (λ (n : ℕ). bytes_in (read_answer bytes (instance_of t.instances n))) (eqb-true from id e)
+    → (if m then answer_bytes bytes (instance_of t.instances from) else [])
+    ≡ (if m then answer_bytes bytes (instance_of t.instances id) else [])
+same-answer t from id bytes true e = ap (λ (n : ℕ). answer_bytes bytes (instance_of t.instances n)) (eqb-true from id e)
 same-answer t from id bytes false e = refl
 
 nothing-read : (o : Option Instance) → [] ≡ spelling (where_open None o (λ i. []))
@@ -55,8 +71,12 @@ accepted-bytes t (call.File f) id = nothing-read (instance_of t.instances id)
 accepted-bytes t (call.Init limit is_piped) id = nothing-read (instance_of t.instances id)
 accepted-bytes t (call.AddWatch from p mask) id = nothing-read (instance_of t.instances id)
 accepted-bytes t (call.RmWatch from wd) id = nothing-read (instance_of t.instances id)
-accepted-bytes t (call.Read from bytes) id = same-answer t from id bytes (from == id) refl ∙ answered (from == id) bytes (instance_of t.instances id)
-accepted-bytes t (call.Pump from bytes) id = same-answer t from id bytes (from == id) refl ∙ answered (from == id) bytes (instance_of t.instances id)
+accepted-bytes t (call.Read from bytes) id =
+    read-bytes from id bytes (instance_of t.instances from) ∙ same-answer t from id bytes (from == id) refl
+    ∙ answered (from == id) bytes (instance_of t.instances id)
+accepted-bytes t (call.Pump from bytes) id =
+    pump-bytes from id bytes (instance_of t.instances from) ∙ same-answer t from id bytes (from == id) refl
+    ∙ answered (from == id) bytes (instance_of t.instances id)
 accepted-bytes t (call.Close from) id = nothing-read (instance_of t.instances id)
 
 by-refusal : (t : Tree) (c : Call) (id : ℕ) (o : Option Refusal)

@@ -13,7 +13,8 @@ use Rattle.event_queue.specs.Backlogs.{Backlog, after_offer}
 use Rattle.event_rules.specs.declared.notice.TheConstants.{NO_COOKIE}
 use Rattle.event_rules.specs.declared.notice.Notice.{Notice}
 use Rattle.event_rules.specs.Raised.{events_of, ignored}
-use Rattle.event_rules.specs.Laws.{AreTied, IsTied, Mark, cookies_from, marks_of, marks_told, moves_with}
+use Rattle.event_rules.specs.Laws.{AreTied, Mark, cookies_from, marks_of, marks_told, moves_with}
+use Rattle.event_rules.proofs.Moves.{IsTied}
 use Rattle.event_rules.specs.Table.{notices_of}
 use Rattle.instance_table.specs.declared.instance.Instance.{Instance}
 use Rattle.instance_table.specs.Instances.{instance_of}
@@ -21,20 +22,21 @@ use Rattle.tree_core.specs.declared.call.Call.{Call}
 use Rattle.tree_core.specs.declared.call.Call.TheVariants as call
 use Rattle.tree_core.specs.declared.reply.Entry.{Entry}
 use Rattle.tree_core.specs.Histories.{raised_to, raised_by, events, events_for, where_open}
-use Rattle.tree_core.specs.Tree.{Tree, cookie_now, counts_of, refusal_of, after_file, after_init, after_add_watch}
-use Rattle.tree_core.specs.Tree.{after_rm_watch, after_accepted_read, after_close, accepted, tree_by, after}
-use Rattle.tree_core.specs.TurnLaws.{AreInTurn, cookies_taken, cookies_by, cookies_in, cookies_used, CookiesAreInTurn, CookiesTieMoves}
+use Rattle.tree_core.specs.Tree.{Tree, cookie_now, counts_of, refusal_of, after_file}
+use Rattle.tree_core.specs.Tree.{accepted, after}
+use Rattle.tree_core.specs.TurnLaws.{AreInTurn, cookies_by, cookies_in, cookies_used, CookiesAreInTurn, CookiesTieMoves}
+use Rattle.tree_core.proofs.Parts.{tree_by}
 use Rattle.tree_core.proofs.Counted.{HasRoom, cookies-there}
 use Rattle.tree_core.proofs.Turns.{Step, gives-many, gives-none, same-number}
 
 -- ---- an accepted call uses the next cookies
 
 file-cookies : (t : Tree) (f : FileCall) → refused t.world t.limits (counts_of t) f ≡ None
-    → Step t.next_cookie (t.next_cookie + cookies_of t.world f) (cookies_taken (cookies_of t.world f) t.next_cookie)
+    → Step t.next_cookie (t.next_cookie + cookies_of t.world f) (cookies_from (cookie_now t.next_cookie) (cookies_of t.world f))
 file-cookies t f none = by (cookies-there t.world t.limits (counts_of t) t.next_cookie refl f none)
   where
     by : HasRoom t.limits t.next_cookie (cookies_of t.world f)
-        → Step t.next_cookie (t.next_cookie + cookies_of t.world f) (cookies_taken (cookies_of t.world f) t.next_cookie)
+        → Step t.next_cookie (t.next_cookie + cookies_of t.world f) (cookies_from (cookie_now t.next_cookie) (cookies_of t.world f))
     by (inl unused) =
         gives-none _ _ _ (ap (cookies_from (cookie_now t.next_cookie)) unused) (ap (λ (n : ℕ). t.next_cookie + n) unused ∙ same-number t.next_cookie)
     by (inr room) =
@@ -42,7 +44,7 @@ file-cookies t f none = by (cookies-there t.world t.limits (counts_of t) t.next_
         (sym room.1) (gives-many t.next_cookie (cookies_of t.world f))
 
 accepted-cookies : (t : Tree) (c : Call) → refusal_of t c ≡ None → Step t.next_cookie (accepted t c).next_cookie (cookies_by None t c)
-unfolding after_file after_init after_add_watch after_rm_watch after_accepted_read after_close
+unfolding after_file
 accepted-cookies t (call.File f) none = file-cookies t f none
 accepted-cookies t (call.Init limit is_piped) none = gives-none _ _ _ refl refl
 accepted-cookies t (call.AddWatch id p mask) none = gives-none _ _ _ refl refl
@@ -89,7 +91,7 @@ module _ (laws : CookieLaws) where
   events_for-tied : (t : Tree) (c : Call) (id : ℕ) (i : Instance) → AreTied (moves_with (cookies_by None t c)) (marks_of (events_for t c id i))
   events_for-tied t (call.File f) id i =
       laws.raised i.watches (notices_of t.world f (cookie_now t.next_cookie))
-      (moves_with (cookies_taken (cookies_of t.world f) t.next_cookie)) (laws.told t.world f (cookie_now t.next_cookie))
+      (moves_with (cookies_from (cookie_now t.next_cookie) (cookies_of t.world f))) (laws.told t.world f (cookie_now t.next_cookie))
   events_for-tied t (call.Init limit is_piped) id i = nothing-tied []
   events_for-tied t (call.AddWatch from p mask) id i = nothing-tied []
   events_for-tied t (call.RmWatch from wd) id i = end-tied (from == id) wd

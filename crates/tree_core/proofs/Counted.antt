@@ -7,7 +7,7 @@ use Rattle.std.specs.FinMap as finmap
 use Rattle.std.specs.FinMap.{find, get-from_entries, get-entries}
 use Rattle.std.specs.Ordering.{nat_cmp, eq_by_cmp}
 use Rattle.std.specs.Cmp.{nat_cmp_total}
-use Rattle.tree_paths.specs.Greatest.{most_cookies}
+use Rattle.tree_paths.specs.Greatest.{most}
 use Rattle.tree_paths.specs.Rows.{row, first_row}
 use Rattle.tree_paths.specs.declared.limits.Limits.{Limits}
 use Rattle.tree_paths.specs.declared.refusal.Refusal.{Refusal}
@@ -87,7 +87,7 @@ HasRoom limits next used = (used ≡ 0) ⊎ ((next + used ≤ limits.cookies + 1
 
 one-room : (limits : Limits) (counts : Counts) (next : ℕ) → counts.next_cookie ≡ cookie_now next → cookies_row limits counts ≡ None → HasRoom limits next 1
 one-room limits counts next now none =
-    inr (by (nat_le next most_cookies)
+    inr (by (nat_le next most.cookies)
     (ap (λ (c : ℕ). (c == 0) || nat_lt limits.cookies c) (sym now)
     ∙ row-passes ((counts.next_cookie == 0) || nat_lt limits.cookies counts.next_cookie) CookiesSpent none))
   where
@@ -98,7 +98,7 @@ one-room limits counts next now none =
 
 two-room : (limits : Limits) (counts : Counts) (next : ℕ) → counts.next_cookie ≡ cookie_now next → two_cookies_row limits counts ≡ None → HasRoom limits next 2
 two-room limits counts next now none =
-    inr (by (nat_le next most_cookies)
+    inr (by (nat_le next most.cookies)
     (ap (λ (c : ℕ). (c == 0) || nat_lt limits.cookies (c + 1)) (sym now)
     ∙ row-passes ((counts.next_cookie == 0) || nat_lt limits.cookies (counts.next_cookie + 1)) CookiesSpent none))
   where
@@ -208,10 +208,10 @@ cookies-left t f none few = by (cookies-there t.world t.limits (counts_of t) t.n
 
 -- each of them fits the cookie field of a record
 pub cookies-fit : (limits : Limits) (next used : ℕ) → HasRoom limits next used → cookie_now next + used ≤ 2 ^ 32
-cookies-fit limits next used (inl unused) = by (nat_le next most_cookies) refl
+cookies-fit limits next used (inl unused) = by (nat_le next most.cookies) refl
   where
-    by : (b : Bool) → nat_le next most_cookies ≡ b → (if b then next else 0) + used ≤ 2 ^ 32
-    by true e = let few : next ≤ most_cookies = leb-true next most_cookies e in omega (arith, unused, few)
+    by : (b : Bool) → nat_le next most.cookies ≡ b → (if b then next else 0) + used ≤ 2 ^ 32
+    by true e = let few : next ≤ most.cookies = leb-true next most.cookies e in omega (arith, unused, few)
     by false e = omega (arith, unused)
 cookies-fit limits next used (inr room) = let most = limits.cookies_in.1 in omega (arith, room.0, room.1, most)
 

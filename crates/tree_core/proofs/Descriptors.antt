@@ -6,7 +6,9 @@ use Rattle.std.proofs.lemmas.Bool.{eqb-true}
 use Rattle.tree_paths.specs.declared.refusal.Refusal.{Refusal}
 use Rattle.inode_table.specs.World.{look}
 use Rattle.watch_table.specs.Masks.{known}
-use Rattle.watch_table.specs.Watching.{IsSound, Watch, Watching, added, added_to, dropped, watched_by, removed, watch_of, wd_added, wd_or, without}
+use Rattle.watch_table.specs.declared.watch.Watch.{Watch}
+use Rattle.watch_table.specs.Watching.{IsSound, Watching, added, dropped, watched_by, removed, watch_of, wd_added}
+use Rattle.watch_table.proofs.Watched.{added_to, wd_or, without}
 use Rattle.event_rules.specs.declared.notice.Notice.{Notice}
 use Rattle.event_rules.specs.Laws.{IsPartOf}
 use Rattle.event_rules.specs.Raised.{watches_after}
@@ -20,9 +22,10 @@ use Rattle.tree_core.specs.declared.reply.Reply.{Reply}
 use Rattle.tree_core.specs.declared.reply.Reply.TheVariants as reply
 use Rattle.tree_core.specs.Journal.{IsLawfulFrom}
 use Rattle.tree_core.specs.Sound.{IsSoundTree}
-use Rattle.tree_core.specs.Tree.{Tree, accepted, after, after_reading, accepted_reply, cookie_now, number_seen}
-use Rattle.tree_core.specs.Tree.{refusal_of, reply_by, reply_of, tree_by, watch_answer}
+use Rattle.tree_core.specs.Tree.{Tree, accepted, after, accepted_reply, cookie_now}
+use Rattle.tree_core.specs.Tree.{refusal_of, reply_of}
 use Rattle.tree_core.specs.TurnLaws.{DescriptorsRunOn, RunOn, TreesAreSound, next_wd_of, wd_in, wds_given, wds_of}
+use Rattle.tree_core.proofs.Parts.{after_reading, reply_by, tree_by, watch_answer, number_seen}
 use Rattle.tree_core.proofs.Opened.{eqb-other, eqb-swap, instance_of-accepted, left_of}
 use Rattle.tree_core.proofs.Untouched.{next-after, none-after}
 
@@ -132,7 +135,7 @@ added-step w number mask sound = by (watch_of w number) refl
   where
     by : (o : Option Watch) → watch_of w number ≡ o → Step w.next_wd (added_to w number mask o).next_wd (wd_or o (pos w.next_wd) ∷ [])
     by None at = record { all = λ rest h. inr (refl, h) }
-    by (Some watch) at = record { all = λ rest h. inl (sound.given number watch.0 (ap (option_map (λ (x : Watch). x.0)) at), h) }
+    by (Some watch) at = record { all = λ rest h. inl (sound.given number watch.wd (ap (option_map (λ (x : Watch). x.wd)) at), h) }
 
 removed-same : (w : Watching) (wd : ℤ) → (removed w wd).next_wd ≡ w.next_wd
 unfolding dropped

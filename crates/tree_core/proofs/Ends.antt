@@ -13,7 +13,9 @@ use Rattle.tree_paths.specs.declared.refusal.Refusal.{Refusal}
 use Rattle.tree_paths.specs.declared.refusal.Refusal.TheVariants.{Einval}
 use Rattle.inode_table.specs.World.{look}
 use Rattle.watch_table.specs.Masks.{known}
-use Rattle.watch_table.specs.Watching.{HasEnded, IsSound, Watch, Watching, added, watched_by, removed, watch_of, wd_added, wd_of, wd_or}
+use Rattle.watch_table.specs.declared.watch.Watch.{Watch}
+use Rattle.watch_table.specs.Watching.{HasEnded, IsSound, Watching, added, watched_by, removed, watch_of, wd_added, wd_of}
+use Rattle.watch_table.proofs.Watched.{wd_or}
 use Rattle.event_rules.specs.declared.notice.Notice.{Notice}
 use Rattle.event_rules.specs.Raised.{events_of, ignored, watches_after, wds_ended}
 use Rattle.event_rules.specs.Laws.{TellsNothing, says_ended}
@@ -27,10 +29,10 @@ use Rattle.tree_core.specs.declared.reply.Reply.{Reply}
 use Rattle.tree_core.specs.Histories.{Raised, raised_to, raised_by, raised_in, events, events_for, joined, where_open}
 use Rattle.tree_core.specs.Journal.{IsLawfulFrom}
 use Rattle.tree_core.specs.Sound.{IsSoundTree}
-use Rattle.tree_core.specs.Tree.{Tree, cookie_now, rm_watch_rows, refusal_of, number_seen, after_reading, after_file}
-use Rattle.tree_core.specs.Tree.{after_init, after_add_watch, after_rm_watch, after_accepted_read, after_close}
-use Rattle.tree_core.specs.Tree.{accepted, tree_by, watch_answer, reply_by, reply_of, after}
+use Rattle.tree_core.specs.Tree.{Tree, cookie_now, rm_watch_rows, refusal_of, after_file}
+use Rattle.tree_core.specs.Tree.{accepted, reply_of, after}
 use Rattle.tree_core.specs.TurnLaws.{WatchesEndOnce, wd_in, wds_of, wds_given, DescriptorsEndForGood}
+use Rattle.tree_core.proofs.Parts.{after_reading, tree_by, watch_answer, reply_by, number_seen}
 use Rattle.tree_core.proofs.Cookies.{events-raised_to}
 use Rattle.tree_core.proofs.Counted.{first-passes, row-passes}
 use Rattle.tree_core.proofs.Opened.{eqb-other, eqb-swap, left_of, instance_of-accepted}
@@ -68,7 +70,7 @@ some-uncut true o h = absurd (cc)
 some-uncut false o h = h
 
 left-below : (t : Tree) (c : Call) (id : ℕ) (o : Option Instance) → (IsSome o → id < t.next_id) → IsSome (left_of t c id o) → id < (accepted t c).next_id
-unfolding after_file after_init after_add_watch after_rm_watch after_accepted_read after_close
+unfolding after_file
 left-below t (call.File f) id o h there = h (some-before true (told (notices_of t.world f (cookie_now t.next_cookie))) o there)
 left-below t (call.Init limit is_piped) id o h there = by (eqb id t.next_id) refl there
   where
@@ -335,7 +337,7 @@ module _ (laws : EndLaws) where
           let given = h.given.1 in
           let past : pos w.next_wd <ℤ pos w.next_wd = subst (λ z. z <ℤ pos w.next_wd) (sym same) given in
           absurd (omega (arith, ints))
-      by (Some watch) is same = apart h.unwatched ((laws.tells w wd number sound).1 (ap (option_map (λ (x : Watch). x.0)) is ∙ ap Some same))
+      by (Some watch) is same = apart h.unwatched ((laws.tells w wd number sound).1 (ap (option_map (λ (x : Watch). x.wd)) is ∙ ap Some same))
 
   answer-apart : (number : ℕ) (wd : ℤ) (r : Option Refusal) (o : Option Instance) → HasSoundWatches o → OverIn wd o
       → All (λ given. given ≢ wd) (wd_in (reply_by r (watch_answer number o)))

@@ -20,10 +20,11 @@ use Rattle.instance_table.specs.Instances.{instance_of, new_instance, told, unwa
 use Rattle.tree_core.specs.declared.call.Call.{Call}
 use Rattle.tree_core.specs.declared.call.Call.TheVariants as call
 use Rattle.tree_core.specs.declared.reply.Entry.{Entry}
-use Rattle.tree_core.specs.Tree.{Tree, cookie_now, number_seen, refusal_of, accepted, tree_by, after, after_reading}
+use Rattle.tree_core.specs.Tree.{Tree, cookie_now, refusal_of, accepted, after, oldest}
 use Rattle.tree_core.specs.Journal.{tree_after}
-use Rattle.tree_core.specs.Histories.{Raised, where_open, oldest, events_for, records_for, raised_to, raised_by, raised_in, read_by, read_in, fate, joined}
+use Rattle.tree_core.specs.Histories.{Raised, where_open, events_for, records_for, raised_to, raised_by, raised_in, read_by, read_in, fate, joined}
 use Rattle.tree_core.specs.QueueLaws.{IsInOrder, ReadsAreInOrder}
+use Rattle.tree_core.proofs.Parts.{tree_by, after_reading, number_seen}
 use Rattle.tree_core.proofs.Opened.{eqb-swap, left_of, instance_of-accepted}
 use Rattle.tree_core.proofs.SoundTrees.{sound-ahead}
 use Rattle.tree_core.proofs.Untouched.{none-after, none-tree_after, next-after, untouched}

@@ -6,6 +6,7 @@ use Rattle.std.proofs.lemmas.Bool.Decides.{nat_tests}
 use Rattle.std.proofs.lemmas.Grind.{flat_map-append}
 use Rattle.std.proofs.lemmas.List.{append-nil, take_more}
 use Rattle.std.proofs.lemmas.Option.{get_or_from_slice_get, slice_get_within}
+use Rattle.std.specs.Option.{option_map_or}
 use Rattle.std.specs.Prelude.{◌⊎◌, IsSome, IfSome, option_copied, slice_get}
 use Rattle.std.specs.FinMap as finmap
 use Rattle.std.specs.FinMap.{get-empty, get-insert, get-remove}
@@ -20,15 +21,16 @@ use Rattle.tree_paths.specs.declared.refusal.Refusal.TheVariants.{Ebadf, Einval,
 use Rattle.inode_table.specs.declared.seen.Kind.TheVariants.{Directory}
 use Rattle.inode_table.specs.declared.seen.Seen.{Seen}
 use Rattle.inode_table.specs.TableWorld.{HasNumbersBelow}
-use Rattle.inode_table.specs.World.{World, File, look, opening_world, root_number, root_mode}
+use Rattle.inode_table.specs.World.{World, File, look, opening_world, root_number}
 use Rattle.inode_table.specs.Refusals.{find, is_directory_kind}
 use Rattle.watch_table.specs.Masks.{known, mask_fault}
 use Rattle.watch_table.specs.Watching.{add_refusal, wd_added}
 use Rattle.instance_table.specs.declared.instance.Instance.{Instance}
-use Rattle.instance_table.specs.Instances.{Instances, instance_of, changed, changed_by, watching}
+use Rattle.instance_table.specs.Instances.{Instances, instance_of, changed, watching}
 use Rattle.tree_core.specs.declared.reply.Reply.TheVariants as reply
 use Rattle.tree_core.specs.FileSystems.{IsNumbered}
-use Rattle.tree_core.specs.Tree.{Tree, init_rows, add_watch_rows, seen_fault, read_rows, watch_answer, number_seen}
+use Rattle.tree_core.specs.Tree.{Tree, init_rows, add_watch_rows, read_rows}
+use Rattle.tree_core.proofs.Parts.{seen_fault, watch_answer, number_seen}
 
 -- ---- which instances are open after a change
 
@@ -56,6 +58,10 @@ some-cut false o h = h
 
 pub opened-cut : (m : Instances) (id q : ℕ) → IsSome (instance_of (finmap.remove m id) q) → IsSome (instance_of m q)
 opened-cut m id q h = some-cut (eqb q id) (instance_of m q) (subst IsSome (get-cut m id q) h)
+
+-- the instances after a change of one that may be there
+abbrev pub changed_by : Instances → ℕ → (Instance → Instance) → Option Instance → Instances
+changed_by m id change o = option_map_or (λ i. finmap.insert m id (change i)) o m
 
 opened-changed_by : (m : Instances) (id : ℕ) (change : Instance → Instance) (o : Option Instance) (q : ℕ) → instance_of m id ≡ o
     → IsSome (instance_of (changed_by m id change o) q) → IsSome (instance_of m q)
@@ -234,7 +240,7 @@ is-root false n f o same none h = absurd (cc)
 pub below-opening : HasNumbersBelow opening_world (root_number + 1)
 unfolding opening_world
 below-opening n there =
-    let f : File = record { kind = Directory; mode = root_mode; bytes = [] } in
+    let f : File = record { kind = Directory; mode = 493; bytes = [] } in
     let none : finmap.FinMap nat_cmp File = finmap.empty in
     is-root (eqb n root_number) n f (finmap.get none n) refl (get-empty nat_cmp n)
     (subst IsSome (get-insert nat_cmp_total none root_number f n ∙ ap (λ b. cond b (Some f) (finmap.get none n)) (unsigned_tied n root_number)) there)

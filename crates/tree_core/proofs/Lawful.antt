@@ -15,9 +15,9 @@ use Rattle.tree_core.specs.Journal.{Journaled, HasPast, IsLawfulFrom, IsLawful, 
 use Rattle.tree_core.specs.Journal.{opened, stands_for, tree_after, waiting_in, with_entry}
 use Rattle.tree_core.specs.FileSystems.{tree_in}
 use Rattle.tree_core.specs.Sound.{IsSoundTree}
-use Rattle.tree_core.specs.Tree.{Tree, opening, refusal_of, reply_of, accepted, after, after_file, after_init}
-use Rattle.tree_core.specs.Tree.{after_add_watch, after_rm_watch, after_accepted_read, after_close, tree_by}
+use Rattle.tree_core.specs.Tree.{Tree, opening, refusal_of, reply_of, accepted, after, after_file}
 use Rattle.tree_core.specs.TurnLaws.{TreesAreSound}
+use Rattle.tree_core.proofs.Parts.{tree_by}
 
 -- ---- two parts
 
@@ -54,7 +54,7 @@ limits-opening limits = refl
 -- ---- a tree keeps its limits
 
 limits-accepted : (t : Tree) (c : Call) → (accepted t c).limits ≡ t.limits
-unfolding after_file after_init after_add_watch after_rm_watch after_accepted_read after_close
+unfolding after_file
 limits-accepted t (call.File f) = refl
 limits-accepted t (call.Init limit is_piped) = refl
 limits-accepted t (call.AddWatch id p mask) = refl

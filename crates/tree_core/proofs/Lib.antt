@@ -1,3 +1,4 @@
+pub mod Parts
 pub mod Serving
 pub mod Counted
 pub mod Filed

@@ -23,8 +23,9 @@ use Rattle.instance_table.specs.declared.instance.Instance.{Instance}
 use Rattle.instance_table.specs.Instances.{instance_of}
 use Rattle.tree_core.specs.declared.call.Call.{Call}
 use Rattle.tree_core.specs.declared.call.Call.TheVariants as call
-use Rattle.tree_core.specs.Tree.{Tree, add_watch_rows, close_rows, counts_of, init_rows, read_rows, refusal_of, rm_watch_rows, seen_fault, way_row}
+use Rattle.tree_core.specs.Tree.{Tree, add_watch_rows, close_rows, counts_of, init_rows, read_rows, refusal_of, rm_watch_rows}
 use Rattle.tree_core.specs.TurnLaws.{IsOfTree}
+use Rattle.tree_core.proofs.Parts.{seen_fault}
 
 abbrev is_outside : Refusal → Bool
 is_outside Enomem = true
@@ -116,7 +117,7 @@ rename2-rows-fit at limits counts old new flags =
     (either-fits (flags == RENAME_EXCHANGE) _ _ (exchange-rows-fit at limits counts old new) (refl, tt)))
 
 rows-fit : (at : Look) (limits : Limits) (counts : Counts) (f : FileCall) → Each (ops.rows_of at limits counts f)
-unfolding ops.make_rows ops.write_rows ops.read_rows ops.truncate_rows ops.chmod_rows ops.link_rows ops.unlink_rows ops.rmdir_rows ops.find_rows ops.list_rows
+unfolding ops.make_rows ops.write_rows ops.read_rows ops.truncate_rows ops.chmod_rows ops.link_rows ops.unlink_rows ops.rmdir_rows ops.list_rows
 rows-fit at limits counts (Create p mode) = (one _ _ refl, (one _ _ refl, (parent-fits at p, (one _ _ refl, (one _ _ refl, tt)))))
 rows-fit at limits counts (Mkdir p mode) = (one _ _ refl, (one _ _ refl, (parent-fits at p, (one _ _ refl, (one _ _ refl, tt)))))
 rows-fit at limits counts (Write p offset bytes) = (find-fits at p, (one _ _ refl, (one _ _ refl, tt)))
@@ -156,16 +157,10 @@ unfolding rm_watch_rows
 unwatch-fits wd None = refl
 unwatch-fits wd (Some i) = first (rm_watch_rows wd (Some i)) (one _ _ refl, tt)
 
-way-fits : (pumps piped : Bool) → Fits (way_row pumps piped)
-way-fits true true = tt
-way-fits true false = refl
-way-fits false true = refl
-way-fits false false = tt
-
 read-fits : (pumps : Bool) (bytes : ℕ) (o : Option Instance) → Fits (first_row (read_rows pumps bytes o))
 unfolding read_rows
 read-fits pumps bytes None = refl
-read-fits pumps bytes (Some i) = first (read_rows pumps bytes (Some i)) (way-fits pumps i.is_piped, (one _ _ refl, (one _ _ refl, tt)))
+read-fits pumps bytes (Some i) = first (read_rows pumps bytes (Some i)) (one _ _ refl, (one _ _ refl, (one _ _ refl, (one _ _ refl, tt))))
 
 init-fits : (t : Tree) (limit : ℕ) → Fits (first_row (init_rows t.limits t.instances t.next_id limit))
 unfolding init_rows

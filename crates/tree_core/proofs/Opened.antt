@@ -6,13 +6,14 @@ use Rattle.inode_table.specs.World.{look}
 use Rattle.watch_table.specs.Masks.{known}
 use Rattle.event_rules.specs.Table.{notices_of}
 use Rattle.instance_table.specs.declared.instance.Instance.{Instance}
-use Rattle.instance_table.specs.Instances.{Instances, instance_of, new_instance, told, watching, unwatching, changed, changed_by}
+use Rattle.instance_table.specs.Instances.{Instances, instance_of, new_instance, told, watching, unwatching, changed}
 use Rattle.tree_core.specs.declared.call.Call.{Call}
 use Rattle.tree_core.specs.declared.call.Call.TheVariants as call
-use Rattle.tree_core.specs.Tree.{Tree, cookie_now, number_seen, after_reading, after_file, after_init, after_add_watch}
-use Rattle.tree_core.specs.Tree.{after_rm_watch, after_accepted_read, after_close, accepted}
+use Rattle.tree_core.specs.Tree.{Tree, cookie_now, after_file}
+use Rattle.tree_core.specs.Tree.{accepted}
+use Rattle.tree_core.proofs.Parts.{after_reading, number_seen}
 use Rattle.tree_core.proofs.Counted.{instance_of-all_changed}
-use Rattle.tree_core.proofs.Instances.{get-put, get-cut}
+use Rattle.tree_core.proofs.Instances.{changed_by, get-put, get-cut}
 
 -- ---- numbers
 
@@ -65,7 +66,7 @@ left_of t (call.Pump from bytes) id o = cond (eqb id from) (option_map (after_re
 left_of t (call.Close from) id o = cond (eqb id from) None o
 
 pub instance_of-accepted : (t : Tree) (c : Call) (id : ℕ) → instance_of (accepted t c).instances id ≡ left_of t c id (instance_of t.instances id)
-unfolding after_file after_init after_add_watch after_rm_watch after_accepted_read after_close
+unfolding after_file
 instance_of-accepted t (call.File f) id = instance_of-all_changed t.instances (told (notices_of t.world f (cookie_now t.next_cookie))) id
 instance_of-accepted t (call.Init limit is_piped) id = get-put t.instances t.next_id (new_instance t.limits limit is_piped) id
 instance_of-accepted t (call.AddWatch from p mask) id = instance_of-changed t.instances from (watching (number_seen (look t.world p)) (known mask)) id

@@ -19,7 +19,8 @@ use Rattle.tree_core.specs.declared.reply.Reply.{Reply}
 use Rattle.tree_core.specs.declared.reply.Reply.TheVariants as reply
 use Rattle.tree_core.specs.Peeks.{bytes_waiting_in}
 use Rattle.tree_core.specs.FileSystems.{tree_in}
-use Rattle.tree_core.specs.Tree.{Tree, counts_of, reply_by, reply_of}
+use Rattle.tree_core.specs.Tree.{Tree, counts_of, reply_of}
+use Rattle.tree_core.proofs.Parts.{reply_by}
 
 pub bytes-file_system : (t : Tree) (m : FileSystem) (id : ℕ) (o : Option Instance) → tree_in m ≡ t
     → o ≡ instance_of m.instances id → option_map (λ (i : Instance). length (spelling i.queue.waiting)) o ≡ bytes_waiting_in t id

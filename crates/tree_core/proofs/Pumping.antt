@@ -12,18 +12,19 @@ use Rattle.tree_paths.specs.declared.refusal.Refusal.{Refusal}
 use Rattle.tree_paths.specs.declared.refusal.Refusal.TheVariants.{Enomem}
 use Rattle.event_queue.specs.Reads.{fitting}
 use Rattle.instance_table.specs.declared.instance.Instance.{Instance}
-use Rattle.instance_table.specs.Instances.{Instances, WaitingAreEvents, after_read, instance_of, waiting_of}
+use Rattle.instance_table.specs.Instances.{Instances, WaitingAreEvents, after_read, changed, instance_of, waiting_of}
 use Rattle.tree_core.specs.declared.call.Call.TheVariants as call
 use Rattle.tree_core.specs.declared.file_system.Begun.{Begun}
 use Rattle.tree_core.specs.declared.file_system.FileSystem.{FileSystem}
 use Rattle.tree_core.specs.declared.file_system.Rest.TheVariants.{Take}
 use Rattle.tree_core.specs.declared.reply.Reply.{Reply}
 use Rattle.tree_core.specs.declared.reply.Reply.TheVariants as reply
-use Rattle.tree_core.specs.Tree.{Tree, refusal_of, reply_of, accepted, accepted_reply, after_accepted_read, after_reading, read_answer, read_rows}
-use Rattle.tree_core.specs.Histories.{oldest, pumped, read_by, records_for, where_open, where_records}
+use Rattle.tree_core.specs.Tree.{Tree, refusal_of, reply_of, accepted, accepted_reply, read_rows, oldest}
+use Rattle.tree_core.specs.Histories.{pumped, read_by, records_for, where_open}
 use Rattle.tree_core.specs.FileSystems.{tree_in, Attempts, IsNumbered, reading, taken}
+use Rattle.tree_core.proofs.Parts.{after_reading, read_answer, reply_by, where_accepted, where_records}
 use Rattle.tree_core.proofs.Instances.{IsNumbered-changed, changed-same, read-open}
-use Rattle.tree_core.proofs.Serving.{IsAnswered, failed-attempts, reply_of-accepted, reply_of-refused}
+use Rattle.tree_core.proofs.Serving.{IsAnswered, failed-attempts, reply_of-accepted}
 use Rattle.tree_core.proofs.Spelled.{read-events}
 
 read_by-accepted : (t : Tree) (id bytes : ℕ) (i : Instance) → instance_of t.instances id ≡ Some i
@@ -38,19 +39,28 @@ pub pumped-accepted : (t : Tree) (id bytes : ℕ) (o : Option Instance) → inst
     → refusal_of t (call.Pump id bytes) ≡ None → IsSome o → pumped t id bytes ≡ option_map (oldest bytes) o
 pumped-accepted t id bytes None at none there = absurd (cc)
 pumped-accepted t id bytes (Some i) at none there =
-    ap (λ r. where_records r (read_by t (call.Pump id bytes) id)) (reply_of-accepted t (call.Pump id bytes) none ∙ ap (read_answer bytes) at)
-    ∙ ap (λ es. Some es) (read_by-accepted t id bytes i at none)
+    ap (λ r. where_accepted r (read_by t (call.Pump id bytes) id)) none ∙ ap (λ es. Some es) (read_by-accepted t id bytes i at none)
 
 pub pumped-refused : (t : Tree) (id bytes : ℕ) (r : Refusal) → refusal_of t (call.Pump id bytes) ≡ Some r → pumped t id bytes ≡ None
-pumped-refused t id bytes r is = ap (λ r. where_records r (read_by t (call.Pump id bytes) id)) (reply_of-refused t (call.Pump id bytes) r is)
+pumped-refused t id bytes r is = ap (λ r. where_accepted r (read_by t (call.Pump id bytes) id)) is
 
-where-events : (r : Reply) (es fs : List Event) → AreEvents es → where_records r es ≡ Some fs → AreEvents fs
-where-events (reply.Records bytes) es fs are is = subst (λ (o : Option (List Event)). IfSome o AreEvents) is are
-where-events (reply.File a) es fs are is = absurd (cc)
-where-events (reply.Instance id) es fs are is = absurd (cc)
-where-events (reply.Wd wd) es fs are is = absurd (cc)
-where-events reply.Done es fs are is = absurd (cc)
-where-events (reply.Refused r) es fs are is = absurd (cc)
+-- what a pump hands over is what it reads, where its reply has records
+pub pumped-replied : (t : Tree) (id bytes : ℕ)
+    → pumped t id bytes ≡ where_records (reply_of t (call.Pump id bytes)) (read_by t (call.Pump id bytes) id)
+pumped-replied t id bytes = by (refusal_of t (call.Pump id bytes)) refl (instance_of t.instances id) refl
+  where
+    by : (r : Option Refusal) → refusal_of t (call.Pump id bytes) ≡ r → (o : Option Instance) → instance_of t.instances id ≡ o
+        → where_accepted r (read_by t (call.Pump id bytes) id) ≡ where_records (reply_by r (read_answer bytes o)) (read_by t (call.Pump id bytes) id)
+    by (Some why) is o at = refl
+    by None is (Some i) at = refl
+    by None is None at =
+        absurd (
+        let there : IsSome (instance_of t.instances id) = read-open true bytes (instance_of t.instances id) (sym is) in
+        let missing : ◌≡◌ {A = Bool} false true = ap is_some (sym at) ∙ there in cc)
+
+where-events : (o : Option Refusal) (es fs : List Event) → AreEvents es → where_accepted o es ≡ Some fs → AreEvents fs
+where-events None es fs are is = subst (λ (o : Option (List Event)). IfSome o AreEvents) is are
+where-events (Some r) es fs are is = absurd (cc)
 
 -- the reply of a pump has the bytes of the records that it hands over
 pumped-by : (t : Tree) (id bytes : ℕ) (o : Option Refusal) → refusal_of t (call.Pump id bytes) ≡ o → (x : Option Instance) → instance_of t.instances id ≡ x
@@ -70,7 +80,7 @@ pub records-spelled : (t : Tree) → WaitingAreEvents t.instances → (id bytes 
     → IfSome o (λ es. AreEvents es × (r ≡ reply.Records (spelling es)))
 records-spelled t waits id bytes None r is e = tt
 records-spelled t waits id bytes (Some es) r is e = (
-  where-events (reply_of t (call.Pump id bytes)) (read_by t (call.Pump id bytes) id) es (read-events t waits (call.Pump id bytes) id) (sym is),
+  where-events (refusal_of t (call.Pump id bytes)) (read_by t (call.Pump id bytes) id) es (read-events t waits (call.Pump id bytes) id) (sym is),
   e ∙ pumped-by t id bytes (refusal_of t (call.Pump id bytes)) refl (instance_of t.instances id) refl es (sym is),
 )
 
@@ -84,7 +94,8 @@ read-reply : (pumps : Bool) (t : Tree) (id bytes : ℕ) → accepted_reply t (re
 read-reply true t id bytes = refl
 read-reply false t id bytes = refl
 
-read-after : (pumps : Bool) (t : Tree) (id bytes : ℕ) → accepted t (reading pumps id bytes) ≡ after_accepted_read t id bytes
+read-after : (pumps : Bool) (t : Tree) (id bytes : ℕ)
+    → accepted t (reading pumps id bytes) ≡ record t { instances = changed t.instances id (after_reading bytes) }
 read-after true t id bytes = refl
 read-after false t id bytes = refl
 
@@ -99,7 +110,6 @@ module _ (m : FileSystem) (pumps : Bool) (id bytes : ℕ) where
       → first_row (read_rows pumps bytes (instance_of m.instances id)) ≡ None → count ≡ fitting bytes i.queue.waiting
       → records ≡ spelling (take count i.queue.waiting)
       → Attempts m (reading pumps id bytes) (Ok (record { reply = reply.Records records; rest = Take id index count })) m
-  unfolding after_accepted_read
   read-attempts i index count records numbered at passes fits said = record {
     passes = read-refusal pumps (tree_in m) id bytes ∙ passes;
     reply =

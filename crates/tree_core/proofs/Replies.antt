@@ -1,7 +1,8 @@
 -- What a reply says about the tree that gave it.
-use Rattle.std.proofs.Common.{◌≡◌, ℕ, Bool, true, false, not, IsTrue, List, [], Option, Some, None, refl, sym, ap, ◌∙◌}
+use Rattle.std.proofs.Common.{◌≡◌, ℕ, Bool, true, false, not, ◌&&◌, IsTrue, List, [], Option, Some, None, refl, sym, ap, ◌∙◌}
 use Rattle.tree_paths.specs.Rows.{first_row}
 use Rattle.tree_paths.specs.declared.refusal.Refusal.{Refusal}
+use Rattle.tree_paths.specs.declared.refusal.Refusal.TheVariants.{NotPiped, Piped}
 use Rattle.inode_table.specs.Refusals.{Look}
 use Rattle.inode_table.specs.World.{look}
 use Rattle.watch_table.specs.Masks.{known}
@@ -10,21 +11,22 @@ use Rattle.instance_table.specs.Instances.{instance_of}
 use Rattle.tree_core.specs.declared.call.Call.{Call}
 use Rattle.tree_core.specs.declared.call.Call.TheVariants as call
 use Rattle.tree_core.specs.declared.reply.Reply.TheVariants as reply
-use Rattle.tree_core.specs.Tree.{Tree, refusal_of, add_watch_rows, read_rows, way_row, close_rows, accepted}
-use Rattle.tree_core.specs.Tree.{watch_answer, read_answer, number_seen, accepted_reply, reply_by, tree_by, reply_of}
+use Rattle.tree_core.specs.Tree.{Tree, refusal_of, add_watch_rows, read_rows, close_rows, accepted}
+use Rattle.tree_core.specs.Tree.{accepted_reply, reply_of}
 use Rattle.tree_core.specs.TurnLaws.{RepliesTell}
 use Rattle.tree_core.specs.Histories.{events_for, raised_by, raised_to, read_by, records_for, where_open}
-use Rattle.tree_core.proofs.Counted.{first-passes}
+use Rattle.tree_core.proofs.Parts.{watch_answer, read_answer, reply_by, tree_by, number_seen}
+use Rattle.tree_core.proofs.Counted.{each-passes, row-passes}
 use Rattle.tree_core.proofs.OfTree.{of-tree}
 use Rattle.tree_core.proofs.Untouched.{next-after}
 
 -- ---- where the instance of a call is open
 
-way-passes : (pumps piped : Bool) → way_row pumps piped ≡ None → piped ≡ pumps
-way-passes true true e = refl
-way-passes true false e = absurd (cc)
-way-passes false true e = absurd (cc)
-way-passes false false e = refl
+way-passes : (pumps piped : Bool) → (pumps && not piped) ≡ false → (not pumps && piped) ≡ false → piped ≡ pumps
+way-passes true true e h = refl
+way-passes true false e h = absurd (cc)
+way-passes false true e h = absurd (cc)
+way-passes false false e h = refl
 
 -- records are given of an open instance, the way that they are asked for
 given-open : (pumps : Bool) (count : ℕ) (bytes : List ℕ) (o : Option Instance) (r : Option Refusal)
@@ -32,7 +34,12 @@ given-open : (pumps : Bool) (count : ℕ) (bytes : List ℕ) (o : Option Instanc
 unfolding read_rows
 given-open pumps count bytes o (Some r) passes e = absurd (cc)
 given-open pumps count bytes None None passes e = absurd (cc)
-given-open pumps count bytes (Some i) None passes e = (i, refl, way-passes pumps i.is_piped (first-passes (way_row pumps i.is_piped) _ passes).0)
+given-open pumps count bytes (Some i) None passes e =
+    let each = each-passes (read_rows pumps count (Some i)) passes in (
+      i,
+      refl,
+      way-passes pumps i.is_piped (row-passes (pumps && not i.is_piped) NotPiped each.0) (row-passes (not pumps && i.is_piped) Piped each.1.0),
+    )
 
 piped-not : {o : Option Instance} → (i : Instance) × (o ≡ Some i) × (i.is_piped ≡ false) → (i : Instance) × (o ≡ Some i) × IsTrue (not i.is_piped)
 piped-not w = (w.0, w.1, ap not w.2)

@@ -11,8 +11,9 @@ use Rattle.tree_core.specs.declared.file_system.Rest.TheVariants.{Nothing}
 use Rattle.tree_core.specs.declared.reply.Reply.{Reply}
 use Rattle.tree_core.specs.declared.reply.Reply.TheVariants as reply
 use Rattle.tree_core.specs.Calls.{takes_memory}
-use Rattle.tree_core.specs.Tree.{Tree, refusal_of, accepted_reply, accepted, reply_by, tree_by, reply_of, after}
+use Rattle.tree_core.specs.Tree.{Tree, refusal_of, accepted_reply, accepted, reply_of, after}
 use Rattle.tree_core.specs.FileSystems.{tree_in, Attempts, Begins, IsNumbered, finished}
+use Rattle.tree_core.proofs.Parts.{reply_by, tree_by}
 
 pub reply_of-refused : (t : Tree) (c : Call) (r : Refusal) → refusal_of t c ≡ Some r → reply_of t c ≡ reply.Refused r
 reply_of-refused t c r e = ap (λ o. reply_by o (accepted_reply t c)) e

@@ -7,13 +7,14 @@ use Rattle.std.proofs.lemmas.Bool.Decides.{nat_tests}
 use Rattle.std.specs.FinMap as finmap
 use Rattle.std.specs.FinMap.{int_cmp-IsAntisymmetric, nat_cmp-IsAntisymmetric, same_map}
 use Rattle.std.specs.Ordering.{nat_cmp}
-use Rattle.tree_paths.specs.Greatest.{most_cookies}
+use Rattle.tree_paths.specs.Greatest.{most}
 use Rattle.tree_paths.specs.declared.limits.Limits.{Limits}
 use Rattle.inode_table.specs.Files.{file_row}
 use Rattle.inode_table.specs.World.{File}
 use Rattle.inode_table.proofs.WorldLemmas.{path_total, path_exact}
 use Rattle.watch_table.specs.Rows.{by_wd, watch_rows}
-use Rattle.watch_table.specs.Watching.{IsSound, Watch, Watching}
+use Rattle.watch_table.specs.declared.watch.Watch.{Watch}
+use Rattle.watch_table.specs.Watching.{IsSound, Watching}
 use Rattle.instance_table.specs.declared.instance.Instance.{Instance}
 use Rattle.instance_table.specs.Rows.{instance_row}
 use Rattle.instance_table.specs.Instances.{all_changed, instance_of}
@@ -23,7 +24,7 @@ use Rattle.tree_core.specs.Snapshots.{IsSnapshotOf}
 use Rattle.tree_core.specs.Sound.{IsSoundInstance, IsSoundTree}
 use Rattle.tree_core.specs.Tree.{Tree, cookie_now}
 use Rattle.tree_core.proofs.Counted.{instance_of-all_changed}
-use Rattle.watch_table.proofs.Turned.{made-of-entries, map-map, turned-twice}
+use Rattle.watch_table.proofs.Turned.{as_watch, made-of-entries, map-map, plain, turned-twice}
 
 -- ---- files
 
@@ -33,13 +34,17 @@ files-back (e ∷ es) = ap (λ (xs : List (ℕ × File)). e ∷ xs) (files-back 
 
 -- ---- watches
 
-watches-back : (w : Watching) → IsSound w → finmap.from_entries (map (λ r. (r.0, (r.1, r.2))) (watch_rows w)) ≡ w.watches
+-- the watch that a row stands for, by the number of its file
+abbrev row_back : ℕ × ℤ × ℕ → ℕ × Watch
+row_back r = (r.0, record { wd = r.1; mask = r.2 })
+
+watches-back : (w : Watching) → IsSound w → finmap.from_entries (map row_back (watch_rows w)) ≡ w.watches
 unfolding watch_rows
 watches-back w sound =
     ap (λ (es : List (ℕ × Watch)). finmap.from_entries {R = nat_cmp} es)
-    (map-map (λ (r : ℕ × ℤ × ℕ). (r.0, (r.1, r.2))) (λ (e : ℤ × (ℕ × ℕ)). (e.1.0, e.0, e.1.1)) (finmap.entries (by_wd w)))
-    ∙ turned-twice nat_cmp_total nat_cmp-IsAntisymmetric int_cmp_total int_cmp-IsAntisymmetric w.watches
-    (λ j k wd x y one two. sound.apart j k wd (ap (option_map (λ (v : Watch). v.0)) one) (ap (option_map (λ (v : Watch). v.0)) two))
+    (map-map row_back (λ (e : ℤ × (ℕ × ℕ)). (e.1.0, e.0, e.1.1)) (finmap.entries (by_wd w)))
+    ∙ turned-twice nat_cmp_total nat_cmp-IsAntisymmetric int_cmp_total int_cmp-IsAntisymmetric as_watch plain w.watches
+    (λ j k wd x y one two. sound.apart j k wd (ap (option_map (λ (v : Watch). v.wd)) one) (ap (option_map (λ (v : Watch). v.wd)) two))
 
 -- ---- instances
 
@@ -68,7 +73,7 @@ instances-back t is =
 
 -- ---- cookies
 
-cookie-back : (next : ℕ) → next ≤ most_cookies + 1 → 1 ≤ next → cookies_until (cookie_now next) ≡ next
+cookie-back : (next : ℕ) → next ≤ most.cookies + 1 → 1 ≤ next → cookies_until (cookie_now next) ≡ next
 cookie-back next few some = grind (arith, nat_tests)
 
 -- ---- the tree

@@ -23,8 +23,9 @@ use Rattle.instance_table.specs.Instances.{instance_of, new_instance, watching, 
 use Rattle.tree_core.specs.declared.call.Call.{Call}
 use Rattle.tree_core.specs.declared.call.Call.TheVariants as call
 use Rattle.tree_core.specs.declared.reply.Entry.{Entry}
-use Rattle.tree_core.specs.Tree.{Tree, opening, refusal_of, accepted, tree_by, after, add_watch_rows, seen_fault, number_seen, cookie_now, after_reading}
+use Rattle.tree_core.specs.Tree.{Tree, opening, refusal_of, accepted, after, add_watch_rows, cookie_now}
 use Rattle.tree_core.specs.Journal.{tree_after}
+use Rattle.tree_core.proofs.Parts.{tree_by, seen_fault, after_reading, number_seen}
 use Rattle.tree_core.proofs.Opened.{left_of, instance_of-accepted}
 
 -- the laws of the crates of watches and of events, as far as they keep watches sound

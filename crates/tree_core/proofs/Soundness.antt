@@ -15,7 +15,7 @@ use Rattle.tree_paths.specs.declared.limits.Limits.{Limits}
 use Rattle.tree_paths.specs.declared.refusal.Refusal.{Refusal}
 use Rattle.inode_table.specs.Rows.{Label}
 use Rattle.inode_table.specs.Refusals.{find}
-use Rattle.inode_table.specs.World.{World, File, IsWorld, IsWhole, look, seen_as, opening_world, root_number}
+use Rattle.inode_table.specs.World.{World, File, IsWorld, IsWhole, look, opening_world, root_number}
 use Rattle.inode_table.specs.declared.seen.Seen.{Seen}
 use Rattle.inode_table.proofs.TreeLemmas.{some_none}
 use Rattle.inode_table.proofs.SeenLemmas.{is_value}
@@ -26,7 +26,9 @@ use Rattle.tree_ops.specs.Refused.{refused}
 use Rattle.tree_ops.specs.After as ops
 use Rattle.tree_ops.proofs.Worlds.{standing}
 use Rattle.watch_table.specs.Masks.{known, mask_fault}
-use Rattle.watch_table.specs.Watching.{Watch, Watching, IsSound, added, added_to, dropped, removed, without, watched_by, no_watches, watch_of}
+use Rattle.watch_table.specs.declared.watch.Watch.{Watch}
+use Rattle.watch_table.specs.Watching.{Watching, IsSound, added, dropped, removed, watched_by, no_watches, watch_of}
+use Rattle.watch_table.proofs.Watched.{added_to, without}
 use Rattle.event_queue.specs.Backlogs.{Backlog, after_offer, overflow_mark}
 use Rattle.event_queue.specs.Fates.{IsBounded, KeepsBounds}
 use Rattle.event_rules.specs.declared.notice.Notice.{Notice}
@@ -40,12 +42,12 @@ use Rattle.instance_table.specs.Instances.{instance_of, new_instance, told, watc
 use Rattle.tree_core.specs.declared.call.Call.{Call}
 use Rattle.tree_core.specs.declared.call.Call.TheVariants as call
 use Rattle.tree_core.specs.declared.reply.Entry.{Entry}
-use Rattle.tree_core.specs.Tree.{Tree, opening, cookie_now, counts_of, refusal_of, accepted, after, tree_by}
-use Rattle.tree_core.specs.Tree.{add_watch_rows, seen_fault, number_seen, after_reading, after_file, after_init}
-use Rattle.tree_core.specs.Tree.{after_add_watch, after_rm_watch, after_accepted_read, after_close}
+use Rattle.tree_core.specs.Tree.{Tree, opening, cookie_now, counts_of, refusal_of, accepted, after}
+use Rattle.tree_core.specs.Tree.{add_watch_rows, after_file}
 use Rattle.tree_core.specs.Journal.{tree_after}
 use Rattle.tree_core.specs.Sound.{IsCounted, IsSoundInstance, IsSoundTree}
 use Rattle.tree_core.specs.TurnLaws.{TreesAreSound}
+use Rattle.tree_core.proofs.Parts.{tree_by, seen_fault, after_reading, after_init, number_seen}
 use Rattle.tree_core.proofs.Counted.{IsCounted-filed}
 use Rattle.tree_core.proofs.Instances.{opened-put, opened-cut, opened-changed, init-passes, at-instance, none-opened}
 use Rattle.tree_core.proofs.Opened.{left_of, instance_of-accepted}
@@ -77,7 +79,6 @@ pub record TreeLaws : Type 0 where
 -- ---- counts
 
 IsCounted-accepted : (t : Tree) (c : Call) → IsCounted t → refusal_of t c ≡ None → IsCounted (accepted t c)
-unfolding after_init after_add_watch after_rm_watch after_accepted_read after_close
 IsCounted-accepted t (call.File f) is none = IsCounted-filed t f is none
 IsCounted-accepted t (call.Init limit is_piped) is none = record {
   numbers = is.numbers;
@@ -170,7 +171,7 @@ watched-removed w wd n h = by (watched_by w wd) h
 -- what an accepted call watches is there
 seen-file : (t : Tree) (from : ℕ) (p : List Label) (mask : ℕ) → refusal_of t (call.AddWatch from p mask) ≡ None
     → IsSome (finmap.get t.world.files (number_seen (look t.world p)))
-unfolding add_watch_rows seen_as
+unfolding add_watch_rows
 seen-file t from p mask none = by (instance_of t.instances from) none
   where
     first : (o : Option Refusal) (rows : List (Option Refusal)) → first_row (o ∷ rows) ≡ None → (o ≡ None) × (first_row rows ≡ None)
@@ -300,7 +301,6 @@ module _ (laws : TreeLaws) (t : Tree) (is : IsSoundTree t) where
 
   keeps-left : (c : Call) (id : ℕ) (o : Option Instance) → refusal_of t c ≡ None → IfSome o (IsSoundInstance t)
       → IfSome (left_of t c id o) (IsKeeping (accepted t c))
-  unfolding after_init after_add_watch after_rm_watch after_accepted_read after_close
   keeps-left (call.File f) id None none h = tt
   keeps-left (call.File f) id (Some i) none h = keeps-told f none i h
   keeps-left (call.Init limit is_piped) id o none h = by (eqb id t.next_id)
@@ -344,14 +344,14 @@ module _ (laws : TreeLaws) (t : Tree) (is : IsSoundTree t) where
       (λ i g. keeps-same (call.Pump from bytes) i refl refl g) (λ i g. keeps-read (call.Pump from bytes) bytes i refl refl g) o h
   keeps-left (call.Close from) id o none h = by (eqb id from)
     where
-      by : (b : Bool) → IfSome (cond b None o) (IsKeeping (after_close t from))
+      by : (b : Bool) → IfSome (cond b None o) (IsKeeping (accepted t (call.Close from)))
       by true = tt
-      by false = weaker-if (IsSoundInstance t) (IsKeeping (after_close t from)) (λ i g. keeps-same (call.Close from) i refl refl g) o h
+      by false = weaker-if (IsSoundInstance t) (IsKeeping (accepted t (call.Close from))) (λ i g. keeps-same (call.Close from) i refl refl g) o h
 
   -- ---- the files
 
   world-accepted : (c : Call) → refusal_of t c ≡ None → IsWorld (accepted t c).world
-  unfolding after_file after_init after_add_watch after_rm_watch after_accepted_read after_close
+  unfolding after_file
   world-accepted (call.File f) none = laws.world t.world t.limits (counts_of t) f is.world none unused
   world-accepted (call.Init limit is_piped) none = is.world
   world-accepted (call.AddWatch from p mask) none = is.world
@@ -361,7 +361,7 @@ module _ (laws : TreeLaws) (t : Tree) (is : IsSoundTree t) where
   world-accepted (call.Close from) none = is.world
 
   whole-accepted : (c : Call) → refusal_of t c ≡ None → IsWhole (accepted t c).world
-  unfolding after_file after_init after_add_watch after_rm_watch after_accepted_read after_close
+  unfolding after_file
   whole-accepted (call.File f) none = laws.whole t.world t.limits (counts_of t) f is.world is.whole none unused
   whole-accepted (call.Init limit is_piped) none = is.whole
   whole-accepted (call.AddWatch from p mask) none = is.whole
@@ -376,7 +376,7 @@ module _ (laws : TreeLaws) (t : Tree) (is : IsSoundTree t) where
   given-filed f number (inr (e, one)) = omega (arith, e, one)
 
   given-accepted : (c : Call) (number : ℕ) → IsSome (finmap.get (accepted t c).world.files number) → number < (accepted t c).next_number
-  unfolding after_file after_init after_add_watch after_rm_watch after_accepted_read after_close
+  unfolding after_file
   given-accepted (call.File f) number h = given-filed f number (laws.numbers t.world (counts_of t) f number h)
   given-accepted (call.Init limit is_piped) number h = is.given number h
   given-accepted (call.AddWatch from p mask) number h = is.given number h

@@ -9,11 +9,12 @@ use Rattle.tree_core.specs.declared.call.Call.{Call}
 use Rattle.tree_core.specs.declared.call.Call.TheVariants as call
 use Rattle.tree_core.specs.declared.file_system.FileSystem.{FileSystem}
 use Rattle.tree_core.specs.declared.reply.Entry.{Entry}
-use Rattle.tree_core.specs.Tree.{Tree, refusal_of, accepted_reply, number_seen, read_answer, reply_by, reply_of, after, watch_answer}
+use Rattle.tree_core.specs.Tree.{Tree, refusal_of, accepted_reply, reply_of, after, oldest}
 use Rattle.tree_core.specs.Journal.{tree_after}
 use Rattle.tree_core.specs.Calls.{IsSpelled}
-use Rattle.tree_core.specs.Histories.{oldest, read_by, read_in, records_for, where_open}
+use Rattle.tree_core.specs.Histories.{read_by, read_in, records_for, where_open}
 use Rattle.tree_core.specs.FileSystems.{tree_in}
+use Rattle.tree_core.proofs.Parts.{read_answer, reply_by, watch_answer, number_seen}
 use Rattle.inode_table.specs.World.{look}
 use Rattle.event_queue.specs.Reads.{fitting}
 

@@ -1,12 +1,16 @@
 -- Numbers of files and of instances are given in turn.
-use Rattle.std.proofs.Common.{◌≡◌, ℕ, zero, suc, ◌+◌, List, [], ◌∷◌, ◌++◌, Option, Some, None, refl, sym, subst, arith}
+use Rattle.std.proofs.Common.{◌≡◌, ℕ, zero, suc, ◌+◌, List, [], ◌∷◌, ◌++◌, length, Option, Some, None, refl, sym, subst, arith}
 use Rattle.std.specs.FinMap as finmap
+use Rattle.std.specs.Option.{option_map_or}
 use Rattle.tree_paths.specs.declared.refusal.Refusal.{Refusal}
-use Rattle.inode_table.specs.World.{World, File, file_at, look}
+use Rattle.inode_table.specs.World.{World, File, links, look}
+use Rattle.inode_table.specs.Rows.{Label}
 use Rattle.tree_ops.specs.declared.call.FileCall.{FileCall}
 use Rattle.tree_ops.specs.declared.call.FileCall.TheVariants.{Create, Write, ReadFile, Truncate, Chmod, Mkdir, Link}
 use Rattle.tree_ops.specs.declared.call.FileCall.TheVariants.{Unlink, Rmdir, Rename, Rename2, Stat as Status}
 use Rattle.tree_ops.specs.declared.call.FileCall.TheVariants.{List as Listed}
+use Rattle.tree_ops.specs.declared.answer.Answer.{Answer}
+use Rattle.tree_ops.specs.declared.answer.Answer.TheVariants.{Done, Stat}
 use Rattle.tree_ops.specs.After as ops
 use Rattle.event_rules.specs.Laws.{cookies_from}
 use Rattle.instance_table.specs.declared.instance.Instance.{Instance}
@@ -17,10 +21,11 @@ use Rattle.tree_core.specs.declared.reply.Entry.{Entry}
 use Rattle.tree_core.specs.declared.reply.Reply.{Reply}
 use Rattle.tree_core.specs.declared.reply.Reply.TheVariants as reply
 use Rattle.tree_core.specs.Journal.{IsLawfulFrom}
-use Rattle.tree_core.specs.Tree.{Tree, counts_of, refusal_of, after_file, after_init, after_add_watch, after_rm_watch}
-use Rattle.tree_core.specs.Tree.{after_accepted_read, after_close, accepted, watch_answer, read_answer, number_seen}
-use Rattle.tree_core.specs.Tree.{accepted_reply, reply_by, tree_by, after}
+use Rattle.tree_core.specs.Tree.{Tree, counts_of, refusal_of, after_file}
+use Rattle.tree_core.specs.Tree.{accepted}
+use Rattle.tree_core.specs.Tree.{accepted_reply, after}
 use Rattle.tree_core.specs.TurnLaws.{AreInTurn, number_in, numbers_given, NumbersAreInTurn, id_in, ids_given, IdsAreInTurn}
+use Rattle.tree_core.proofs.Parts.{watch_answer, read_answer, reply_by, tree_by, number_seen}
 
 -- what a call gives is in turn: what is in turn from the number that comes next after it is so behind it too
 pub record Step (now next : ℕ) (given : List ℕ) : Type 0 where
@@ -43,10 +48,20 @@ gives-many now (suc used) = record {
 
 -- ---- numbers of files
 
-stat-number : (w : World) (n : Option ℕ) (f : Option File) → number_in (reply.File (ops.stat_by w n f)) ≡ []
-stat-number w None f = refl
-stat-number w (Some n) None = refl
-stat-number w (Some n) (Some f) = refl
+stat-number : (w : World) (p : List Label) → number_in (reply.File (ops.stat_of w p)) ≡ []
+unfolding ops.stat_of
+stat-number w p = by (finmap.get w.paths p)
+  where
+    told : ℕ → Option File → Answer
+    told n o = option_map_or (λ (f : File). Stat n f.kind f.mode (links w n) (length f.bytes)) o Done
+
+    of : (n : ℕ) (o : Option File) → number_in (reply.File (told n o)) ≡ []
+    of n None = refl
+    of n (Some f) = refl
+
+    by : (o : Option ℕ) → number_in (reply.File (option_map_or (λ n. told n (finmap.get w.files n)) o Done)) ≡ []
+    by None = refl
+    by (Some n) = of n (finmap.get w.files n)
 
 watch-number : (number : ℕ) (o : Option Instance) → number_in (watch_answer number o) ≡ []
 watch-number number None = refl
@@ -72,11 +87,11 @@ file-step t (Unlink p) = gives-none _ _ _ refl (same-number t.next_number)
 file-step t (Rmdir p) = gives-none _ _ _ refl (same-number t.next_number)
 file-step t (Rename old new) = gives-none _ _ _ refl (same-number t.next_number)
 file-step t (Rename2 old new flags) = gives-none _ _ _ refl (same-number t.next_number)
-file-step t (Status p) = gives-none _ _ _ (stat-number t.world (finmap.get t.world.paths p) (file_at t.world p)) (same-number t.next_number)
+file-step t (Status p) = gives-none _ _ _ (stat-number t.world p) (same-number t.next_number)
 file-step t (Listed p) = gives-none _ _ _ refl (same-number t.next_number)
 
 accepted-numbers : (t : Tree) (c : Call) → Step t.next_number (accepted t c).next_number (number_in (accepted_reply t c))
-unfolding after_file after_init after_add_watch after_rm_watch after_accepted_read after_close
+unfolding after_file
 accepted-numbers t (call.File f) = file-step t f
 accepted-numbers t (call.Init limit is_piped) = gives-none _ _ _ refl refl
 accepted-numbers t (call.AddWatch id p mask) = gives-none _ _ _ (watch-number (number_seen (look t.world p)) (instance_of t.instances id)) refl
@@ -110,7 +125,7 @@ read-id bytes None = refl
 read-id bytes (Some i) = refl
 
 accepted-ids : (t : Tree) (c : Call) → Step t.next_id (accepted t c).next_id (id_in (accepted_reply t c))
-unfolding after_file after_init after_add_watch after_rm_watch after_accepted_read after_close
+unfolding after_file
 accepted-ids t (call.File f) = gives-none _ _ _ refl refl
 accepted-ids t (call.Init limit is_piped) = gives-one _ _ _ refl refl
 accepted-ids t (call.AddWatch id p mask) = gives-none _ _ _ (watch-id (number_seen (look t.world p)) (instance_of t.instances id)) refl

@@ -9,11 +9,11 @@ use Rattle.instance_table.specs.Instances.{instance_of, new_instance}
 use Rattle.tree_core.specs.declared.call.Call.{Call}
 use Rattle.tree_core.specs.declared.call.Call.TheVariants as call
 use Rattle.tree_core.specs.declared.reply.Entry.{Entry}
-use Rattle.tree_core.specs.Tree.{Tree, opening, refusal_of, accepted, tree_by, after, after_file, after_init}
-use Rattle.tree_core.specs.Tree.{after_add_watch, after_rm_watch, after_accepted_read, after_close}
+use Rattle.tree_core.specs.Tree.{Tree, opening, refusal_of, accepted, after, after_file}
 use Rattle.tree_core.specs.Journal.{tree_after}
 use Rattle.tree_core.specs.Histories.{where_open, events_for, records_for, raised_to, raised_by, raised_in, read_by, read_in}
 use Rattle.tree_core.specs.QueueLaws.{IsUntouched, UnmadeInstancesHearNothing, ClosedInstancesHearNothing}
+use Rattle.tree_core.proofs.Parts.{tree_by, after_init}
 use Rattle.tree_core.proofs.Opened.{eqb-other, left_of, instance_of-accepted}
 use Rattle.tree_core.proofs.SoundTrees.{sound-ahead}
 
@@ -35,7 +35,7 @@ module _ (t : Tree) (c : Call) (id : ℕ) (none : instance_of t.instances id ≡
 
 -- the number of the next instance never goes back
 next-accepted : (t : Tree) (c : Call) → t.next_id ≤ (accepted t c).next_id
-unfolding after_file after_init after_add_watch after_rm_watch after_accepted_read after_close
+unfolding after_file
 next-accepted t (call.File f) = omega arith
 next-accepted t (call.Init limit is_piped) = omega arith
 next-accepted t (call.AddWatch id p mask) = omega arith
@@ -64,7 +64,6 @@ none-if true o e = refl
 none-if false o e = e
 
 not-next : (t : Tree) (limit : ℕ) (is_piped : Bool) (id : ℕ) → IsPast t (after_init t limit is_piped) id → eqb id t.next_id ≡ false
-unfolding after_init
 not-next t limit is_piped id (inl h) = eqb-other id t.next_id (λ e. absurd (omega arith))
 not-next t limit is_piped id (inr h) = eqb-other id t.next_id (λ e. absurd (omega arith))
 

@@ -9,12 +9,15 @@ use Rattle.record_codec.specs.declared.event.Event.{Event}
 use Rattle.tree_paths.specs.declared.refusal.Refusal.{Refusal}
 use Rattle.inode_table.specs.World.{look}
 use Rattle.watch_table.specs.Masks.{known}
-use Rattle.watch_table.specs.Watching.{HasEnded, Watch, Watching, added, added_to, dropped, watched_by, removed, watch_of, without}
+use Rattle.watch_table.specs.declared.watch.Watch.{Watch}
+use Rattle.watch_table.specs.Watching.{HasEnded, Watching, added, dropped, watched_by, removed, watch_of}
+use Rattle.watch_table.proofs.Watched.{added_to, without}
 use Rattle.event_queue.specs.declared.offered.Offered.{Offered}
 use Rattle.event_queue.specs.declared.offered.Offered.TheVariants.{Kept, Merged, Marked, Lost}
 use Rattle.event_queue.specs.Backlogs.{joining, overflow_mark}
 use Rattle.event_rules.specs.declared.notice.Notice.{Notice}
-use Rattle.event_rules.specs.Laws.{IsSubsequence, AreTied, HasWatch, IsPartOf, IsTied, Mark, TellsNothing, is_move, marks_of, moves_in, moves_with}
+use Rattle.event_rules.specs.Laws.{IsSubsequence, AreTied, HasWatch, IsPartOf, Mark, TellsNothing, is_move, marks_of, moves_in, moves_with}
+use Rattle.event_rules.proofs.Moves.{IsTied}
 use Rattle.event_rules.specs.declared.notice.TheConstants.{NO_COOKIE}
 use Rattle.event_rules.specs.Raised.{event_bit, watches_after}
 use Rattle.event_rules.specs.Table.{notices_of}
@@ -23,9 +26,10 @@ use Rattle.instance_table.specs.Instances.{instance_of, new_instance, unwatching
 use Rattle.tree_core.specs.declared.call.Call.{Call}
 use Rattle.tree_core.specs.declared.call.Call.TheVariants as call
 use Rattle.tree_core.specs.Histories.{Raised, events, events_for, fate, joined, raised_by, raised_to, read_by, where_open}
-use Rattle.tree_core.specs.Sound.{IsGivenRecord, IsSoundTree}
-use Rattle.tree_core.specs.Tree.{Tree, accepted, after, after_reading, cookie_now, number_seen, refusal_of, tree_by}
+use Rattle.tree_core.specs.Sound.{IsSoundTree}
+use Rattle.tree_core.specs.Tree.{Tree, accepted, after, cookie_now, refusal_of}
 use Rattle.tree_core.specs.TurnLaws.{AreInTurn, CookiesTieMoves, cookies_used}
+use Rattle.tree_core.proofs.Parts.{after_reading, tree_by, IsGivenRecord, number_seen}
 use Rattle.tree_core.proofs.Accounts.{RaisedLaws, events-watched}
 use Rattle.tree_core.proofs.Cookies.{cookies-step, events-raised_to}
 use Rattle.tree_core.proofs.Ends.{EndLaws, IsOver, IsOver-after, OverIn, over-given, quiet-one, said-one, silent-one}

@@ -1,13 +1,12 @@
 -- What the calls of a journal raise for an instance, what becomes of it, and what is read.
-use Rattle.std.specs.Prelude.{ℕ, Bool, true, false, ◌==◌, List, [], ◌∷◌, ◌++◌, Option, Some, None, map, take}
+use Rattle.std.specs.Prelude.{ℕ, Bool, true, false, ◌==◌, List, [], ◌∷◌, ◌++◌, Option, Some, None, is_none, map}
 use Rattle.std.specs.Prelude.{if◌then◌else◌}
-use Rattle.std.specs.List.{filter, flat_map}
+use Rattle.std.specs.List.{flat_map}
 use Rattle.record_codec.specs.declared.event.Event.{Event}
 use Rattle.tree_paths.specs.declared.refusal.Refusal.{Refusal}
 use Rattle.event_queue.specs.declared.offered.Offered.{Offered}
 use Rattle.event_queue.specs.declared.offered.Offered.TheVariants.{Kept, Merged, Marked, Lost}
 use Rattle.event_queue.specs.Backlogs.{Backlog, offered, joining, after_offer}
-use Rattle.event_queue.specs.Reads.{fitting}
 use Rattle.event_rules.specs.Table.{notices_of}
 use Rattle.event_rules.specs.Raised.{events_of, ignored}
 use Rattle.instance_table.specs.declared.instance.Instance.{Instance}
@@ -15,9 +14,7 @@ use Rattle.instance_table.specs.Instances.{instance_of}
 use Rattle.tree_core.specs.declared.call.Call.{Call}
 use Rattle.tree_core.specs.declared.call.Call.TheVariants as call
 use Rattle.tree_core.specs.declared.reply.Entry.{Entry}
-use Rattle.tree_core.specs.declared.reply.Reply.{Reply}
-use Rattle.tree_core.specs.declared.reply.Reply.TheVariants as reply
-use Rattle.tree_core.specs.Tree.{Tree, cookie_now, refusal_of, reply_of, after}
+use Rattle.tree_core.specs.Tree.{Tree, cookie_now, oldest, refusal_of, after}
 
 -- ---- one call, and one open instance
 
@@ -35,10 +32,6 @@ abbrev pub events_for : Tree → Call → ℕ → Instance → List Event
 events_for t (call.File f) id i = events_of i.watches (notices_of t.world f (cookie_now t.next_cookie))
 events_for t (call.RmWatch from wd) id i = if_same from id (ignored wd ∷ [])
 events_for t _ id i = []
-
--- as many of the oldest records as fit
-abbrev pub oldest : ℕ → Instance → List Event
-oldest bytes i = take (fitting bytes i.queue.waiting) i.queue.waiting
 
 -- the records that an accepted call reads of an open instance
 abbrev pub records_for : Call → ℕ → Instance → List Event
@@ -65,13 +58,10 @@ raised_by t c id =
 unfoldable pub read_by : Tree → Call → ℕ → List Event
 read_by t c id = where_open (refusal_of t c) (instance_of t.instances id) (records_for c id)
 
-abbrev pub where_records : Reply → List Event → Option (List Event)
-where_records (reply.Records bytes) es = Some es
-where_records _ es = None
-
 -- the records that a pump hands over, where it is not refused
 abbrev pub pumped : Tree → ℕ → ℕ → Option (List Event)
-pumped t id bytes = where_records (reply_of t (call.Pump id bytes)) (read_by t (call.Pump id bytes) id)
+pumped t id bytes =
+    if is_none (refusal_of t (call.Pump id bytes)) then Some (read_by t (call.Pump id bytes) id) else None
 
 -- ---- a journal, from a tree on
 
@@ -93,22 +83,17 @@ fate r = offered r.queue.limit r.queue.waiting r.event
 
 abbrev pub is_keeping : Offered → Bool
 is_keeping Kept = true
-is_keeping Merged = false
-is_keeping Marked = false
-is_keeping Lost = false
+is_keeping _ = false
 
 abbrev pub is_merging : Offered → Bool
-is_merging Kept = false
 is_merging Merged = true
-is_merging Marked = false
-is_merging Lost = false
+is_merging _ = false
 
 -- an event is also lost if a mark joins instead of it
 abbrev pub is_losing : Offered → Bool
-is_losing Kept = false
-is_losing Merged = false
 is_losing Marked = true
 is_losing Lost = true
+is_losing _ = false
 
 -- the events that were raised
 abbrev pub events : List Raised → List Event
@@ -117,7 +102,3 @@ events rs = map (λ r. r.event) rs
 -- the records that joined the queue
 abbrev pub joined : List Raised → List Event
 joined rs = flat_map (λ r. joining (fate r) r.event) rs
-
--- the events that were kept
-abbrev pub kept : List Raised → List Event
-kept rs = events (filter (λ r. is_keeping (fate r)) rs)

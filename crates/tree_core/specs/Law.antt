@@ -18,12 +18,6 @@ abbrev pub AtEach : (Tree → Call → Type 0) → Tree → List Entry → Type 
 AtEach P t [] = ⊤
 AtEach P t (e ∷ es) = P t e.call × AtEach P (after t e.call) es
 
--- the i-th move of a call has the i-th of its cookies. What the call raises for an instance are some of the
--- IN_MOVED_FROM and IN_MOVED_TO of these moves, in order, each with the cookie of its move; all other events have
--- cookie 0
-abbrev pub TiesMoves : Tree → Call → Type 0
-TiesMoves t c = (id : ℕ) → AreTied (moves_with (cookies_used t c)) (marks_of (events (raised_by t c id)))
-
 -- a call that is refused leaves the files, the watches and what waits as they were; what joined and what was read of
 -- each instance are as before it
 abbrev pub RefusedAddsNothing : Tree → Call → Type 0
@@ -41,7 +35,10 @@ pub record IsTold (s : Journaled) (id : ℕ) : Type 0 where
   pub accounted : AreAccountedFor (raised_in s.start s.entries id)
   pub found : FindsTheUnread s.start s.entries id
 
--- no two moves share a cookie, and only the events of a move have one other than 0
+-- no two moves share a cookie, and the i-th move of a call has the i-th of its cookies. What the call raises for an
+-- instance are some of the IN_MOVED_FROM and IN_MOVED_TO of these moves, in order, each with the cookie of its move;
+-- all other events have cookie 0
 pub record HasCookiesInTurn (s : Journaled) : Type 0 where
   pub turn : AreInTurn s.start.next_cookie (cookies_in s.start s.entries)
-  pub ties : AtEach TiesMoves s.start s.entries
+  pub ties : AtEach (λ t c. (id : ℕ) → AreTied (moves_with (cookies_used t c)) (marks_of (events (raised_by t c id))))
+      s.start s.entries

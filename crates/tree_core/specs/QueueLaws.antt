@@ -16,7 +16,7 @@ use Rattle.tree_core.specs.Tree.{Tree}
 use Rattle.tree_core.specs.Journal.{IsLawfulFrom, Journaled, now, tree_after}
 use Rattle.tree_core.specs.Sound.{IsSoundTree}
 use Rattle.tree_core.specs.Histories.{Raised, raised_by, raised_in, read_in, fate, is_keeping, is_merging, is_losing}
-use Rattle.tree_core.specs.Histories.{joined, kept, if_same}
+use Rattle.tree_core.specs.Histories.{events, joined, if_same}
 
 -- ---- what was read, and what waits
 
@@ -32,15 +32,11 @@ ReadsAreInOrder =
     → IsInOrder (read_in t es id) (waiting_of (instance_of t.instances id) ++ joined (raised_in t es id))
     (instance_of (tree_after t es).instances id)
 
-abbrev pub bytes_in : Reply → List ℕ
-bytes_in (reply.Records bytes) = bytes
-bytes_in _ = []
-
 -- the bytes that a call read of an instance
 abbrev pub bytes_of : ℕ → Call → Reply → List ℕ
-bytes_of id (call.Read from count) r = if_same from id (bytes_in r)
-bytes_of id (call.Pump from count) r = if_same from id (bytes_in r)
-bytes_of id _ r = []
+bytes_of id (call.Read from count) (reply.Records bytes) = if_same from id bytes
+bytes_of id (call.Pump from count) (reply.Records bytes) = if_same from id bytes
+bytes_of id _ _ = []
 
 -- the bytes that were read of an instance, in order
 abbrev pub bytes_read : ℕ → List Entry → List ℕ
@@ -66,7 +62,7 @@ pub record AreAccountedFor (rs : List Raised) : Type 0 where
   pub count : length rs
       ≡ count_by (λ r. is_keeping (fate r)) rs
       + (count_by (λ r. is_merging (fate r)) rs + count_by (λ r. is_losing (fate r)) rs)
-  pub order : filter (λ e. not (is_mark e)) (joined rs) ≡ kept rs
+  pub order : filter (λ e. not (is_mark e)) (joined rs) ≡ events (filter (λ r. is_keeping (fate r)) rs)
 
 -- the queue that each raised event found is what had joined, or waited at first, and was not read yet. So a lost event
 -- has an unread mark behind it, or before it, and a mark joins only where all earlier ones were read

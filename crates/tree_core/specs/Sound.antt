@@ -25,14 +25,9 @@ abbrev pub NothingFollowsIgnored : List Event → Type 0
 NothingFollowsIgnored es =
     (before after : List Event) (e : Event) → es ≡ before ++ e ∷ after → IsTrue (says_ended e) → TellsNothing e.wd after
 
--- the mark, or a record whose descriptor and cookie were given
-abbrev pub IsGivenRecord : Tree → Instance → Event → Type 0
-IsGivenRecord t i e =
-    (e ≡ overflow_mark)
-    ⊎ ((pos 1 ≤ℤ e.wd) × (e.wd <ℤ pos i.watches.next_wd) × ((e.cookie ≡ 0) ⊎ (e.cookie < t.next_cookie)))
-
--- the watches of an open instance are sound and of files that are there, and its queue keeps its bounds. Where an
--- IN_IGNORED waits, its watch has ended, and no later record is of it
+-- the watches of an open instance are sound and of files that are there, and its queue keeps its bounds. Each record
+-- that waits is the mark, or one whose descriptor and cookie were given. Where an IN_IGNORED waits, its watch has
+-- ended, and no later record is of it
 pub record IsSoundInstance (t : Tree) (i : Instance) : Type 0 where
   pub watches : IsSound i.watches
   pub most_watches : i.watches.most_watches ≡ t.limits.watches
@@ -40,7 +35,9 @@ pub record IsSoundInstance (t : Tree) (i : Instance) : Type 0 where
   pub watched : (number : ℕ) → IsSome (watch_of i.watches number) → IsSome (finmap.get t.world.files number)
   pub bounded : IsBounded i.queue
   pub limited : i.queue.limit ≤ t.limits.queue
-  pub given : All (IsGivenRecord t i) i.queue.waiting
+  pub given : All (λ e. (e ≡ overflow_mark)
+      ⊎ ((pos 1 ≤ℤ e.wd) × (e.wd <ℤ pos i.watches.next_wd) × ((e.cookie ≡ 0) ⊎ (e.cookie < t.next_cookie))))
+      i.queue.waiting
   pub quiet : NothingFollowsIgnored i.queue.waiting
   pub over : All (λ e. IsTrue (says_ended e) → HasEnded i.watches e.wd) i.queue.waiting
 

@@ -59,13 +59,10 @@ IdsAreInTurn = (t : Tree) (es : List Entry) → IsLawfulFrom t es → AreInTurn 
 
 -- ---- cookies
 
--- `used` cookies, from the next one on
-abbrev pub cookies_taken : ℕ → ℕ → List ℕ
-cookies_taken used next = cookies_from (cookie_now next) used
-
+-- as many cookies as an accepted call takes, from the next one on
 abbrev pub cookies_by : Option Refusal → Tree → Call → List ℕ
 cookies_by (Some refusal) t c = []
-cookies_by None t (call.File f) = cookies_taken (cookies_of t.world f) t.next_cookie
+cookies_by None t (call.File f) = cookies_from (cookie_now t.next_cookie) (cookies_of t.world f)
 cookies_by None t _ = []
 
 -- the cookies that a call uses, in order: one for each move that it makes

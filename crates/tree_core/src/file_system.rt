@@ -10,10 +10,10 @@ ghost use Rattle.inode_table.specs.TableWorld.{world_of};
 ghost use Rattle.tree_ops.specs.Moves.{cookies_of};
 ghost use Rattle.event_rules.specs.Table.{notices_of};
 ghost use Rattle.instance_table.specs.Instances.{all_changed, instance_of, told};
-ghost use Rattle.tree_core.specs.Histories.{oldest, pumped};
+ghost use Rattle.tree_core.specs.Histories.{pumped};
 ghost use Rattle.tree_core.specs.FileSystems.{tree_in, Attempts, Begins, CanFinish, IsNumbered, finished, reading};
 ghost use Rattle.tree_core.specs.FileSystems.{LeadsTo, rest_of, taken};
-ghost use Rattle.tree_core.specs.Tree.{opening, counts_of, init_rows, rm_watch_rows, read_rows, close_rows};
+ghost use Rattle.tree_core.specs.Tree.{opening, counts_of, init_rows, rm_watch_rows, read_rows, close_rows, oldest};
 
 use crate::call::Call;
 use crate::reply::Reply;

@@ -8,7 +8,7 @@ use Rattle.inode_table.specs.Refusals.{find}
 use Rattle.tree_ops.specs.declared.call.Counts.{Counts}
 use Rattle.tree_ops.specs.declared.call.FileCall.{FileCall}
 use Rattle.tree_ops.specs.declared.call.FileCall.TheVariants.{ReadFile, Stat, List as Listed}
-use Rattle.tree_ops.specs.Refused.{refused, refusal_seen, find_rows, list_rows, read_rows}
+use Rattle.tree_ops.specs.Refused.{refused, refusal_seen, list_rows, read_rows}
 use Rattle.tree_ops.specs.After.{answer_of}
 use Rattle.tree_ops.specs.Answered.{answered, answered_by}
 
@@ -24,8 +24,8 @@ alone (Some refusal) = refl
 -- the rows at the path of each call, as it was resolved
 pub stat-row : (w : World) (limits : Limits) (counts : Counts) (p q : List (List ℕ)) (o : Option Refusal) → q ≡ p
     → o ≡ find (look w) q → o ≡ refused w limits counts (Stat p)
-unfolding refusal_seen find_rows
-stat-row w limits counts p q o is e = e ∙ alone (find (look w) q) ∙ ap (λ x. first_row (find_rows (look w) x)) is
+unfolding refusal_seen
+stat-row w limits counts p q o is e = e ∙ alone (find (look w) q) ∙ ap (λ x. first_row (find (look w) x ∷ [])) is
 
 pub list-row : (w : World) (limits : Limits) (counts : Counts) (p q : List (List ℕ)) (o : Option Refusal) → q ≡ p
     → o ≡ first_row (list_rows (look w) q) → o ≡ refused w limits counts (Listed p)

@@ -1,19 +1,19 @@
 -- Changes of one file, and paths of one file.
 use Rattle.std.proofs.Common.{◌≡◌, ◌≢◌, ◌==◌, ℕ, List, [], true, false, Option, Some, None, IsSome, IfSome, is_some, refl, sym, ap, ◌∙◌, subst, if◌then◌else◌}
 use borrow.Author.Tests.{eq-eqb}
-use Rattle.std.specs.Option.{option_and_then, option_map, IsSomeAnd, unwrap_or}
+use Rattle.std.specs.Option.{option_map, IsSomeAnd, unwrap_or}
 use Rattle.std.specs.FinMap as finmap
-use Rattle.inode_table.specs.World.{World, IsWorld, look, seen_as, has_names, File, file_at, with_move, with_swap, without_lost}
+use Rattle.inode_table.specs.World.{World, IsWorld, look, File, file_at, with_move, with_swap, without_lost}
 use Rattle.inode_table.specs.declared.seen.Seen.{Seen}
 use Rattle.inode_table.proofs.SeenLemmas.{is_value}
 use Rattle.inode_table.proofs.MapLemmas.{keys-none}
 use Rattle.inode_table.proofs.PathLemmas.{is_below-false}
-use Rattle.inode_table.proofs.WorldLemmas.{path_total, path_exact}
+use Rattle.inode_table.proofs.WorldLemmas.{has_names, path_total, path_exact}
 use Rattle.tree_paths.specs.Paths.{is_below}
 use Rattle.tree_ops.proofs.Worlds.{standing, regular-seen, seen-directory}
 use Rattle.tree_ops.specs.Refused.{are_same_seen, has_names_seen}
 use Rattle.inode_table.specs.Refusals.{Look, is_directory_seen}
-use Rattle.tree_ops.specs.After.{are_same, after_rename, after_exchange, bytes_at}
+use Rattle.tree_ops.specs.After.{after_rename, bytes_at}
 
 pub all-some : {A : Type 0} (P Q : A → Type 0) (o : Option A) → ((x : A) → P x → Q x) → IsSomeAnd o P → IfSome o Q
 all-some P Q None f h = absurd h
@@ -26,45 +26,25 @@ bytes-of w p bytes h = by (file_at w p) h
     by None h = absurd h
     by (Some f) h = h
 
--- the number under a path is the one that is seen there
-number-seen : (w : World) → IsWorld w → (p : List (List ℕ)) → finmap.get w.paths p ≡ option_map (λ (s : Seen). s.number) (look w p)
-unfolding look seen_as
-number-seen w is p =
-    elim (finmap.get w.paths p) as (λ o. finmap.get w.paths p ≡ o
-    → o ≡ option_map (λ (s : Seen). s.number) (option_and_then (λ n. option_map (seen_as w p n) (finmap.get w.files n)) o)) [
-      | None ↦ λ _. refl
-      | Some n ↦
-          λ there.
-          let f = is_value (finmap.get w.files n) (is.files p n there) in
-          sym (ap (λ o. option_map (λ (s : Seen). s.number) (option_map (seen_as w p n) o)) f.1)
-    ] refl
-
-pub same-file : (w : World) → IsWorld w → (old new : List (List ℕ))
-    → are_same (finmap.get w.paths old) (finmap.get w.paths new) ≡ are_same_seen (look w old) (look w new)
-same-file w is old new = (λ i. are_same (number-seen w is old i) (number-seen w is new i)) ∙ by (look w old) (look w new)
-  where
-    by : (o p : Option Seen) → are_same (option_map (λ (s : Seen). s.number) o) (option_map (λ (s : Seen). s.number) p) ≡ are_same_seen o p
-    by None p = refl
-    by (Some s) None = refl
-    by (Some s) (Some r) = refl
+-- what an exchange leaves
+abbrev pub after_exchange : World → List (List ℕ) → List (List ℕ) → World
+after_exchange w old new = if are_same_seen (look w old) (look w new) then w else with_swap w old new
 
 pub renamed-nothing : (w : World) → IsWorld w → (old new : List (List ℕ)) → are_same_seen (look w old) (look w new) ≡ true → after_rename w old new ≡ w
 unfolding after_rename
-renamed-nothing w is old new e = ap (λ b. if b then w else without_lost (with_move w old new) (finmap.get w.paths new)) (same-file w is old new ∙ e)
+renamed-nothing w is old new e = ap (λ b. if b then w else without_lost (with_move w old new) (finmap.get w.paths new)) e
 
 pub renamed-moved : (w : World) → IsWorld w → (old new : List (List ℕ)) → are_same_seen (look w old) (look w new) ≡ false
     → after_rename w old new ≡ without_lost (with_move w old new) (finmap.get w.paths new)
 unfolding after_rename
-renamed-moved w is old new e = ap (λ b. if b then w else without_lost (with_move w old new) (finmap.get w.paths new)) (same-file w is old new ∙ e)
+renamed-moved w is old new e = ap (λ b. if b then w else without_lost (with_move w old new) (finmap.get w.paths new)) e
 
 pub exchanged-nothing : (w : World) → IsWorld w → (old new : List (List ℕ)) → are_same_seen (look w old) (look w new) ≡ true → after_exchange w old new ≡ w
-unfolding after_exchange
-exchanged-nothing w is old new e = ap (λ b. if b then w else with_swap w old new) (same-file w is old new ∙ e)
+exchanged-nothing w is old new e = ap (λ b. if b then w else with_swap w old new) e
 
 pub exchanged-swapped : (w : World) → IsWorld w → (old new : List (List ℕ)) → are_same_seen (look w old) (look w new) ≡ false
     → after_exchange w old new ≡ with_swap w old new
-unfolding after_exchange
-exchanged-swapped w is old new e = ap (λ b. if b then w else with_swap w old new) (same-file w is old new ∙ e)
+exchanged-swapped w is old new e = ap (λ b. if b then w else with_swap w old new) e
 
 -- files that differ stand at paths that differ
 pub other-paths : (at : Look) (old new : List (List ℕ)) → IsSome (at old) → are_same_seen (at old) (at new) ≡ false → old ≢ new
@@ -77,14 +57,12 @@ other-paths at old new there off same = by (at old) there (ap (λ p. are_same_se
 -- ---- what is no directory
 
 nameless : (w : World) → IsWorld w → (p : List (List ℕ)) → is_directory_seen (look w p) ≡ false → has_names w p ≡ false
-unfolding has_names
 nameless w is p regular =
     keys-none path_total path_exact (λ q. is_below q p) w.paths
     (λ q found. is_below-false p q (λ l s e. regular-seen w p regular (is.fronts p l s (ap (λ x. is_some (finmap.get w.paths x)) (sym e) ∙ found))))
 
 pub nameless-seen : (w : World) → IsWorld w → (p : List (List ℕ)) → IsSome (look w p) → is_directory_seen (look w p) ≡ false
     → IsSomeAnd (look w p) (λ (s : Seen). s.has_names ≡ false)
-unfolding seen_as
 nameless-seen w is p there regular =
     let s = is_value (look w p) there in
     let at = standing w p s.0 s.1 in

@@ -2,12 +2,13 @@
 use Rattle.std.proofs.Common.{◌≡◌, ◌≢◌, ◌⊎◌, inl, inr, ℕ, ◌==◌, false, List, Option, Some, None, IsSome, refl, sym, ◌∙◌, subst, ap}
 use Rattle.std.proofs.lemmas.Bool.{cases_eq}
 use Rattle.std.specs.Cmp.{nat_cmp_total}
+use Rattle.std.specs.Option.{option_map_or}
 use Rattle.std.specs.FinMap as finmap
 use Rattle.std.specs.FinMap.{nat_cmp-IsAntisymmetric}
 use Rattle.tree_paths.specs.declared.limits.Limits.{Limits}
 use Rattle.inode_table.specs.Bytes.{resized, written}
 use Rattle.inode_table.specs.Rows.{Label}
-use Rattle.inode_table.specs.World.{World, File, IsWorld, links, look, linked, with_file, with_path, without_path, with_move, changed_at}
+use Rattle.inode_table.specs.World.{World, File, IsWorld, links, look, with_file, with_path, without_path, with_move, changed_at}
 use Rattle.inode_table.proofs.TreeLemmas.{some_none}
 use Rattle.inode_table.proofs.CountLemmas.{IsCount-one, IsCount-more}
 use Rattle.inode_table.proofs.MapLemmas.{count-of}
@@ -20,12 +21,13 @@ use Rattle.tree_ops.specs.declared.call.FileCall.TheVariants.{Create, Write, Rea
 use Rattle.tree_ops.specs.declared.call.FileCall.TheVariants.{Unlink, Rmdir, Rename, Rename2, Stat as Status}
 use Rattle.tree_ops.specs.declared.call.FileCall.TheVariants.{List as Listed}
 use Rattle.tree_ops.specs.Refused.{refused, refusal_seen, are_same_seen}
-use Rattle.tree_ops.specs.After.{after, after_unlink, after_rename, after_exchange, numbers_of}
+use Rattle.tree_ops.specs.After.{after, after_unlink, after_rename, numbers_of}
+use Rattle.tree_ops.proofs.Changed.{after_exchange}
 use Rattle.tree_ops.proofs.Rows.{RenameKnown, rename-known, move-known}
 use Rattle.tree_ops.proofs.WorldChanges.{numbers-changed, dropped-other, files-left, numbers-lost, lost-is, none-counted}
 use Rattle.tree_ops.proofs.WorldMoves.{path-moved, moved-files}
 use Rattle.tree_ops.proofs.WorldSwaps.{swapped-files}
-use Rattle.tree_ops.proofs.WorldsStay.{same-file, moving, by-same, by-other, by-flags}
+use Rattle.tree_ops.proofs.WorldsStay.{moving, by-same, by-other, by-flags}
 
 -- ---- no file comes but one of the next number
 
@@ -40,7 +42,7 @@ new-file w p n f k h =
       | inr off ↦ inl (subst (λ o. IsSome o) (get-insert_other nat_cmp_total nat_cmp-IsAntisymmetric w.files n f k off) h)
     ]
 
-new-path : (w : World) (p : List Label) (o : Option ℕ) (k : ℕ) → IsThere (linked w p o) k → IsThere w k
+new-path : (w : World) (p : List Label) (o : Option ℕ) (k : ℕ) → IsThere (option_map_or (with_path w p) o w) k → IsThere w k
 unfolding with_path
 new-path w p None k h = h
 new-path w p (Some n) k h = h
@@ -112,7 +114,7 @@ IsAlone-rename w is old new n known h =
     (λ off gone.
     let m = moving w is old new known off in
     let lost = lost-is (with_move w old new) (finmap.get w.paths new) n (subst (λ fs. IsSome (finmap.get fs n)) (sym (moved-files w old new)) h) gone in (
-      sym (same-file w is old new) ∙ off,
+      off,
       record { there = lost.0; links = alone w (with_move w old new) new n lost.0 (λ q to other. path-moved w old new m.apart m.below q n to other) lost.1 },
     ))
 
@@ -133,7 +135,7 @@ there-none o h e = let f = is_value o h in some_none e f.1
 stays-changed : (w : World) (p : List Label) (change : File → File) (k : ℕ) → IsThere w k → finmap.get (changed_at w p change).files k ≢ None
 stays-changed w p change k h = there-none (finmap.get (changed_at w p change).files k) (numbers-changed w p change k ∙ h)
 
-stays-linked : (w : World) (p : List Label) (o : Option ℕ) (k : ℕ) → IsThere w k → finmap.get (linked w p o).files k ≢ None
+stays-linked : (w : World) (p : List Label) (o : Option ℕ) (k : ℕ) → IsThere w k → finmap.get (option_map_or (with_path w p) o w).files k ≢ None
 unfolding with_path
 stays-linked w p None k h = there-none (finmap.get w.files k) h
 stays-linked w p (Some n) k h = there-none (finmap.get w.files k) h

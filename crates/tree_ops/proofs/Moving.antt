@@ -13,8 +13,8 @@ use Rattle.tree_ops.specs.declared.moves.Moves.TheVariants.{Nothing, Move, Excha
 use Rattle.tree_ops.specs.CallPaths.{path_of, other_path_of}
 use Rattle.tree_ops.specs.Moves.{moves_seen, moves_of}
 use Rattle.tree_ops.specs.Refused.{are_same_seen, rows_of}
-use Rattle.tree_ops.specs.After.{after, after_rename, after_exchange}
-use Rattle.tree_ops.proofs.Changed.{renamed-nothing, renamed-moved, exchanged-nothing, exchanged-swapped}
+use Rattle.tree_ops.specs.After.{after, after_rename}
+use Rattle.tree_ops.proofs.Changed.{after_exchange, renamed-nothing, renamed-moved, exchanged-nothing, exchanged-swapped}
 use Rattle.tree_ops.proofs.Rows.{rename-known, move-known, exchange-known, RenameKnown, ExchangeKnown}
 
 -- ---- what moves nothing

@@ -14,7 +14,13 @@ use Rattle.inode_table.specs.Paths.{path_cmp}
 use Rattle.inode_table.specs.World.{World, AreNamesOf}
 use Rattle.tree_ops.proofs.Keys.{tie, tested, itself, name_exact, path_total, path_exact}
 use Rattle.tree_ops.proofs.Fronts.{rest_after-append, rest_after-some}
-use Rattle.tree_ops.specs.After.{names_in, in_order, marked, only_name}
+use Rattle.tree_ops.specs.After.{names_in, only_name}
+
+abbrev marked : List Label → List (Label × Unit {0})
+marked names = map (λ name. (name, tt)) names
+
+abbrev in_order : List Label → List Label
+in_order names = finmap.keys (finmap.from_entries {R = slice_cmp nat_cmp} (marked names))
 
 find-marked : (ls : List Label) (q : Label) → find (slice_cmp nat_cmp) q (marked ls) ≡ cond (list_any (eq_by_cmp (slice_cmp nat_cmp) q) ls) (Some tt) None
 find-marked [] q = refl

@@ -2,15 +2,15 @@
 use Rattle.std.proofs.Common.{◌≡◌, inl, inr, ℕ, ◌+◌, ◌<◌, ◌==◌, Bool, true, false, List, [], Option, Some, None}
 use Rattle.std.proofs.Common.{is_some, refl, sym, ap, subst, ◌∙◌, arith, if◌then◌else◌}
 use Rattle.std.specs.Ordering.{nat_cmp}
-use Rattle.std.specs.Option.{option_and_then}
+use Rattle.std.specs.Option.{option_map_or}
 use Rattle.std.specs.Cmp.{nat_cmp_total}
 use Rattle.std.specs.FinMap as finmap
 use Rattle.std.specs.FinMap.{nat_cmp-IsAntisymmetric, get-empty}
 use Rattle.inode_table.specs.declared.seen.Kind.TheVariants.{Directory}
 use Rattle.inode_table.specs.TableWorld.{HasNumbersBelow}
-use Rattle.inode_table.specs.World.{World, File, root_number, root_mode, opening_world, links, with_file, with_path}
+use Rattle.inode_table.specs.World.{World, File, root_number, look, opening_world, links, with_file, with_path}
 use Rattle.inode_table.specs.World.{without_path, with_move, with_swap, with_content, without_file, without_lost}
-use Rattle.inode_table.specs.World.{linked, content_by, changed_at}
+use Rattle.inode_table.specs.World.{changed_at}
 use Rattle.inode_table.proofs.SeenLemmas.{is_value}
 use Rattle.tree_ops.proofs.Keys.{get-insert_either, get-remove_was}
 use Rattle.tree_ops.specs.declared.call.TheConstants.{RENAME_EXCHANGE}
@@ -19,7 +19,10 @@ use Rattle.tree_ops.specs.declared.call.FileCall.TheVariants.{Create, Write, Rea
 use Rattle.tree_ops.specs.declared.call.FileCall.TheVariants.{Unlink, Rmdir, Rename, Rename2, Stat as Status}
 use Rattle.tree_ops.specs.declared.call.FileCall.TheVariants.{List as Listed}
 use Rattle.tree_ops.specs.declared.call.Counts.{Counts}
-use Rattle.tree_ops.specs.After.{after, after_unlink, after_rename, after_exchange, are_same, numbers_of}
+use Rattle.tree_ops.specs.After.{after, after_unlink, after_rename, numbers_of}
+use Rattle.tree_ops.specs.Refused.{are_same_seen}
+use Rattle.tree_ops.proofs.Changed.{after_exchange}
+use Rattle.tree_ops.proofs.WorldChanges.{content_by, changed_by}
 
 -- the number of each file is below this one
 abbrev Below : World → ℕ → Type 0
@@ -52,11 +55,11 @@ below-changed : (w : World) (p : List (List ℕ)) (change : File → File) (next
 unfolding changed_at
 below-changed w p change next h = by (finmap.get w.paths p)
   where
-    at_file : (n : ℕ) (o : Option File) → finmap.get w.files n ≡ o → Below (content_by w change (Some n) o) next
+    at_file : (n : ℕ) (o : Option File) → finmap.get w.files n ≡ o → Below (content_by w change n o) next
     at_file n None e = h
     at_file n (Some f) e = below-content w n (change f) next h (h n f e)
 
-    by : (o : Option ℕ) → Below (content_by w change o (option_and_then (finmap.get w.files) o)) next
+    by : (o : Option ℕ) → Below (changed_by w change o) next
     by None = h
     by (Some n) = at_file n (finmap.get w.files n) refl
 
@@ -64,7 +67,7 @@ below-path : (w : World) (p : List (List ℕ)) (n next : ℕ) → Below w next �
 unfolding with_path
 below-path w p n next h = h
 
-below-linked : (w : World) (p : List (List ℕ)) (o : Option ℕ) (next : ℕ) → Below w next → Below (linked w p o) next
+below-linked : (w : World) (p : List (List ℕ)) (o : Option ℕ) (next : ℕ) → Below w next → Below (option_map_or (with_path w p) o w) next
 below-linked w p None next h = h
 below-linked w p (Some n) next h = below-path w p n next h
 
@@ -82,7 +85,7 @@ below-unlink w p next h = below-lost (without_path w p) (finmap.get w.paths p) n
 below-rename : (w : World) (old new : List (List ℕ)) (next : ℕ) → Below w next → Below (after_rename w old new) next
 unfolding after_rename
 below-rename w old new next h =
-    elim (are_same (finmap.get w.paths old) (finmap.get w.paths new))
+    elim (are_same_seen (look w old) (look w new))
     as (λ b. Below (if b then w else without_lost (with_move w old new) (finmap.get w.paths new)) next) [
       | true ↦ h
       | false ↦ below-lost (with_move w old new) (finmap.get w.paths new) next (below-moved w old new next h)
@@ -93,9 +96,8 @@ unfolding with_swap
 below-swapped w old new next h = h
 
 below-exchange : (w : World) (old new : List (List ℕ)) (next : ℕ) → Below w next → Below (after_exchange w old new) next
-unfolding after_exchange
 below-exchange w old new next h =
-    elim (are_same (finmap.get w.paths old) (finmap.get w.paths new)) as (λ b. Below (if b then w else with_swap w old new) next) [
+    elim (are_same_seen (look w old) (look w new)) as (λ b. Below (if b then w else with_swap w old new) next) [
       | true ↦ h
       | false ↦ below-swapped w old new next h
     ]
@@ -135,7 +137,7 @@ numbers-after w counts call h n there =
 pub numbers-opening : HasNumbersBelow opening_world 2
 unfolding opening_world
 numbers-opening n there =
-    let root : File = record { kind = Directory; mode = root_mode; bytes = [] } in
+    let root : File = record { kind = Directory; mode = 493; bytes = [] } in
     let f = is_value (finmap.get opening_world.files n) there in
     elim (get-insert_either nat_cmp_total nat_cmp-IsAntisymmetric finmap.empty root_number n root f.0 f.1) [
       | inl same ↦ omega arith

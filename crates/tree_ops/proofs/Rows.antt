@@ -11,7 +11,7 @@ use Rattle.tree_ops.specs.declared.call.TheConstants.{RENAME_EXCHANGE, RENAME_NO
 use Rattle.tree_ops.specs.declared.call.Counts.{Counts}
 use Rattle.tree_ops.specs.Refused.{has_names_seen, links_seen, are_same_seen, make_rows, write_rows, read_rows}
 use Rattle.tree_ops.specs.Refused.{truncate_rows, chmod_rows, link_rows, unlink_rows, rmdir_rows, move_rows}
-use Rattle.tree_ops.specs.Refused.{rename_rows, noreplace_rows, swap_rows, exchange_rows, rename2_rows, find_rows}
+use Rattle.tree_ops.specs.Refused.{rename_rows, noreplace_rows, swap_rows, exchange_rows, rename2_rows}
 use Rattle.tree_ops.specs.Refused.{list_rows}
 use Rattle.tree_paths.specs.Rows.{row, first_row}
 use Rattle.inode_table.specs.Refusals.{Look, find, parent, parent_of, is_directory_seen, longest_there}
@@ -123,9 +123,8 @@ pub chmod-known : (at : Look) (p : List (List ℕ)) (mode : ℕ) → first_row (
 unfolding chmod_rows
 chmod-known at p mode e = found-some at p (each-none (chmod_rows at p mode) e).1.0
 
-pub find-known : (at : Look) (p : List (List ℕ)) → first_row (find_rows at p) ≡ None → is_some (at p) ≡ true
-unfolding find_rows
-find-known at p e = found-some at p (each-none (find_rows at p) e).0
+pub find-known : (at : Look) (p : List (List ℕ)) → first_row (find at p ∷ []) ≡ None → is_some (at p) ≡ true
+find-known at p e = found-some at p (each-none (find at p ∷ []) e).0
 
 pub record LinkKnown (at : Look) (limits : Limits) (old new : List (List ℕ)) : Type 0 where
   pub file : FileKnown at old

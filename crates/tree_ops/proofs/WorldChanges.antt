@@ -3,7 +3,7 @@ use Rattle.std.proofs.Common.{◌≡◌, ◌≢◌, inl, inr, ℕ, zero, suc, �
 use Rattle.std.proofs.Common.{is_some, refl, sym, ap, ◌∙◌, subst, if◌then◌else◌}
 use Rattle.std.proofs.lemmas.Bool.{cases_eq}
 use borrow.Author.Tests.{ne_eqb}
-use Rattle.std.specs.Option.{option_and_then, option_map, IsSomeAnd}
+use Rattle.std.specs.Option.{option_and_then, option_map, option_map_or, IsSomeAnd}
 use Rattle.std.specs.Ordering.{nat_cmp}
 use Rattle.std.specs.Cmp.{nat_cmp_total}
 use Rattle.std.specs.FinMap as finmap
@@ -13,7 +13,7 @@ use Rattle.inode_table.specs.declared.seen.Kind.TheVariants.{Directory}
 use Rattle.inode_table.specs.Count.{IsCount}
 use Rattle.inode_table.specs.Rows.{Label}
 use Rattle.inode_table.specs.World.{World, File, IsWorld, IsWhole, IsDirectoryAt, file_at, links, with_file, with_path}
-use Rattle.inode_table.specs.World.{without_path, with_content, without_file, without_lost, content_by, changed_at}
+use Rattle.inode_table.specs.World.{without_path, with_content, without_file, without_lost, changed_at}
 use Rattle.inode_table.proofs.TreeLemmas.{some_none, same_some}
 use Rattle.inode_table.proofs.MapLemmas.{count-of, get-remove_here, get-remove_other}
 use Rattle.inode_table.proofs.SeenLemmas.{is_value, front-past}
@@ -194,13 +194,20 @@ module _ (w : World) (is : IsWorld w) (n : ℕ) (unused : finmap.get w.files n �
 
 -- ---- another content
 
+-- a file changes, if it is there, and so does that of a number, if there is one
+abbrev pub content_by : World → (File → File) → ℕ → Option File → World
+content_by w change n o = option_map_or (λ f. with_content w n (change f)) o w
+
+abbrev pub changed_by : World → (File → File) → Option ℕ → World
+changed_by w change o = option_map_or (λ n. content_by w change n (finmap.get w.files n)) o w
+
 pub IsWorld-changed : (w : World) → IsWorld w → (p : List Label) (change : File → File) → ((f : File) → (change f).kind ≡ f.kind)
     → ((f : File) → file_at w p ≡ Some f → IsBlank f → IsBlank (change f)) → IsWorld (changed_at w p change)
 unfolding changed_at with_content
 IsWorld-changed w is p change keeps blank =
-    elim (finmap.get w.paths p) as (λ o. finmap.get w.paths p ≡ o → IsWorld (content_by w change o (option_and_then (finmap.get w.files) o))) [
+    elim (finmap.get w.paths p) as (λ o. finmap.get w.paths p ≡ o → IsWorld (changed_by w change o)) [
       | None ↦ λ _. is
-      | Some n ↦ λ there. elim (finmap.get w.files n) as (λ o. finmap.get w.files n ≡ o → IsWorld (content_by w change (Some n) o)) [
+      | Some n ↦ λ there. elim (finmap.get w.files n) as (λ o. finmap.get w.files n ≡ o → IsWorld (content_by w change n o)) [
         | None ↦ λ _. is
         | Some f ↦ λ at. IsWorld-files w is (finmap.insert w.files n (change f)) (λ q k _. elim (cases_eq k n) [
           | inl e ↦
@@ -223,11 +230,11 @@ pub numbers-changed : (w : World) (p : List Label) (change : File → File) (k :
     → is_some (finmap.get (changed_at w p change).files k) ≡ is_some (finmap.get w.files k)
 unfolding changed_at with_content
 numbers-changed w p change k =
-    elim (finmap.get w.paths p) as (λ o. is_some (finmap.get (content_by w change o (option_and_then (finmap.get w.files) o)).files k)
+    elim (finmap.get w.paths p) as (λ o. is_some (finmap.get (changed_by w change o).files k)
     ≡ is_some (finmap.get w.files k)) [
       | None ↦ refl
       | Some n ↦ elim (finmap.get w.files n) as (λ o. finmap.get w.files n ≡ o
-          → is_some (finmap.get (content_by w change (Some n) o).files k) ≡ is_some (finmap.get w.files k)) [
+          → is_some (finmap.get (content_by w change n o).files k) ≡ is_some (finmap.get w.files k)) [
             | None ↦ λ _. refl
             | Some f ↦ λ at. elim (cases_eq k n) [
               | inl e ↦
@@ -242,9 +249,9 @@ numbers-changed w p change k =
 pub paths-changed : (w : World) (p : List Label) (change : File → File) → (changed_at w p change).paths ≡ w.paths
 unfolding changed_at with_content
 paths-changed w p change =
-    elim (finmap.get w.paths p) as (λ o. (content_by w change o (option_and_then (finmap.get w.files) o)).paths ≡ w.paths) [
+    elim (finmap.get w.paths p) as (λ o. (changed_by w change o).paths ≡ w.paths) [
       | None ↦ refl
-      | Some n ↦ elim (finmap.get w.files n) as (λ o. (content_by w change (Some n) o).paths ≡ w.paths) [
+      | Some n ↦ elim (finmap.get w.files n) as (λ o. (content_by w change n o).paths ≡ w.paths) [
         | None ↦ refl
         | Some f ↦ refl
       ]

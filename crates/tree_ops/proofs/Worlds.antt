@@ -10,13 +10,13 @@ use Rattle.inode_table.specs.Changes.{Avoids}
 use Rattle.inode_table.specs.Rows.{Label}
 use Rattle.tree_paths.specs.Paths.{is_below}
 use Rattle.inode_table.specs.Refusals.{is_directory_kind, is_directory_seen, parent_of}
-use Rattle.inode_table.specs.World.{World, File, IsWorld, IsDirectoryAt, look, seen_as, has_names}
+use Rattle.inode_table.specs.World.{World, File, IsWorld, IsDirectoryAt, look}
 use Rattle.inode_table.proofs.TreeLemmas.{some_none, same_some}
 use Rattle.inode_table.proofs.FindLemmas.{take-front}
 use Rattle.inode_table.proofs.MapLemmas.{keys-any}
 use Rattle.inode_table.proofs.PathLemmas.{is_below-rest}
 use Rattle.inode_table.proofs.SeenLemmas.{is_value, front-past}
-use Rattle.inode_table.proofs.WorldLemmas.{path_total, path_exact}
+use Rattle.inode_table.proofs.WorldLemmas.{seen_as, path_total, path_exact}
 use Rattle.tree_ops.specs.Refused.{has_names_seen}
 
 -- ---- paths
@@ -116,7 +116,6 @@ kind-directory k e = ap is_directory_kind e
 
 -- a directory is at a path where one is seen, and nowhere else
 pub directory-seen : (w : World) (p : List Label) → is_directory_seen (look w p) ≡ true → IsDirectoryAt w p
-unfolding seen_as
 directory-seen w p e =
     elim (look w p) as (λ o. look w p ≡ o → is_directory_seen o ≡ true → IsDirectoryAt w p) [
       | None ↦ λ _ g. absurd (cc)
@@ -126,7 +125,6 @@ directory-seen w p e =
     ] refl e
 
 pub seen-directory : (w : World) (p : List Label) → IsDirectoryAt w p → is_directory_seen (look w p) ≡ true
-unfolding seen_as
 seen-directory w p h =
     let d = directory-of w p h in
     ap is_directory_seen (look-is w p d.number d.file d.there d.is) ∙ kind-directory d.file.kind d.kind
@@ -137,7 +135,6 @@ regular-seen w p e h = let yes = seen-directory w p h in cc
 -- nothing is below what has no names
 pub nothing-below : (w : World) → IsWorld w → (p : List Label) → has_names_seen (look w p) ≡ false → (l : Label) (s : List Label)
     → finmap.get w.paths (p ++ l ∷ s) ≡ None
-unfolding seen_as has_names
 nothing-below w is p none l s =
     elim (finmap.get w.paths (p ++ l ∷ s)) as (λ o. finmap.get w.paths (p ++ l ∷ s) ≡ o → o ≡ None) [
       | None ↦ λ _. refl

@@ -2,23 +2,21 @@
 use Rattle.std.proofs.Common.{◌≡◌, ◌≢◌, inl, inr, ℕ, ◌==◌, ◌&&◌, true, false, List, [], ◌∷◌, ◌++◌, Option, Some, None}
 use Rattle.std.proofs.Common.{IsSome, is_some, refl, sym, ap, ◌∙◌, subst, if◌then◌else◌, length}
 use Rattle.std.proofs.lemmas.Bool.{cases_eq}
-use borrow.Author.Tests.{eq-eqb}
-use Rattle.std.specs.Option.{option_map, IsSomeAnd}
+use Rattle.std.specs.Option.{option_map_or, IsSomeAnd}
 use Rattle.std.specs.Ordering.{nat_cmp}
 use Rattle.std.specs.Cmp.{nat_cmp_total}
 use Rattle.std.specs.FinMap as finmap
 use Rattle.std.specs.FinMap.{nat_cmp-IsAntisymmetric, get-empty}
 use Rattle.tree_paths.specs.declared.limits.Limits.{Limits}
 use Rattle.inode_table.specs.declared.seen.Kind.TheVariants.{Directory}
-use Rattle.inode_table.specs.declared.seen.Seen.{Seen}
 use Rattle.inode_table.specs.Bytes.{resized, written}
 use Rattle.inode_table.specs.Changes.{Avoids}
 use Rattle.inode_table.specs.Rows.{Label}
 use Rattle.tree_paths.specs.Paths.{is_below}
 use Rattle.inode_table.specs.Paths.{path_cmp}
 use Rattle.inode_table.specs.Refusals.{is_directory_seen, parent_of}
-use Rattle.inode_table.specs.World.{World, File, IsWorld, IsWhole, IsDirectoryAt, look, seen_as, linked, opening_world}
-use Rattle.inode_table.specs.World.{root_number, root_mode, without_path, with_move, with_swap, without_lost, file_at}
+use Rattle.inode_table.specs.World.{World, File, IsWorld, IsWhole, IsDirectoryAt, look, with_path, opening_world}
+use Rattle.inode_table.specs.World.{root_number, without_path, with_move, with_swap, without_lost, file_at}
 use Rattle.inode_table.proofs.TreeLemmas.{some_none, same_some}
 use Rattle.inode_table.proofs.SeenLemmas.{is_value}
 use Rattle.inode_table.proofs.WorldLemmas.{decide_path, path_total, path_exact, get-insert_here, get-insert_other}
@@ -29,11 +27,12 @@ use Rattle.tree_ops.specs.declared.call.FileCall.TheVariants.{Create, Write, Rea
 use Rattle.tree_ops.specs.declared.call.FileCall.TheVariants.{Unlink, Rmdir, Rename, Rename2, Stat as Status}
 use Rattle.tree_ops.specs.declared.call.FileCall.TheVariants.{List as Listed}
 use Rattle.tree_ops.specs.Refused.{refused, refusal_seen, are_same_seen}
-use Rattle.tree_ops.specs.After.{after, after_unlink, after_rename, after_exchange, are_same}
+use Rattle.tree_ops.specs.After.{after, after_unlink, after_rename}
+use Rattle.tree_ops.proofs.Changed.{after_exchange, other-paths}
 use Rattle.tree_ops.proofs.Rows.{make-known, link-known, unlink-known, rmdir-known, rename-known, move-known}
 use Rattle.tree_ops.proofs.Rows.{exchange-known, MakeKnown, LinkKnown, FileKnown, RmdirKnown, RenameKnown}
 use Rattle.tree_ops.proofs.Rows.{ExchangeKnown, write-known, truncate-known}
-use Rattle.tree_ops.proofs.Worlds.{parted, directory-of, directory-by, directory-seen, regular-seen, standing, unseen}
+use Rattle.tree_ops.proofs.Worlds.{parted, directory-of, directory-by, directory-seen, regular-seen, unseen}
 use Rattle.tree_ops.proofs.Worlds.{seen-some, nothing-below, nothing-under, apart-from}
 use Rattle.tree_ops.proofs.WorldChanges.{IsWorld-with_path, IsWhole-with_path, IsWorld-with_file, IsWhole-with_file}
 use Rattle.tree_ops.proofs.WorldChanges.{IsWorld-changed, IsWhole-changed, dropped-other, files-left}
@@ -44,7 +43,7 @@ use Rattle.tree_ops.proofs.WorldSwaps.{IsWorld-with_swap, IsWhole-with_swap}
 -- ---- the root alone
 
 abbrev root_file : File
-root_file = record { kind = Directory; mode = root_mode; bytes = [] }
+root_file = record { kind = Directory; mode = 493; bytes = [] }
 
 opening-root : finmap.get opening_world.paths [] ≡ Some root_number
 unfolding opening_world
@@ -137,36 +136,6 @@ module _ (w : World) (is : IsWorld w) (p : List Label) (going : Going w p) where
 
 -- ---- a rename that moves something
 
-abbrev number_in : Option Seen → Option ℕ
-number_in o = option_map (λ (s : Seen). s.number) o
-
--- the number under a path is the one that is seen there
-number-seen : (w : World) → IsWorld w → (p : List Label) → finmap.get w.paths p ≡ number_in (look w p)
-unfolding seen_as
-number-seen w is p =
-    elim (look w p) as (λ o. look w p ≡ o → finmap.get w.paths p ≡ number_in o) [
-      | None ↦ λ e. unseen w is p e
-      | Some s ↦ λ e. let a = standing w p s e in a.there ∙ ap (λ (x : Seen). Some x.number) a.seen
-    ] refl
-
-pub same-file : (w : World) → IsWorld w → (old new : List Label)
-    → are_same (finmap.get w.paths old) (finmap.get w.paths new) ≡ are_same_seen (look w old) (look w new)
-same-file w is old new = (λ i. are_same (number-seen w is old i) (number-seen w is new i)) ∙ by (look w old) (look w new)
-  where
-    by : (o p : Option Seen) → are_same (number_in o) (number_in p) ≡ are_same_seen o p
-    by None p = refl
-    by (Some s) None = refl
-    by (Some s) (Some r) = refl
-
--- files that differ stand at paths that differ
-other-file : (w : World) (old new : List Label) → IsSome (look w old) → are_same (finmap.get w.paths old) (finmap.get w.paths new) ≡ false → old ≢ new
-other-file w old new there off e =
-    let s = seen-some w old there in
-    let n = s.1.number in
-    let itself : (n == n) ≡ true = eq-eqb n n refl in
-    let clash : true ≡ false = sym itself ∙ sym (λ i. are_same (s.1.there i) ((ap (finmap.get w.paths) (sym e) ∙ s.1.there) i)) ∙ off in
-    cc
-
 -- what moves, and what it moves to
 pub record Moving (w : World) (old new : List Label) : Type 0 where
   pub named : old ≢ []
@@ -178,15 +147,15 @@ pub record Moving (w : World) (old new : List Label) : Type 0 where
   pub directory : IsDirectoryAt w (parent_of new)
 
 pub moving : (w : World) → IsWorld w → (old new : List Label) → RenameKnown (look w) old new
-    → are_same (finmap.get w.paths old) (finmap.get w.paths new) ≡ false → Moving w old new
+    → are_same_seen (look w old) (look w new) ≡ false → Moving w old new
 moving w is old new known off =
     let m = parted new known.other_named in
     let directory = directory-seen w (parent_of new) known.directory in
     record {
       named = known.named;
       other_named = known.other_named;
-      apart = apart-from w is old new (parent_of new) m.0 m.1 directory (other-file w old new known.there off) known.below;
-      below = nothing-below w is new (known.empty (sym (same-file w is old new) ∙ off));
+      apart = apart-from w is old new (parent_of new) m.0 m.1 directory (other-paths (look w) old new known.there off) known.below;
+      below = nothing-below w is new (known.empty off);
       name = m.0;
       parts = m.1;
       directory = directory;
@@ -194,12 +163,12 @@ moving w is old new known off =
 
 -- what a rename leaves: the same world, or the one after a move
 pub by-same : (P : World → Type 0) (w : World) (old new : List Label) → P w
-    → (are_same (finmap.get w.paths old) (finmap.get w.paths new) ≡ false → P (without_lost (with_move w old new) (finmap.get w.paths new)))
+    → (are_same_seen (look w old) (look w new) ≡ false → P (without_lost (with_move w old new) (finmap.get w.paths new)))
     → P (after_rename w old new)
 unfolding after_rename
 by-same P w old new here moved =
-    elim (are_same (finmap.get w.paths old) (finmap.get w.paths new))
-    as (λ b. are_same (finmap.get w.paths old) (finmap.get w.paths new) ≡ b
+    elim (are_same_seen (look w old) (look w new))
+    as (λ b. are_same_seen (look w old) (look w new) ≡ b
     → P (if b then w else without_lost (with_move w old new) (finmap.get w.paths new))) [
       | true ↦ λ _. here
       | false ↦ λ e. moved e
@@ -237,26 +206,24 @@ avoiding w is old new named there other below =
     apart-from w is old new (parent_of new) m.0 m.1 (is.fronts (parent_of new) m.0 [] (subst (λ p. IsSome (finmap.get w.paths p)) m.1 there)) other below
 
 swapping : (w : World) → IsWorld w → (old new : List Label) → ExchangeKnown (look w) old new
-    → are_same (finmap.get w.paths old) (finmap.get w.paths new) ≡ false → Swapping w old new
+    → are_same_seen (look w old) (look w new) ≡ false → Swapping w old new
 swapping w is old new known off =
     let there = ap is_some (seen-some w old known.there).1.there in
     let other_there = ap is_some (seen-some w new known.other_there).1.there in
-    let other = other-file w old new known.there off in
-    let seen_off = sym (same-file w is old new) ∙ off in
+    let other = other-paths (look w) old new known.there off in
     record {
-      apart = avoiding w is old new known.other_named other_there other (known.below seen_off);
-      above = avoiding w is new old known.named there (λ e. other (sym e)) (known.above seen_off);
+      apart = avoiding w is old new known.other_named other_there other (known.below off);
+      above = avoiding w is new old known.named there (λ e. other (sym e)) (known.above off);
       there = there;
       other_there = other_there;
     }
 
 -- what an exchange leaves: the same world, or the one after it
 pub by-other : (P : World → Type 0) (w : World) (old new : List Label) → P w
-    → (are_same (finmap.get w.paths old) (finmap.get w.paths new) ≡ false → P (with_swap w old new)) → P (after_exchange w old new)
-unfolding after_exchange
+    → (are_same_seen (look w old) (look w new) ≡ false → P (with_swap w old new)) → P (after_exchange w old new)
 by-other P w old new here swapped =
-    elim (are_same (finmap.get w.paths old) (finmap.get w.paths new))
-    as (λ b. are_same (finmap.get w.paths old) (finmap.get w.paths new) ≡ b → P (if b then w else with_swap w old new)) [
+    elim (are_same_seen (look w old) (look w new))
+    as (λ b. are_same_seen (look w old) (look w new) ≡ b → P (if b then w else with_swap w old new)) [
       | true ↦ λ _. here
       | false ↦ λ e. swapped e
     ] refl
@@ -286,19 +253,20 @@ by-flags P w old new flags exchange move =
 -- ---- one path more
 
 linking : (w : World) → IsWorld w → (limits : Limits) (old new : List Label) → LinkKnown (look w) limits old new
-    → IsWorld (linked w new (finmap.get w.paths old))
+    → IsWorld (option_map_or (with_path w new) (finmap.get w.paths old) w)
 linking w is limits old new known =
     let s = (seen-some w old known.file.there).1 in
     let path = link-path w is limits old new known in
-    subst (λ o. IsWorld (linked w new o)) (sym s.there)
+    subst (λ o. IsWorld (option_map_or (with_path w new) o w)) (sym s.there)
     (IsWorld-with_path w new s.number is path.free (parent_of new) path.name path.parts path.directory (ap is_some s.is)
     (λ f at kind. absurd (regular-seen w old known.file.regular (directory-by w old s.number f s.there at kind))))
 
 linking-whole : (w : World) → IsWorld w → IsWhole w → (limits : Limits) (old new : List Label) → LinkKnown (look w) limits old new
-    → IsWhole (linked w new (finmap.get w.paths old))
+    → IsWhole (option_map_or (with_path w new) (finmap.get w.paths old) w)
 linking-whole w is whole limits old new known =
     let s = (seen-some w old known.file.there).1 in
-    subst (λ o. IsWhole (linked w new o)) (sym s.there) (IsWhole-with_path w new s.number (link-path w is limits old new known).free (λ k h off. whole k h))
+    subst (λ o. IsWhole (option_map_or (with_path w new) o w)) (sym s.there)
+    (IsWhole-with_path w new s.number (link-path w is limits old new known).free (λ k h off. whole k h))
 
 -- ---- another content
 

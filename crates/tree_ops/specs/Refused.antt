@@ -43,10 +43,6 @@ are_same_seen (Some s) (Some t) = s.number == t.number
 abbrev pub mode_row : ℕ → Option Refusal
 mode_row mode = row (nat_lt MAX_MODE mode) Einval
 
--- all numbers have been given
-abbrev pub numbers_row : Limits → Counts → Option Refusal
-numbers_row limits counts = row (nat_lt limits.numbers counts.next_number) NumbersSpent
-
 -- all cookies have been given: 0 stands for the number after the greatest one
 abbrev pub cookies_row : Limits → Counts → Option Refusal
 cookies_row limits counts = row ((counts.next_cookie == 0) || nat_lt limits.cookies counts.next_cookie) CookiesSpent
@@ -73,8 +69,10 @@ source_rows seen_at old new =
     ∷ parent seen_at new
     ∷ []
 
+-- the last row: all numbers have been given
 unfoldable pub make_rows : Look → Limits → Counts → List (List ℕ) → ℕ → List (Option Refusal)
-make_rows seen_at limits counts p mode = mode_row mode ∷ (name_rows seen_at p ++ numbers_row limits counts ∷ [])
+make_rows seen_at limits counts p mode =
+    mode_row mode ∷ (name_rows seen_at p ++ row (nat_lt limits.numbers counts.next_number) NumbersSpent ∷ [])
 
 unfoldable pub write_rows : Look → Limits → List (List ℕ) → ℕ → ℕ → List (Option Refusal)
 write_rows seen_at limits p offset count =
@@ -151,9 +149,6 @@ rename2_rows seen_at limits counts old new flags =
     else if flags == RENAME_EXCHANGE then exchange_rows seen_at limits counts old new
     else Some Einval ∷ []
 
-unfoldable pub find_rows : Look → List (List ℕ) → List (Option Refusal)
-find_rows seen_at p = find seen_at p ∷ []
-
 unfoldable pub list_rows : Look → List (List ℕ) → List (Option Refusal)
 list_rows seen_at p = find seen_at p ∷ row (not (is_directory_seen (seen_at p))) Enotdir ∷ []
 
@@ -170,7 +165,7 @@ rows_of seen_at limits counts (Unlink p) = unlink_rows seen_at p
 rows_of seen_at limits counts (Rmdir p) = rmdir_rows seen_at p
 rows_of seen_at limits counts (Rename old new) = rename_rows seen_at limits counts old new
 rows_of seen_at limits counts (Rename2 old new flags) = rename2_rows seen_at limits counts old new flags
-rows_of seen_at limits counts (Stat p) = find_rows seen_at p
+rows_of seen_at limits counts (Stat p) = find seen_at p ∷ []
 rows_of seen_at limits counts (Listed p) = list_rows seen_at p
 
 -- the first row that holds for what is seen

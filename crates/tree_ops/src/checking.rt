@@ -354,7 +354,7 @@ fn check_rename2(
 }
 
 /// Why a call is refused, or what it moves.
-#[tactic(auto, unfolding(crate::specs::Refused::refusal_seen, crate::specs::Refused::find_rows))]
+#[tactic(auto, unfolding(crate::specs::Refused::refusal_seen))]
 fn check_call(paths: &Paths, counts: &Counts, limits: &Limits) -> Result<Moves, Refusal>
     ensures err { result_err result ≡ refusal_seen (look
         (world_of paths.now.tree)) limits.now counts.now paths.now.call }

@@ -6,11 +6,13 @@ use Rattle.std.proofs.lemmas.List.{length-append}
 use Rattle.std.proofs.lemmas.Map.Lookups.{exact_bytes}
 use Rattle.std.specs.Cmp.{tied_itself, Equal-is}
 use Rattle.std.specs.Cmp.Lexicographic.{slice_cmp, nat_list_cmp_total}
+use Rattle.std.specs.List.{slice_get}
+use Rattle.std.specs.Option.{option_and_then}
 use Rattle.std.specs.Ordering.{nat_cmp, is_eq}
-use Rattle.std.specs.Prelude.{nat_lt}
+use Rattle.std.specs.Prelude.{is_some, nat_lt}
 use Rattle.std.specs.Str.{bytes_eq}
 use Rattle.std.proofs.lemmas.Slice.Eq.{bytes_eq-Decides}
-use Rattle.tree_paths.specs.Paths.{IsBelow, is_below, is_some_name, rest_after, same_name}
+use Rattle.tree_paths.specs.Paths.{IsBelow, is_below, rest_after, same_name}
 
 same_name-true : (m l : List ℕ) → same_name m l ≡ true → l ≡ m
 same_name-true m l e = sym (exact_bytes m l ((Equal-is (slice_cmp nat_cmp m l)).0 e))
@@ -30,6 +32,10 @@ rest_after-some (l ∷ p) (m ∷ q) s e =
       | true ↦ λ t f i. same_name-true l m t i ∷ rest_after-some p q s f i
       | false ↦ λ t f. absurd (cc)
     ] refl e
+
+-- a path has a name
+abbrev is_some_name : Option (List (List ℕ)) → Bool
+is_some_name o = is_some (option_and_then (λ names. slice_get names 0) o)
 
 pub below : (path above : List (List ℕ)) → IsBelow path above → is_below path above ≡ true
 unfolding is_below

@@ -1,23 +1,22 @@
 -- How much a tree takes at most.
 use Rattle.std.proofs.Common.{lit≤}
 use Rattle.tree_paths.specs.declared.limits.Limits.{Limits}
-use Rattle.tree_paths.specs.Greatest.{most_numbers, most_file_bytes, most_links, most_instances, most_ids, most_watches}
-use Rattle.tree_paths.specs.Greatest.{most_wds, most_queue, most_cookies, most_journal, most_seats}
+use Rattle.tree_paths.specs.Greatest.{most}
 
 -- the greatest limits
 abbrev pub full : Limits
 full = record {
-  numbers = most_numbers;
-  file_bytes = most_file_bytes;
-  links = most_links;
-  instances = most_instances;
-  ids = most_ids;
-  watches = most_watches;
-  wds = most_wds;
-  queue = most_queue;
-  cookies = most_cookies;
-  journal = most_journal;
-  seats = most_seats;
+  numbers = most.numbers;
+  file_bytes = most.file_bytes;
+  links = most.links;
+  instances = most.instances;
+  ids = most.ids;
+  watches = most.watches;
+  wds = most.wds;
+  queue = most.queue;
+  cookies = most.cookies;
+  journal = most.journal;
+  seats = most.seats;
   numbers_in = (lit≤ tt, lit≤ tt);
   file_bytes_in = (lit≤ tt, lit≤ tt);
   links_in = (lit≤ tt, lit≤ tt);

@@ -1,46 +1,43 @@
 -- The greatest values of limits: the last ones that are given.
 use Rattle.std.specs.Prelude.{ℕ, ◌-◌, ◌^◌}
 
--- file numbers, the root counted
-abbrev pub most_numbers : ℕ
-most_numbers = 2 ^ 20
+-- a value for each limit of a tree
+pub record Greatest : Type 0 where
+  -- file numbers, the root counted
+  pub numbers : ℕ
+  -- bytes of a file
+  pub file_bytes : ℕ
+  -- links of a file
+  pub links : ℕ
+  -- instances open at a time
+  pub instances : ℕ
+  -- instances ever
+  pub ids : ℕ
+  -- watches of an instance
+  pub watches : ℕ
+  -- watch descriptors of an instance, ever
+  pub wds : ℕ
+  -- the limit of a queue, which holds one record more where events were lost
+  pub queue : ℕ
+  -- cookies
+  pub cookies : ℕ
+  -- entries of the journal
+  pub journal : ℕ
+  -- seats
+  pub seats : ℕ
 
--- bytes of a file
-abbrev pub most_file_bytes : ℕ
-most_file_bytes = 2 ^ 24
-
--- links of a file
-abbrev pub most_links : ℕ
-most_links = 65000
-
--- instances open at a time
-abbrev pub most_instances : ℕ
-most_instances = 128
-
--- instances ever
-abbrev pub most_ids : ℕ
-most_ids = 2 ^ 31 - 1
-
--- watches of an instance
-abbrev pub most_watches : ℕ
-most_watches = 8192
-
--- watch descriptors of an instance, ever
-abbrev pub most_wds : ℕ
-most_wds = 2 ^ 31 - 1
-
--- the limit of a queue, which holds one record more where events were lost
-abbrev pub most_queue : ℕ
-most_queue = 65535
-
--- cookies
-abbrev pub most_cookies : ℕ
-most_cookies = 2 ^ 32 - 1
-
--- entries of the journal
-abbrev pub most_journal : ℕ
-most_journal = 1000000
-
--- seats
-abbrev pub most_seats : ℕ
-most_seats = 65536
+-- the greatest value of each
+abbrev pub most : Greatest
+most = record {
+  numbers = 2 ^ 20;
+  file_bytes = 2 ^ 24;
+  links = 65000;
+  instances = 128;
+  ids = 2 ^ 31 - 1;
+  watches = 8192;
+  wds = 2 ^ 31 - 1;
+  queue = 65535;
+  cookies = 2 ^ 32 - 1;
+  journal = 1000000;
+  seats = 65536;
+}

@@ -1,10 +1,11 @@
 -- What a pathname's text stands for, and how paths lie to one another.
 use Rattle.std.specs.Prelude.{◌≡◌, ℕ, ◌-◌, ◌<◌, take, Bool, true, false, not, ◌&&◌, ◌||◌, ◌==◌}
-use Rattle.std.specs.Prelude.{nat_lt, nat_le, cond, List, []}
+use Rattle.std.specs.Prelude.{is_some, nat_lt, nat_le, cond, List, []}
 use Rattle.std.specs.Prelude.{◌∷◌, ◌++◌, length, slice_index, codes, Option, Some, None, Result, Ok, Err, if◌then◌else◌}
 use Rattle.std.specs.BTreeMap.{is_at}
 use Rattle.std.specs.Cmp.Lexicographic.{slice_cmp}
-use Rattle.std.specs.List.{list_any, flat_map}
+use Rattle.std.specs.List.{list_any, flat_map, slice_get}
+use Rattle.std.specs.Option.{option_and_then}
 use Rattle.std.specs.Ordering.{nat_cmp}
 use Rattle.std.specs.Str.{bytes_eq}
 use Rattle.record_codec.specs.declared.name.TheConstants.{NAME_IN_PLACE, NAME_MAX}
@@ -80,11 +81,6 @@ rest_after [] p = Some p
 rest_after (l ∷ front) [] = None
 rest_after (l ∷ front) (m ∷ p) = cond (same_name l m) (rest_after front p) None
 
-abbrev pub is_some_name : Option (List (List ℕ)) → Bool
-is_some_name None = false
-is_some_name (Some []) = false
-is_some_name (Some (l ∷ p)) = true
-
 -- whether a path is below another one, which is a proper front of it
 unfoldable pub is_below : List (List ℕ) → List (List ℕ) → Bool
-is_below path above = is_some_name (rest_after above path)
+is_below path above = is_some (option_and_then (λ names. slice_get names 0) (rest_after above path))

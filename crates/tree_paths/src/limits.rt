@@ -1,8 +1,7 @@
 //! How much a tree takes.
 
 ghost use Rattle.std.specs.Prelude.{◌≡◌, ◌≤◌};
-ghost use Rattle.tree_paths.specs.Greatest.{most_numbers, most_file_bytes, most_links, most_instances, most_ids};
-ghost use Rattle.tree_paths.specs.Greatest.{most_watches, most_wds, most_queue, most_cookies, most_journal, most_seats};
+ghost use Rattle.tree_paths.specs.Greatest.{most};
 
 /// The last value of each kind that is still given; the next one is refused.
 ///
@@ -33,17 +32,17 @@ pub struct Limits {
     pub journal: u32,
     /// Seats: up to 65,536. Beyond it `SeatsSpent`.
     pub seats: u32,
-    pub ghost numbers_in: { (1 ≤ numbers) × (numbers ≤ most_numbers) },
-    pub ghost file_bytes_in: { (1 ≤ file_bytes) × (file_bytes ≤ most_file_bytes) },
-    pub ghost links_in: { (1 ≤ links) × (links ≤ most_links) },
-    pub ghost instances_in: { (1 ≤ instances) × (instances ≤ most_instances) },
-    pub ghost ids_in: { (1 ≤ ids) × (ids ≤ most_ids) },
-    pub ghost watches_in: { (1 ≤ watches) × (watches ≤ most_watches) },
-    pub ghost wds_in: { (1 ≤ wds) × (wds ≤ most_wds) },
-    pub ghost queue_in: { (1 ≤ queue) × (queue ≤ most_queue) },
-    pub ghost cookies_in: { (1 ≤ cookies) × (cookies ≤ most_cookies) },
-    pub ghost journal_in: { (1 ≤ journal) × (journal ≤ most_journal) },
-    pub ghost seats_in: { (1 ≤ seats) × (seats ≤ most_seats) },
+    pub ghost numbers_in: { (1 ≤ numbers) × (numbers ≤ most.numbers) },
+    pub ghost file_bytes_in: { (1 ≤ file_bytes) × (file_bytes ≤ most.file_bytes) },
+    pub ghost links_in: { (1 ≤ links) × (links ≤ most.links) },
+    pub ghost instances_in: { (1 ≤ instances) × (instances ≤ most.instances) },
+    pub ghost ids_in: { (1 ≤ ids) × (ids ≤ most.ids) },
+    pub ghost watches_in: { (1 ≤ watches) × (watches ≤ most.watches) },
+    pub ghost wds_in: { (1 ≤ wds) × (wds ≤ most.wds) },
+    pub ghost queue_in: { (1 ≤ queue) × (queue ≤ most.queue) },
+    pub ghost cookies_in: { (1 ≤ cookies) × (cookies ≤ most.cookies) },
+    pub ghost journal_in: { (1 ≤ journal) × (journal ≤ most.journal) },
+    pub ghost seats_in: { (1 ≤ seats) × (seats ≤ most.seats) },
 }
 
 impl Limits {

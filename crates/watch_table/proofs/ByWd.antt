@@ -16,9 +16,10 @@ use Rattle.std.specs.declared.cmp.Ordering.TheVariants.{Less}
 use Rattle.std.proofs.lemmas.Map.Keys.{sorted_head, sorted_tail}
 use Rattle.watch_table.specs.Index.{IsIndexed, watching_of, bits_in}
 use Rattle.watch_table.specs.Rows.{by_wd, watch_rows}
-use Rattle.watch_table.specs.Watching.{Watch, Watching, watch_of}
+use Rattle.watch_table.specs.declared.watch.Watch.{Watch}
+use Rattle.watch_table.specs.Watching.{Watching, watch_of}
 use Rattle.watch_table.specs.declared.watches.Watches.TheInside.{Inside}
-use Rattle.watch_table.proofs.Turned.{map-map, turned-back, turned-there}
+use Rattle.watch_table.proofs.Turned.{as_watch, map-map, plain, turned-back, turned-there}
 
 abbrev pub row_in : Watching → ℤ × ℕ → ℕ × ℤ × ℕ
 row_in w e = (e.1, e.0, bits_in (watch_of w e.1))
@@ -63,26 +64,27 @@ module _ (a : Inside) (whole : IsIndexed a) where
       by true = refl
       by false = refl
 
-  apart : (j k : ℕ) (wd : ℤ) (x y : ℕ) → finmap.get w.watches j ≡ Some (wd, x) → finmap.get w.watches k ≡ Some (wd, y) → j ≡ k
-  apart j k wd x y p q = whole.sound.apart j k wd (ap (option_map (λ (v : Watch). v.0)) p) (ap (option_map (λ (v : Watch). v.0)) q)
+  apart : (j k : ℕ) (wd : ℤ) (x y : ℕ) → finmap.get w.watches j ≡ Some (record { wd = wd; mask = x })
+      → finmap.get w.watches k ≡ Some (record { wd = wd; mask = y }) → j ≡ k
+  apart j k wd x y p q = whole.sound.apart j k wd (ap (option_map (λ (v : Watch). v.wd)) p) (ap (option_map (λ (v : Watch). v.wd)) q)
 
   -- a watch whose descriptor is known
-  known : (o : Option Watch) (wd : ℤ) → option_map (λ (v : Watch). v.0) o ≡ Some wd → o ≡ Some (wd, bits_in o)
+  known : (o : Option Watch) (wd : ℤ) → option_map (λ (v : Watch). v.wd) o ≡ Some wd → o ≡ Some (record { wd = wd; mask = bits_in o })
   known None wd e = absurd (cc)
-  known (Some v) wd e = let same : v.0 ≡ wd = cc in λ i. Some (same i, v.1)
+  known (Some v) wd e = let same : v.wd ≡ wd = cc in λ i. Some (record { wd = same i; mask = v.mask })
 
   got : (q : ℤ) (o : Option ℕ) → tree.get int_cmp a.by_wd q ≡ o → option_map (λ n. (n, bits_in (watch_of w n))) o ≡ finmap.get (by_wd w) q
   got q (Some n) is =
       sym
-      (turned-there nat_cmp_total nat_cmp-IsAntisymmetric int_cmp_total int_cmp-IsAntisymmetric w.watches apart q n
+      (turned-there nat_cmp_total nat_cmp-IsAntisymmetric int_cmp_total int_cmp-IsAntisymmetric as_watch plain w.watches apart q n
       (bits_in (watch_of w n)) (known (watch_of w n) q (whole.watched n q is)))
   got q None is = by (finmap.get (by_wd w) q) refl
     where
       by : (r : Option (ℕ × ℕ)) → finmap.get (by_wd w) q ≡ r → None ≡ r
       by None e = refl
       by (Some (n, x)) e =
-          let was = turned-back nat_cmp_total nat_cmp-IsAntisymmetric int_cmp_total int_cmp-IsAntisymmetric w.watches q n x e in
-          let there = whole.indexed n q (ap (option_map (λ (v : Watch). v.0)) was) in
+          let was = turned-back nat_cmp_total nat_cmp-IsAntisymmetric int_cmp_total int_cmp-IsAntisymmetric as_watch plain w.watches q n x e in
+          let there = whole.indexed n q (ap (option_map (λ (v : Watch). v.wd)) was) in
           absurd (let no : ◌≡◌ {A = Option ℕ} None (Some n) = sym is ∙ there in cc)
 
   pub rows-by_wd : tree.IsOrdered int_cmp a.by_wd → map (row_in w) a.by_wd.entries ≡ watch_rows w

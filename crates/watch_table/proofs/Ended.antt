@@ -3,9 +3,11 @@ use Rattle.std.proofs.Common.{◌≡◌, ◌≢◌, ◌⊎◌, ℕ, Bool, true, 
 use Rattle.std.specs.Prelude.{ℤ, pos, ◌≤ℤ◌, ◌<ℤ◌, option_map}
 use Rattle.std.proofs.lemmas.Int.{ints}
 use Rattle.watch_table.specs.Masks.{stored}
-use Rattle.watch_table.specs.Watching.{HasEnded, IsSound, Watch, Watching, added, add_refusal, dropped, is_barred}
-use Rattle.watch_table.specs.Watching.{is_full, next_bits, watched_by, removed, watch_of, wd_of, with_bits}
-use Rattle.watch_table.specs.Watching.{with_new_watch, without}
+use Rattle.watch_table.specs.declared.watch.Watch.{Watch}
+use Rattle.watch_table.specs.Watching.{HasEnded, IsSound, Watching, added, add_refusal, dropped, is_barred}
+use Rattle.watch_table.specs.Watching.{is_full, next_bits, watched_by, removed, watch_of, wd_of}
+use Rattle.watch_table.specs.Watching.{with_new_watch}
+use Rattle.watch_table.proofs.Watched.{with_bits, without}
 use Rattle.watch_table.proofs.Watched.{added-new, added-watched, dropped-IsSound, kept-IsSound, new-IsSound}
 use Rattle.watch_table.proofs.Watched.{watched_by-none, watched_by-some, watched_by-unwatched, refused_as_barred}
 use Rattle.watch_table.proofs.Watched.{refused_as_full, room_of, some_none, wd_of-dropped, wd_of-kept, wd_of-new}
@@ -36,9 +38,9 @@ module _ (w : Watching) (number mask : ℕ) (is_directory : Bool) where
       elim (watched_or_not (watch_of w number)) [
         | inl found ↦
             subst IsSound (sym (added-watched w number mask found.0 found.1))
-            (kept-IsSound w number found.0.0 (next_bits mask found.0.1) sound found.0 found.1 refl)
+            (kept-IsSound w number found.0.wd (next_bits mask found.0.mask) sound found.0 found.1 refl)
         | inr none ↦
-            let unwatched : wd_of w number ≡ None = ap (option_map (λ (x : Watch). x.0)) none in
+            let unwatched : wd_of w number ≡ None = ap (option_map (λ (x : Watch). x.wd)) none in
             let room = room_of w (room_accepted accepted unwatched) in
             subst IsSound (sym (added-new w number mask unwatched)) (new-IsSound w number (stored mask) sound none room.0 room.1)
       ]
@@ -84,14 +86,14 @@ pub HasEnded-added : (w : Watching) (wd : ℤ) (number mask : ℕ) → HasEnded 
 HasEnded-added w wd number mask ended =
     elim (watched_or_not (watch_of w number)) [
       | inl found ↦
-          let kept = with_bits w number found.0.0 (next_bits mask found.0.1) in
-          let stays = wd_of-kept w number found.0.0 (next_bits mask found.0.1) (ap (option_map (λ (x : Watch). x.0)) found.1) in
+          let kept = with_bits w number found.0.wd (next_bits mask found.0.mask) in
+          let stays = wd_of-kept w number found.0.wd (next_bits mask found.0.mask) (ap (option_map (λ (x : Watch). x.wd)) found.1) in
           subst (λ x. HasEnded x wd) (sym (added-watched w number mask found.0 found.1))
           (ended_by kept wd ended.given (λ n h. watched_by-none w wd n ended.unwatched (sym (stays n) ∙ h)))
       | inr none ↦
           let made = with_new_watch w number (stored mask) in
           let given = ended.given.1 in
-          subst (λ x. HasEnded x wd) (sym (added-new w number mask (ap (option_map (λ (x : Watch). x.0)) none)))
+          subst (λ x. HasEnded x wd) (sym (added-new w number mask (ap (option_map (λ (x : Watch). x.wd)) none)))
           (ended_by made wd (ended.given.0, omega (arith, ints)) (λ n h. elim (wd_of-new w number (stored mask) n wd h) [
             | inl t ↦
                 let below : pos w.next_wd <ℤ pos w.next_wd = subst (λ z. z <ℤ pos w.next_wd) t.1 given in

@@ -11,12 +11,13 @@ use Rattle.std.specs.declared.alloc.Global.{Global}
 use Rattle.std.specs.Cmp.{int_cmp_total}
 use Rattle.tree_paths.specs.declared.limits.Limits.{Limits}
 use Rattle.watch_table.specs.declared.watches.Watches.TheInside.{Inside}
-use Rattle.watch_table.specs.Watching.{Watch, Watching, IsSound, dropped, watched_by, watch_of, wd_of, with_bits, with_new_watch}
+use Rattle.watch_table.specs.declared.watch.Watch.{Watch}
+use Rattle.watch_table.specs.Watching.{Watching, IsSound, dropped, watched_by, watch_of, wd_of, with_new_watch}
 use Rattle.watch_table.specs.Index.{IsIndexed, watching_of}
 use Rattle.watch_table.proofs.Maps.{tie, from_map-insert, from_map-remove}
 use Rattle.watch_table.proofs.Watched.{no_watches-IsSound, watched_by-by, some_none, same_some, wd_of-dropped}
 use Rattle.watch_table.proofs.Watched.{wd_of-dropped_other, dropped-IsSound, kept-IsSound, wd_of-kept, new-IsSound}
-use Rattle.watch_table.proofs.Watched.{wd_of-new, new-apart, wd_of-put_here, wd_of-put_other}
+use Rattle.watch_table.proofs.Watched.{with_bits, wd_of-new, new-apart, wd_of-put_here, wd_of-put_other}
 
 pub no_watches-IsIndexed : (limits : Limits) (alloc : Global) (m : BTreeMap ℕ Watch) (n : BTreeMap ℤ ℕ) → tree.IsEmpty m → tree.IsEmpty n
     → IsIndexed (record { alloc = alloc; by_number = m; by_wd = n; next_wd = 1; most_watches = limits.watches; last_wd = limits.wds })
@@ -27,7 +28,7 @@ no_watches-IsIndexed limits alloc m n e f =
     let unwatched : (number : ℕ) → wd_of (opened (from_entries m.entries)) number ≡ None =
     λ number.
     ap (λ x. wd_of (opened x) number) (sym same)
-    ∙ ap (option_map (λ (watch : Watch). watch.0)) (map.get-empty nat_cmp number) in
+    ∙ ap (option_map (λ (watch : Watch). watch.wd)) (map.get-empty nat_cmp number) in
     record {
       sound = sound;
       watched = λ number wd h. absurd (some_none (ap (lookup (λ k. is_eq (int_cmp wd k))) f) h);
@@ -87,27 +88,30 @@ module _ (a : Inside) (whole : IsIndexed a) where
     abbrev with_new : Inside
     with_new = record a { by_number = m; by_wd = n; next_wd = a.next_wd + 1 }
 
-    pub watching_of-new : tree.Updates nat_cmp a.by_number m number (Some (pos a.next_wd, bits))
+    pub watching_of-new : tree.Updates nat_cmp a.by_number m number (Some (record { wd = pos a.next_wd; mask = bits }))
         → watching_of with_new ≡ with_new_watch (watching_of a) number bits
     watching_of-new put =
         ap (λ x. record (watching_of a) { watches = x; next_wd = a.next_wd + 1 })
-        (from_map-insert a.by_number m number (pos a.next_wd, bits) put)
+        (from_map-insert a.by_number m number (record { wd = pos a.next_wd; mask = bits }) put)
 
-    pub IsIndexed-new : tree.Updates nat_cmp a.by_number m number (Some (pos a.next_wd, bits)) → tree.Updates int_cmp a.by_wd n (pos a.next_wd) (Some number)
+    pub IsIndexed-new : tree.Updates nat_cmp a.by_number m number (Some (record { wd = pos a.next_wd; mask = bits }))
+        → tree.Updates int_cmp a.by_wd n (pos a.next_wd) (Some number)
         → watch_of (watching_of a) number ≡ None → map.len (watching_of a).watches < a.most_watches → a.next_wd ≤ a.last_wd → IsIndexed with_new
     IsIndexed-new put put_wd was room left =
         let w : Watching = watching_of a in
         let same = watching_of-new put in
-        let unwatched : (wd : ℤ) → wd_of w number ≢ Some wd = λ wd. some_none (ap (option_map (λ (x : Watch). x.0)) was) in
+        let unwatched : (wd : ℤ) → wd_of w number ≢ Some wd = λ wd. some_none (ap (option_map (λ (x : Watch). x.wd)) was) in
         record {
           sound = subst IsSound (sym same) (new-IsSound w number bits whole.sound was room left);
           watched = λ q wd h. ap (λ x. wd_of x q) same ∙ elim (same_wd wd (pos a.next_wd)) [
             | inl is ↦
                 let here : q ≡ number = same_some (sym h ∙ ap (tree.get int_cmp n) is ∙ got_here a.by_wd n (pos a.next_wd) (Some number) put_wd) in
-                ap (wd_of (with_new_watch w number bits)) here ∙ wd_of-put_here w number (pos a.next_wd, bits) (a.next_wd + 1) ∙ ap Some (sym is)
+                ap (wd_of (with_new_watch w number bits)) here
+                ∙ wd_of-put_here w number (record { wd = pos a.next_wd; mask = bits }) (a.next_wd + 1) ∙ ap Some (sym is)
             | inr off ↦
                 let was_there : wd_of w q ≡ Some wd = whole.watched q wd (sym (got_other a.by_wd n (pos a.next_wd) (Some number) put_wd wd off) ∙ h) in
-                wd_of-put_other w number (pos a.next_wd, bits) (a.next_wd + 1) q (λ here. unwatched wd (ap (wd_of w) (sym here) ∙ was_there)) ∙ was_there
+                wd_of-put_other w number (record { wd = pos a.next_wd; mask = bits }) (a.next_wd + 1) q
+                (λ here. unwatched wd (ap (wd_of w) (sym here) ∙ was_there)) ∙ was_there
           ];
           indexed = λ q wd h. elim (wd_of-new w number bits q wd (sym (ap (λ x. wd_of x q) same) ∙ h)) [
             | inl t ↦ ap (tree.get int_cmp n) t.1 ∙ got_here a.by_wd n (pos a.next_wd) (Some number) put_wd ∙ ap Some (sym t.0)
@@ -120,20 +124,21 @@ module _ (a : Inside) (whole : IsIndexed a) where
     abbrev with_other : Inside
     with_other = record a { by_number = m }
 
-    pub watching_of-bits : tree.Updates nat_cmp a.by_number m number (Some (watch.0, bits))
-        → watching_of with_other ≡ with_bits (watching_of a) number watch.0 bits
-    watching_of-bits put = ap (λ x. record (watching_of a) { watches = x }) (from_map-insert a.by_number m number (watch.0, bits) put)
+    pub watching_of-bits : tree.Updates nat_cmp a.by_number m number (Some (record { wd = watch.wd; mask = bits }))
+        → watching_of with_other ≡ with_bits (watching_of a) number watch.wd bits
+    watching_of-bits put = ap (λ x. record (watching_of a) { watches = x }) (from_map-insert a.by_number m number (record { wd = watch.wd; mask = bits }) put)
 
-    pub IsIndexed-bits : tree.Updates nat_cmp a.by_number m number (Some (watch.0, bits)) → watch_of (watching_of a) number ≡ Some watch → IsIndexed with_other
+    pub IsIndexed-bits : tree.Updates nat_cmp a.by_number m number (Some (record { wd = watch.wd; mask = bits }))
+        → watch_of (watching_of a) number ≡ Some watch → IsIndexed with_other
     IsIndexed-bits put was =
         let w : Watching = watching_of a in
         let same = watching_of-bits put in
         let stays : (q : ℕ) → wd_of (watching_of with_other) q ≡ wd_of w q =
         λ q.
         ap (λ x. wd_of x q) same
-        ∙ wd_of-kept w number watch.0 bits (ap (option_map (λ (x : Watch). x.0)) was) q in
+        ∙ wd_of-kept w number watch.wd bits (ap (option_map (λ (x : Watch). x.wd)) was) q in
         record {
-          sound = subst IsSound (sym same) (kept-IsSound w number watch.0 bits whole.sound watch was refl);
+          sound = subst IsSound (sym same) (kept-IsSound w number watch.wd bits whole.sound watch was refl);
           watched = λ q wd h. stays q ∙ whole.watched q wd h;
           indexed = λ q wd h. whole.indexed q wd (sym (stays q) ∙ h);
         }

@@ -1,6 +1,6 @@
 -- Finite maps read entry by entry, and turned round.
 use Rattle.std.proofs.Common.{◌≡◌, ◌⊎◌, inl, inr, Bool, true, false, cond, ◌&&◌, IsTrue, List, [], ◌∷◌, map, Option, Some, None, refl, sym, ap, subst, ◌∙◌}
-use Rattle.std.specs.Prelude.{IsSome}
+use Rattle.std.specs.Prelude.{IsSome, ℕ, ℤ}
 use Rattle.std.specs.Cmp.{IsTotalOrder, tied_itself}
 use Rattle.std.specs.FinMap as finmap
 use Rattle.std.specs.FinMap.{FinMap, IsAntisymmetric, get-entries, get-from_entries, same_map}
@@ -8,6 +8,7 @@ use Rattle.std.specs.FinMap.Entries.{below_all, find, is_sorted}
 use Rattle.std.specs.Ordering.{eq_by_cmp, is_eq, is_lt, ordering_reverse}
 use Rattle.std.specs.declared.cmp.Ordering.{Ordering}
 use Rattle.std.specs.declared.cmp.Ordering.TheVariants.{Less, Equal, Greater}
+use Rattle.watch_table.specs.declared.watch.Watch.{Watch}
 
 -- ---- lists
 
@@ -96,73 +97,119 @@ module _ {K X : Type 0} {R : K → K → Ordering} (o : IsTotalOrder R) (exact :
 
 -- ---- a map turned round: the values have keys of their own
 
-pub some-pair : {A B : Type 0} (a c : A) (b d : B) → ◌≡◌ {A = Option (A × B)} (Some (a, b)) (Some (c, d)) → ◌≡◌ {A = A × B} (a, b) (c, d)
-some-pair a c b d e = cc
+-- values with two parts, of which they are made
+pub record Parts (A B V : Type 0) : Type 0 where
+  pub parts : V → A × B
+  pub made : A × B → V
+  pub made_parts : (v : V) → made (parts v) ≡ v
+  pub parts_made : (p : A × B) → parts (made p) ≡ p
 
-module _ {K L X : Type 0} {R : K → K → Ordering} {S : L → L → Ordering} (o : IsTotalOrder R) (exact : IsAntisymmetric R)
-    (p : IsTotalOrder S) (only : IsAntisymmetric S) where
-  abbrev turned : FinMap R (L × X) → FinMap S (K × X)
-  turned m = finmap.from_entries (map (λ e. (e.1.0, (e.0, e.1.1))) (finmap.entries m))
+abbrev pub plain : {A B : Type 0} → Parts A B (A × B)
+plain = record { parts = λ p. p; made = λ p. p; made_parts = λ p. refl; parts_made = λ p. refl }
 
-  sorted-entries : (m : FinMap R (L × X)) → IsTrue (is_sorted R (finmap.entries m))
+abbrev pub as_watch : Parts ℤ ℕ Watch
+as_watch =
+    record {
+      parts = λ watch. (watch.wd, watch.mask);
+      made = λ p. record { wd = p.0; mask = p.1 };
+      made_parts = λ watch. refl;
+      parts_made = λ p. refl;
+    }
+
+same_some : {A : Type 0} {x y : A} → Some x ≡ Some y → x ≡ y
+same_some e = cc
+
+module _ {K L X V U : Type 0} {R : K → K → Ordering} {S : L → L → Ordering} (o : IsTotalOrder R) (exact : IsAntisymmetric R)
+    (p : IsTotalOrder S) (only : IsAntisymmetric S) (of : Parts L X V) (to : Parts K X U) where
+  abbrev swap : K × V → L × U
+  swap e = ((of.parts e.1).0, to.made (e.0, (of.parts e.1).1))
+
+  abbrev turned : FinMap R V → FinMap S U
+  turned m = finmap.from_entries (map swap (finmap.entries m))
+
+  sorted-entries : (m : FinMap R V) → IsTrue (is_sorted R (finmap.entries m))
   sorted-entries m = by (is_sorted R (finmap.entries m)) (finmap.entries_sorted m)
     where
       by : (b : Bool) → Rattle.std.specs.Prelude.T b → IsTrue b
       by true h = refl
       by false h = absurd h
 
-  pub turned-back : (m : FinMap R (L × X)) (l : L) (k : K) (x : X) → finmap.get (turned m) l ≡ Some (k, x) → finmap.get m k ≡ Some (l, x)
+  -- what is made of the same parts
+  made-same : (q r : K × X) → to.made q ≡ to.made r → q ≡ r
+  made-same q r e = sym (to.parts_made q) ∙ ap to.parts e ∙ to.parts_made r
+
+  pub turned-back : (m : FinMap R V) (l : L) (k : K) (x : X)
+      → finmap.get (turned m) l ≡ Some (to.made (k, x)) → finmap.get m k ≡ Some (of.made (l, x))
   turned-back m l k x e =
-      let swap : K × (L × X) → L × (K × X) = λ e. (e.1.0, (e.0, e.1.1)) in
-      let there = found-in p only (map swap (finmap.entries m)) l (k, x) (sym (get-from_entries p (map swap (finmap.entries m)) l) ∙ e) in
-      let entry = In-unmap swap (finmap.entries m) (l, (k, x)) there in
-      let is : entry.0 ≡ (k, (l, x)) = λ i. ((entry.2 i).1.0, ((entry.2 i).0, (entry.2 i).1.1)) in
-      get-entries m k ∙ entry-found o exact (finmap.entries m) k (l, x) (sorted-entries m) (subst (In (finmap.entries m)) is entry.1)
+      let there = found-in p only (map swap (finmap.entries m)) l (to.made (k, x)) (sym (get-from_entries p (map swap (finmap.entries m)) l) ∙ e) in
+      let entry = In-unmap swap (finmap.entries m) (l, to.made (k, x)) there in
+      let parts : ◌≡◌ {A = K × X} (entry.0.0, (of.parts entry.0.1).1) (k, x) =
+      made-same (entry.0.0, (of.parts entry.0.1).1) (k, x) (λ i. (entry.2 i).1) in
+      let value : entry.0.1 ≡ of.made (l, x) =
+      sym (of.made_parts entry.0.1) ∙ (λ i. of.made ((entry.2 i).0, (parts i).1)) in
+      let is : ◌≡◌ {A = K × V} entry.0 (k, of.made (l, x)) = λ i. ((parts i).0, value i) in
+      get-entries m k ∙ entry-found o exact (finmap.entries m) k (of.made (l, x)) (sorted-entries m) (subst (In (finmap.entries m)) is entry.1)
 
-  abbrev pub Apart : FinMap R (L × X) → Type 0
-  Apart m = (j k : K) (l : L) (x y : X) → finmap.get m j ≡ Some (l, x) → finmap.get m k ≡ Some (l, y) → j ≡ k
+  abbrev pub Apart : FinMap R V → Type 0
+  Apart m = (j k : K) (l : L) (x y : X) → finmap.get m j ≡ Some (of.made (l, x)) → finmap.get m k ≡ Some (of.made (l, y)) → j ≡ k
 
-  pub turned-there : (m : FinMap R (L × X)) → Apart m → (l : L) (k : K) (x : X) → finmap.get m k ≡ Some (l, x) → finmap.get (turned m) l ≡ Some (k, x)
+  pub turned-there : (m : FinMap R V) → Apart m → (l : L) (k : K) (x : X)
+      → finmap.get m k ≡ Some (of.made (l, x)) → finmap.get (turned m) l ≡ Some (to.made (k, x))
   turned-there m apart l k x e =
-      let swap : K × (L × X) → L × (K × X) = λ e. (e.1.0, (e.0, e.1.1)) in
-      let entry = found-in o exact (finmap.entries m) k (l, x) (sym (get-entries m k) ∙ e) in
-      let some = in-found p only (map swap (finmap.entries m)) l (k, x) (In-map swap (finmap.entries m) (k, (l, x)) entry) in
+      let entry = found-in o exact (finmap.entries m) k (of.made (l, x)) (sym (get-entries m k) ∙ e) in
+      let is : ◌≡◌ {A = L × U} (swap (k, of.made (l, x))) (l, to.made (k, x)) =
+      λ i. ((of.parts_made (l, x) i).0, to.made (k, (of.parts_made (l, x) i).1)) in
+      let there = subst (In (map swap (finmap.entries m))) is (In-map swap (finmap.entries m) (k, of.made (l, x)) entry) in
+      let some = in-found p only (map swap (finmap.entries m)) l (to.made (k, x)) there in
       by (finmap.get (turned m) l) refl (subst IsSome (sym (get-from_entries p (map swap (finmap.entries m)) l)) some)
     where
-      by : (o : Option (K × X)) → finmap.get (turned m) l ≡ o → IsSome o → o ≡ Some (k, x)
+      by : (r : Option U) → finmap.get (turned m) l ≡ r → IsSome r → r ≡ Some (to.made (k, x))
       by None at there = absurd (cc)
-      by (Some (j, y)) at there =
-          let was = turned-back m l j y at in
+      by (Some u) at there =
+          let j = (to.parts u).0 in
+          let y = (to.parts u).1 in
+          let was = turned-back m l j y (at ∙ ap Some (sym (to.made_parts u))) in
           let same : j ≡ k = apart j k l y x was e in
-          let values = some-pair l l y x (sym was ∙ ap (finmap.get m) same ∙ e) in
-          λ i. Some (same i, (values i).1)
+          let made : of.made (l, y) ≡ of.made (l, x) = same_some (sym was ∙ ap (finmap.get m) same ∙ e) in
+          let values : ◌≡◌ {A = L × X} (l, y) (l, x) = sym (of.parts_made (l, y)) ∙ ap of.parts made ∙ of.parts_made (l, x) in
+          ap Some (sym (to.made_parts u)) ∙ (λ i. Some (to.made (same i, (values i).1)))
 
-module _ {K L X : Type 0} {R : K → K → Ordering} {S : L → L → Ordering} (o : IsTotalOrder R) (exact : IsAntisymmetric R)
-    (p : IsTotalOrder S) (only : IsAntisymmetric S) where
-  abbrev back : FinMap R (L × X) → FinMap R (L × X)
-  back m = turned {R = S} {S = R} p only o exact (turned {R = R} {S = S} o exact p only m)
+module _ {K L X V U : Type 0} {R : K → K → Ordering} {S : L → L → Ordering} (o : IsTotalOrder R) (exact : IsAntisymmetric R)
+    (p : IsTotalOrder S) (only : IsAntisymmetric S) (of : Parts L X V) (to : Parts K X U) where
+  abbrev back : FinMap R V → FinMap R V
+  back m = turned {R = S} {S = R} p only o exact to of (turned {R = R} {S = S} o exact p only of to m)
 
   -- turned round twice it is the same
-  pub turned-twice : (m : FinMap R (L × X)) → Apart {S = S} o exact p only m → back m ≡ m
+  pub turned-twice : (m : FinMap R V) → Apart {S = S} o exact p only of to m → back m ≡ m
   turned-twice m apart = same_map o exact (back m) m (λ k. at k (finmap.get m k) refl)
     where
-      other : FinMap S (K × X)
-      other = turned {R = R} {S = S} o exact p only m
+      other : FinMap S U
+      other = turned {R = R} {S = S} o exact p only of to m
 
-      other-apart : Apart {S = R} p only o exact other
+      other-apart : Apart {S = R} p only o exact to of other
       other-apart j l k x y e f =
-          let one = turned-back {R = R} {S = S} o exact p only m j k x e in
-          let two = turned-back {R = R} {S = S} o exact p only m l k y f in
-          let same : ◌≡◌ {A = Option (L × X)} (Some (j, x)) (Some (l, y)) = sym one ∙ two in
-          ap (λ (q : L × X). q.0) (some-pair j l x y same)
+          let one = turned-back {R = R} {S = S} o exact p only of to m j k x e in
+          let two = turned-back {R = R} {S = S} o exact p only of to m l k y f in
+          let same : of.made (j, x) ≡ of.made (l, y) = same_some (sym one ∙ two) in
+          ap (λ (q : L × X). q.0) (sym (of.parts_made (j, x)) ∙ ap of.parts same ∙ of.parts_made (l, y))
 
-      at : (k : K) (r : Option (L × X)) → finmap.get m k ≡ r → finmap.get (back m) k ≡ r
-      at k (Some (l, x)) is = turned-there {R = S} {S = R} p only o exact other other-apart k l x (turned-there {R = R} {S = S} o exact p only m apart l k x is)
+      at : (k : K) (r : Option V) → finmap.get m k ≡ r → finmap.get (back m) k ≡ r
+      at k (Some v) is =
+          let l = (of.parts v).0 in
+          let x = (of.parts v).1 in
+          let made : Some v ≡ Some (of.made (l, x)) = ap Some (sym (of.made_parts v)) in
+          turned-there {R = S} {S = R} p only o exact to of other other-apart k l x
+          (turned-there {R = R} {S = S} o exact p only of to m apart l k x (is ∙ made))
+          ∙ sym made
       at k None is = by (finmap.get (back m) k) refl
         where
-          by : (r : Option (L × X)) → finmap.get (back m) k ≡ r → r ≡ None
+          by : (r : Option V) → finmap.get (back m) k ≡ r → r ≡ None
           by None e = refl
-          by (Some (l, x)) e =
-              let was = turned-back {R = R} {S = S} o exact p only m l k x (turned-back {R = S} {S = R} p only o exact other k l x e) in
-              let no : ◌≡◌ {A = Option (L × X)} None (Some (l, x)) = sym is ∙ was in
+          by (Some v) e =
+              let l = (of.parts v).0 in
+              let x = (of.parts v).1 in
+              let was =
+              turned-back {R = R} {S = S} o exact p only of to m l k x
+              (turned-back {R = S} {S = R} p only o exact to of other k l x (e ∙ ap Some (sym (of.made_parts v)))) in
+              let no : ◌≡◌ {A = Option V} None (Some (of.made (l, x))) = sym is ∙ was in
               absurd (cc)

@@ -1,11 +1,12 @@
 -- The file of a descriptor, and what stays true of the watches of an instance.
 use Rattle.std.proofs.Common.{◌≡◌, ◌≢◌, ◌⊎◌, ℕ, ◌+◌, ◌-◌, ◌<◌, ◌≤◌, Bool, true, false, cond, List, [], ◌∷◌, ◌&&◌, ◌||◌}
 use Rattle.std.proofs.Common.{Option, Some, None, is_some, refl, sym, ap, ◌∙◌, subst, inl, inr, arith}
-use Rattle.std.specs.Prelude.{ℤ, pos, ◌<ℤ◌, option_map, is_none, nat_le, nat_lt}
+use Rattle.std.specs.Prelude.{ℤ, pos, ◌<ℤ◌, option_map, unwrap_or, is_none, nat_le, nat_lt}
 use Rattle.std.specs.FinMap as map
 use Rattle.std.specs.FinMap.{get-empty, len-empty, len-insert, len-remove, contains_key-keys, nat_cmp-IsAntisymmetric}
 use Rattle.std.specs.List.{find, list_any}
-use Rattle.std.specs.Ordering.{nat_cmp, eq_by_cmp}
+use Rattle.std.specs.Option.{option_map_or}
+use Rattle.std.specs.Ordering.{int_eq, nat_cmp, eq_by_cmp}
 use Rattle.std.specs.Cmp.{nat_cmp_total, signed_Decides}
 use Rattle.std.proofs.lemmas.Int.{ints}
 use Rattle.std.proofs.lemmas.Bool.{false≢true}
@@ -15,9 +16,10 @@ use Rattle.tree_paths.specs.declared.refusal.Refusal.TheVariants.{Eexist, Enotdi
 use Rattle.watch_table.specs.Masks.{has_any, stored}
 use Rattle.record_codec.specs.declared.bits.TheConstants.{IN_MASK_CREATE}
 use Rattle.tree_paths.specs.Rows.{row, first_row}
-use Rattle.watch_table.specs.Watching.{Watch, Watching, IsSound, added, added_to, add_refusal, dropped, has_wd}
+use Rattle.watch_table.specs.declared.watch.Watch.{Watch}
+use Rattle.watch_table.specs.Watching.{Watching, IsSound, added, add_refusal, dropped}
 use Rattle.watch_table.specs.Watching.{is_barred, is_full, is_taken, next_bits, no_watches, watched_by, watch_of}
-use Rattle.watch_table.specs.Watching.{wd_added, wd_of, wd_or, with_bits, with_new_watch}
+use Rattle.watch_table.specs.Watching.{wd_added, wd_of, with_new_watch}
 use Rattle.watch_table.proofs.Maps.{tie, get-insert_here, get-insert_other, get-remove_here, get-remove_other}
 
 pub some_none : {A : Type 0} {o : Option A} {x : A} → o ≡ None → o ≡ Some x → ⊥
@@ -25,6 +27,29 @@ some_none e f = cc
 
 pub same_some : {A : Type 0} {x y : A} → Some x ≡ Some y → x ≡ y
 same_some e = cc
+
+-- ---- parts of definitions
+
+-- a watch is of a descriptor
+abbrev pub has_wd : ℤ → Option Watch → Bool
+has_wd wd o = option_map_or (λ watch. int_eq watch.wd wd) o false
+
+-- the descriptor of a watch, or another one where there is none
+abbrev pub wd_or : Option Watch → ℤ → ℤ
+wd_or o wd = unwrap_or (option_map (λ watch. watch.wd) o) wd
+
+-- the watches with other bits of a file's watch
+abbrev pub with_bits : Watching → ℕ → ℤ → ℕ → Watching
+with_bits w number wd bits = record w { watches = map.insert w.watches number (record { wd = wd; mask = bits }) }
+
+-- the watches after a call to watch a file that has this watch
+abbrev pub added_to : Watching → ℕ → ℕ → Option Watch → Watching
+added_to w number mask o =
+    option_map_or (λ watch. with_bits w number watch.wd (next_bits mask watch.mask)) o (with_new_watch w number (stored mask))
+
+-- the watches without that of a file, if there is one
+abbrev pub without : Watching → Option ℕ → Watching
+without w o = option_map_or (dropped w) o w
 
 -- ---- the file of a descriptor
 
@@ -47,13 +72,13 @@ find-misses p (x ∷ xs) n e h =
       ]
     ] refl e
 
-has_wd-true : (wd : ℤ) (o : Option Watch) → has_wd wd o ≡ true → option_map (λ watch. watch.0) o ≡ Some wd
+has_wd-true : (wd : ℤ) (o : Option Watch) → has_wd wd o ≡ true → option_map (λ watch. watch.wd) o ≡ Some wd
 has_wd-true wd None h = absurd (false≢true h)
-has_wd-true wd (Some watch) h = ap Some ((signed_Decides watch.0 wd).0 h)
+has_wd-true wd (Some watch) h = ap Some ((signed_Decides watch.wd wd).0 h)
 
-has_wd-of : (wd : ℤ) (o : Option Watch) → option_map (λ watch. watch.0) o ≡ Some wd → (has_wd wd o ≡ true) × (is_some o ≡ true)
+has_wd-of : (wd : ℤ) (o : Option Watch) → option_map (λ watch. watch.wd) o ≡ Some wd → (has_wd wd o ≡ true) × (is_some o ≡ true)
 has_wd-of wd None h = absurd (some_none refl h)
-has_wd-of wd (Some watch) h = ((signed_Decides watch.0 wd).1 (same_some h), refl)
+has_wd-of wd (Some watch) h = ((signed_Decides watch.wd wd).1 (same_some h), refl)
 
 pub watched_by-some : (w : Watching) (wd : ℤ) (n : ℕ) → watched_by w wd ≡ Some n → wd_of w n ≡ Some wd
 unfolding watched_by
@@ -91,7 +116,7 @@ watched_by-unwatched w wd h = watched_by-by w wd None (λ n e. absurd (some_none
 
 pub no_watches-IsSound : (limits : Limits) → IsSound (no_watches limits)
 no_watches-IsSound limits =
-    let none : (n : ℕ) → wd_of (no_watches limits) n ≡ None = λ n. ap (option_map (λ (watch : Watch). watch.0)) (get-empty nat_cmp n) in
+    let none : (n : ℕ) → wd_of (no_watches limits) n ≡ None = λ n. ap (option_map (λ (watch : Watch). watch.wd)) (get-empty nat_cmp n) in
     record {
       given = λ n wd h. absurd (some_none (none n) h);
       apart = λ m n wd h g. absurd (some_none (none m) h);
@@ -106,20 +131,20 @@ module _ (w : Watching) (number : ℕ) (watch : Watch) (next : ℕ) where
   abbrev put_in : Watching
   put_in = record w { watches = map.insert w.watches number watch; next_wd = next }
 
-  pub wd_of-put_here : wd_of put_in number ≡ Some watch.0
-  wd_of-put_here = ap (option_map (λ (x : Watch). x.0)) (get-insert_here w.watches number watch)
+  pub wd_of-put_here : wd_of put_in number ≡ Some watch.wd
+  wd_of-put_here = ap (option_map (λ (x : Watch). x.wd)) (get-insert_here w.watches number watch)
 
   pub wd_of-put_other : (n : ℕ) → n ≢ number → wd_of put_in n ≡ wd_of w n
-  wd_of-put_other n off = ap (option_map (λ (x : Watch). x.0)) (get-insert_other w.watches number watch n off)
+  wd_of-put_other n off = ap (option_map (λ (x : Watch). x.wd)) (get-insert_other w.watches number watch n off)
 
 module _ (w : Watching) (number : ℕ) where
   pub wd_of-dropped_here : wd_of (dropped w number) number ≡ None
   unfolding dropped
-  wd_of-dropped_here = ap (option_map (λ (x : Watch). x.0)) (get-remove_here w.watches number)
+  wd_of-dropped_here = ap (option_map (λ (x : Watch). x.wd)) (get-remove_here w.watches number)
 
   pub wd_of-dropped_other : (n : ℕ) → n ≢ number → wd_of (dropped w number) n ≡ wd_of w n
   unfolding dropped
-  wd_of-dropped_other n off = ap (option_map (λ (x : Watch). x.0)) (get-remove_other w.watches number n off)
+  wd_of-dropped_other n off = ap (option_map (λ (x : Watch). x.wd)) (get-remove_other w.watches number n off)
 
   -- what is watched after a drop was so before
   pub wd_of-dropped : (n : ℕ) (wd : ℤ) → wd_of (dropped w number) n ≡ Some wd → (n ≢ number) × (wd_of w n ≡ Some wd)
@@ -148,18 +173,18 @@ dropped-IsSound w number sound =
 -- a file that was watched has its descriptor still
 module _ (w : Watching) (number : ℕ) (wd : ℤ) (bits : ℕ) where
   abbrev kept : Watching
-  kept = put_in w number (wd, bits) w.next_wd
+  kept = put_in w number (record { wd = wd; mask = bits }) w.next_wd
 
   pub wd_of-kept : wd_of w number ≡ Some wd → (n : ℕ) → wd_of kept n ≡ wd_of w n
   wd_of-kept was n =
       elim (tie nat_cmp_total nat_cmp-IsAntisymmetric n number) [
-        | inl t ↦ ap (wd_of kept) t.0 ∙ wd_of-put_here w number (wd, bits) w.next_wd ∙ sym was ∙ ap (wd_of w) (sym t.0)
-        | inr t ↦ wd_of-put_other w number (wd, bits) w.next_wd n t.0
+        | inl t ↦ ap (wd_of kept) t.0 ∙ wd_of-put_here w number (record { wd = wd; mask = bits }) w.next_wd ∙ sym was ∙ ap (wd_of w) (sym t.0)
+        | inr t ↦ wd_of-put_other w number (record { wd = wd; mask = bits }) w.next_wd n t.0
       ]
 
-  pub kept-IsSound : IsSound w → (watch : Watch) → watch_of w number ≡ Some watch → watch.0 ≡ wd → IsSound kept
+  pub kept-IsSound : IsSound w → (watch : Watch) → watch_of w number ≡ Some watch → watch.wd ≡ wd → IsSound kept
   kept-IsSound sound watch was is =
-      let same = wd_of-kept (ap (option_map (λ (x : Watch). x.0)) was ∙ ap Some is) in
+      let same = wd_of-kept (ap (option_map (λ (x : Watch). x.wd)) was ∙ ap Some is) in
       record {
         given = λ n q h. sound.given n q (sym (same n) ∙ h);
         apart = λ m n q h g. sound.apart m n q (sym (same m) ∙ h) (sym (same n) ∙ g);
@@ -169,7 +194,7 @@ module _ (w : Watching) (number : ℕ) (wd : ℤ) (bits : ℕ) where
         held =
             subst (λ n. n ≤ w.most_watches)
             (sym
-            (len-insert nat_cmp_total w.watches number (wd, bits)
+            (len-insert nat_cmp_total w.watches number (record { wd = wd; mask = bits })
             ∙ ap (λ o. cond (is_some o) (map.len w.watches) (map.len w.watches + 1)) was))
             sound.held;
       }
@@ -184,14 +209,14 @@ new-apart w sound n wd h is =
 -- a file that was not watched gets a new descriptor
 module _ (w : Watching) (number : ℕ) (bits : ℕ) where
   abbrev new : Watching
-  new = put_in w number (pos w.next_wd, bits) (w.next_wd + 1)
+  new = put_in w number (record { wd = pos w.next_wd; mask = bits }) (w.next_wd + 1)
 
   -- each watch is the new one, or was there
   pub wd_of-new : (n : ℕ) (wd : ℤ) → wd_of new n ≡ Some wd → ((n ≡ number) × (wd ≡ pos w.next_wd)) ⊎ ((n ≢ number) × (wd_of w n ≡ Some wd))
   wd_of-new n wd h =
       elim (tie nat_cmp_total nat_cmp-IsAntisymmetric n number) [
-        | inl t ↦ inl (t.0, same_some (sym h ∙ ap (wd_of new) t.0 ∙ wd_of-put_here w number (pos w.next_wd, bits) (w.next_wd + 1)))
-        | inr t ↦ inr (t.0, sym (wd_of-put_other w number (pos w.next_wd, bits) (w.next_wd + 1) n t.0) ∙ h)
+        | inl t ↦ inl (t.0, same_some (sym h ∙ ap (wd_of new) t.0 ∙ wd_of-put_here w number (record { wd = pos w.next_wd; mask = bits }) (w.next_wd + 1)))
+        | inr t ↦ inr (t.0, sym (wd_of-put_other w number (record { wd = pos w.next_wd; mask = bits }) (w.next_wd + 1) n t.0) ∙ h)
       ]
 
   pub new-IsSound : IsSound w → watch_of w number ≡ None → map.len w.watches < w.most_watches → w.next_wd ≤ w.last_wd → IsSound new
@@ -222,7 +247,7 @@ module _ (w : Watching) (number : ℕ) (bits : ℕ) where
         held =
             subst (λ n. n ≤ w.most_watches)
             (sym
-            (len-insert nat_cmp_total w.watches number (pos w.next_wd, bits)
+            (len-insert nat_cmp_total w.watches number (record { wd = pos w.next_wd; mask = bits })
             ∙ ap (λ o. cond (is_some o) (map.len w.watches) (map.len w.watches + 1)) was))
             (omega arith);
       }
@@ -238,11 +263,11 @@ room_of w h =
     let parts = is_full-room (nat_le w.most_watches (map.len w.watches)) (nat_lt w.last_wd w.next_wd) h in
     (leb-false w.most_watches (map.len w.watches) parts.0, ltb-false w.last_wd w.next_wd parts.1)
 
-pub no_watch : (o : Option Watch) → option_map (λ watch. watch.0) o ≡ None → o ≡ None
+pub no_watch : (o : Option Watch) → option_map (λ watch. watch.wd) o ≡ None → o ≡ None
 no_watch None e = refl
 no_watch (Some watch) e = absurd (some_none e refl)
 
-pub a_watch : (o : Option Watch) (wd : ℤ) → option_map (λ watch. watch.0) o ≡ Some wd → (watch : Watch) × (o ≡ Some watch)
+pub a_watch : (o : Option Watch) (wd : ℤ) → option_map (λ watch. watch.wd) o ≡ Some wd → (watch : Watch) × (o ≡ Some watch)
 a_watch None wd e = absurd (some_none refl e)
 a_watch (Some watch) wd e = (watch, refl)
 
@@ -284,7 +309,7 @@ module _ (w : Watching) (number mask : ℕ) (is_directory : Bool) where
 -- ---- what a call to watch a file makes
 
 module _ (w : Watching) (number mask : ℕ) where
-  pub added-watched : (watch : Watch) → watch_of w number ≡ Some watch → added w number mask ≡ with_bits w number watch.0 (next_bits mask watch.1)
+  pub added-watched : (watch : Watch) → watch_of w number ≡ Some watch → added w number mask ≡ with_bits w number watch.wd (next_bits mask watch.mask)
   unfolding added
   added-watched watch there = ap (added_to w number mask) there
 
@@ -297,7 +322,7 @@ module _ (w : Watching) (number : ℕ) where
   unfolding wd_added
   wd_added-watched wd there =
       let found = a_watch (watch_of w number) wd there in
-      ap (λ o. wd_or o (pos w.next_wd)) found.1 ∙ same_some (sym (ap (option_map (λ (x : Watch). x.0)) found.1) ∙ there)
+      ap (λ o. wd_or o (pos w.next_wd)) found.1 ∙ same_some (sym (ap (option_map (λ (x : Watch). x.wd)) found.1) ∙ there)
 
   pub wd_added-new : wd_of w number ≡ None → wd_added w number ≡ pos w.next_wd
   unfolding wd_added

@@ -4,11 +4,12 @@ use Rattle.std.specs.BTreeMap as tree
 use Rattle.std.specs.FinMap.{from_entries}
 use Rattle.std.specs.Ordering.{int_cmp}
 use Rattle.watch_table.specs.declared.watches.Watches.TheInside.{Inside}
-use Rattle.watch_table.specs.Watching.{Watching, IsSound, wd_of, Watch}
+use Rattle.watch_table.specs.declared.watch.Watch.{Watch}
+use Rattle.watch_table.specs.Watching.{Watching, IsSound, wd_of}
 
 abbrev pub bits_in : Option Watch → ℕ
 bits_in None = 0
-bits_in (Some watch) = watch.1
+bits_in (Some watch) = watch.mask
 
 abbrev pub watching_of : Inside → Watching
 watching_of a = record {

@@ -1,21 +1,19 @@
 -- The watches of one instance: inotify_add_watch(2) and inotify_rm_watch(2).
 use Rattle.std.specs.Prelude.{◌≡◌, ℕ, ◌+◌, ◌^◌, ◌<◌, ◌≤◌, ℤ, pos, ◌≤ℤ◌, ◌<ℤ◌, Bool, false, not, ◌&&◌, ◌||◌, [], ◌∷◌}
-use Rattle.std.specs.Prelude.{Option, Some, None, option_map, is_none, is_some, bit_or, nat_le, nat_lt, if◌then◌else◌}
-use Rattle.std.specs.Prelude.{refl}
+use Rattle.std.specs.Prelude.{Option, Some, None, option_map, is_none, is_some, unwrap_or, bit_or, nat_le, nat_lt}
+use Rattle.std.specs.Prelude.{refl, if◌then◌else◌}
 use Rattle.std.specs.Coded.{Coded, code_by, coded×, coded_ℕ, coded_ℤ}
 use Rattle.std.specs.FinMap as map
 use Rattle.std.specs.List.{find}
+use Rattle.std.specs.Option.{option_map_or}
 use Rattle.std.specs.Ordering.{nat_cmp, int_eq}
 use Rattle.record_codec.specs.declared.bits.TheConstants.{IN_ONLYDIR, IN_MASK_CREATE, IN_MASK_ADD}
 use Rattle.tree_paths.specs.declared.limits.Limits.{Limits}
 use Rattle.tree_paths.specs.declared.refusal.Refusal.{Refusal}
 use Rattle.tree_paths.specs.declared.refusal.Refusal.TheVariants.{Eexist, Enotdir, Enospc}
+use Rattle.watch_table.specs.declared.watch.Watch.{Watch}
 use Rattle.watch_table.specs.Masks.{has_any, stored}
 use Rattle.tree_paths.specs.Rows.{row, first_row}
-
--- a watch: its descriptor, and the bits that it keeps
-abbrev pub Watch : Type 0
-Watch = ℤ × ℕ
 
 -- what an instance watches, by the numbers of the files; the descriptor that the next new watch gets; and how many
 -- watches there may be at a time, and ever
@@ -25,10 +23,15 @@ pub record Watching : Type 0 where
   pub most_watches : ℕ
   pub last_wd : ℕ
 
+abbrev pub watch_code : Coded Watch
+watch_code =
+    code_by (ℤ × ℕ) (coded× coded_ℤ coded_ℕ) (λ watch. (watch.wd, watch.mask)) (λ p. record { wd = p.0; mask = p.1 })
+    (λ _. refl)
+
 abbrev pub watching_code : Coded Watching
 watching_code =
     code_by (map.FinMap nat_cmp Watch × (ℕ × (ℕ × ℕ)))
-    (coded× (map.code coded_ℕ (coded× coded_ℤ coded_ℕ)) (coded× coded_ℕ (coded× coded_ℕ coded_ℕ)))
+    (coded× (map.code coded_ℕ watch_code) (coded× coded_ℕ (coded× coded_ℕ coded_ℕ)))
     (λ w. (w.watches, (w.next_wd, (w.most_watches, w.last_wd))))
     (λ p. record { watches = p.0; next_wd = p.1.0; most_watches = p.1.1.0; last_wd = p.1.1.1 }) (λ _. refl)
 
@@ -42,15 +45,12 @@ watch_of w number = map.get w.watches number
 
 -- the descriptor of a file's watch
 abbrev pub wd_of : Watching → ℕ → Option ℤ
-wd_of w number = option_map (λ watch. watch.0) (watch_of w number)
-
-abbrev pub has_wd : ℤ → Option Watch → Bool
-has_wd wd None = false
-has_wd wd (Some watch) = int_eq watch.0 wd
+wd_of w number = option_map (λ watch. watch.wd) (watch_of w number)
 
 -- the number of the file that is watched under a descriptor
 unfoldable pub watched_by : Watching → ℤ → Option ℕ
-watched_by w wd = find (λ number. has_wd wd (watch_of w number)) (map.keys w.watches)
+watched_by w wd =
+    find (λ number. option_map_or (λ watch. int_eq watch.wd wd) (watch_of w number) false) (map.keys w.watches)
 
 -- the bits that a watch keeps after another call for its file: the call's, joined under IN_MASK_ADD with those it had
 abbrev pub next_bits : ℕ → ℕ → ℕ
@@ -59,27 +59,22 @@ next_bits mask bits = if has_any mask IN_MASK_ADD then bit_or bits (stored mask)
 -- the watches with a new one, which gets the next descriptor
 abbrev pub with_new_watch : Watching → ℕ → ℕ → Watching
 with_new_watch w number bits =
-    record w { watches = map.insert w.watches number (pos w.next_wd, bits); next_wd = w.next_wd + 1 }
+    record w {
+      watches = map.insert w.watches number (record { wd = pos w.next_wd; mask = bits });
+      next_wd = w.next_wd + 1;
+    }
 
--- the watches with other bits of a file's watch
-abbrev pub with_bits : Watching → ℕ → ℤ → ℕ → Watching
-with_bits w number wd bits = record w { watches = map.insert w.watches number (wd, bits) }
-
-abbrev pub added_to : Watching → ℕ → ℕ → Option Watch → Watching
-added_to w number mask None = with_new_watch w number (stored mask)
-added_to w number mask (Some watch) = with_bits w number watch.0 (next_bits mask watch.1)
-
--- the watches after a call to watch a file
+-- the watches after a call to watch a file: its watch has other bits, or it has a new one
 unfoldable pub added : Watching → ℕ → ℕ → Watching
-added w number mask = added_to w number mask (watch_of w number)
-
-abbrev pub wd_or : Option Watch → ℤ → ℤ
-wd_or None wd = wd
-wd_or (Some watch) wd = watch.0
+added w number mask =
+    option_map_or
+    (λ watch. record w { watches = map.insert w.watches number (record watch { mask = next_bits mask watch.mask }) })
+    (watch_of w number)
+    (with_new_watch w number (stored mask))
 
 -- the descriptor that a call to watch a file answers: that of its watch, which is the next one where it had none
 unfoldable pub wd_added : Watching → ℕ → ℤ
-wd_added w number = wd_or (watch_of w number) (pos w.next_wd)
+wd_added w number = unwrap_or (wd_of w number) (pos w.next_wd)
 
 -- whether no new watch can be made: there are as many as there may be at a time, or all descriptors were given
 abbrev pub is_full : Watching → Bool
@@ -105,13 +100,9 @@ add_refusal w number mask is_directory =
 unfoldable pub dropped : Watching → ℕ → Watching
 dropped w number = record w { watches = map.remove w.watches number }
 
-abbrev pub without : Watching → Option ℕ → Watching
-without w None = w
-without w (Some number) = dropped w number
-
 -- the watches without that of a descriptor
 abbrev pub removed : Watching → ℤ → Watching
-removed w wd = without w (watched_by w wd)
+removed w wd = option_map_or (dropped w) (watched_by w wd) w
 
 -- what is true of the watches of each instance
 pub record IsSound (w : Watching) : Type 0 where

@@ -12,7 +12,7 @@ ghost use Rattle.watch_table.specs.Watching.{IsSound, added, add_refusal, droppe
 ghost use Rattle.watch_table.specs.Watching.{no_watches, watched_by, removed, watch_of, wd_added, wd_of};
 ghost use Rattle.watch_table.specs.Watching.{with_new_watch};
 
-use crate::{Mask, WatchRows};
+use crate::{Mask, Watch, WatchRows};
 use bitflags::Flags;
 use std::alloc::{AllocError, Global};
 use std::collections::BTreeMap;
@@ -25,7 +25,7 @@ use tree_paths::{Limits, Refusal};
 /// Descriptors are given in turn, 1, 2, 3, .., and none is given again.
 pub struct Watches {
     alloc: Global,
-    by_number: BTreeMap<u32, (i32, u32)>,
+    by_number: BTreeMap<u32, Watch>,
     by_wd: BTreeMap<i32, u32>,
     next_wd: u32,
     most_watches: u32,
@@ -92,8 +92,8 @@ impl Watches {
         })
     }
 
-    /// The descriptor and the stored bits of a file's watch. It takes no memory.
-    pub fn of(&self, number: u32) -> Option<(i32, u32)>
+    /// A file's watch. It takes no memory.
+    pub fn of(&self, number: u32) -> Option<Watch>
         ensures { result ≡ watch_of self.now number }
     {
         self.by_number.get(&number).copied()
@@ -129,7 +129,7 @@ impl Watches {
     }
 
     /// The numbers of the watched files, rising. It takes no memory.
-    pub fn numbers(&self) -> Keys<'_, u32, (i32, u32)>
+    pub fn numbers(&self) -> Keys<'_, u32, Watch>
         ensures rest { result ≡ map.keys self.now.watches }
         ensures runs { ShowsInOrder (deref {X = ℕ}) }
     {
@@ -152,7 +152,7 @@ impl Watches {
     fn bits(&self, number: u32) -> u32
         ensures { result ≡ bits_in (watch_of self.now number) }
     {
-        self.of(number).map_or(0, |watch| watch.1)
+        self.of(number).map_or(0, |watch| watch.mask)
     }
 }
 
@@ -188,7 +188,7 @@ impl Watches {
     {
         let wd = self.next_wd as i32;
         self.by_wd.insert(wd, number)?;
-        if let Err(refused) = self.by_number.insert(number, (wd, bits)) {
+        if let Err(refused) = self.by_number.insert(number, Watch { wd, mask: bits }) {
             self.by_wd.remove(&wd);
             return Err(AllocError::from(refused));
         }
@@ -241,8 +241,8 @@ impl Watches {
         ensures none { IfNone result (self.new ≡ self.old) }
     {
         let watch = self.by_number.get_mut(&number)?;
-        watch.1 = mask.next_bits(watch.1);
-        Some(watch.0)
+        watch.mask = mask.next_bits(watch.mask);
+        Some(watch.wd)
     }
 
     /// Whether no file more can be watched, or no descriptor is left.
@@ -272,7 +272,7 @@ impl Watches {
         ensures wd { result ≡ wd_of self.old number }
         ensures watches { self.new ≡ dropped self.old number }
     {
-        let (wd, _) = self.by_number.remove(&number)?;
+        let Watch { wd, .. } = self.by_number.remove(&number)?;
         self.by_wd.remove(&wd);
         Some(wd)
     }

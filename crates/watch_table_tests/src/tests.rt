@@ -147,7 +147,7 @@ fn is_right(watches: &mut Watches, step: Step) -> bool {
         Step::Directory(number, bits, answer) => watch(watches, number, bits, true) == answer,
         Step::Remove(wd, answer) => watches.remove(wd) == answer,
         Step::DropFile(number, answer) => watches.drop_file(number) == answer,
-        Step::Has(number, watch) => watches.of(number) == watch,
+        Step::Has(number, watch) => watches.of(number).map(|watch| (watch.wd, watch.mask)) == watch,
         Step::Watched(wd, number) => watches.watched_by(wd) == number,
         Step::Counts(len, next_wd) => are_counted(watches, len, next_wd),
     }

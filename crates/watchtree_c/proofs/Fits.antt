@@ -14,8 +14,9 @@ use Rattle.tree_core.specs.declared.call.Call.{Call}
 use Rattle.tree_core.specs.declared.call.Call.TheVariants as call
 use Rattle.tree_core.specs.declared.reply.Reply.{Reply}
 use Rattle.tree_core.specs.declared.reply.Reply.TheVariants as reply
-use Rattle.tree_core.specs.Tree.{Tree, refusal_of, read_answer, reply_by, reply_of}
+use Rattle.tree_core.specs.Tree.{Tree, refusal_of, reply_of}
 use Rattle.tree_core.specs.Journal.{Journaled, now}
+use Rattle.tree_core.proofs.Parts.{read_answer, reply_by}
 use Rattle.watchtree_c.specs.declared.opened.Opened.{Opened}
 use Rattle.watchtree_c.specs.Answers.{Fits, IsFilled, IsReplied, IsMade, IsReply, AnswersBytes, reply_number}
 use Rattle.watchtree_c.specs.Calls.{asked_bytes, on_path, read_call}

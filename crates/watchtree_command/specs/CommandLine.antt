@@ -10,7 +10,7 @@ use Rattle.clap.specs.Simple.{on_top}
 use Rattle.clap.specs.Words.{App, Kinds, Row, Shape, Text, fault_of, first_of, new_app, new_rule, subcommand_of}
 use Rattle.clap.specs.Words.{with_rule, with_subcommand}
 use Rattle.clap.specs.declared.builder.action.ArgAction.TheVariants.{Set}
-use Rattle.tree_paths.specs.Greatest.{most_queue}
+use Rattle.tree_paths.specs.Greatest.{most}
 use Rattle.watchtree_command.specs.declared.fault.Fault.{Fault}
 use Rattle.watchtree_command.specs.declared.fault.Fault.TheVariants as fault
 use Rattle.watchtree_command.specs.declared.command_line.Invocation.{Invocation}
@@ -24,7 +24,7 @@ abbrev pub usual_queue : ℕ
 usual_queue = 16384
 
 abbrev pub IsQueueLimit : ℕ → Type 0
-IsQueueLimit limit = (least_queue ≤ limit) × (limit ≤ most_queue)
+IsQueueLimit limit = (least_queue ≤ limit) × (limit ≤ most.queue)
 
 -- how many calls each writer of a storm makes, at least, usually and at most
 abbrev pub least_calls : ℕ
@@ -83,7 +83,7 @@ program =
 abbrev pub invocation_in : Text × List Row → Option Invocation
 invocation_in s =
     if bytes_eq s.0 (codes "run")
-    then option_map Run (number_or usual_queue least_queue most_queue (first_of (codes "queue") s.1))
+    then option_map Run (number_or usual_queue least_queue most.queue (first_of (codes "queue") s.1))
     else if bytes_eq s.0 (codes "storm")
     then option_map Storm (number_or usual_calls least_calls most_calls (first_of (codes "calls") s.1))
     else None

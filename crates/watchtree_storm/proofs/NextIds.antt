@@ -9,8 +9,9 @@ use Rattle.tree_core.specs.declared.reply.Kept.{Kept}
 use Rattle.tree_core.specs.declared.reply.Receipt.{Receipt}
 use Rattle.tree_core.specs.declared.reply.Reply.{Reply}
 use Rattle.tree_core.specs.declared.reply.Reply.TheVariants as reply
-use Rattle.tree_core.specs.Tree.{Tree, opening, refusal_of, after_file, after_init, after_add_watch, accepted, accepted_reply, reply_by, tree_by, after}
+use Rattle.tree_core.specs.Tree.{Tree, opening, refusal_of, after_file, accepted, accepted_reply, after}
 use Rattle.tree_core.specs.Journal.{Journaled, now, opened}
+use Rattle.tree_core.proofs.Parts.{reply_by, tree_by}
 use Rattle.tree_core.proofs.Lawful.{now-entry}
 use Rattle.shared_tree.specs.Calls.{JoinsJournal, TreeWithPipes, tree_with_pipes}
 use Rattle.shared_tree.specs.Pipes.{Fed, fed, feed_of}
@@ -33,7 +34,6 @@ file-by t f (Some why) = refl
 
 watch-by : (t : Tree) (id : ℕ) (path : List (List ℕ)) (mask : ℕ) (r : Option Refusal)
     → (tree_by r t (accepted t (call.AddWatch id path mask))).next_id ≡ t.next_id
-unfolding after_add_watch
 watch-by t id path mask None = refl
 watch-by t id path mask (Some why) = refl
 
@@ -42,7 +42,6 @@ same-id a b e = cc
 
 init-by : (t : Tree) (limit : ℕ) (is_piped : Bool) (id : ℕ) (r : Option Refusal) → reply.Instance id ≡ reply_by r (accepted_reply t (call.Init limit is_piped))
     → (id ≡ t.next_id) × ((tree_by r t (accepted t (call.Init limit is_piped))).next_id ≡ t.next_id + 1)
-unfolding after_init
 init-by t limit is_piped id None e = (same-id id t.next_id e, refl)
 init-by t limit is_piped id (Some why) e = absurd (cc)
 

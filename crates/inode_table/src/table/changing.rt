@@ -2,7 +2,7 @@
 
 ghost use Rattle.std.specs.Prelude.{◌≡◌, ◌≢◌, [], Option, Some, None, IfOk, IfErr, OnOk, OnErr, true, false, IsSome};
 ghost use Rattle.std.specs.Prelude.{IfSome, ◌&&◌, ◌+◌, ◌<◌, ◌≤◌, ◌^◌};
-ghost use Rattle.std.specs.Option.{IsSomeAnd};
+ghost use Rattle.std.specs.Option.{IsSomeAnd, option_map_or};
 ghost use Rattle.std.specs.FinMap as finmap;
 ghost use Rattle.tree_paths.specs.Paths.{is_below};
 ghost use Rattle.inode_table.specs.Refusals.{parent_of};
@@ -16,7 +16,7 @@ use crate::seen::Kind;
 use tree_paths::Refusal;
 
 impl Table {
-    ghost use Rattle.inode_table.specs.World.{with_file, with_move, with_swap, without_path, without_lost, linked};
+    ghost use Rattle.inode_table.specs.World.{with_file, with_move, with_swap, with_path, without_path, without_lost};
     ghost use Rattle.inode_table.specs.World.{changed_at, look};
     ghost use Rattle.inode_table.specs.Refusals.{is_directory_seen};
     ghost use Rattle.inode_table.specs.TableWorld.{world_of};
@@ -63,7 +63,8 @@ impl Table {
         requires directory { is_directory_seen (look (world_of self.old) (parent_of new.now.names)) ≡ true }
         requires free { look (world_of self.old) new.now.names ≡ None }
         ensures world { OnOk result (world_of self.new
-            ≡ linked (world_of self.old) new.now.names (finmap.get (world_of self.old).paths old.now.names)) }
+            ≡ option_map_or (with_path (world_of self.old) new.now.names)
+            (finmap.get (world_of self.old).paths old.now.names) (world_of self.old)) }
         ensures room { OnOk result (self.new.room ≡ self.old.room) }
         ensures err { OnErr result (self.new ≡ self.old) }
         ensures memory { IfErr result (λ refusal. refusal ≡ Refusal.Enomem) }

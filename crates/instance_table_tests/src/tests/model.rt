@@ -7,7 +7,7 @@ use event_rules::{Staged, ignored, stage};
 use instance_table::Instance;
 use record_codec::Name;
 use record_codec::bits::{IN_ATTRIB, IN_ISDIR, IN_MASK_ADD};
-use watch_table::Watches;
+use watch_table::{Watch, Watches};
 
 /// How many instances and files there are, numbered from 0 on.
 const COUNT: u32 = 20;
@@ -138,7 +138,7 @@ impl Both {
         let Some(instance) = self.model.get_mut(id as usize) else {
             return Ok(());
         };
-        if let Some((wd, _)) = instance.watches.of(number) {
+        if let Some(Watch { wd, .. }) = instance.watches.of(number) {
             instance.watches.remove(wd)?;
             instance.queue.offer(ignored(wd));
             self.instances.unwatch(id, 0, wd);

@@ -5,7 +5,8 @@ use Rattle.record_codec.specs.declared.event.Event.{Event}
 use Rattle.watch_table.specs.Watching.{removed, watch_of}
 use Rattle.event_rules.specs.declared.notice.Notice.{Notice}
 use Rattle.event_rules.specs.declared.staged.StagedEvent.{StagedEvent}
-use Rattle.event_rules.specs.Raised.{events_of, raised, told_number}
+use Rattle.event_rules.specs.Raised.{events_of, told_number}
+use Rattle.event_rules.proofs.Removals.{raised}
 use Rattle.event_rules.specs.Staging.{staged_event}
 use Rattle.event_rules.proofs.Stages.{ended_with, events_more, raised_with, wds_more}
 use Rattle.event_rules.proofs.staged.stage_events.Goals as goal

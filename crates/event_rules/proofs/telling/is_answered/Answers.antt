@@ -1,6 +1,6 @@
 use Rattle.std.proofs.Common.{take, drop, sym, ap, ◌∙◌}
 use Rattle.inode_table.specs.TableWorld.{world_of}
-use Rattle.event_rules.specs.Table.{has_byte}
+use Rattle.event_rules.proofs.EveryCall.{has_byte}
 use Rattle.event_rules.proofs.Reading.{bytes-none, nothing-read}
 use Rattle.event_rules.proofs.telling.is_answered.Goals as goal
 

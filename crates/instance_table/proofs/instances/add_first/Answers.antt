@@ -2,13 +2,14 @@ use Rattle.std.proofs.Common.{rules, ◌≡◌, ◌<◌, ◌^◌, Option, Some, 
 use Rattle.std.proofs.lemmas.Int.{to_z_pos, to_z-of_z}
 use mir.Val.{SFits}
 use Rattle.watch_table.specs.Masks.{stored}
-use Rattle.watch_table.specs.Watching.{Watch, Watching, watch_of, with_new_watch}
+use Rattle.watch_table.specs.declared.watch.Watch.{Watch}
+use Rattle.watch_table.specs.Watching.{Watching, watch_of, with_new_watch}
 use Rattle.instance_table.specs.Index.{watch_noted}
 use Rattle.instance_table.proofs.Indexed.{first-watch, added-first, wd-first, room-left, wd-left}
 use Rattle.instance_table.proofs.instances.add_first.Goals as goal
 
-pub overflow_cast-next_wd : goal.overflow_cast-next_wd
-overflow_cast-next_wd c =
+pub overflow_cast-watch : goal.overflow_cast-watch
+overflow_cast-watch c =
     let w = c.args.watches.now in
     let room = room-left w c.args.number c.args.mask.0 c.args.is_directory c.requires.unwatched (c.in_default.ensures c.args.number c.requires.unwatched) in
     let left : c.next_wd.result < 2 ^ 31 = subst (λ n. n < 2 ^ 31) (sym c.next_wd.ensures.value) (wd-left w c.next_wd.ensures.sound room) in
@@ -38,10 +39,11 @@ returns-in-Ok-clause-noted c n q =
     let room = room-left w c.args.number c.args.mask.0 c.args.is_directory c.requires.unwatched (c.in_default.ensures c.args.number c.requires.unwatched) in
     let left : c.next_wd.result < 2 ^ 31 = subst (λ n. n < 2 ^ 31) (sym c.next_wd.ensures.value) (wd-left w c.next_wd.ensures.sound room) in
     let wd : to_z w32 c.next_wd.result ≡ pos w.next_wd = to_z_pos w32 c.next_wd.result left ∙ ap pos c.next_wd.ensures.value in
-    let there : watch_of c.add_new.new.self c.args.number ≡ Some (to_z w32 c.next_wd.result, c.stored-bits.result) =
+    let there : watch_of c.add_new.new.self c.args.number ≡ Some (record { wd = to_z w32 c.next_wd.result; mask = c.stored-bits.result }) =
     ap (λ (x : Watching). watch_of x c.args.number)
     (c.in-Ok.ensures.watches ∙ ap (with_new_watch w c.args.number) c.stored-bits.ensures ∙ sym (added-first w c.args.number c.args.mask.0 c.requires.unwatched))
     ∙ first-watch w c.args.number c.args.mask.0 c.requires.unwatched
-    ∙ ap (λ z. Some (z, stored c.args.mask.0)) (sym wd) ∙ ap (λ b. Some (to_z w32 c.next_wd.result, b)) (sym c.stored-bits.ensures) in
+    ∙ ap (λ z. Some (record { wd = z; mask = stored c.args.mask.0 })) (sym wd)
+    ∙ ap (λ b. Some (record { wd = to_z w32 c.next_wd.result; mask = b })) (sym c.stored-bits.ensures) in
     c.in_ok-put.ensures.ok n q
     ∙ ap (λ (o : Option Watch). cond (eqb n c.args.number && eqb q c.args.id) o (watch_noted c.args.index.now n q)) (sym there)

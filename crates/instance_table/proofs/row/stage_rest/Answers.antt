@@ -1,7 +1,7 @@
 use Rattle.std.proofs.Common.{refl, sym}
 use Rattle.std.proofs.lemmas.List.{append-nil}
 use Rattle.std.specs.Prelude.{Option}
-use Rattle.watch_table.specs.Watching.{Watch}
+use Rattle.watch_table.specs.declared.watch.Watch.{Watch}
 use Rattle.event_rules.specs.declared.staged.StagedEnd.{StagedEnd}
 use Rattle.event_rules.specs.declared.staged.StagedEvent.{StagedEvent}
 use Rattle.event_rules.specs.Raised.{ended_by, raised_at}

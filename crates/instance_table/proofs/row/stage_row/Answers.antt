@@ -4,7 +4,7 @@ use Rattle.std.specs.FinMap.{get-empty}
 use Rattle.std.specs.Option.{option_copied}
 use Rattle.std.specs.Ordering.{nat_cmp}
 use Rattle.std.proofs.lemmas.List.{append-nil}
-use Rattle.watch_table.specs.Watching.{Watch}
+use Rattle.watch_table.specs.declared.watch.Watch.{Watch}
 use Rattle.event_rules.specs.Raised.{ended_by, raised_at, told_number}
 use Rattle.event_rules.specs.Staging.{left_before}
 use Rattle.instance_table.specs.Staging.{events_to, wds_to}

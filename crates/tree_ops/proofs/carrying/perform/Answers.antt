@@ -5,10 +5,11 @@ use Rattle.std.proofs.lemmas.Result.{on_ok_weaker}
 use borrow.Author.Tests.{ltb-true, ltb-false}
 use Rattle.inode_table.specs.declared.seen.Seen.{Seen}
 use Rattle.std.specs.FinMap as finmap
+use Rattle.std.specs.Option.{option_map_or}
 use Rattle.tree_paths.specs.Rows.{first_row}
 use Rattle.inode_table.specs.Bytes.{written}
 use Rattle.inode_table.specs.TableWorld.{world_of}
-use Rattle.inode_table.specs.World.{World, IsWorld, changed_at, linked, look}
+use Rattle.inode_table.specs.World.{World, IsWorld, changed_at, with_path, look}
 use Rattle.inode_table.specs.Tree.{TableValue}
 use Rattle.inode_table.specs.Resolution.{IsResolved, ResolvedPath}
 use Rattle.tree_ops.proofs.Changed.{empty-seen}
@@ -264,8 +265,8 @@ pub returns-in_ok-add_name-in-Link-clause-world : goal.returns-in_ok-add_name-in
 returns-in_ok-add_name-in-Link-clause-world c =
     after-at _ (world_of c.args.table.now) _ _ _ c.plan.view_is (two-paths c.requires.ready c.plan.view_is (λ p q. Link p q) refl refl c.in-Link.is)
     (c.in_ok-add_name-in-Link.ensures.world
-    ∙ (λ i. linked (world_of c.args.table.now) (other-name c.plan.view_is c.other_path.ensures i)
-    (finmap.get (world_of c.args.table.now).paths c.plan.inside.path.names)))
+    ∙ (λ i. option_map_or (with_path (world_of c.args.table.now) (other-name c.plan.view_is c.other_path.ensures i))
+    (finmap.get (world_of c.args.table.now).paths c.plan.inside.path.names) (world_of c.args.table.now)))
 
 pub returns-in-Unlink-clause-world : goal.returns-in-Unlink-clause-world
 returns-in-Unlink-clause-world c =

@@ -7,7 +7,7 @@ use Rattle.event_rules.specs.Staging.{ended_before}
 use Rattle.event_rules.proofs.ended.EndedWatches.of.Goals as goal
 
 pub loop-notice-init : goal.loop-notice-init
-loop-notice-init c watch = ap (λ n. not (n == 0) && is_oneshot watch) (and_zero_r watch.1)
+loop-notice-init c watch = ap (λ n. not (n == 0) && is_oneshot watch) (and_zero_r watch.mask)
 
 pub loop-notice-preserved : goal.loop-notice-preserved
 loop-notice-preserved c watch =

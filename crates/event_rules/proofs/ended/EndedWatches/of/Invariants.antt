@@ -1,5 +1,5 @@
 use Rattle.std.proofs.Common.{◌≡◌, take}
-use Rattle.watch_table.specs.Watching.{Watch}
+use Rattle.watch_table.specs.declared.watch.Watch.{Watch}
 use Rattle.event_rules.specs.Staging.{ended_before, is_ended}
 use Rattle.event_rules.proofs.ended.EndedWatches.of.Given as goal
 

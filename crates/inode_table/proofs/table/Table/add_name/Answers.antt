@@ -1,6 +1,7 @@
 use Rattle.std.proofs.Common.{◌++◌, ◌∷◌, [], ◌∙◌, sym, ap, subst}
+use Rattle.std.specs.Option.{option_map_or}
 use Rattle.inode_table.specs.Tree.{what_at}
-use Rattle.inode_table.specs.World.{linked, with_path}
+use Rattle.inode_table.specs.World.{with_path}
 use Rattle.inode_table.specs.Stands.{Stands, look_in}
 use Rattle.inode_table.proofs.FindLemmas.{live-there}
 use Rattle.inode_table.proofs.SeenLemmas.{is_value, free-child}
@@ -28,7 +29,8 @@ returns-clause-world c =
     let t = c.args.self.now in
     let found = c.key_at-key.ensures in
     let v = is_value (what_at t c.key_at-key.result) (live-there t c.rows_law.ensures.table c.args.old.now.names c.key_at-key.result found) in
-    subst (λ o. Stands c.add_name_at.new.self (linked w c.args.new.now.names o)) (sym (number-at stands c.args.old.now.names c.key_at-key.result v.0 found v.1))
+    subst (λ o. Stands c.add_name_at.new.self (option_map_or (with_path w c.args.new.now.names) o w))
+    (sym (number-at stands c.args.old.now.names c.key_at-key.result v.0 found v.1))
     (subst (λ p. Stands c.add_name_at.new.self (with_path w p v.0.number))
     ((λ i. (parent_of c.args.new.now.names) ++ c.in_ok-name.ensures.same i ∷ [])
     ∙ sym c.last_name_ref-last.ensures)

@@ -1,19 +1,17 @@
-use Rattle.std.proofs.Common.{◌≡◌, [], ap, sym, ◌∙◌, rules, take, length}
+use Rattle.std.proofs.Common.{◌≡◌, [], ap, sym, ◌∙◌, rules}
+use Rattle.std.proofs.lemmas.List.{nil_from_length}
 use Rattle.std.specs.FinMap as finmap
 use Rattle.instance_table.specs.Watchers.{WatchMap, watchers_map}
-use Rattle.instance_table.proofs.Fews.{few-length}
 use Rattle.instance_table.proofs.Zipped.{none-watch, watchers-keys}
 use Rattle.instance_table.proofs.few.Few.is_empty.Goals as goal
 
 pub returns : goal.returns
 returns g c =
-    let n = c.self.inside.len in
-    let ids = take n c.self.inside.ids in
-    let ws = take n c.self.inside.watches in
+    let ids = c.as_slices.result.0.now in
+    let ws = c.as_slices.result.1.now in
     let none : c.args.self.now ≡ finmap.empty → ids ≡ [] =
-    λ e. sym (watchers-keys ids ws c.self.invariant.3) ∙ ap (λ (m : WatchMap). finmap.keys m) (c.self.view_is ∙ e) ∙ watchers-keys [] [] none-watch in
-    let long : length ids ≡ n = few-length g.row.N n c.self.inside.ids c.self.inside.watches c.self.invariant in (
-      λ h. let zero : n ≡ 0 = search rules in
-          sym c.self.view_is ∙ ap (λ k. watchers_map (take k c.self.inside.ids) (take k c.self.inside.watches)) zero,
-      λ e. let is = none e in let same = ap length is in search rules,
+    λ e. sym (watchers-keys ids ws c.as_slices.ensures.watchers) ∙ ap (λ (m : WatchMap). finmap.keys m) (c.as_slices.ensures.map ∙ e)
+    ∙ watchers-keys [] [] none-watch in (
+      λ h. sym c.as_slices.ensures.map ∙ ap (λ xs. watchers_map xs ws) (nil_from_length ids (search rules)),
+      λ e. let is = none e in search rules,
     )

@@ -1,7 +1,8 @@
 use Rattle.std.proofs.Common.{ap, sym, ◌∙◌, refl}
 use Rattle.std.specs.Int.{w32}
 use Rattle.std.proofs.lemmas.Int.{to_z-of_z}
-use Rattle.watch_table.specs.Watching.{removed, without}
+use Rattle.watch_table.specs.Watching.{removed}
+use Rattle.watch_table.proofs.Watched.{without}
 use Rattle.instance_table.proofs.Indexed.{NotesEveryWatch-changed, instances_of-changed, noted-dropped, there, unchanged}
 use Rattle.instance_table.proofs.instances.Instances.end_watch.Goals as goal
 

@@ -1,7 +1,8 @@
 use Rattle.std.proofs.Common.{◌≡◌, ◌++◌, ℕ, Option, Some, take, sym, ap, ◌∙◌}
 use Rattle.std.specs.FinMap as finmap
 use Rattle.std.specs.Option.{option_copied}
-use Rattle.watch_table.specs.Watching.{Watch, watch_of}
+use Rattle.watch_table.specs.declared.watch.Watch.{Watch}
+use Rattle.watch_table.specs.Watching.{watch_of}
 use Rattle.event_rules.specs.Raised.{ended_by, raised_at, told_number}
 use Rattle.event_rules.specs.Staging.{left_before}
 use Rattle.instance_table.specs.declared.instance.Instance.{Instance}

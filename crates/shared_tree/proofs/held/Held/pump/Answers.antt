@@ -1,8 +1,12 @@
-use Rattle.std.proofs.Common.{sym, subst, ◌∙◌}
+use Rattle.std.proofs.Common.{List, Option, option_map, ap, sym, subst, ◌∙◌}
+use Rattle.record_codec.specs.declared.event.Event.{Event}
 use Rattle.shared_tree.specs.Calls.{HandsOver, TreeWithPipes, tree_with_pipes}
 use Rattle.tree_core.specs.declared.call.Call.TheVariants as call
-use Rattle.shared_tree.specs.Held.{sents}
-use Rattle.shared_tree.specs.Handed.{deliver}
+use Rattle.tree_core.specs.Journal.{now}
+use Rattle.shared_tree.specs.declared.pipe.Batch.{Batch}
+use Rattle.shared_tree.specs.Held.{sents, IsReady}
+use Rattle.shared_tree.specs.Handed.{batch, deliver}
+use Rattle.shared_tree.proofs.Keeping.{pump-ready}
 use Rattle.std.proofs.Common.{Result}
 use Rattle.std.specs.Prelude.{IfErr}
 use Rattle.std.proofs.lemmas.Result.{err_from_is_err_and}
@@ -12,6 +16,14 @@ use Rattle.shared_tree.specs.Calls.{RefusalOf}
 use Rattle.shared_tree.proofs.Unable.{why-not}
 use Rattle.shared_tree.proofs.Wholes.{pump-why, hands-pump, held-pump}
 use Rattle.shared_tree.proofs.held.Held.pump.Goals as goal
+
+pub hand_over-requires : goal.hand_over-requires
+hand_over-requires g c =
+    subst (λ (o : Option Batch). IsReady c.look.new.self.numbers c.look.new.self.ends c.in_ok-at.at o)
+    (sym (c.pumped_batch-batch.ensures
+    ∙ ap (λ (x : Option (List Event)). option_map (batch c.args.instance c.in_ok-receipt.receipt.place) x) c.in_ok-receipt.ensures.records))
+    (pump-ready c.replies_tell.ensures c.look.new.self.numbers c.look.new.self.ends (now c.self.inside.core) c.in_ok-receipt.receipt.place
+    c.in_ok-at.at c.args.instance c.args.bytes c.in_ok-at.ensures.ok)
 
 pub invariant_of-self-2 : goal.invariant_of-self-2
 invariant_of-self-2 g c =

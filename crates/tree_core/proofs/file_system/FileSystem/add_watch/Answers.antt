@@ -15,11 +15,12 @@ use Rattle.tree_core.specs.declared.call.Call.TheVariants as call
 use Rattle.tree_core.specs.declared.file_system.FileSystem.{FileSystem}
 use Rattle.tree_core.specs.declared.reply.Reply.TheVariants as reply
 use Rattle.tree_core.specs.FileSystems.{tree_in}
-use Rattle.tree_core.specs.Tree.{after_add_watch, number_seen, refusal_of}
+use Rattle.tree_core.specs.Tree.{refusal_of}
 use Rattle.tree_core.proofs.Serving.{failed-attempts, complete-attempts}
 use Rattle.tree_core.proofs.Instances.{copied-none, copied-some, at-instance, either-of, add-bad-there, add-mask-there}
 use Rattle.tree_core.proofs.Instances.{add-path-there, add-seen-there, answer-there, watching-there, IsNumbered-changed}
 use Rattle.tree_core.proofs.file_system.FileSystem.add_watch.Goals as goal
+use Rattle.tree_core.proofs.Parts.{number_seen}
 
 -- the derived test of kinds decides whether a file is a directory
 tells-directory : (k : Kind) → derived.ghosts.eq k Directory ≡ is_directory_kind k
@@ -54,7 +55,6 @@ returns-in_err-seen c =
     refl
 
 pub returns : goal.returns
-unfolding after_add_watch
 returns c =
     let m = c.args.self.now in
     let found = copied-some c.find.result (instance_of m.instances c.args.id) c.find.ensures (c.is_none.ensures ∙ ap not c.if-is_none.false) in

@@ -4,13 +4,12 @@ use Rattle.tree_paths.specs.Rows.{first_row}
 use Rattle.tree_core.specs.declared.call.Call.TheVariants as call
 use Rattle.tree_core.specs.declared.reply.Reply.TheVariants as reply
 use Rattle.tree_core.specs.FileSystems.{tree_in}
-use Rattle.tree_core.specs.Tree.{close_rows, after_close}
+use Rattle.tree_core.specs.Tree.{close_rows}
 use Rattle.tree_core.proofs.Serving.{complete-attempts}
 use Rattle.tree_core.proofs.Instances.{IsNumbered-closed}
 use Rattle.tree_core.proofs.file_system.FileSystem.close.Goals as goal
 
 pub returns : goal.returns
-unfolding after_close
 returns c =
     let m : FileSystem = c.args.self.now in
     complete-attempts m _ (call.Close c.args.id) c.complete.result reply.Done c.complete.ensures

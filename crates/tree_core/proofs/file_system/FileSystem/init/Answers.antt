@@ -3,7 +3,6 @@ use Rattle.tree_core.specs.declared.call.Call.TheVariants as call
 use Rattle.tree_core.specs.declared.reply.Reply.TheVariants as reply
 use Rattle.instance_table.specs.Instances.{new_instance}
 use Rattle.tree_core.specs.FileSystems.{tree_in}
-use Rattle.tree_core.specs.Tree.{after_init}
 use Rattle.tree_core.proofs.Serving.{complete-attempts}
 use Rattle.tree_core.proofs.Instances.{init-passes, IsNumbered-opened}
 use Rattle.tree_core.proofs.file_system.FileSystem.init.Goals as goal
@@ -16,7 +15,6 @@ open-requires-clause-limit c =
     (passes.0, omega arith)
 
 pub returns : goal.returns
-unfolding after_init
 returns c =
     let m = c.args.self.now in
     complete-attempts m _ (call.Init c.args.limit c.args.piped) c.complete.result (reply.Instance m.next_id) c.complete.ensures

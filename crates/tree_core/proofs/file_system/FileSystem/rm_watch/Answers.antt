@@ -6,13 +6,12 @@ use Rattle.tree_core.specs.declared.call.Call.TheVariants as call
 use Rattle.instance_table.specs.Instances.{Instances, changed, unwatching}
 use Rattle.tree_core.specs.declared.reply.Reply.TheVariants as reply
 use Rattle.tree_core.specs.FileSystems.{tree_in}
-use Rattle.tree_core.specs.Tree.{rm_watch_rows, after_rm_watch}
+use Rattle.tree_core.specs.Tree.{rm_watch_rows}
 use Rattle.tree_core.proofs.Serving.{complete-attempts}
 use Rattle.tree_core.proofs.Instances.{IsNumbered-changed}
 use Rattle.tree_core.proofs.file_system.FileSystem.rm_watch.Goals as goal
 
 pub returns : goal.returns
-unfolding after_rm_watch
 returns c =
     let m = c.args.self.now in
     let same = to_z-of_z w32 c.args.wd c.ranges.wd in

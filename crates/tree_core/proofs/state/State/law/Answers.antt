@@ -1,5 +1,9 @@
+use Rattle.std.specs.Prelude.{ℕ}
+use Rattle.event_rules.specs.Laws.{AreTied, marks_of, moves_with}
+use Rattle.tree_core.specs.Histories.{events, raised_by}
 use Rattle.tree_core.specs.Journal.{now}
-use Rattle.tree_core.specs.Law.{RefusedAddsNothing, TiesMoves}
+use Rattle.tree_core.specs.Law.{RefusedAddsNothing}
+use Rattle.tree_core.specs.TurnLaws.{cookies_used}
 use Rattle.tree_core.proofs.EachEntry.{at_each}
 use Rattle.tree_core.proofs.state.State.law.Goals as goal
 
@@ -19,7 +23,9 @@ returns-clause-told c id =
 pub returns-clause-cookies : goal.returns-clause-cookies
 returns-clause-cookies c = record {
   turn = c.cookies_are_in_turn.ensures.turn c.args.self.now.start c.args.self.now.entries;
-  ties = at_each TiesMoves (λ t d id. c.cookies_are_in_turn.ensures.tie t d id) c.args.self.now.start c.args.self.now.entries;
+  ties =
+      at_each (λ t d. (id : ℕ) → AreTied (moves_with (cookies_used t d)) (marks_of (events (raised_by t d id))))
+      (λ t d id. c.cookies_are_in_turn.ensures.tie t d id) c.args.self.now.start c.args.self.now.entries;
 }
 
 pub returns-clause-ends : goal.returns-clause-ends

@@ -38,8 +38,8 @@ invariant_of-self-2 c =
     let put_wd : tree.Updates int_cmp a.by_wd c.insert.new.self (pos a.next_wd) (Some c.args.number) =
     subst (λ k. tree.Updates int_cmp a.by_wd c.insert.new.self k (Some c.args.number)) next
     c.in_ok-insert.ensures.updates in
-    let put : tree.Updates nat_cmp a.by_number c.insert-2.new.self c.args.number (Some (pos a.next_wd, c.args.bits)) =
-    subst (λ z. tree.Updates nat_cmp a.by_number c.insert-2.new.self c.args.number (Some (z, c.args.bits))) next
+    let put : tree.Updates nat_cmp a.by_number c.insert-2.new.self c.args.number (Some (record { wd = pos a.next_wd; mask = c.args.bits })) =
+    subst (λ z. tree.Updates nat_cmp a.by_number c.insert-2.new.self c.args.number (Some (record { wd = z; mask = c.args.bits }))) next
     c.in_default.ensures.updates in
     IsIndexed-new a c.self.invariant c.insert-2.new.self c.insert.new.self c.args.number c.args.bits put put_wd
     (ap (λ w. watch_of w c.args.number) c.self.view_is ∙ c.requires.absent) room.0 room.1
@@ -49,8 +49,8 @@ returns-clause-watches c =
     let a = c.self.inside in
     let room = room_of (watching_of a) (ap is_full c.self.view_is ∙ c.requires.room) in
     let fits : a.next_wd < 2 ^ 31 = omega (arith, c.self.invariant.sound.small) in
-    let put : tree.Updates nat_cmp a.by_number c.insert-2.new.self c.args.number (Some (pos a.next_wd, c.args.bits)) =
-    subst (λ z. tree.Updates nat_cmp a.by_number c.insert-2.new.self c.args.number (Some (z, c.args.bits)))
+    let put : tree.Updates nat_cmp a.by_number c.insert-2.new.self c.args.number (Some (record { wd = pos a.next_wd; mask = c.args.bits })) =
+    subst (λ z. tree.Updates nat_cmp a.by_number c.insert-2.new.self c.args.number (Some (record { wd = z; mask = c.args.bits })))
     (to_z_pos w32 a.next_wd fits) c.in_default.ensures.updates in
     watching_of-new a c.self.invariant c.insert-2.new.self c.insert.new.self c.args.number c.args.bits put
     ∙ ap (λ w. with_new_watch w c.args.number c.args.bits) c.self.view_is

@@ -4,15 +4,14 @@ use Rattle.std.specs.FinMap.{from_entries}
 use Rattle.std.specs.Map.{lookup}
 use Rattle.std.specs.Ordering.{int_cmp}
 use Rattle.std.proofs.lemmas.Map.Entries.{entries_from_clone}
-use Rattle.watch_table.specs.Watching.{Watch}
+use Rattle.watch_table.specs.declared.watch.Watch.{Watch}
 use Rattle.watch_table.specs.Index.{watching_of}
 use Rattle.watch_table.proofs.Indexed.{IsIndexed-same}
 use Rattle.watch_table.proofs.watches.Watches.copy.Goals as goal
 
 -- a clone of either map has its entries
-by_number-same : (m n : BTreeMap ℕ Watch) → tree.IsClone (λ x y. y ≡ x) (λ v w. (w.0 ≡ v.0) × (w.1 ≡ v.1)) m n → n.entries ≡ m.entries
-by_number-same m n h =
-    entries_from_clone (λ x y. y ≡ x) (λ v w. (w.0 ≡ v.0) × (w.1 ≡ v.1)) (λ x y e. e) (λ v w e. λ k. (e.0 k, e.1 k)) m.entries n.entries h
+by_number-same : (m n : BTreeMap ℕ Watch) → tree.IsClone (λ x y. y ≡ x) (λ v w. w ≡ v) m n → n.entries ≡ m.entries
+by_number-same m n h = entries_from_clone (λ x y. y ≡ x) (λ v w. w ≡ v) (λ x y e. e) (λ v w e. e) m.entries n.entries h
 
 by_wd-same : (m n : BTreeMap ℤ ℕ) → tree.IsClone (λ x y. y ≡ x) (λ v w. w ≡ v) m n → n.entries ≡ m.entries
 by_wd-same m n h = entries_from_clone (λ x y. y ≡ x) (λ v w. w ≡ v) (λ x y e. e) (λ v w e. e) m.entries n.entries h

@@ -4,7 +4,8 @@ use Rattle.std.specs.Map.{lookup}
 use Rattle.std.specs.Ordering.{int_cmp}
 use Rattle.std.proofs.lemmas.Bool.{false≢true}
 use Rattle.std.proofs.lemmas.Int.{to_z-of_z}
-use Rattle.watch_table.specs.Watching.{watched_by, removed, without}
+use Rattle.watch_table.specs.Watching.{watched_by, removed}
+use Rattle.watch_table.proofs.Watched.{without}
 use Rattle.watch_table.specs.Index.{watching_of}
 use Rattle.watch_table.proofs.Indexed.{IsIndexed-same, IsIndexed-dropped, watched_by-got, watching_of-dropped}
 use Rattle.watch_table.proofs.watches.Watches.remove.Goals as goal
