@@ -184,8 +184,8 @@ impl Instances {
         }
     }
 
-    /// Closes an instance: its watches are gone, and what waited is given up. It takes no memory. `index` is
-    /// tried first.
+    /// Closes an instance: its watches are gone, and what waited is given up. It takes no memory. `index` is tried
+    /// first.
     pub fn close(&mut self, id: u32, index: usize)
         ensures { self.new ≡ finmap.remove self.old id }
     {
@@ -232,8 +232,7 @@ impl Instances {
         )
     }
 
-    /// Ends the watch of a descriptor: the instance receives `IN_IGNORED`. It takes no memory. `index` is
-    /// tried first.
+    /// Ends the watch of a descriptor: the instance receives `IN_IGNORED`. It takes no memory. `index` is tried first.
     pub fn unwatch(&mut self, id: u32, index: usize, wd: i32)
         ensures { self.new ≡ changed self.old id (unwatching wd) }
     {

@@ -375,9 +375,10 @@ fn answered(begun: Result<Begun, Refusal>) -> Result<Begun, Refusal>
         ⊎ ((r ≢ Enomem) × (result ≡ Ok (record { reply = Reply.Refused r; rest = Rest.Nothing })))) }
 {
     match begun {
-        Ok(begun) => Ok(begun),
-        Err(Refusal::Enomem) => Err(Refusal::Enomem),
-        Err(refusal) => Ok(Begun::complete(Reply::Refused(refusal))),
+        Err(refusal) if refusal != Refusal::Enomem => {
+            Ok(Begun::complete(Reply::Refused(refusal)))
+        }
+        begun => begun,
     }
 }
 

@@ -214,6 +214,7 @@ fn check_cookie(counts: &Counts, limits: &Limits) -> Result<(), Refusal>
 }
 
 /// Whether what stands at the old path can get the new one, and what that is.
+#[inline(always)]
 fn check_source(paths: &Paths) -> Result<Seen, Refusal>
     ensures err { result_err result ≡ first_row (source_rows (look (world_of paths.now.tree)) (path_of paths.now.call)
         (other_path_of paths.now.call)) }
@@ -255,6 +256,7 @@ fn check_replaced(
 }
 
 #[tactic(auto, unfolding(crate::specs::Refused::rename_rows))]
+#[inline(always)]
 fn check_rename(paths: &Paths, counts: &Counts, limits: &Limits) -> Result<Moves, Refusal>
     ensures err { result_err result ≡ first_row (rename_rows (look (world_of paths.now.tree)) limits.now counts.now
         (path_of paths.now.call) (other_path_of paths.now.call)) }
@@ -287,6 +289,7 @@ fn check_noreplace(paths: &Paths, counts: &Counts, limits: &Limits) -> Result<Mo
 
 /// Whether what stands at two paths may be exchanged.
 #[tactic(auto, unfolding(crate::specs::Refused::swap_rows))]
+#[inline(always)]
 fn check_swap(
     paths: &Paths,
     source: Option<Seen>,

@@ -1,5 +1,5 @@
 -- What a pathname's text stands for, and how paths lie to one another.
-use Rattle.std.specs.Prelude.{◌≡◌, ℕ, ◌-◌, ◌<◌, take, Bool, true, false, not, ◌&&◌, ◌||◌, ◌==◌}
+use Rattle.std.specs.Prelude.{◌≡◌, ℕ, ◌-◌, ◌<◌, take, Bool, not, ◌&&◌, ◌||◌, ◌==◌}
 use Rattle.std.specs.Prelude.{is_some, nat_lt, nat_le, cond, List, []}
 use Rattle.std.specs.Prelude.{◌∷◌, ◌++◌, length, slice_index, codes, Option, Some, None, Result, Ok, Err, if◌then◌else◌}
 use Rattle.std.specs.BTreeMap.{is_at}

@@ -56,6 +56,7 @@ impl PathText {
     }
 
     /// The names of a path's text.
+    #[inline(never)]
     pub(crate) fn of(alloc: Global, text: &[u8], shape: Shape) -> Result<PathText, AllocError>
         requires path { parsed text.now ≡ Ok (names_of text.now) }
         requires shape { shape ≡ shape_of (names_of text.now) }
@@ -77,16 +78,26 @@ impl PathText {
         ensures kept { IfOk result (λ kept. kept_names kept ≡ names_of text.now) }
         ensures sound { IfOk result IsKept }
     {
-        let len = text.len();
-        let mut short = [0; SHORT_MAX];
-        if SHORT_MAX < len {
+        if SHORT_MAX < text.len() {
             return Ok(PathText::Text(Vec::from_slice(alloc, text)?));
         }
-        short[..len].copy_from_slice(text);
-        Ok(PathText::Short {
-            len: len as u8,
+        Ok(PathText::short(text))
+    }
+
+    /// The names of a text that fits in the value and has a slash before each.
+    #[inline(always)]
+    pub(crate) fn short(text: &[u8]) -> PathText
+        requires slashed { IsSlashed text.now }
+        requires short { length text.now ≤ SHORT_MAX }
+        ensures kept { kept_names result ≡ names_of text.now }
+        ensures sound { IsKept result }
+    {
+        let mut short = [0; SHORT_MAX];
+        short[..text.len()].copy_from_slice(text);
+        PathText::Short {
+            len: text.len() as u8,
             text: short,
-        })
+        }
     }
 
     /// The names of a path's text in which slashes stand together, or of the root's. With one slash before each name

@@ -1,19 +1,25 @@
 -- How bytes are cut into pieces.
-use Rattle.std.proofs.Common.{All, ◌≡◌, ◌==◌, ◌&&◌, ℕ, zero, suc, ◌+◌, ◌-◌, ◌≤◌, ◌<◌, Bool, true, false, cond, ltb}
-use Rattle.std.proofs.Common.{List, [], ◌∷◌, ◌++◌, Option, Some, None, is_some, refl, sym, ap, ◌∙◌, length, take, drop, get_or, arith, length-drop}
+use Rattle.std.proofs.Common.{All, ◌≡◌, ◌≢◌, ◌==◌, ◌&&◌, ℕ, zero, suc, ◌+◌, ◌-◌, ◌*◌, ◌≤◌, ◌<◌, Bool, true, false, not, cond}
+use Rattle.std.proofs.Common.{lt-ltb, ltb, map}
+use Rattle.std.specs.Simd.Lanes.{mask_l}
+use Rattle.std.proofs.Common.{List, [], ◌∷◌, ◌++◌, Option, Some, None, is_some, refl, sym, ap, subst, ◌∙◌, length, take, drop, get_or, arith, length-drop}
 use Rattle.std.proofs.Math.Seq.{take-add}
-use Rattle.std.specs.List.{list_all, list_any, position, position_or_len}
+use Rattle.std.specs.List.{list_all, list_any, position, position_or_len, prefix_len}
 use Rattle.std.proofs.lemmas.Bool.Decides.{nat_tests}
 use Rattle.std.proofs.lemmas.Bool.{and_parts, eqb-true, false≢true}
-use Rattle.std.proofs.lemmas.List.{drop_more, take-append-drop, take_all}
+use Rattle.std.proofs.lemmas.List.{drop_more, length-take-le, take-append-drop, take_all}
 use Rattle.std.proofs.lemmas.List.Elements.{All-from_get_or}
 use Rattle.std.proofs.lemmas.List.Folds.{list_all-append, list_any_at, list_any_none}
 use Rattle.std.proofs.lemmas.List.Quantifiers.{position-Some}
 use Rattle.std.proofs.lemmas.List.Splits.{length-slice_split, slice_split_at, slice_split_first, slice_split_none}
 use Rattle.std.proofs.lemmas.List.Sums.{count_by-le-length, fails_before_first, position_or_len_is}
+use Rattle.std.proofs.lemmas.Simd.{run_in_chunk_fails, run_in_chunk_le, run_in_chunk_stops, trailing_mask_l}
+use lib.Count.{count_trailing_zeros}
+use lib.Lanes.{chunk}
 use Rattle.memchr.specs.Find.{IsFirstByte, is_byte}
 use Rattle.tree_paths.specs.Pieces.{pieces}
 use Rattle.watchtree_script.specs.Lines.{is_line_byte}
+use Rattle.watchtree_script.specs.Reading.{separators_in}
 
 -- what a slice from an index on is
 pub from-index : (k : ℕ) (bs : List ℕ) → take (length bs - k) (drop k bs) ≡ drop k bs
@@ -41,6 +47,35 @@ pieces-none s bs h =
     let p : ℕ → Bool = λ b. b == s in
     let past = absent (ltb (position_or_len p bs) (length bs)) (position_or_len p bs) h in
     slice_split_none p bs (All-from_get_or (λ x. p x ≡ false) bs 0 (λ k below. fails_before_first p bs k 0 (grind (arith, nat_tests))))
+
+-- ---- the first separator of a block
+
+none-set : (p : ℕ → Bool) (xs : List ℕ) → prefix_len (λ b. not (p b)) xs ≡ length xs → mask_l (map p xs) ≡ 0
+none-set p [] h = refl
+none-set p (x ∷ xs) h = by (p x) h (none-set p xs)
+  where
+    by : (b : Bool) → cond (not b) (1 + prefix_len (λ k. not (p k)) xs) 0 ≡ suc (length xs)
+        → (prefix_len (λ k. not (p k)) xs ≡ length xs → mask_l (map p xs) ≡ 0) → cond b 1 0 + 2 * mask_l (map p xs) ≡ 0
+    by true e more = absurd (omega (arith, e))
+    by false e more = let none = more (omega (arith, e)) in omega (arith, none)
+
+-- it is at the lowest bit
+pub first-separator : (s : ℕ) (bs : List ℕ) (at : ℕ) → 16 ≤ length bs → 0 < separators_in s (take 16 bs)
+    → at ≡ count_trailing_zeros 64 (separators_in s (take 16 bs)) → Some at ≡ position (λ b. b == s) bs
+first-separator s bs at long some is =
+    let p : ℕ → Bool = λ b. b == s in
+    let size : length (take 16 bs) ≡ 16 = length-take-le 16 bs long in
+    let room : 0 + 16 ≤ length bs = omega (arith, long) in
+    let counted : at ≡ prefix_len (λ b. not (p b)) (chunk 0 16 bs) = is ∙ trailing_mask_l p 64 (take 16 bs) (omega (arith, size)) some in
+    let le = run_in_chunk_le p bs 0 16 at 0 room counted in
+    let ne : at ≢ 16 = λ e. let none = none-set p (take 16 bs) (sym counted ∙ e ∙ sym size) in omega (arith, some, none) in
+    let early : at < 16 = omega (arith, le, ne) in
+    let within : at < length bs = omega (arith, early, long) in
+    let start : 0 + at ≡ at = omega arith in
+    let here : position_or_len p bs ≡ at =
+    position_or_len_is p bs at 0 (omega (arith, within)) (λ k lt. run_in_chunk_fails p bs 0 16 at 0 room counted k (omega arith) (omega (arith, lt)))
+    (λ _. subst (λ k. p (get_or bs k 0) ≡ true) start (run_in_chunk_stops p bs 0 16 at 0 room counted early)) in
+    sym (ap (λ n. cond (ltb n (length bs)) (Some n) None) here ∙ ap (λ b. cond b (Some at) None) (lt-ltb at (length bs) within))
 
 -- ---- the first byte that a search finds
 

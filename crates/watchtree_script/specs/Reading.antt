@@ -1,5 +1,6 @@
 -- What the functions that read lines and words say to one another. No public clause cites this module.
-use Rattle.std.specs.Prelude.{◌≡◌, ◌⊎◌, ⊤, ℕ, List, [], Option, Some, None, Result, Ok, Err}
+use Rattle.std.specs.Prelude.{◌≡◌, ◌==◌, ◌⊎◌, ⊤, ℕ, List, [], map, Option, Some, None, Result, Ok, Err}
+use Rattle.std.specs.Simd.Lanes.{mask_l}
 use Rattle.tree_paths.specs.Pieces.{pieces}
 use Rattle.watchtree_script.specs.declared.line.Line.{Line}
 use Rattle.watchtree_script.specs.declared.line.Line.TheVariants.{Silent, Cut, Run}
@@ -11,6 +12,10 @@ use Rattle.watchtree_script.specs.Script.{HasPath}
 abbrev pub pieces_in : ℕ → Option (List ℕ) → List (List ℕ)
 pieces_in separator None = []
 pieces_in separator (Some bytes) = pieces separator bytes
+
+-- bit k says whether byte k is a separator
+abbrev pub separators_in : ℕ → List ℕ → ℕ
+separators_in separator bytes = mask_l (map (λ b. b == separator) bytes)
 
 -- what the code gives for a word is this, unless memory ran out
 abbrev pub Gives : {A : Type 0} → Result A LineError → Result A LineError → Type 0

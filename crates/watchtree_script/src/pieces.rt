@@ -1,15 +1,17 @@
 //! Bytes between separators.
 
 ghost use Rattle.std.specs.Prelude.{◌≡◌, ◌∷◌, ◌<◌, [], MatchOption, false, filter, length, position, ◌==◌};
+ghost use Rattle.std.specs.Prelude.{◌≤◌, take};
 ghost use Rattle.std.specs.Option.{option_copied};
 ghost use Rattle.tree_paths.specs.Pieces.{is_nonempty, pieces, runs};
-ghost use Rattle.watchtree_script.specs.Reading.{pieces_in};
+ghost use Rattle.watchtree_script.specs.Reading.{pieces_in, separators_in};
 
 use memchr::memchr;
 use std::marker::Model;
+use std::simd::prelude::*;
 
-/// Among at most as many bytes one is found by a look at each, which takes fewer instructions than a call of memchr.
-pub(crate) const FEW: usize = 16;
+/// How many bytes are compared with a separator at once, where there are as many.
+const BLOCK: usize = 16;
 
 /// The nonempty pieces between separators that are left.
 #[derive(Drop)]
@@ -132,8 +134,23 @@ fn cut_first<'a>(separator: u8, bytes: &'a [u8]) -> (&'a [u8], &'a [u8])
 fn position_of(separator: u8, bytes: &[u8]) -> Option<usize>
     ensures { result ≡ position (λ b. b == separator) bytes.now }
 {
-    if bytes.len() <= FEW {
+    if bytes.len() < BLOCK {
         return bytes.iter().position(|b| *b == separator);
     }
+    let separators = block_separators(separator, bytes);
+    if separators != 0 {
+        return Some(separators.trailing_zeros() as usize);
+    }
     memchr(separator, bytes)
+}
+
+/// Bit k says whether byte k of the first block is a separator.
+#[inline(always)]
+fn block_separators(separator: u8, bytes: &[u8]) -> u64
+    requires { BLOCK ≤ length bytes.now }
+    ensures { result ≡ separators_in separator (take BLOCK bytes.now) }
+{
+    u8x16::from_slice(bytes)
+        .simd_eq(u8x16::splat(separator))
+        .to_bitmask()
 }

@@ -310,6 +310,7 @@ impl<'a> Parser<'a> {
     }
 
     /// The only two words.
+    #[inline(always)]
     fn two(&self) -> Result<(&'a [u8], &'a [u8]), LineError>
         ensures { MatchResult result (λ words. self.now.words ≡ words.0.now ∷ words.1.now ∷ [])
             (λ error. (error ≡ LineError.Fault ScriptFault.WrongNumber) × ((length self.now.words == 2) ≡ false)) }
@@ -321,6 +322,7 @@ impl<'a> Parser<'a> {
     }
 
     /// The only three words.
+    #[inline(always)]
     fn three(&self) -> Result<(&'a [u8], &'a [u8], &'a [u8]), LineError>
         ensures { MatchResult result (λ words. self.now.words ≡ words.0.now ∷ words.1.now ∷ words.2.now ∷ [])
             (λ error. (error ≡ LineError.Fault ScriptFault.WrongNumber) × ((length self.now.words == 3) ≡ false)) }

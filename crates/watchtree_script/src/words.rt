@@ -12,7 +12,6 @@ ghost use Rattle.watchtree_script.specs.Reading.{Gives};
 use crate::fault::ScriptFault;
 use crate::line::LineError;
 use crate::numbers::number_spelled;
-use crate::pieces::FEW;
 use hex::FromHexError;
 use memchr::memchr;
 use record_codec::Bytes;
@@ -34,6 +33,9 @@ const MODE_DIGITS: usize = 6;
 const MASK_DIGITS: usize = 8;
 /// The most digits of any other number.
 const NUMBER_DIGITS: usize = 20;
+
+/// Among at most as many bytes one is found by a look at each, which takes fewer instructions than a call of memchr.
+const FEW: usize = 16;
 
 /// The greatest number behind a minus sign that fits an i32.
 const I32_MIN_SIZE: u64 = 0x8000_0000;

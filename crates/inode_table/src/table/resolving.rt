@@ -90,6 +90,9 @@ impl Table {
         let Some(text) = self.short_parent_text(path) else {
             return self.resolve(path);
         };
+        if text.is_empty() {
+            return self.resolve_last(ROOT, path);
+        }
         let at = self.recent.index_of(text);
         match self.recent.find(at, text) {
             Some(directory) => self.resolve_last(directory, path),
@@ -97,7 +100,7 @@ impl Table {
         }
     }
 
-    /// The text of the path of the directory of the last name, if that may be remembered.
+    /// The text of the path of the directory of the last name, if that is the root or may be remembered.
     #[inline(always)]
     fn short_parent_text<'a>(&self, path: &'a Path) -> Option<&'a [u8]>
         ensures text { IfSome result (λ text. IsParentText path.now text.now) }
@@ -107,7 +110,7 @@ impl Table {
             return None;
         }
         let text = path.parent_text()?;
-        if text.len() < TEXT_MIN || TEXT_MAX < text.len() {
+        if !text.is_empty() && (text.len() < TEXT_MIN || TEXT_MAX < text.len()) {
             return None;
         }
         Some(text)

@@ -6,8 +6,8 @@ use Rattle.inode_table.specs.Rows.{child}
 use Rattle.inode_table.specs.Walk.{walk}
 use Rattle.inode_table.proofs.table.Table.resolve_recent.Goals as goal
 
-pub resolve_last-requires-clause-there : goal.resolve_last-requires-clause-there
-resolve_last-requires-clause-there c =
+pub resolve_last-requires-in-Some-find-clause-there : goal.resolve_last-requires-in-Some-find-clause-there
+resolve_last-requires-in-Some-find-clause-there c =
     let directory = c.in-Some-find.directory in
     let known = c.find.ensures directory c.in-Some-find.is in
     ap (λ t. walk (child t.rows) 0 (parent_of c.args.path.now)) (sym c.self.view_is)

@@ -1,0 +1,11 @@
+use Rattle.std.proofs.Common.{sym, ◌∙◌}
+use Rattle.tree_paths.specs.Paths.{names_of}
+use Rattle.tree_paths.proofs.SlashedLemmas.{IsSlashed-plain, shape-fits, shape-len}
+use Rattle.tree_paths.proofs.path.Path.parse.Goals as goal
+
+pub short-requires-clause-slashed : goal.short-requires-clause-slashed
+short-requires-clause-slashed c =
+    let names = names_of c.args.text.now in
+    let shape = c.in_ok-shape.shape in
+    IsSlashed-plain c.args.text.now c.in_ok-shape.ensures.answer (sym (shape-fits names shape c.in_ok-shape.ensures.shape) ∙ c.if-shape.true)
+    (sym (shape-len names shape c.in_ok-shape.ensures.shape) ∙ c.if-shape-text.true)
