@@ -1,12 +1,16 @@
 mod recent;
 mod refused;
 
+ghost use Rattle.std.specs.Prelude.{◌≡◌, ◌+◌, IfOk};
+ghost use Rattle.inode_table.specs.TableWorld.{HasNumbersBelow, world_of};
+ghost use Rattle.tree_ops.specs.After.{numbers_of};
+ghost use Rattle.tree_ops.specs.ReadyCall.{IsReady};
+
 use inode_table::{FileRow, Kind, Table};
 use record_codec::Bytes;
 use std::alloc::Global;
 use std::marker::Model;
 use std::process::Abort;
-use std::test::Fail;
 use tree_ops::*;
 use tree_paths::{Limits, Path, Refusal};
 
@@ -207,6 +211,38 @@ fn call_of(alloc: Global, ask: Ask) -> Result<FileCall, Refusal> {
     })
 }
 
+/// The counts after a call.
+fn next_counts(ready: &Ready, counts: &Counts) -> Result<Counts, Refusal>
+    ensures { IfOk result (λ next. counts.now.next_number + numbers_of ready.now.plan.call ≡ next.next_number) }
+{
+    let Some(next_number) = counts.next_number.checked_add(ready.numbers()) else {
+        return Err(Refusal::NumbersSpent);
+    };
+    let next_cookie = counts.next_cookie.checked_add(ready.cookies());
+    Ok(Counts {
+        next_number,
+        next_cookie: next_cookie.unwrap_or(0),
+    })
+}
+
+/// Carries out a plan, after which the counts are the next ones.
+fn carry(
+    alloc: Global,
+    table: &mut Table,
+    plan: &Plan,
+    counts: &mut Counts,
+    next: Counts,
+) -> Result<Answer, Refusal>
+    requires ready { IsReady table.old plan.now }
+    requires counts { plan.now.counts ≡ counts.old }
+    requires next { counts.old.next_number + numbers_of plan.now.call ≡ next.next_number }
+    ensures { HasNumbersBelow (world_of table.new) counts.new.next_number }
+{
+    let answer = carry_out(alloc, table, plan)?;
+    *counts = next;
+    Ok(answer)
+}
+
 /// A table on which calls are made one after another.
 #[derive(Drop)]
 struct Calls {
@@ -253,15 +289,9 @@ impl Calls {
     fn made(&mut self, call: &FileCall) -> Result<Answer, Refusal> {
         let paths = Paths::resolve(&self.table, call);
         let ready = check(&paths, &self.counts, &self.limits)?;
-        let Some(next_number) = self.counts.next_number.checked_add(ready.numbers()) else {
-            return Err(Refusal::NumbersSpent);
-        };
-        let next_cookie = self.counts.next_cookie.checked_add(ready.cookies());
+        let next = next_counts(&ready, &self.counts)?;
         let plan = ready.into_plan();
-        let answer = carry_out(self.alloc, &mut self.table, &plan)?;
-        self.counts.next_number = next_number;
-        self.counts.next_cookie = next_cookie.unwrap_or(0);
-        Ok(answer)
+        carry(self.alloc, &mut self.table, &plan, &mut self.counts, next)
     }
 
     /// Says that all cookies are spent.
@@ -331,15 +361,21 @@ fn is_answer(
     Ok(answer == Ok(wanted))
 }
 
+/// Makes a call. Whether it gives what it should.
+fn is_given(calls: &mut Calls, ask: Ask, wanted: Gives) -> Result<bool, Refusal> {
+    let call = call_of(calls.alloc, ask)?;
+    let answer = calls.made(&call);
+    is_answer(calls.alloc, answer, wanted)
+}
+
 /// Makes the calls, each of which gives what it should.
-fn plays(rt: &impl Abort, calls: &mut Calls, steps: &[(Ask, Gives)]) -> Result<(), Refusal> {
+///
+/// Tests and what asserts in them return no `Result`: a `?` beside values that are dropped costs seconds to prove.
+fn plays(rt: &impl Abort, calls: &mut Calls, steps: &[(Ask, Gives)]) {
     for (ask, wanted) in steps {
-        let call = call_of(calls.alloc, *ask)?;
-        let answer = calls.made(&call);
-        let is_right = is_answer(calls.alloc, answer, *wanted)?;
+        let is_right = is_given(calls, *ask, *wanted).expect(rt, "an answer");
         assert!(rt; is_right, "{ask:?}: {wanted:?}");
     }
-    Ok(())
 }
 
 /// Whether two files are the same.
@@ -358,52 +394,76 @@ fn are_alike(one: &Table, other: &Table) -> Result<bool, Refusal> {
     Ok(are_same && files.len() == others.len() && one.flat()? == other.flat()?)
 }
 
+/// How many files and how many paths a table has.
+fn counted(table: &Table) -> Result<(usize, usize), Refusal> {
+    Ok((table.files()?.len(), table.flat()?.len()))
+}
+
 /// The table has `count` files, each with one path.
-fn counts(rt: &impl Abort, table: &Table, count: usize) -> Result<(), Refusal> {
-    let (files, paths) = (table.files()?.len(), table.flat()?.len());
+fn counts(rt: &impl Abort, calls: &Calls, count: usize) {
+    let (files, paths) = counted(&calls.table).expect(rt, "memory");
     assert!(rt;
         files == count && paths == count,
         "{files} files, {paths} paths"
     );
-    Ok(())
 }
 
-#[test]
-fn calls_give_their_answers(rt: HostRuntime) -> Result<(), Fail> {
-    let mut calls = Calls::new(rt.alloc(), Limits::full())?;
-    counts(&rt, &calls.table, 1)?;
-    plays(&rt, &mut calls, &STORY)?;
-    // Of the files that lost their last paths nothing is left.
-    counts(&rt, &calls.table, 4)?;
+/// A table on which no call was made.
+fn new_calls(rt: &impl Abort, alloc: Global, limits: Limits) -> Calls {
+    Calls::new(alloc, limits).expect(rt, "memory")
+}
+
+/// Files up to number 3, of 4 bytes and 2 paths, and one cookie.
+fn small_limits() -> Limits {
     let mut limits = Limits::full();
     limits.numbers = 3;
     limits.file_bytes = 4;
     limits.links = 2;
     limits.cookies = 1;
-    plays(&rt, &mut Calls::new(rt.alloc(), limits)?, &LIMITED)?;
-    Ok(())
-}
-
-/// The table that LINKED leaves.
-fn linked(rt: &impl Abort, alloc: Global) -> Result<Calls, Refusal> {
-    let mut calls = Calls::new(alloc, Limits::full())?;
-    plays(rt, &mut calls, &LINKED)?;
-    Ok(calls)
+    limits
 }
 
 #[test]
-fn a_copy_shares_nothing(rt: HostRuntime) -> Result<(), Fail> {
-    let control = linked(&rt, rt.alloc())?;
-    let mut calls = linked(&rt, rt.alloc())?;
-    let mut copy = calls.fork()?;
-    assert!(rt; are_alike(&copy.table, &control.table)?, "a copy");
-    plays(&rt, &mut copy, &CHANGED)?;
-    assert!(rt; are_alike(&calls.table, &control.table)?, "the table");
-    let other = calls.fork()?;
-    plays(&rt, &mut calls, &CHANGED)?;
-    assert!(rt; are_alike(&other.table, &control.table)?, "another copy");
-    assert!(rt; are_alike(&calls.table, &copy.table)?, "all changes");
-    Ok(())
+fn calls_give_their_answers(rt: HostRuntime) {
+    let mut calls = new_calls(&rt, rt.alloc(), Limits::full());
+    counts(&rt, &calls, 1);
+    plays(&rt, &mut calls, &STORY);
+    // Of the files that lost their last paths nothing is left.
+    counts(&rt, &calls, 4);
+    let mut limited = new_calls(&rt, rt.alloc(), small_limits());
+    plays(&rt, &mut limited, &LIMITED);
+}
+
+/// The table that LINKED leaves.
+fn linked(rt: &impl Abort, alloc: Global) -> Calls {
+    let mut calls = new_calls(rt, alloc, Limits::full());
+    plays(rt, &mut calls, &LINKED);
+    calls
+}
+
+/// The same calls, to be made on a copy of the table.
+fn forked(rt: &impl Abort, calls: &Calls) -> Calls {
+    calls.fork().expect(rt, "memory")
+}
+
+/// Both tables have the same paths and the same files.
+fn alike(rt: &impl Abort, one: &Calls, other: &Calls, what: &str) {
+    let are_alike = are_alike(&one.table, &other.table).expect(rt, "memory");
+    assert!(rt; are_alike, "{what}");
+}
+
+#[test]
+fn a_copy_shares_nothing(rt: HostRuntime) {
+    let control = linked(&rt, rt.alloc());
+    let mut calls = linked(&rt, rt.alloc());
+    let mut copy = forked(&rt, &calls);
+    alike(&rt, &copy, &control, "a copy");
+    plays(&rt, &mut copy, &CHANGED);
+    alike(&rt, &calls, &control, "the table");
+    let other = forked(&rt, &calls);
+    plays(&rt, &mut calls, &CHANGED);
+    alike(&rt, &other, &control, "another copy");
+    alike(&rt, &calls, &copy, "all changes");
 }
 
 /// Gives the file at the path these bytes. Whether it is a file and has them.
@@ -423,43 +483,73 @@ fn sets_content(
     Ok(table.content(table.key(&found)) == wanted)
 }
 
-#[test]
-fn content_is_set(rt: HostRuntime) -> Result<(), Fail> {
-    let alloc = rt.alloc();
-    let Calls { mut table, .. } = linked(&rt, alloc)?;
+/// Whether that holds of the file `/g`.
+fn sets_bytes(calls: Calls) -> Result<bool, Refusal> {
+    let Calls {
+        alloc,
+        mut table,
+        ..
+    } = calls;
     let path = Path::parse(alloc, b"/g")?;
     let bytes = Vec::from_slice(alloc, b"bytes")?;
-    let is_set = sets_content(&mut table, &path, bytes, b"bytes")?;
+    sets_content(&mut table, &path, bytes, b"bytes")
+}
+
+#[test]
+fn content_is_set(rt: HostRuntime) {
+    let is_set = sets_bytes(linked(&rt, rt.alloc())).expect(&rt, "an answer");
     assert!(rt; is_set, "other bytes");
-    Ok(())
+}
+
+/// Calls, and how many numbers and cookies each takes.
+const COUNTS: [(Ask, (u32, u32)); 4] = [
+    (Ask::Mkdir("/a", 0o755), (1, 0)),
+    (Ask::Rename("/g", "/a"), (0, 1)),
+    (Ask::Exchange("/g", "/d"), (0, 2)),
+    (Ask::Rename("/g", "/d/f"), (0, 0)),
+];
+
+/// Whether a call is the same as its copy, and takes so many numbers and cookies.
+fn takes(calls: &Calls, ask: Ask, counts: (u32, u32)) -> Result<bool, Refusal> {
+    let call = call_of(calls.alloc, ask)?;
+    call_takes(calls, &call, counts)
+}
+
+fn call_takes(calls: &Calls, call: &FileCall, counts: (u32, u32)) -> Result<bool, Refusal> {
+    let copy = call.copy()?;
+    Ok(is_copy(calls, call, &copy, counts))
+}
+
+fn is_copy(calls: &Calls, call: &FileCall, copy: &FileCall, counts: (u32, u32)) -> bool {
+    let paths = Paths::resolve(&calls.table, call);
+    match check(&paths, &calls.counts, &calls.limits) {
+        Ok(ready) => { ready.call().is_same(copy) && (ready.numbers(), ready.cookies()) == counts }
+        Err(_) => false,
+    }
+}
+
+/// Whether an answer is the same as its copy, and not as another one.
+fn is_answer_copied(alloc: Global) -> Result<bool, Refusal> {
+    let answer = Answer::Bytes(bytes_of(alloc, "ab")?);
+    let copy = answer.copy()?;
+    Ok(copy.is_same(&answer) && !copy.is_same(&Answer::Done))
+}
+
+/// Calls take as many numbers and cookies as they should.
+fn all_take(rt: &impl Abort, calls: &Calls) {
+    for (ask, counts) in COUNTS {
+        let is_right = takes(calls, ask, counts).expect(rt, "an answer");
+        assert!(rt; is_right, "{ask:?}");
+    }
 }
 
 /// How many numbers and cookies a call takes, and copies of it and of an answer.
 #[test]
-fn calls_and_answers_are_copied(rt: HostRuntime) -> Result<(), Fail> {
-    let alloc = rt.alloc();
-    let mut calls = linked(&rt, alloc)?;
-    for (ask, counts) in [
-        (Ask::Mkdir("/a", 0o755), (1, 0)),
-        (Ask::Rename("/g", "/a"), (0, 1)),
-        (Ask::Exchange("/g", "/d"), (0, 2)),
-        (Ask::Rename("/g", "/d/f"), (0, 0)),
-    ] {
-        let call = call_of(alloc, ask)?;
-        let copy = call.copy()?;
-        let paths = Paths::resolve(&calls.table, &call);
-        let ready = check(&paths, &calls.counts, &calls.limits)?;
-        let is_same = ready.call().is_same(&copy);
-        assert!(rt;
-            is_same && (ready.numbers(), ready.cookies()) == counts,
-            "{ask:?}"
-        );
-    }
-    let answer = Answer::Bytes(bytes_of(alloc, "ab")?);
-    let copy = answer.copy()?;
-    let is_same = copy.is_same(&answer) && !copy.is_same(&Answer::Done);
-    assert!(rt; is_same, "the answer");
+fn calls_and_answers_are_copied(rt: HostRuntime) {
+    let mut calls = linked(&rt, rt.alloc());
+    all_take(&rt, &calls);
+    let is_copied = is_answer_copied(rt.alloc()).expect(&rt, "memory");
+    assert!(rt; is_copied, "the answer");
     calls.spend_cookies();
-    plays(&rt, &mut calls, &SPENT)?;
-    Ok(())
+    plays(&rt, &mut calls, &SPENT);
 }

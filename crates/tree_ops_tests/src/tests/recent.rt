@@ -129,15 +129,15 @@ fn made_recent(calls: &mut Calls, call: &FileCall) -> Result<Answer, Refusal> {
     let paths = CallPaths::resolve(&mut calls.table, call);
     let paths = Paths::on(&calls.table, call, paths);
     let ready = check(&paths, &calls.counts, &calls.limits)?;
-    let Some(next_number) = calls.counts.next_number.checked_add(ready.numbers()) else {
-        return Err(Refusal::NumbersSpent);
-    };
-    let next_cookie = calls.counts.next_cookie.checked_add(ready.cookies());
+    let next = next_counts(&ready, &calls.counts)?;
     let plan = ready.into_plan();
-    let answer = carry_out(calls.alloc, &mut calls.table, &plan)?;
-    calls.counts.next_number = next_number;
-    calls.counts.next_cookie = next_cookie.unwrap_or(0);
-    Ok(answer)
+    carry(
+        calls.alloc,
+        &mut calls.table,
+        &plan,
+        &mut calls.counts,
+        next,
+    )
 }
 
 /// Makes calls on a table that remembers, and on one that walks. Returns whether all answers and paths are alike.
@@ -157,54 +157,60 @@ fn are_calls_alike(one: &mut Calls, other: &mut Calls, made: &mut Made) -> Resul
     Ok(one.table.flat()? == other.table.flat()?)
 }
 
+/// Answers and paths are alike.
+fn answer_alike(rt: &impl Abort, one: &mut Calls, other: &mut Calls, made: &mut Made, what: &str) {
+    let is_alike = are_calls_alike(one, other, made).expect(rt, "memory");
+    assert!(rt; is_alike, "{what} answer alike");
+}
+
+/// So are those of forks. These do not come to twice as many nodes, so they walk.
+fn forks_alike(rt: &impl Abort, one: &Calls, other: &Calls, made: &mut Made) {
+    let mut fork = forked(rt, one);
+    let mut fork_of_other = forked(rt, other);
+    answer_alike(rt, &mut fork, &mut fork_of_other, made, "forks");
+}
+
 #[test]
-fn what_is_remembered_is_what_a_walk_finds(rt: HostRuntime) -> Result<(), Fail> {
-    let mut one = prepared(rt.alloc())?;
-    let mut other = prepared(rt.alloc())?;
+fn what_is_remembered_is_what_a_walk_finds(rt: HostRuntime) {
+    let mut one = prepared(rt.alloc()).expect(&rt, "memory");
+    let mut other = prepared(rt.alloc()).expect(&rt, "memory");
     let mut made = Made { at: 20261127 };
     for _ in 0..3 {
-        let is_alike = are_calls_alike(&mut one, &mut other, &mut made)?;
-        assert!(rt; is_alike, "tables answer alike");
-        // These forks do not come to twice as many nodes, so they walk.
-        let mut fork = one.fork()?;
-        let mut fork_of_other = other.fork()?;
-        let is_alike = are_calls_alike(&mut fork, &mut fork_of_other, &mut made)?;
-        assert!(rt; is_alike, "forks answer alike");
+        answer_alike(&rt, &mut one, &mut other, &mut made, "tables");
+        forks_alike(&rt, &one, &other, &mut made);
     }
-    Ok(())
 }
 
 /// The paths of a tree that has slots, whatever it was forked from.
 const MANY: usize = 64;
 
 #[test]
-fn what_a_fork_remembers_is_what_a_walk_finds(rt: HostRuntime) -> Result<(), Fail> {
-    let one = few_directories(rt.alloc())?;
-    let other = few_directories(rt.alloc())?;
-    let mut fork = one.fork()?;
-    let mut fork_of_other = other.fork()?;
+fn what_a_fork_remembers_is_what_a_walk_finds(rt: HostRuntime) {
+    let one = few_directories(rt.alloc()).expect(&rt, "memory");
+    let other = few_directories(rt.alloc()).expect(&rt, "memory");
+    let mut fork = forked(&rt, &one);
+    let mut fork_of_other = forked(&rt, &other);
     let mut made = Made { at: 20261128 };
     for _ in 0..3 {
-        let is_alike = are_calls_alike(&mut fork, &mut fork_of_other, &mut made)?;
-        assert!(rt; is_alike, "forks answer alike");
+        answer_alike(&rt, &mut fork, &mut fork_of_other, &mut made, "forks");
     }
-    let count = fork.table.flat()?.len();
+    let (_, count) = counted(&fork.table).expect(&rt, "memory");
     assert!(rt; MANY < count, "{count} paths");
-    Ok(())
 }
 
 /// Whether a path is resolved as by a walk before a call, and after it.
-fn is_as_walked_after(calls: &mut Calls, ask: Ask) -> Result<bool, Refusal> {
+fn is_as_walked_after(alloc: Global, ask: Ask) -> Result<bool, Refusal> {
+    let mut calls = prepared(alloc)?;
     let path = calls.path("/d1/inner3/f")?;
     let is_alike = is_as_walked(&mut calls.table, &path);
-    let call = call_of(calls.alloc, ask)?;
+    let call = call_of(alloc, ask)?;
     calls.made(&call)?;
     Ok(is_as_walked(&mut calls.table, &path) && is_alike)
 }
 
 /// The directory of the path, or one above it, moves or is removed.
 #[test]
-fn a_directory_that_moves_is_forgotten(rt: HostRuntime) -> Result<(), Fail> {
+fn a_directory_that_moves_is_forgotten(rt: HostRuntime) {
     for ask in [
         Ask::Rename("/d1/inner3", "/moved"),
         Ask::Rename("/d1", "/moved"),
@@ -213,9 +219,7 @@ fn a_directory_that_moves_is_forgotten(rt: HostRuntime) -> Result<(), Fail> {
         Ask::Exchange("/d2", "/d1"),
         Ask::Rmdir("/d1/inner3"),
     ] {
-        let mut calls = prepared(rt.alloc())?;
-        let is_alike = is_as_walked_after(&mut calls, ask)?;
+        let is_alike = is_as_walked_after(rt.alloc(), ask).expect(&rt, "an answer");
         assert!(rt; is_alike, "{ask:?}");
     }
-    Ok(())
 }

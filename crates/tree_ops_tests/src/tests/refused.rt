@@ -98,20 +98,44 @@ fn has_refuser(alloc: Global) -> bool {
     has
 }
 
-#[test]
-fn each_allocation_of_each_call(rt: HostRuntime) -> Result<(), Fail> {
-    let alloc = rt.alloc();
-    let has_refuser = has_refuser(alloc);
-    let calls = prepared(alloc)?;
-    let taken = call_of(alloc, Ask::Unlink("/d"))?;
+/// The allocations of a call, and whether it is checked in place.
+type Counted = (Option<u32>, bool);
+
+/// How many allocations a call makes, each of which fails in turn, and whether it is checked in place.
+fn call_refused(calls: &Calls, taken: &FileCall, ask: Ask) -> Result<Counted, Refusal> {
+    let call = call_of(calls.alloc, ask)?;
+    count_refused(calls, taken, &call)
+}
+
+fn count_refused(calls: &Calls, taken: &FileCall, call: &FileCall) -> Result<Counted, Refusal> {
+    let count = refused_in_turn(calls.alloc, call)?;
+    Ok((count, is_checked_in_place(calls, call, taken)))
+}
+
+/// Whether allocations were made by just those calls that take memory.
+fn is_grown(count: Option<u32>, grows: bool) -> bool {
+    match count {
+        Some(count) => (count > 0) == grows,
+        None => false,
+    }
+}
+
+/// Each allocation of each call fails in turn.
+fn each_call_fails(rt: &impl Abort, calls: &Calls, taken: &FileCall, has_refuser: bool) {
     for (ask, grows) in CALLS {
-        let call = call_of(alloc, ask)?;
-        let count = refused_in_turn(alloc, &call)?;
-        let is_well = matches!(count, Some(count) if (count > 0) == (has_refuser && grows));
-        let is_checked = is_checked_in_place(&calls, &call, &taken);
+        let (count, is_checked) = call_refused(calls, taken, ask).expect(rt, "memory");
+        let is_well = is_grown(count, has_refuser && grows);
         assert!(rt; is_well && is_checked, "{ask:?}: {count:?}, {is_checked}");
     }
-    Ok(())
+}
+
+#[test]
+fn each_allocation_of_each_call(rt: HostRuntime) {
+    let alloc = rt.alloc();
+    let has_refuser = has_refuser(alloc);
+    let calls = prepared(alloc).expect(&rt, "memory");
+    let taken = call_of(alloc, Ask::Unlink("/d")).expect(&rt, "memory");
+    each_call_fails(&rt, &calls, &taken, has_refuser);
 }
 
 /// The kinds of trees: that of the prepared calls, of files or of directories in the root, a copy of the latter, and
@@ -196,36 +220,57 @@ fn part_refused_in_turn(
     Ok(None)
 }
 
+/// What is made of or in a tree of so many nodes, and the least and the most allocations that it takes.
+///
 /// From 32 nodes on there are slots for directories to be remembered, taken where the nodes grow, if there are
 /// directories; in a copy not before its nodes are also twice as many.
+const PARTS: [(Part, u32, Shape, u32, u32); 17] = [
+    (Part::New, 1, Shape::Directories, 1, 1),
+    (Part::Copy, 1, Shape::Directories, 1, 1),
+    (Part::Copy, 15, Shape::Prepared, 1, MOST),
+    (Part::Paths, 15, Shape::Prepared, 1, MOST),
+    (Part::Files, 15, Shape::Prepared, 1, MOST),
+    (Part::Node, 16, Shape::Directories, 1, 1),
+    (Part::Node, 31, Shape::Directories, 0, 0),
+    (Part::Node, 32, Shape::Directories, 2, 2),
+    (Part::Node, 32, Shape::Files, 1, 1),
+    (Part::Node, 256, Shape::Directories, 2, 2),
+    (Part::Node, 512, Shape::Directories, 1, 1),
+    (Part::Node, 1, Shape::Copy, 1, 1),
+    (Part::Node, 32, Shape::Copy, 1, 1),
+    (Part::Node, 300, Shape::Copy, 1, 1),
+    (Part::Node, 16, Shape::GrownCopy, 1, 1),
+    (Part::Node, 32, Shape::GrownCopy, 2, 2),
+    (Part::Node, 64, Shape::GrownCopy, 2, 2),
+];
+
+/// How many allocations that takes, each of which fails in turn.
+fn tree_refused(
+    alloc: Global,
+    part: Part,
+    nodes: u32,
+    shape: Shape,
+) -> Result<Option<u32>, Refusal> {
+    let Calls { mut table, .. } = grown(alloc, nodes, shape)?;
+    part_refused_in_turn(alloc, &mut table, part)
+}
+
+/// Whether a count is in a range. Without the shim no allocation fails.
+fn is_within(count: Option<u32>, (least, most): (u32, u32), has_refuser: bool) -> bool {
+    match count {
+        Some(count) if has_refuser => least <= count && count <= most,
+        Some(count) => count == 0,
+        None => false,
+    }
+}
+
 #[test]
-fn each_allocation_of_a_table(rt: HostRuntime) -> Result<(), Fail> {
+fn each_allocation_of_a_table(rt: HostRuntime) {
     let alloc = rt.alloc();
     let has_refuser = has_refuser(alloc);
-    for (part, nodes, shape, least, most) in [
-        (Part::New, 1, Shape::Directories, 1, 1),
-        (Part::Copy, 1, Shape::Directories, 1, 1),
-        (Part::Copy, 15, Shape::Prepared, 1, MOST),
-        (Part::Paths, 15, Shape::Prepared, 1, MOST),
-        (Part::Files, 15, Shape::Prepared, 1, MOST),
-        (Part::Node, 16, Shape::Directories, 1, 1),
-        (Part::Node, 31, Shape::Directories, 0, 0),
-        (Part::Node, 32, Shape::Directories, 2, 2),
-        (Part::Node, 32, Shape::Files, 1, 1),
-        (Part::Node, 256, Shape::Directories, 2, 2),
-        (Part::Node, 512, Shape::Directories, 1, 1),
-        (Part::Node, 1, Shape::Copy, 1, 1),
-        (Part::Node, 32, Shape::Copy, 1, 1),
-        (Part::Node, 300, Shape::Copy, 1, 1),
-        (Part::Node, 16, Shape::GrownCopy, 1, 1),
-        (Part::Node, 32, Shape::GrownCopy, 2, 2),
-        (Part::Node, 64, Shape::GrownCopy, 2, 2),
-    ] {
-        let Calls { mut table, .. } = grown(alloc, nodes, shape)?;
-        let count = part_refused_in_turn(alloc, &mut table, part)?;
-        let (least, most) = if has_refuser { (least, most) } else { (0, 0) };
-        let is_well = matches!(count, Some(count) if least <= count && count <= most);
+    for (part, nodes, shape, least, most) in PARTS {
+        let count = tree_refused(alloc, part, nodes, shape).expect(&rt, "memory");
+        let is_well = is_within(count, (least, most), has_refuser);
         assert!(rt; is_well, "{part:?}, {nodes} nodes, {shape:?}: {count:?}");
     }
-    Ok(())
 }
