@@ -2,13 +2,20 @@
 
 mod refused;
 
+ghost use Rattle.std.specs.Prelude.{◌≡◌, ◌+◌, IfOk};
+ghost use Rattle.inode_table.specs.TableWorld.{HasNumbersBelow, world_of};
+ghost use Rattle.tree_ops.specs.After.{numbers_of};
+ghost use Rattle.tree_ops.specs.ReadyCall.{IsReady};
+
 use event_rules::*;
 use inode_table::Table;
 use record_codec::{Bytes, append_record_line, bits};
 use std::alloc::Global;
 use std::marker::Model;
-use std::test::Fail;
-use tree_ops::{Counts, FileCall, Paths, RENAME_EXCHANGE, carry_out, check, opening_table};
+use std::process::Abort;
+use tree_ops::{
+    Counts, FileCall, Paths, Plan, RENAME_EXCHANGE, Ready, carry_out, check, opening_table,
+};
 use tree_paths::{Limits, Path, Refusal};
 use watch_table::{Mask, Watches};
 
@@ -174,6 +181,34 @@ fn call_of(alloc: Global, ask: Ask) -> Result<FileCall, Refusal> {
     })
 }
 
+/// The number of the next file after a call.
+fn next_number(ready: &Ready, counts: &Counts) -> Result<u32, Refusal>
+    ensures { IfOk result (λ next. counts.now.next_number + numbers_of ready.now.plan.call ≡ next) }
+{
+    match counts.next_number.checked_add(ready.numbers()) {
+        Some(next_number) => Ok(next_number),
+        None => Err(Refusal::NumbersSpent),
+    }
+}
+
+/// Carries out a plan, after which this is the number of the next file.
+fn carry(
+    alloc: Global,
+    table: &mut Table,
+    plan: &Plan,
+    counts: &mut Counts,
+    next_number: u32,
+) -> Result<(), Refusal>
+    requires ready { IsReady table.old plan.now }
+    requires counts { plan.now.counts ≡ counts.old }
+    requires next { counts.old.next_number + numbers_of plan.now.call ≡ next_number }
+    ensures { HasNumbersBelow (world_of table.new) counts.new.next_number }
+{
+    carry_out(alloc, table, plan)?;
+    counts.next_number = next_number;
+    Ok(())
+}
+
 /// A table on which calls are made one after another.
 #[derive(Drop)]
 struct Calls {
@@ -218,13 +253,15 @@ impl Calls {
     fn make(&mut self, call: &FileCall) -> Result<(), Refusal> {
         let paths = Paths::resolve(&self.table, call);
         let ready = check(&paths, &self.counts, &Limits::full())?;
-        let Some(next_number) = self.counts.next_number.checked_add(ready.numbers()) else {
-            return Err(Refusal::NumbersSpent);
-        };
+        let next_number = next_number(&ready, &self.counts)?;
         let plan = ready.into_plan();
-        carry_out(self.alloc, &mut self.table, &plan)?;
-        self.counts.next_number = next_number;
-        Ok(())
+        carry(
+            self.alloc,
+            &mut self.table,
+            &plan,
+            &mut self.counts,
+            next_number,
+        )
     }
 
     /// The notices that a call would have.
@@ -337,24 +374,68 @@ fn are_watched(watches: &Watches, told: &Notices) -> bool {
     true
 }
 
-#[test]
-fn calls_raise_events(rt: HostRuntime) -> Result<(), Fail> {
-    let alloc = rt.alloc();
-    let calls = Calls::prepared(alloc)?;
-    let watches = watching(alloc)?;
-    for (ask, lines) in CALLS {
-        let call = call_of(alloc, ask)?;
-        let told = calls.noticed(&call, &Everybody)?;
-        let is_right = raise_lines(alloc, &watches, &told, lines)?;
-        let heard = calls.noticed(&call, &Watchers(&watches))?;
-        let is_enough = raise_lines(alloc, &watches, &heard, lines)?;
-        assert!(rt;
-            is_right && is_enough && are_watched(&watches, &heard),
-            "{ask:?}"
-        );
-    }
+/// Whether a call raises the events of the lines where each file has notices.
+fn raises_of_all(
+    calls: &Calls,
+    watches: &Watches,
+    call: &FileCall,
+    lines: &str,
+) -> Result<bool, Refusal> {
+    let told = calls.noticed(call, &Everybody)?;
+    raise_lines(calls.alloc, watches, &told, lines)
+}
+
+/// Whether it raises them where just the watched files have notices.
+fn raises_of_watched(
+    calls: &Calls,
+    watches: &Watches,
+    call: &FileCall,
+    lines: &str,
+) -> Result<bool, Refusal> {
+    let told = calls.noticed(call, &Watchers(watches))?;
+    let is_enough = raise_lines(calls.alloc, watches, &told, lines)?;
+    Ok(is_enough && are_watched(watches, &told))
+}
+
+fn raises_of_both(
+    calls: &Calls,
+    watches: &Watches,
+    call: &FileCall,
+    lines: &str,
+) -> Result<bool, Refusal> {
+    let is_right = raises_of_all(calls, watches, call, lines)?;
+    let is_enough = raises_of_watched(calls, watches, call, lines)?;
+    Ok(is_right && is_enough)
+}
+
+/// Whether a call raises the events of the lines, in both ways. A `?` beside a call, which is dropped there, costs
+/// seconds to prove.
+fn raises(calls: &Calls, watches: &Watches, ask: Ask, lines: &str) -> Result<bool, Refusal> {
+    let call = call_of(calls.alloc, ask)?;
+    raises_of_both(calls, watches, &call, lines)
+}
+
+/// The line of the event that ends the watch of this descriptor.
+fn ignored_line(alloc: Global, wd: i32) -> Result<Vec<u8>, Refusal> {
     let mut text = Vec::new(alloc);
-    append_record_line(&ignored(7), &mut text)?;
+    append_record_line(&ignored(wd), &mut text)?;
+    Ok(text)
+}
+
+/// Each call raises its events.
+fn each_raises(rt: &impl Abort, calls: &Calls, watches: &Watches) {
+    for (ask, lines) in CALLS {
+        let is_right = raises(calls, watches, ask, lines).expect(rt, "an answer");
+        assert!(rt; is_right, "{ask:?}");
+    }
+}
+
+#[test]
+fn calls_raise_events(rt: HostRuntime) {
+    let alloc = rt.alloc();
+    let calls = Calls::prepared(alloc).expect(&rt, "memory");
+    let watches = watching(alloc).expect(&rt, "memory");
+    each_raises(&rt, &calls, &watches);
+    let text = ignored_line(alloc, 7).expect(&rt, "memory");
     assert!(rt; text.as_slice() == b"7 00008000 0".as_slice(), "{text:?}");
-    Ok(())
 }

@@ -48,6 +48,20 @@ fn are_same(one: &Staged, other: &Staged) -> bool {
     one.events.iter().eq(other.events.iter()) && one.drops.as_slice() == other.drops.as_slice()
 }
 
+/// Whether they are staged again in the capacity that was allocated.
+fn stages_in_place(
+    alloc: Global,
+    watches: &Watches,
+    notices: &[Notice],
+    is_each: bool,
+    staged: &mut Staged,
+) -> bool {
+    staged.clear();
+    let _ = refuse_from(alloc, 1);
+    let again = stages(watches, notices, is_each, staged);
+    !was_refused(alloc) && again.is_ok()
+}
+
 /// How many allocations the events of a call take. Each was made to fail. `None` if a result was not that of
 /// [`stage`], or if staging them again in the capacity that was allocated takes another one.
 fn stage_refused(
@@ -65,12 +79,8 @@ fn stage_refused(
         match (told, was_refused(alloc)) {
             (Err(Refusal::Enomem), true) => {}
             (Ok(()), false) if are_same(&staged, &wanted) => {
-                staged.clear();
-                let _ = refuse_from(alloc, 1);
-                let again = stages(watches, notices, is_each, &mut staged);
-                let is_refused = was_refused(alloc);
-                let is_well = again.is_ok() && !is_refused && are_same(&staged, &wanted);
-                return Ok(is_well.then_some(k - 1));
+                let is_well = stages_in_place(alloc, watches, notices, is_each, &mut staged);
+                return Ok((is_well && are_same(&staged, &wanted)).then_some(k - 1));
             }
             _ => return Ok(None),
         }
@@ -78,26 +88,56 @@ fn stage_refused(
     Ok(None)
 }
 
+/// How many allocations the notices of a call take, its events, and its events notice by notice.
+type Taken = [Option<u32>; 3];
+
+fn counts_in_turn(
+    calls: &Calls,
+    watches: &Watches,
+    call: &FileCall,
+    wanted: &Notices,
+) -> Result<Taken, Refusal> {
+    let notices = notices_refused(calls, call, wanted);
+    let staged = stage_refused(calls.alloc, watches, wanted.as_slice(), false)?;
+    let each = stage_refused(calls.alloc, watches, wanted.as_slice(), true)?;
+    Ok([notices, staged, each])
+}
+
+fn counts_of_call(calls: &Calls, watches: &Watches, call: &FileCall) -> Result<Taken, Refusal> {
+    let wanted = calls.noticed(call, &Everybody)?;
+    counts_in_turn(calls, watches, call, &wanted)
+}
+
+fn counts_of(calls: &Calls, watches: &Watches, ask: Ask) -> Result<Taken, Refusal> {
+    let call = call_of(calls.alloc, ask)?;
+    counts_of_call(calls, watches, &call)
+}
+
+/// Whether there are allocations just where a call takes memory.
+fn is_grown(count: Option<u32>, grows: bool) -> bool {
+    match count {
+        Some(count) => (count > 0) == grows,
+        None => false,
+    }
+}
+
+/// Each allocation of each call fails in turn.
+fn each_call_fails(rt: &impl Abort, calls: &Calls, watches: &Watches, has_refuser: bool) {
+    for (ask, lines) in CALLS {
+        let counts = counts_of(calls, watches, ask).expect(rt, "memory");
+        let grows = has_refuser && !lines.is_empty();
+        for count in counts {
+            assert!(rt; is_grown(count, grows), "{ask:?}: {counts:?}");
+        }
+    }
+}
+
 #[test]
-fn each_allocation_of_notices_and_events(rt: HostRuntime) -> Result<(), Fail> {
+fn each_allocation_of_notices_and_events(rt: HostRuntime) {
     let alloc = rt.alloc();
     let has_refuser = refuse(alloc, MOST);
     let _ = was_refused(alloc);
-    let calls = Calls::prepared(alloc)?;
-    let watches = watching(alloc)?;
-    for (ask, lines) in CALLS {
-        let call = call_of(alloc, ask)?;
-        let wanted = calls.noticed(&call, &Everybody)?;
-        let counts = [
-            notices_refused(&calls, &call, &wanted),
-            stage_refused(alloc, &watches, wanted.as_slice(), false)?,
-            stage_refused(alloc, &watches, wanted.as_slice(), true)?,
-        ];
-        let grows = has_refuser && !lines.is_empty();
-        for count in counts {
-            let is_well = matches!(count, Some(count) if (count > 0) == grows);
-            assert!(rt; is_well, "{ask:?}: {counts:?}");
-        }
-    }
-    Ok(())
+    let calls = Calls::prepared(alloc).expect(&rt, "memory");
+    let watches = watching(alloc).expect(&rt, "memory");
+    each_call_fails(&rt, &calls, &watches, has_refuser);
 }
