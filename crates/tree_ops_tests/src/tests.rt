@@ -509,7 +509,7 @@ const COUNTS: [(Ask, (u32, u32)); 4] = [
     (Ask::Rename("/g", "/d/f"), (0, 0)),
 ];
 
-/// Whether a call is the same as its copy, and takes so many numbers and cookies.
+/// Whether a call is the same as its copy, and takes these counts of numbers and cookies.
 fn takes(calls: &Calls, ask: Ask, counts: (u32, u32)) -> Result<bool, Refusal> {
     let call = call_of(calls.alloc, ask)?;
     call_takes(calls, &call, counts)

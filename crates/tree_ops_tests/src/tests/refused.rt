@@ -220,7 +220,7 @@ fn part_refused_in_turn(
     Ok(None)
 }
 
-/// What is made of or in a tree of so many nodes, and the least and the most allocations that it takes.
+/// What is made of or in a tree with this count of nodes, and the least and the most allocations that it takes.
 ///
 /// From 32 nodes on there are slots for directories to be remembered, taken where the nodes grow, if there are
 /// directories; in a copy not before its nodes are also twice as many.
