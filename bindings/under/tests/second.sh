@@ -62,7 +62,8 @@ ends() {
     timeout 100 "$under" "$@" >out.said 2>said
     status=$?
     # (an empty message is none)
-    [ "$status" = "$wanted" ] && if [ -n "$message" ]; then grep -qe "^watchtree under: $message" said; else [ ! -s said ]; fi
+    # A program that is ended while it prints may leave the front of a line before the message.
+    [ "$status" = "$wanted" ] && if [ -n "$message" ]; then grep -qe "watchtree under: $message" said; else [ ! -s said ]; fi
     check "$name" "status $status: $(cat said)"
 }
 # (the words are several)
