@@ -5,4 +5,4 @@ mod PathLemmas
 mod PathnameLemmas
 mod PieceLemmas
 mod SlashedLemmas
-mod StopLemmas
+pub mod StopLemmas

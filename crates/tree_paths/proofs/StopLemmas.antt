@@ -112,12 +112,13 @@ marked-whole d stops few e = record {
 
 -- ---- the first stop
 
-none-set : (xs : List ℕ) → prefix_len (λ b. not (is_stop b)) xs ≡ length xs → stops_in xs ≡ 0
-none-set [] h = refl
-none-set (x ∷ xs) h = by (is_stop x) h (none-set xs)
+-- bytes of which none passes a test have no bit set
+pub none-set : (p : ℕ → Bool) (xs : List ℕ) → prefix_len (λ b. not (p b)) xs ≡ length xs → mask_l (map p xs) ≡ 0
+none-set p [] h = refl
+none-set p (x ∷ xs) h = by (p x) h (none-set p xs)
   where
-    by : (b : Bool) → cond (not b) (1 + prefix_len (λ k. not (is_stop k)) xs) 0 ≡ suc (length xs)
-        → (prefix_len (λ k. not (is_stop k)) xs ≡ length xs → stops_in xs ≡ 0) → cond b 1 0 + 2 * stops_in xs ≡ 0
+    by : (b : Bool) → cond (not b) (1 + prefix_len (λ k. not (p k)) xs) 0 ≡ suc (length xs)
+        → (prefix_len (λ k. not (p k)) xs ≡ length xs → mask_l (map p xs) ≡ 0) → cond b 1 0 + 2 * mask_l (map p xs) ≡ 0
     by true e more = absurd (omega (arith, e))
     by false e more = let none = more (omega (arith, e)) in omega (arith, none)
 
@@ -158,7 +159,7 @@ module _ (text : List ℕ) (stops at : ℕ) (m : IsMarked text stops) (some : 0 
   early =
       let le = run_in_chunk_le is_stop ended 0 m.window at 0 room counted in
       let ne : at ≢ m.window = λ e.
-      let none = none-set (take m.window ended) (sym counted ∙ e ∙ sym (length-chunk 0 m.window ended room)) in omega (arith, some, m.is, none) in
+      let none = none-set is_stop (take m.window ended) (sym counted ∙ e ∙ sym (length-chunk 0 m.window ended room)) in omega (arith, some, m.is, none) in
       omega (arith, le, ne)
 
   first : (k : ℕ) → k < length text → get_or ended k 0 ≡ get_or text k 0

@@ -15,7 +15,7 @@ use crate::Refusal;
 use crate::left::PathNames;
 use crate::parse::{SEPARATOR, shape_of_text};
 use crate::path_name::{NameRef, PathName};
-use crate::path_text::{PathText, SHORT_MAX};
+use crate::path_text::PathText;
 use record_codec::Name;
 use std::alloc::{AllocError, Global};
 use std::marker::Model;
@@ -77,11 +77,6 @@ impl Path {
         ensures refused { IfErr (parsed text.now) (λ refusal. result ≡ Err refusal) }
     {
         let shape = shape_of_text(text)?;
-        if shape.fits && shape.len == text.len() && text.len() <= SHORT_MAX {
-            return Ok(Path {
-                kept: PathText::short(text),
-            });
-        }
         Ok(Path {
             kept: PathText::of(alloc, text, shape)?,
         })

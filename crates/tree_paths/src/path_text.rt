@@ -19,7 +19,7 @@ use std::alloc::{AllocError, Global};
 use std::simd::prelude::*;
 
 /// The most bytes of a text that the value itself has a buffer for.
-pub(crate) const SHORT_MAX: usize = 30;
+const SHORT_MAX: usize = 30;
 
 /// The names of a path. A text has a slash before each name, so that the root's is empty, and no name that needs an
 /// allocation. The value takes 32 bytes.
@@ -56,28 +56,16 @@ impl PathText {
     }
 
     /// The names of a path's text.
-    #[inline(never)]
+    #[inline(always)]
     pub(crate) fn of(alloc: Global, text: &[u8], shape: Shape) -> Result<PathText, AllocError>
         requires path { parsed text.now ≡ Ok (names_of text.now) }
         requires shape { shape ≡ shape_of (names_of text.now) }
         ensures kept { IfOk result (λ kept. kept_names kept ≡ names_of text.now) }
         ensures sound { IfOk result IsKept }
     {
-        if !shape.fits {
-            return Ok(PathText::Names(names_in(alloc, text, shape.count)?));
+        if !shape.fits || shape.len != text.len() {
+            return PathText::rewritten(alloc, text, shape);
         }
-        if shape.len == text.len() {
-            return PathText::of_text(alloc, text);
-        }
-        PathText::squeezed(alloc, text, shape.len)
-    }
-
-    /// The names of a text that has a slash before each.
-    fn of_text(alloc: Global, text: &[u8]) -> Result<PathText, AllocError>
-        requires { IsSlashed text.now }
-        ensures kept { IfOk result (λ kept. kept_names kept ≡ names_of text.now) }
-        ensures sound { IfOk result IsKept }
-    {
         if SHORT_MAX < text.len() {
             return Ok(PathText::Text(Vec::from_slice(alloc, text)?));
         }
@@ -86,7 +74,7 @@ impl PathText {
 
     /// The names of a text that fits in the value and has a slash before each.
     #[inline(always)]
-    pub(crate) fn short(text: &[u8]) -> PathText
+    fn short(text: &[u8]) -> PathText
         requires slashed { IsSlashed text.now }
         requires short { length text.now ≤ SHORT_MAX }
         ensures kept { kept_names result ≡ names_of text.now }
@@ -100,9 +88,23 @@ impl PathText {
         }
     }
 
+    /// The names of a path's text that is not kept as it is: one of them needs an allocation, or it has not one slash
+    /// before each.
+    #[cold]
+    fn rewritten(alloc: Global, text: &[u8], shape: Shape) -> Result<PathText, AllocError>
+        requires path { parsed text.now ≡ Ok (names_of text.now) }
+        requires shape { shape ≡ shape_of (names_of text.now) }
+        ensures kept { IfOk result (λ kept. kept_names kept ≡ names_of text.now) }
+        ensures sound { IfOk result IsKept }
+    {
+        if !shape.fits {
+            return Ok(PathText::Names(names_in(alloc, text, shape.count)?));
+        }
+        PathText::squeezed(alloc, text, shape.len)
+    }
+
     /// The names of a path's text in which slashes stand together, or of the root's. With one slash before each name
     /// they have `len` bytes.
-    #[cold]
     fn squeezed(alloc: Global, text: &[u8], len: usize) -> Result<PathText, AllocError>
         requires path { parsed text.now ≡ Ok (names_of text.now) }
         requires slashed { IsSlashed (slashed (names_of text.now)) }

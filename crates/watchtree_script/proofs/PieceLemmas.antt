@@ -1,7 +1,6 @@
 -- How bytes are cut into pieces.
 use Rattle.std.proofs.Common.{All, ◌≡◌, ◌≢◌, ◌==◌, ◌&&◌, ℕ, zero, suc, ◌+◌, ◌-◌, ◌*◌, ◌≤◌, ◌<◌, Bool, true, false, not, cond}
-use Rattle.std.proofs.Common.{lt-ltb, ltb, map}
-use Rattle.std.specs.Simd.Lanes.{mask_l}
+use Rattle.std.proofs.Common.{lt-ltb, ltb}
 use Rattle.std.proofs.Common.{List, [], ◌∷◌, ◌++◌, Option, Some, None, is_some, refl, sym, ap, subst, ◌∙◌, length, take, drop, get_or, arith, length-drop}
 use Rattle.std.proofs.Math.Seq.{take-add}
 use Rattle.std.specs.List.{list_all, list_any, position, position_or_len, prefix_len}
@@ -18,6 +17,7 @@ use lib.Count.{count_trailing_zeros}
 use lib.Lanes.{chunk}
 use Rattle.memchr.specs.Find.{IsFirstByte, is_byte}
 use Rattle.tree_paths.specs.Pieces.{pieces}
+use Rattle.tree_paths.proofs.StopLemmas.{none-set}
 use Rattle.watchtree_script.specs.Lines.{is_line_byte}
 use Rattle.watchtree_script.specs.Reading.{separators_in}
 
@@ -49,15 +49,6 @@ pieces-none s bs h =
     slice_split_none p bs (All-from_get_or (λ x. p x ≡ false) bs 0 (λ k below. fails_before_first p bs k 0 (grind (arith, nat_tests))))
 
 -- ---- the first separator of a block
-
-none-set : (p : ℕ → Bool) (xs : List ℕ) → prefix_len (λ b. not (p b)) xs ≡ length xs → mask_l (map p xs) ≡ 0
-none-set p [] h = refl
-none-set p (x ∷ xs) h = by (p x) h (none-set p xs)
-  where
-    by : (b : Bool) → cond (not b) (1 + prefix_len (λ k. not (p k)) xs) 0 ≡ suc (length xs)
-        → (prefix_len (λ k. not (p k)) xs ≡ length xs → mask_l (map p xs) ≡ 0) → cond b 1 0 + 2 * mask_l (map p xs) ≡ 0
-    by true e more = absurd (omega (arith, e))
-    by false e more = let none = more (omega (arith, e)) in omega (arith, none)
 
 -- it is at the lowest bit
 pub first-separator : (s : ℕ) (bs : List ℕ) (at : ℕ) → 16 ≤ length bs → 0 < separators_in s (take 16 bs)

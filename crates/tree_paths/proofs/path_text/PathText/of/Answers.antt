@@ -1,23 +1,18 @@
-use Rattle.std.proofs.Common.{◌∙◌, ap, sym}
-use Rattle.std.specs.List.{list_all}
-use Rattle.tree_paths.specs.Paths.{names_of, is_in_place}
-use Rattle.tree_paths.proofs.SlashedLemmas.{IsSlashed-names, IsSlashed-plain, shape-fits, shape-len}
+use Rattle.std.proofs.Common.{◌∙◌, subst, sym}
+use Rattle.tree_paths.specs.PathText.{IsSlashed}
+use Rattle.tree_paths.specs.Paths.{names_of}
+use Rattle.tree_paths.proofs.SlashedLemmas.{IsSlashed-plain, shape-fits, shape-len}
 use Rattle.tree_paths.proofs.path_text.PathText.of.Goals as goal
 
-pub of_text-requires : goal.of_text-requires
-of_text-requires c =
+pub returns-then-text-gt-SHORT_MAX-clause-sound : goal.returns-then-text-gt-SHORT_MAX-clause-sound
+returns-then-text-gt-SHORT_MAX-clause-sound c =
+    let names = names_of c.args.text.now in
+    subst IsSlashed (sym c.in_ok-from_slice.ensures.items)
+    (IsSlashed-plain c.args.text.now c.requires.path (sym (shape-fits names c.args.shape c.requires.shape) ∙ c.if-not-shape.false)
+    (sym (shape-len names c.args.shape c.requires.shape) ∙ c.if-shape-text.false))
+
+pub short-requires-clause-slashed : goal.short-requires-clause-slashed
+short-requires-clause-slashed c =
     let names = names_of c.args.text.now in
     IsSlashed-plain c.args.text.now c.requires.path (sym (shape-fits names c.args.shape c.requires.shape) ∙ c.if-not-shape.false)
-    (sym (shape-len names c.args.shape c.requires.shape) ∙ c.if-shape-text.true)
-
-pub squeezed-requires-clause-slashed : goal.squeezed-requires-clause-slashed
-squeezed-requires-clause-slashed c =
-    IsSlashed-names c.args.text.now c.requires.path (sym (shape-fits (names_of c.args.text.now) c.args.shape c.requires.shape) ∙ c.if-not-shape.false)
-
-pub squeezed-requires-clause-len : goal.squeezed-requires-clause-len
-squeezed-requires-clause-len c = shape-len (names_of c.args.text.now) c.args.shape c.requires.shape
-
-pub returns-then-not-shape-clause-sound : goal.returns-then-not-shape-clause-sound
-returns-then-not-shape-clause-sound c =
-    ap (list_all is_in_place) c.in_ok-names_in.ensures ∙ sym (shape-fits (names_of c.args.text.now) c.args.shape c.requires.shape)
-    ∙ c.if-not-shape.true
+    (sym (shape-len names c.args.shape c.requires.shape) ∙ c.if-shape-text.false)
