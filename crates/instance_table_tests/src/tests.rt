@@ -10,7 +10,6 @@ use record_codec::bits::{
 };
 use std::alloc::Global;
 use std::process::Abort;
-use std::test::Fail;
 use tree_paths::{Limits, Refusal};
 use watch_table::Mask;
 
@@ -210,36 +209,37 @@ fn is_right(alloc: Global, instances: &mut Instances, step: Step) -> Result<bool
 }
 
 /// Makes the steps, each of which goes as it says.
-fn plays(
-    rt: &impl Abort,
-    alloc: Global,
-    instances: &mut Instances,
-    steps: &[Step],
-) -> Result<(), Refusal> {
+fn plays(rt: &impl Abort, alloc: Global, instances: &mut Instances, steps: &[Step]) {
     for (index, step) in steps.iter().enumerate() {
-        let is_right = is_right(alloc, instances, *step)?;
+        let is_right = is_right(alloc, instances, *step).expect(rt, "memory");
         assert!(rt; is_right, "step {index}, {step:?}");
     }
-    Ok(())
 }
 
 #[test]
-fn watchers_receive_events(rt: HostRuntime) -> Result<(), Fail> {
+fn watchers_receive_events(rt: HostRuntime) {
     let alloc = rt.alloc();
-    plays(&rt, alloc, &mut three(alloc)?, &STORY)?;
-    plays(&rt, alloc, &mut three(alloc)?, &GONE)?;
-    let mut instances = three(alloc)?;
-    let mut copy = instances.copy()?;
-    plays(&rt, alloc, &mut copy, &COPIED)?;
-    plays(&rt, alloc, &mut instances, &[Step::Waits(2, "")])?;
+    let mut instances = three(alloc).expect(&rt, "memory");
+    plays(&rt, alloc, &mut instances, &STORY);
+}
+
+#[test]
+fn a_file_that_is_gone_is_unwatched(rt: HostRuntime) {
+    let alloc = rt.alloc();
+    let mut instances = three(alloc).expect(&rt, "memory");
+    plays(&rt, alloc, &mut instances, &GONE);
+}
+
+#[test]
+fn a_copy_is_independent(rt: HostRuntime) {
+    let alloc = rt.alloc();
+    let mut instances = three(alloc).expect(&rt, "memory");
+    let mut copy = instances.copy().expect(&rt, "memory");
+    plays(&rt, alloc, &mut copy, &COPIED);
+    plays(&rt, alloc, &mut instances, &[Step::Waits(2, "")]);
     drop(instances);
-    plays(
-        &rt,
-        alloc,
-        &mut copy,
-        &[Step::Has(3, "12"), Step::Waits(2, "c")],
-    )?;
-    Ok(())
+    let last = [Step::Has(3, "12"), Step::Waits(2, "c")];
+    plays(&rt, alloc, &mut copy, &last);
 }
 
 /// Whether an instance is the first or the last of as many as there may be.
@@ -247,18 +247,22 @@ fn is_outer(id: u32) -> bool {
     id == 1 || id == MANY
 }
 
-/// Of as many instances as there may be the first and the last watch the file, or all do.
-#[test]
-fn watchers_among_many_receive_events(rt: HostRuntime) -> Result<(), Fail> {
-    let alloc = rt.alloc();
-    for (are_all, count) in [(false, 2), (true, 128)] {
-        let mut instances = opened(alloc, MANY)?;
-        for id in 1..=MANY {
-            if are_all || is_outer(id) {
-                watch(&mut instances, id, FILE, IN_CREATE)?;
-            }
+/// As many instances as there may be, of which the first and the last watch the file, or all do, once that was notified.
+fn notified_crowd(alloc: Global, are_all: bool) -> Result<Instances, Refusal> {
+    let mut instances = opened(alloc, MANY)?;
+    for id in 1..=MANY {
+        if are_all || is_outer(id) {
+            watch(&mut instances, id, FILE, IN_CREATE)?;
         }
-        tell(alloc, &mut instances, told(IN_CREATE))?;
+    }
+    tell(alloc, &mut instances, told(IN_CREATE))?;
+    Ok(instances)
+}
+
+#[test]
+fn watchers_among_many_receive_events(rt: HostRuntime) {
+    for (are_all, count) in [(false, 2), (true, 128)] {
+        let instances = notified_crowd(rt.alloc(), are_all).expect(&rt, "memory");
         assert!(rt; instances.watchers(FILE).len() == count, "{count} watch");
         for id in 1..=MANY {
             let letters = if are_all || is_outer(id) { "c" } else { "" };
@@ -266,7 +270,6 @@ fn watchers_among_many_receive_events(rt: HostRuntime) -> Result<(), Fail> {
             assert!(rt; is_right, "{id} of {count}");
         }
     }
-    Ok(())
 }
 
 /// Numbers with the remainder of the file's, and others.
@@ -279,23 +282,24 @@ const NUMBERS: [(u32, bool); 6] = [
     (u32::MAX, false),
 ];
 
+/// Of these numbers the file's, and those with its remainder, pass once it was watched, also of a copy.
+fn passes_right(rt: &impl Abort, instances: &Instances, has_watched: bool) {
+    let copy = instances.copy().expect(rt, "memory");
+    for (number, is_like) in NUMBERS {
+        let passes = instances.watch_filter().may_be_watched(number);
+        assert!(rt; passes == (is_like && has_watched), "{number}");
+        let copy_passes = copy.watch_filter().may_be_watched(number);
+        assert!(rt; copy_passes == passes, "{number} of a copy");
+    }
+}
+
 /// No file passes before one is watched. Then those with its remainder do, also of a copy, and after the watch ended.
 #[test]
-fn a_file_that_was_watched_passes(rt: HostRuntime) -> Result<(), Fail> {
-    let alloc = rt.alloc();
-    let mut instances = opened(alloc, 1)?;
+fn a_file_that_was_watched_passes(rt: HostRuntime) {
+    let mut instances = opened(rt.alloc(), 1).expect(&rt, "memory");
     for has_watched in [false, true] {
-        let copy = instances.copy()?;
-        for (number, is_like) in NUMBERS {
-            let passes = instances.watch_filter().may_be_watched(number);
-            assert!(rt; passes == (is_like && has_watched), "{number}");
-            assert!(rt;
-                copy.watch_filter().may_be_watched(number) == passes,
-                "{number} of a copy"
-            );
-        }
-        watch(&mut instances, 1, FILE, IN_CREATE)?;
+        passes_right(&rt, &instances, has_watched);
+        let _ = watch(&mut instances, 1, FILE, IN_CREATE).expect(&rt, "a watch");
         instances.unwatch(1, 0, 1);
     }
-    Ok(())
 }

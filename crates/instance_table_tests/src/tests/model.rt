@@ -256,20 +256,23 @@ fn step(both: &mut Both, numbers: &mut Numbers, staging: &mut Staging) -> Result
     Ok(())
 }
 
-#[test]
-fn instances_hold_what_the_model_says(rt: HostRuntime) -> Result<(), Fail> {
-    let alloc = rt.alloc();
-    for (state, is_calm) in [(20_261_127, false), (7, false), (20_261_127, true)] {
-        let mut both = Both::new(alloc)?;
-        let mut numbers = Numbers { state, is_calm };
-        let mut staging = Staging::new(alloc);
-        for list in 0..LISTS {
-            step(&mut both, &mut numbers, &mut staging)?;
-            let is_well = both.are_alike();
-            assert!(rt; is_well, "list {list} from {state}, calm: {is_calm}");
-        }
+/// Makes lists of notices from a state, after each of which the instances are as the model says.
+fn agrees(rt: &impl Abort, both: &mut Both, state: u32, is_calm: bool) {
+    let mut numbers = Numbers { state, is_calm };
+    let mut staging = Staging::new(both.alloc);
+    for list in 0..LISTS {
+        step(both, &mut numbers, &mut staging).expect(rt, "memory");
+        let is_well = both.are_alike();
+        assert!(rt; is_well, "list {list} from {state}, calm: {is_calm}");
     }
-    Ok(())
+}
+
+#[test]
+fn instances_hold_what_the_model_says(rt: HostRuntime) {
+    for (state, is_calm) in [(20_261_127, false), (7, false), (20_261_127, true)] {
+        let mut both = Both::new(rt.alloc()).expect(&rt, "memory");
+        agrees(&rt, &mut both, state, is_calm);
+    }
 }
 
 /// Whether the file loses its watchers one by one until it is unwatched, and is then watched again.
@@ -294,10 +297,9 @@ fn is_left_by_all(alloc: Global, count: u32) -> Result<bool, Refusal> {
 }
 
 #[test]
-fn a_file_is_unwatched_where_all_have_ended(rt: HostRuntime) -> Result<(), Fail> {
-    let alloc = rt.alloc();
+fn a_file_is_unwatched_where_all_have_ended(rt: HostRuntime) {
     for count in 1..=COUNT {
-        assert!(rt; is_left_by_all(alloc, count)?, "{count} watchers");
+        let is_well = is_left_by_all(rt.alloc(), count).expect(&rt, "memory");
+        assert!(rt; is_well, "{count} watchers");
     }
-    Ok(())
 }

@@ -128,22 +128,27 @@ fn call_of<'a>(step: u32, notices: &'a [Notice]) -> Call<'a> {
     }
 }
 
+/// A notice of an event of a file, of a file that is gone, and of an unwatched file.
+fn three_notices(alloc: Global) -> Result<Vec<Notice>, Refusal> {
+    let (gone, unwatched) = (Notice::Gone { number: 7 }, Notice::Gone { number: 99 });
+    Ok(vec![in alloc; told(IN_CREATE), gone, unwatched]?)
+}
+
 #[test]
-fn each_allocation_of_each_call(rt: HostRuntime) -> Result<(), Fail> {
+fn each_allocation_of_each_call(rt: HostRuntime) {
     let alloc = rt.alloc();
     let has_refuser = has_refuser(alloc);
-    // Of an event of a file, of a file that is gone, and of an unwatched file.
-    let (gone, unwatched) = (Notice::Gone { number: 7 }, Notice::Gone { number: 99 });
-    let notices = vec![in alloc; told(IN_CREATE), gone, unwatched]?;
+    let notices = three_notices(alloc).expect(&rt, "memory");
     let mut instances = Instances::new(alloc);
     let mut control = Instances::new(alloc);
     for step in 0..STEPS + 3 {
         let call = call_of(step, &notices);
-        let count = refused_in_turn(alloc, &mut instances, &mut control, call)?;
+        let count = refused_in_turn(alloc, &mut instances, &mut control, call).expect(
+            &rt, "memory",
+        );
         let is_well = matches!(count, Some(count) if (count > 0) == has_refuser);
         assert!(rt; is_well, "step {step}: {count:?}");
     }
-    Ok(())
 }
 
 /// Whether a watch that a row refuses makes no allocation.
@@ -153,26 +158,33 @@ fn is_refused_at_once(alloc: Global, instances: &mut Instances) -> bool {
     !was_refused(alloc) && refused == Err(Refusal::Enotdir)
 }
 
+/// The watch of the next instance of a row.
+fn next_of_row(step: u32) -> Call<'static> {
+    Call::Watch(step.wrapping_mul(7).wrapping_add(4) % ROW + 1, FILE)
+}
+
 /// A file is watched by one instance after another, and copied then.
 #[test]
-fn each_allocation_of_a_row_of_watchers(rt: HostRuntime) -> Result<(), Fail> {
+fn each_allocation_of_a_row_of_watchers(rt: HostRuntime) {
     let alloc = rt.alloc();
     let has_refuser = has_refuser(alloc);
-    let mut instances = opened(alloc, ROW)?;
-    let mut control = opened(alloc, ROW)?;
+    let mut instances = opened(alloc, ROW).expect(&rt, "memory");
+    let mut control = opened(alloc, ROW).expect(&rt, "memory");
     for step in 0..ROW {
         let is_at_once = is_refused_at_once(alloc, &mut instances);
-        let call = Call::Watch((step * 7 + 4) % ROW + 1, FILE);
-        let watched = refused_in_turn(alloc, &mut instances, &mut control, call)?;
-        let copied = refused_in_turn(alloc, &mut instances, &mut control, Call::Copy)?;
-        let is_well = matches!(watched, Some(count) if step > 0 || count <= FIRST)
-            && matches!(copied, Some(count) if (count > 0) == has_refuser);
-        assert!(rt;
-            is_well && is_at_once,
-            "{step} watchers: {watched:?}, {copied:?}"
+        assert!(rt; is_at_once, "{step} watchers: a refusal takes memory");
+        let call = next_of_row(step);
+        let watched = refused_in_turn(alloc, &mut instances, &mut control, call).expect(
+            &rt, "memory",
         );
+        let is_well = matches!(watched, Some(count) if step > 0 || count <= FIRST);
+        assert!(rt; is_well, "{step} watchers: {watched:?}");
+        let copied = refused_in_turn(alloc, &mut instances, &mut control, Call::Copy).expect(
+            &rt, "memory",
+        );
+        let is_well = matches!(copied, Some(count) if (count > 0) == has_refuser);
+        assert!(rt; is_well, "a copy of {step} watchers: {copied:?}");
     }
-    Ok(())
 }
 
 /// Many instances that watch the file, every second of them for these bits too, and one that watches nothing.
@@ -190,18 +202,31 @@ fn have_received(instances: &Instances, count: usize) -> bool {
     (1..=MANY).all(|id| waiting(instances, id) == count) && waiting(instances, MANY + 1) == 0
 }
 
+/// A notice that is heard, one of the end of the file's last path, and if wanted one that it is gone.
+fn notices_of_file(alloc: Global, is_gone: bool) -> Result<Vec<Notice>, Refusal> {
+    let mut notices = Vec::new(alloc);
+    notices.push(told(IN_CREATE))?;
+    notices.push(told(IN_DELETE_SELF))?;
+    if is_gone {
+        notices.push(Notice::Gone { number: FILE })?;
+    }
+    Ok(notices)
+}
+
 /// The capacity of the first time is enough for the second.
 #[test]
-fn what_many_hear_takes_no_memory_again(rt: HostRuntime) -> Result<(), Fail> {
+fn what_many_hear_takes_no_memory_again(rt: HostRuntime) {
     let alloc = rt.alloc();
-    let mut instances = crowd(alloc, 0)?;
-    let notices = vec![in alloc; told(IN_CREATE), told(IN_DELETE_SELF)]?;
+    let mut instances = crowd(alloc, 0).expect(&rt, "memory");
+    let notices = notices_of_file(alloc, false).expect(&rt, "memory");
     let mut staging = Staging::new(alloc);
     for count in [2, 4] {
         if count > 2 {
             let _ = refuse_from(alloc, 1);
         }
-        instances.stage(&notices, &mut staging)?;
+        instances
+            .stage(&notices, &mut staging)
+            .expect(&rt, "memory");
         instances.deliver(&notices, &mut staging);
         let is_refused = was_refused(alloc);
         assert!(rt;
@@ -209,30 +234,27 @@ fn what_many_hear_takes_no_memory_again(rt: HostRuntime) -> Result<(), Fail> {
             "{count} records"
         );
     }
-    Ok(())
 }
 
 #[test]
-fn watches_that_end_take_two_buffers(rt: HostRuntime) -> Result<(), Fail> {
+fn watches_that_end_take_two_buffers(rt: HostRuntime) {
     let alloc = rt.alloc();
     let has_refuser = has_refuser(alloc);
-    let (mut instances, mut control) = (crowd(alloc, IN_ONESHOT)?, crowd(alloc, IN_ONESHOT)?);
-    let gone = Notice::Gone { number: FILE };
-    let notices = vec![in alloc; told(IN_CREATE), told(IN_DELETE_SELF), gone]?;
+    let mut instances = crowd(alloc, IN_ONESHOT).expect(&rt, "memory");
+    let mut control = crowd(alloc, IN_ONESHOT).expect(&rt, "memory");
+    let notices = notices_of_file(alloc, true).expect(&rt, "memory");
     let call = Call::Stage(&notices);
-    let count = refused_in_turn(alloc, &mut instances, &mut control, call)?;
+    let count = refused_in_turn(alloc, &mut instances, &mut control, call).expect(&rt, "memory");
     let is_well = matches!(count, Some(count) if (count > 0) == has_refuser && count <= ENDS);
     assert!(rt; is_well, "{count:?}");
-    Ok(())
 }
 
 #[test]
-fn some_calls_take_no_memory(rt: HostRuntime) -> Result<(), Fail> {
+fn some_calls_take_no_memory(rt: HostRuntime) {
     let alloc = rt.alloc();
-    let mut instances = three(alloc)?;
+    let mut instances = three(alloc).expect(&rt, "memory");
     let _ = refuse_from(alloc, 1);
-    plays(&rt, alloc, &mut instances, &QUIET)?;
+    plays(&rt, alloc, &mut instances, &QUIET);
     let is_refused = was_refused(alloc);
     assert!(rt; !is_refused, "an allocation");
-    Ok(())
 }
