@@ -247,7 +247,8 @@ fn is_outer(id: u32) -> bool {
     id == 1 || id == MANY
 }
 
-/// As many instances as there may be, of which the first and the last watch the file, or all do, once that was notified.
+/// As many instances as there may be, once an event of the file has notified those that watch it: the first and the
+/// last, or all.
 fn notified_crowd(alloc: Global, are_all: bool) -> Result<Instances, Refusal> {
     let mut instances = opened(alloc, MANY)?;
     for id in 1..=MANY {

@@ -202,7 +202,7 @@ fn have_received(instances: &Instances, count: usize) -> bool {
     (1..=MANY).all(|id| waiting(instances, id) == count) && waiting(instances, MANY + 1) == 0
 }
 
-/// A notice that is heard, one of the end of the file's last path, and if wanted one that it is gone.
+/// Two notices of events of the file, and if wanted one that it is gone.
 fn notices_of_file(alloc: Global, is_gone: bool) -> Result<Vec<Notice>, Refusal> {
     let mut notices = Vec::new(alloc);
     notices.push(told(IN_CREATE))?;
