@@ -7,7 +7,7 @@ use Rattle.std.specs.Simd.Lanes.{mask_l}
 use Rattle.std.proofs.lemmas.Bool.{eqb-true}
 use Rattle.std.proofs.lemmas.List.{length-drop, drop-map, drop-drop, get_or-drop}
 use Rattle.tree_paths.specs.PathText.{is_other, is_slash, slashes_in, IsLastStart}
-use Rattle.tree_paths.proofs.StopLemmas.{mask-drop}
+use Rattle.tree_paths.proofs.MaskLemmas.{mask-drop}
 
 pub all-others : (xs : List ℕ) → slashes_in xs ≡ 0 → list_all is_other xs ≡ true
 all-others [] none = refl

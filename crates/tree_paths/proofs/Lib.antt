@@ -1,8 +1,9 @@
 mod BelowLemmas
 mod FrontLemmas
 mod LastLemmas
+pub mod MaskLemmas
 mod PathLemmas
 mod PathnameLemmas
 mod PieceLemmas
 mod SlashedLemmas
-pub mod StopLemmas
+mod StopLemmas

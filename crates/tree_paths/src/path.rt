@@ -15,7 +15,7 @@ use crate::Refusal;
 use crate::left::PathNames;
 use crate::parse::{SEPARATOR, shape_of_text};
 use crate::path_name::{NameRef, PathName};
-use crate::path_text::PathText;
+use crate::path_text::{PathText, SHORT_MAX};
 use record_codec::Name;
 use std::alloc::{AllocError, Global};
 use std::marker::Model;
@@ -77,8 +77,18 @@ impl Path {
         ensures refused { IfErr (parsed text.now) (λ refusal. result ≡ Err refusal) }
     {
         let shape = shape_of_text(text)?;
+        if !shape.fits || shape.len != text.len() {
+            return Ok(Path {
+                kept: PathText::rewritten(alloc, text, shape)?,
+            });
+        }
+        if SHORT_MAX < text.len() {
+            return Ok(Path {
+                kept: PathText::Text(Vec::from_slice(alloc, text)?),
+            });
+        }
         Ok(Path {
-            kept: PathText::of(alloc, text, shape)?,
+            kept: PathText::short(text),
         })
     }
 

@@ -19,7 +19,7 @@ use std::alloc::{AllocError, Global};
 use std::simd::prelude::*;
 
 /// The most bytes of a text that the value itself has a buffer for.
-const SHORT_MAX: usize = 30;
+pub(crate) const SHORT_MAX: usize = 30;
 
 /// The names of a path. A text has a slash before each name, so that the root's is empty, and no name that needs an
 /// allocation. The value takes 32 bytes.
@@ -55,26 +55,9 @@ impl PathText {
         }
     }
 
-    /// The names of a path's text.
-    #[inline(always)]
-    pub(crate) fn of(alloc: Global, text: &[u8], shape: Shape) -> Result<PathText, AllocError>
-        requires path { parsed text.now ≡ Ok (names_of text.now) }
-        requires shape { shape ≡ shape_of (names_of text.now) }
-        ensures kept { IfOk result (λ kept. kept_names kept ≡ names_of text.now) }
-        ensures sound { IfOk result IsKept }
-    {
-        if !shape.fits || shape.len != text.len() {
-            return PathText::rewritten(alloc, text, shape);
-        }
-        if SHORT_MAX < text.len() {
-            return Ok(PathText::Text(Vec::from_slice(alloc, text)?));
-        }
-        Ok(PathText::short(text))
-    }
-
     /// The names of a text that fits in the value and has a slash before each.
     #[inline(always)]
-    fn short(text: &[u8]) -> PathText
+    pub(crate) fn short(text: &[u8]) -> PathText
         requires slashed { IsSlashed text.now }
         requires short { length text.now ≤ SHORT_MAX }
         ensures kept { kept_names result ≡ names_of text.now }
@@ -91,7 +74,11 @@ impl PathText {
     /// The names of a path's text that is not kept as it is: one of them needs an allocation, or it has not one slash
     /// before each.
     #[cold]
-    fn rewritten(alloc: Global, text: &[u8], shape: Shape) -> Result<PathText, AllocError>
+    pub(crate) fn rewritten(
+        alloc: Global,
+        text: &[u8],
+        shape: Shape,
+    ) -> Result<PathText, AllocError>
         requires path { parsed text.now ≡ Ok (names_of text.now) }
         requires shape { shape ≡ shape_of (names_of text.now) }
         ensures kept { IfOk result (λ kept. kept_names kept ≡ names_of text.now) }

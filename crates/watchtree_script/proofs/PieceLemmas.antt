@@ -17,7 +17,7 @@ use lib.Count.{count_trailing_zeros}
 use lib.Lanes.{chunk}
 use Rattle.memchr.specs.Find.{IsFirstByte, is_byte}
 use Rattle.tree_paths.specs.Pieces.{pieces}
-use Rattle.tree_paths.proofs.StopLemmas.{none-set}
+use Rattle.tree_paths.proofs.MaskLemmas.{none-set}
 use Rattle.watchtree_script.specs.Lines.{is_line_byte}
 use Rattle.watchtree_script.specs.Reading.{separators_in}
 
