@@ -1,5 +1,5 @@
 -- How bytes are cut into pieces.
-use Rattle.std.proofs.Common.{All, ◌≡◌, ◌≢◌, ◌==◌, ◌&&◌, ℕ, zero, suc, ◌+◌, ◌-◌, ◌*◌, ◌≤◌, ◌<◌, Bool, true, false, not, cond}
+use Rattle.std.proofs.Common.{All, ◌≡◌, ◌≢◌, ◌==◌, ◌&&◌, ℕ, zero, suc, ◌+◌, ◌-◌, ◌≤◌, ◌<◌, Bool, true, false, not, cond}
 use Rattle.std.proofs.Common.{lt-ltb, ltb}
 use Rattle.std.proofs.Common.{List, [], ◌∷◌, ◌++◌, Option, Some, None, is_some, refl, sym, ap, subst, ◌∙◌, length, take, drop, get_or, arith, length-drop}
 use Rattle.std.proofs.Math.Seq.{take-add}
