@@ -3,7 +3,7 @@
 use crate::digest::Digest;
 use inode_table::Kind;
 use tree_core::{Call, Entry, Receipt, Reply, State};
-use tree_ops::{Answer, FileCall};
+use tree_ops::Answer;
 use tree_paths::{Names, Refusal};
 
 /// Who makes the calls.
@@ -110,13 +110,4 @@ pub(crate) fn make(state: &mut State, digest: &mut Digest, call: Call) -> Result
     digest.add(state.record(CALLER, call)?);
     add_entry(digest, state.last_entry());
     Ok(())
-}
-
-/// Makes a call on files, and adds its sequence number and its entry.
-pub(crate) fn make_file(
-    state: &mut State,
-    digest: &mut Digest,
-    call: FileCall,
-) -> Result<(), Refusal> {
-    make(state, digest, Call::File(call))
 }

@@ -43,9 +43,3 @@ impl From<RunFault> for BenchFault {
         BenchFault::Script(fault)
     }
 }
-
-impl From<SettleFault> for BenchFault {
-    fn from(fault: SettleFault) -> BenchFault {
-        BenchFault::Unsettled(fault)
-    }
-}

@@ -1,17 +1,16 @@
 //! What threads share, by one thread: two seats write logs, 96 at most in eight directories, three instances that watch
 //! all of these are pumped, listeners write what they are handed as lines, and the book is settled.
 
-ghost use Rattle.std.specs.Prelude.{◌≡◌, IfOk, IsTrue, true};
+ghost use Rattle.std.specs.Prelude.{◌≡◌, IsTrue, true};
 ghost use Rattle.tree_core.specs.Calls.{is_plain};
 
 use crate::answers::{add_receipt, add_reply};
+use crate::desk::Desk;
 use crate::digest::Digest;
 use crate::fault::BenchFault;
-use crate::rng::Rng;
 use crate::script::Script;
 use event_sinks::{Cause, Ended, Gate, LineSink, Listening, Settled, SinkFault, settle};
-use record_codec::Bytes;
-use shared_tree::{Feed, Held, Seat, SeatLog};
+use shared_tree::{Book, Feed, Held, Pass, Seat, SeatLog};
 use std::alloc::Global;
 use std::io;
 use std::io::Write;
@@ -75,137 +74,152 @@ impl Write for Lines {
 }
 
 /// The path of a log. The text is a buffer.
-fn log_of(alloc: Global, text: &mut Script, folder: u64, file: u64) -> Result<Path, BenchFault> {
+fn log_of(desk: &mut Desk, text: &mut Script, folder: u64, file: u64) -> Path {
     text.clear();
-    text.text("/var/log/service-")?;
-    text.number(folder)?;
-    text.text("/worker-")?;
-    text.number(file)?;
-    text.text(".log")?;
-    Ok(Path::parse(alloc, text.as_slice())?)
+    text.text("/var/log/service-");
+    text.number(folder);
+    text.text("/worker-");
+    text.number(file);
+    text.text(".log");
+    desk.path_of(text)
 }
 
 /// The path of a directory of logs.
-fn folder_of(alloc: Global, folder: u64) -> Result<Path, BenchFault> {
-    let mut text = Script::new(alloc);
-    text.text("/var/log/service-")?;
-    text.number(folder)?;
-    Ok(Path::parse(alloc, text.as_slice())?)
+fn folder_of(desk: &mut Desk, folder: u64) -> Path {
+    let mut text = Script::new(desk.alloc);
+    text.text("/var/log/service-");
+    text.number(folder);
+    desk.path_of(&text)
 }
 
 /// A call on a log by chance: it is made, written, rotated, cut or taken away.
-fn any_call(alloc: Global, text: &mut Script, rng: &mut Rng) -> Result<Call, BenchFault>
-    ensures { IfOk result (λ call. IsTrue (is_plain call)) }
+fn any_call(desk: &mut Desk, text: &mut Script) -> Call
+    ensures { IsTrue (is_plain result) }
 {
-    let folder = rng.below(8);
-    let file = rng.below(12);
-    let path = log_of(alloc, text, folder, file)?;
-    Ok(Call::File(match rng.below(8) {
+    let folder = desk.rng.below(8);
+    let file = desk.rng.below(12);
+    let path = log_of(desk, text, folder, file);
+    Call::File(match desk.rng.below(8) {
         0 | 1 => FileCall::Create { path, mode: 0o640 },
         2..5 => FileCall::Write {
             path,
-            offset: rng.below(400),
-            bytes: Bytes::from_vec(Vec::from_slice(alloc, b"a line of a log\n")?),
+            offset: desk.rng.below(400),
+            bytes: desk.bytes(b"a line of a log\n"),
         },
-        5 => FileCall::Rename {
-            old: path,
-            new: log_of(alloc, text, folder, rng.below(12))?,
-        },
+        5 => {
+            let file = desk.rng.below(12);
+            FileCall::Rename {
+                old: path,
+                new: log_of(desk, text, folder, file),
+            }
+        }
         6 => FileCall::Truncate { path, len: 0 },
         _ => FileCall::Unlink { path },
-    }))
+    })
 }
 
 /// Makes a call with a seat, and adds its receipt.
-fn make<L: Ledger>(
-    held: &mut Held<L>,
-    seat: &mut Seat<L>,
-    digest: &mut Digest,
-    call: Call,
-) -> Result<(), BenchFault>
+fn make<L: Ledger>(desk: &mut Desk, held: &mut Held<L>, seat: &mut Seat<L>, call: Call)
     requires { IsTrue (is_plain call) }
 {
-    add_receipt(digest, &held.call(seat, call)?);
-    Ok(())
+    if desk.is_well() {
+        desk.take(held.call(seat, call));
+    }
+}
+
+/// Pumps an instance for a seat, and adds the receipt.
+fn pump<L: Ledger>(
+    desk: &mut Desk,
+    held: &mut Held<L>,
+    seat: &mut Seat<L>,
+    instance: u32,
+    bytes: u32,
+) {
+    if desk.is_well() {
+        desk.take(held.pump(seat, instance, bytes));
+    }
+}
+
+/// Makes a directory with a seat.
+fn make_folder<L: Ledger>(desk: &mut Desk, held: &mut Held<L>, seat: &mut Seat<L>, path: Path) {
+    let call = FileCall::Mkdir { path, mode: 0o755 };
+    make(desk, held, seat, Call::File(call));
+}
+
+/// Makes an instance with a pipe, adds its receipt, and puts its feed to the others.
+fn open_feed<L: Ledger>(
+    desk: &mut Desk,
+    held: &mut Held<L>,
+    seat: &mut Seat<L>,
+    feeds: &mut Vec<Feed>,
+) {
+    if desk.is_well() {
+        match held.open_piped(seat, 1024, SLOTS) {
+            Ok((receipt, feed)) => {
+                add_receipt(&mut desk.digest, &receipt);
+                desk.need(feeds.extend(feed).is_ok());
+            }
+            Err(refusal) => desk.fail(BenchFault::Refused(refusal)),
+        }
+    }
 }
 
 /// Makes the directories, and an instance with a pipe for each listener, which watches them.
 fn begin<L: Ledger>(
-    alloc: Global,
+    desk: &mut Desk,
     held: &mut Held<L>,
     seat: &mut Seat<L>,
     feeds: &mut Vec<Feed>,
-    digest: &mut Digest,
-) -> Result<(), BenchFault> {
+) {
     for path in ["/var", "/var/log"] {
-        let path = Path::parse(alloc, path.as_bytes())?;
-        make(
-            held,
-            seat,
-            digest,
-            Call::File(FileCall::Mkdir { path, mode: 0o755 }),
-        )?;
+        let path = desk.path(path);
+        make_folder(desk, held, seat, path);
     }
     for folder in 0..8 {
-        let path = folder_of(alloc, folder)?;
-        make(
-            held,
-            seat,
-            digest,
-            Call::File(FileCall::Mkdir { path, mode: 0o755 }),
-        )?;
+        let path = folder_of(desk, folder);
+        make_folder(desk, held, seat, path);
     }
     for instance in 1..LISTENERS + 1 {
-        let (receipt, feed) = held.open_piped(seat, 1024, SLOTS)?;
-        add_receipt(digest, &receipt);
-        feeds.extend(feed)?;
+        open_feed(desk, held, seat, feeds);
         for folder in 0..8 {
-            let path = folder_of(alloc, folder)?;
+            let path = folder_of(desk, folder);
             let watch = Call::AddWatch {
                 instance,
                 path,
                 mask: 0xfce,
             };
-            make(held, seat, digest, watch)?;
+            make(desk, held, seat, watch);
         }
     }
-    Ok(())
 }
 
 /// Makes calls by chance with two seats, and pumps each instance now and then.
 fn write_logs<L: Ledger>(
-    alloc: Global,
+    desk: &mut Desk,
     held: &mut Held<L>,
     one: &mut Seat<L>,
     other: &mut Seat<L>,
-    digest: &mut Digest,
-    rng: &mut Rng,
-) -> Result<(), BenchFault> {
-    let mut text = Script::new(alloc);
+) {
+    let mut text = Script::new(desk.alloc);
     for at in 0..CALLS {
         let seat = if at % 2 == 0 { &mut *one } else { &mut *other };
-        make(held, seat, digest, any_call(alloc, &mut text, rng)?)?;
+        let call = any_call(desk, &mut text);
+        make(desk, held, seat, call);
         if at % 4 == 0 {
             let instance = (at / 4 % 3) as u32 + 1;
-            add_receipt(digest, &held.pump(seat, instance, 1024)?);
+            pump(desk, held, seat, instance, 1024);
         }
     }
-    Ok(())
 }
 
 /// Pumps what is left, and closes each instance.
-fn close_all<L: Ledger>(
-    held: &mut Held<L>,
-    seat: &mut Seat<L>,
-    digest: &mut Digest,
-) -> Result<(), BenchFault> {
+fn close_all<L: Ledger>(desk: &mut Desk, held: &mut Held<L>, seat: &mut Seat<L>) {
     for instance in 1..LISTENERS + 1 {
         for _ in 0..40 {
-            add_receipt(digest, &held.pump(seat, instance, 4096)?);
+            pump(desk, held, seat, instance, 4096);
         }
-        make(held, seat, digest, Call::Close { instance })?;
+        make(desk, held, seat, Call::Close { instance });
     }
-    Ok(())
 }
 
 /// Adds why a listener ended.
@@ -259,52 +273,80 @@ fn add_log(digest: &mut Digest, log: &SeatLog) {
     }
 }
 
-/// One round: a tree of its own, from its first call to the settled book.
-fn round<L: Ledger>(
-    alloc: Global,
-    blank: Blank,
-    digest: &mut Digest,
-    rng: &mut Rng,
-) -> Result<(), BenchFault>
-    requires name { blank.name ≡ L.name }
-    requires parts { (blank.parts ≡ L.parts) × (blank.parts ≡ 65537) }
-{
-    let (mut held, mut pass) = Held::<L>::new(alloc, blank, Limits::full())?;
-    let mut one = pass.seat()?;
-    let mut other = pass.seat()?;
-    let mut feeds = Vec::new(alloc);
-    begin(alloc, &mut held, &mut one, &mut feeds, digest)?;
-    write_logs(alloc, &mut held, &mut one, &mut other, digest, rng)?;
-    close_all(&mut held, &mut other, digest)?;
-    let mut logs: Vec<SeatLog> = Vec::with_capacity(alloc, 2)?;
-    logs.push(pass.join(one))?;
-    logs.push(pass.join(other))?;
-    let mut ended = Vec::new(alloc);
+/// Lets the listeners take all that their feeds have.
+fn listen_all(desk: &mut Desk, feeds: Vec<Feed>) -> Vec<Ended<LineSink<Lines>>> {
+    let mut ended = Vec::new(desk.alloc);
     let mut number = 0;
     for feed in feeds {
         number = u32::wrapping_add(number, 1);
-        ended.push(listen(alloc, number, feed, digest)?)?;
+        match listen(desk.alloc, number, feed, &mut desk.digest) {
+            Ok(one) => desk.need(ended.push(one).is_ok()),
+            Err(fault) => desk.fail(fault),
+        }
     }
+    ended
+}
+
+/// What two seats kept.
+fn join_both<L: Ledger>(
+    desk: &mut Desk,
+    pass: &mut Pass<L>,
+    one: Seat<L>,
+    other: Seat<L>,
+) -> Vec<SeatLog> {
+    let mut logs = Vec::new(desk.alloc);
+    desk.need(logs.reserve_exact(2).is_ok());
+    desk.need(logs.push(pass.join(one)).is_ok());
+    desk.need(logs.push(pass.join(other)).is_ok());
+    logs
+}
+
+/// Adds what the seats kept, and the settled book.
+fn settle_up(desk: &mut Desk, book: Book, logs: Vec<SeatLog>, ended: Vec<Ended<LineSink<Lines>>>) {
     for log in logs.as_slice() {
-        add_log(digest, log);
+        add_log(&mut desk.digest, log);
     }
-    let Settled { entries, calls } = settle(alloc, held.dissolve(pass), logs, ended)?;
-    digest.add(entries);
-    digest.add(calls);
+    match settle(desk.alloc, book, logs, ended) {
+        Ok(Settled { entries, calls }) => {
+            desk.digest.add(entries);
+            desk.digest.add(calls);
+        }
+        Err(fault) => desk.fail(BenchFault::Unsettled(fault)),
+    }
+}
+
+/// One round: a tree of its own, from its first call to the settled book.
+fn round<L: Ledger>(desk: &mut Desk, blank: Blank) -> Result<(), BenchFault>
+    requires name { blank.name ≡ L.name }
+    requires parts { (blank.parts ≡ L.parts) × (blank.parts ≡ 65537) }
+{
+    let (mut held, mut pass) = Held::<L>::new(desk.alloc, blank, Limits::full())?;
+    let mut one = pass.seat()?;
+    let mut other = pass.seat()?;
+    let mut feeds = Vec::new(desk.alloc);
+    begin(desk, &mut held, &mut one, &mut feeds);
+    write_logs(desk, &mut held, &mut one, &mut other);
+    close_all(desk, &mut held, &mut other);
+    let logs = join_both(desk, &mut pass, one, other);
+    let ended = listen_all(desk, feeds);
+    settle_up(desk, held.dissolve(pass), logs, ended);
     Ok(())
 }
 
 /// The same with the ledger of a brand.
-fn branded_round(alloc: Global, digest: &mut Digest, rng: &mut Rng) -> Result<(), BenchFault> {
-    round::<Brand>(alloc, Blank::new(65537), digest, rng)
+fn branded_round(desk: &mut Desk) -> Result<(), BenchFault> {
+    round::<Brand>(desk, Blank::new(65537))
 }
 
 /// Runs the rounds, each with a tree of its own.
 pub(crate) fn run(alloc: Global, seed: u64, rounds: u64) -> Result<Digest, BenchFault> {
-    let mut rng = Rng::new(seed);
-    let mut digest = Digest::new();
+    let mut desk = Desk::new(alloc, seed);
     for _ in 0..rounds {
-        branded_round(alloc, &mut digest, &mut rng)?;
+        if !desk.is_well() {
+            break;
+        }
+        let round = branded_round(&mut desk);
+        desk.keep(round);
     }
-    Ok(digest)
+    desk.finish()
 }

@@ -4,18 +4,22 @@ use crate::digest::Digest;
 use crate::fault::BenchFault;
 use itoa::Buffer;
 use record_codec::Port;
-use std::alloc::{AllocError, Global};
+use std::alloc::Global;
 use std::io;
 use std::io::Read;
+use tree_paths::Path;
 use watchtree_script::run_script;
 
 /// The limit of instances that name none.
 const QUEUE: u32 = 16_384;
 
-/// The text of a script.
+/// The text of a script. Where memory runs out as it is written, nothing more is added, and the script can neither be
+/// run nor be read as a path.
 #[derive(Drop)]
 pub(crate) struct Script {
     text: Vec<u8>,
+    /// Whether there was memory for all of it.
+    is_whole: bool,
 }
 
 impl Script {
@@ -23,6 +27,7 @@ impl Script {
     pub(crate) fn new(alloc: Global) -> Script {
         Script {
             text: Vec::new(alloc),
+            is_whole: true,
         }
     }
 
@@ -36,41 +41,65 @@ impl Script {
         self.text.as_slice()
     }
 
+    /// Whether there was memory for all of it.
+    pub(crate) fn is_whole(&self) -> bool {
+        self.is_whole
+    }
+
+    /// Notes that the script is not whole, unless `is_met`.
+    pub(crate) fn need(&mut self, is_met: bool) {
+        self.is_whole &= is_met;
+    }
+
     /// Adds text as it is.
-    pub(crate) fn text(&mut self, text: &str) -> Result<(), AllocError> {
-        self.text.extend_from_slice(text.as_bytes())
+    pub(crate) fn text(&mut self, text: &str) {
+        self.bytes(text.as_bytes());
     }
 
     /// Adds bytes as they are.
-    pub(crate) fn bytes(&mut self, bytes: &[u8]) -> Result<(), AllocError> {
-        self.text.extend_from_slice(bytes)
+    pub(crate) fn bytes(&mut self, bytes: &[u8]) {
+        if self.is_whole {
+            self.is_whole = self.text.extend_from_slice(bytes).is_ok();
+        }
     }
 
-    /// Takes all of it away.
+    /// Takes all of it away. A script that is not whole stays so.
     pub(crate) fn clear(&mut self) {
         self.text.clear();
     }
 
     /// Adds a number in decimal.
-    pub(crate) fn number(&mut self, number: u64) -> Result<(), AllocError> {
+    pub(crate) fn number(&mut self, number: u64) {
         let mut digits = Buffer::new();
-        self.text
-            .extend_from_slice(digits.format(number).as_bytes())
+        self.bytes(digits.format(number).as_bytes());
     }
 
     /// Adds `count` pairs of hexadecimal digits.
-    pub(crate) fn pairs(&mut self, bits: u64, count: u64) -> Result<(), AllocError> {
+    pub(crate) fn pairs(&mut self, bits: u64, count: u64) {
         let mut left = bits;
         for _ in 0..count {
-            self.text.extend_from_slice(pair_of(left))?;
+            self.bytes(pair_of(left));
             left = left.rotate_right(5);
         }
-        Ok(())
     }
 
-    /// Runs the script on a new tree, and adds what it prints to the digest: the reply of each call. Where the run ends
-    /// before the script, that is a fault.
+    /// The path of its text.
+    pub(crate) fn path(&self, alloc: Global) -> Result<Path, BenchFault> {
+        if !self.is_whole {
+            return Err(BenchFault::Memory);
+        }
+        match Path::parse(alloc, self.text.as_slice()) {
+            Ok(path) => Ok(path),
+            Err(refusal) => Err(BenchFault::Refused(refusal)),
+        }
+    }
+
+    /// Runs the script on a new tree, and adds what it prints to the digest: the reply of each call. It is a fault
+    /// where the script is not whole, or the run ends before it.
     pub(crate) fn run(&self, alloc: Global, digest: Digest) -> Result<Digest, BenchFault> {
+        if !self.is_whole {
+            return Err(BenchFault::Memory);
+        }
         let mut input = Port::new(Source {
             rest: self.text.as_slice(),
         });

@@ -6,7 +6,7 @@ use crate::digest::Digest;
 use crate::fault::BenchFault;
 use crate::rng::Rng;
 use crate::script::Script;
-use std::alloc::{AllocError, Global};
+use std::alloc::Global;
 
 /// The names of directories.
 const FOLDERS: [&str; 12] = [
@@ -49,18 +49,17 @@ const FILES: u64 = 24;
 const FULL: usize = 1_040_000;
 
 /// Adds the path of a directory; `depth` is 1 to 3.
-fn add_folder(script: &mut Script, leaf: u64, depth: u64) -> Result<(), AllocError> {
-    script.text("/home/ana/src/")?;
-    script.text(FOLDERS[(leaf / 36 % 6) as usize])?;
+fn add_folder(script: &mut Script, leaf: u64, depth: u64) {
+    script.text("/home/ana/src/");
+    script.text(FOLDERS[(leaf / 36 % 6) as usize]);
     if depth > 1 {
-        script.text("/")?;
-        script.text(FOLDERS[(leaf / 6 % 6 + 3) as usize])?;
+        script.text("/");
+        script.text(FOLDERS[(leaf / 6 % 6 + 3) as usize]);
     }
     if depth > 2 {
-        script.text("/")?;
-        script.text(FOLDERS[(leaf % 6 + 6) as usize])?;
+        script.text("/");
+        script.text(FOLDERS[(leaf % 6 + 6) as usize]);
     }
-    Ok(())
 }
 
 /// A file of the project: its directory, and its number in it.
@@ -83,30 +82,29 @@ struct Project {
 
 impl Project {
     /// Adds the path of a directory that has files.
-    fn add_leaf(&mut self, leaf: u64) -> Result<(), AllocError> {
-        match self.folders.get(leaf as usize) {
-            Some(path) => self.script.bytes(path.as_slice()),
-            None => Ok(()),
+    fn add_leaf(&mut self, leaf: u64) {
+        if let Some(path) = self.folders.get(leaf as usize) {
+            self.script.bytes(path.as_slice());
         }
     }
 
     /// Adds the path of a file.
-    fn add_path(&mut self, file: File) -> Result<(), AllocError> {
-        self.add_leaf(file.leaf)?;
-        self.script.text("/")?;
-        self.script.text(STEMS[(file.number % 8) as usize])?;
+    fn add_path(&mut self, file: File) {
+        self.add_leaf(file.leaf);
+        self.script.text("/");
+        self.script.text(STEMS[(file.number % 8) as usize]);
         if file.number > 7 {
-            self.script.number(file.number)?;
+            self.script.number(file.number);
         }
-        self.script.text(ENDS[(file.number / 2 % 4) as usize])
+        self.script.text(ENDS[(file.number / 2 % 4) as usize]);
     }
 
     /// Adds the path at which an editor writes a file before it is moved to its own.
-    fn add_draft(&mut self, file: File) -> Result<(), AllocError> {
-        self.add_leaf(file.leaf)?;
-        self.script.text("/.")?;
-        self.script.text(STEMS[(file.number % 8) as usize])?;
-        self.script.text(".swp")
+    fn add_draft(&mut self, file: File) {
+        self.add_leaf(file.leaf);
+        self.script.text("/.");
+        self.script.text(STEMS[(file.number % 8) as usize]);
+        self.script.text(".swp");
     }
 
     /// A file by chance.
@@ -132,162 +130,160 @@ impl Project {
     }
 
     /// Makes the directories, the two instances and their watches.
-    fn begin(&mut self) -> Result<(), AllocError> {
-        self.script.text("mkdir /home 755\nmkdir /home/ana 700\nmkdir /home/ana/src 755\n")?;
-        self.script.text("init\ninit 4096\n")?;
+    fn begin(&mut self) {
+        self.script.text("mkdir /home 755\nmkdir /home/ana 700\nmkdir /home/ana/src 755\n");
+        self.script.text("init\ninit 4096\n");
         for leaf in 0..LEAVES {
             if leaf % 36 == 0 {
-                self.make_folder(leaf, 1)?;
+                self.make_folder(leaf, 1);
             }
             if leaf % 6 == 0 {
-                self.make_folder(leaf, 2)?;
+                self.make_folder(leaf, 2);
             }
-            self.make_folder(leaf, 3)?;
+            self.make_folder(leaf, 3);
         }
-        Ok(())
     }
 
     /// Makes a directory, and watches it.
-    fn make_folder(&mut self, leaf: u64, depth: u64) -> Result<(), AllocError> {
-        self.script.text("mkdir ")?;
-        add_folder(&mut self.script, leaf, depth)?;
-        self.script.text(" 755\nwatch 1 ")?;
-        add_folder(&mut self.script, leaf, depth)?;
-        self.script.text(" 0xfc6\n")?;
+    fn make_folder(&mut self, leaf: u64, depth: u64) {
+        self.script.text("mkdir ");
+        add_folder(&mut self.script, leaf, depth);
+        self.script.text(" 755\nwatch 1 ");
+        add_folder(&mut self.script, leaf, depth);
+        self.script.text(" 0xfc6\n");
         if leaf % 3 == 0 {
-            self.script.text("watch 2 ")?;
-            add_folder(&mut self.script, leaf, depth)?;
-            self.script.text(" 0x1000388\n")?;
+            self.script.text("watch 2 ");
+            add_folder(&mut self.script, leaf, depth);
+            self.script.text(" 0x1000388\n");
         }
-        Ok(())
     }
 
     /// Adds a write of some bytes to the end of a command's path.
-    fn add_contents(&mut self, offset: u64) -> Result<(), AllocError> {
-        self.script.text(" ")?;
-        self.script.number(offset)?;
-        self.script.text(" ")?;
+    fn add_contents(&mut self, offset: u64) {
+        self.script.text(" ");
+        self.script.number(offset);
+        self.script.text(" ");
         let bits = self.rng.bits();
         let count = self.rng.below(24).wrapping_add(1);
-        self.script.pairs(bits, count)?;
-        self.script.text("\n")
+        self.script.pairs(bits, count);
+        self.script.text("\n");
     }
 
     /// A file is made and written.
-    fn make(&mut self, file: File) -> Result<(), AllocError> {
-        self.script.text("create ")?;
-        self.add_path(file)?;
-        self.script.text(" 644\nwrite ")?;
-        self.add_path(file)?;
-        self.add_contents(0)?;
+    fn make(&mut self, file: File) {
+        self.script.text("create ");
+        self.add_path(file);
+        self.script.text(" 644\nwrite ");
+        self.add_path(file);
+        self.add_contents(0);
         self.note(file, true);
-        Ok(())
     }
 
     /// A file is saved as editors do: a draft is made and written, and replaces it.
-    fn save(&mut self, file: File) -> Result<(), AllocError> {
-        self.script.text("create ")?;
-        self.add_draft(file)?;
-        self.script.text(" 600\nwrite ")?;
-        self.add_draft(file)?;
-        self.add_contents(0)?;
-        self.script.text("chmod ")?;
-        self.add_draft(file)?;
-        self.script.text(" 644\nrename ")?;
-        self.add_draft(file)?;
-        self.script.text(" ")?;
-        self.add_path(file)?;
-        self.script.text("\n")
+    fn save(&mut self, file: File) {
+        self.script.text("create ");
+        self.add_draft(file);
+        self.script.text(" 600\nwrite ");
+        self.add_draft(file);
+        self.add_contents(0);
+        self.script.text("chmod ");
+        self.add_draft(file);
+        self.script.text(" 644\nrename ");
+        self.add_draft(file);
+        self.script.text(" ");
+        self.add_path(file);
+        self.script.text("\n");
     }
 
     /// A file is moved to another path, if nothing is there.
-    fn shift(&mut self, file: File) -> Result<(), AllocError> {
+    fn shift(&mut self, file: File) {
         let other = self.any_file();
         if !self.is_there(other) {
-            self.script.text("rename ")?;
-            self.add_path(file)?;
-            self.script.text(" ")?;
-            self.add_path(other)?;
-            self.script.text("\n")?;
+            self.script.text("rename ");
+            self.add_path(file);
+            self.script.text(" ");
+            self.add_path(other);
+            self.script.text("\n");
             self.note(file, false);
             self.note(other, true);
         }
-        Ok(())
     }
 
     /// A command of one path.
-    fn add_simple(&mut self, command: &str, file: File, end: &str) -> Result<(), AllocError> {
-        self.script.text(command)?;
-        self.add_path(file)?;
-        self.script.text(end)
+    fn add_simple(&mut self, command: &str, file: File, end: &str) {
+        self.script.text(command);
+        self.add_path(file);
+        self.script.text(end);
     }
 
     /// A file that is there is changed, read, moved or taken away.
-    fn change(&mut self, file: File) -> Result<(), AllocError> {
+    fn change(&mut self, file: File) {
         match self.rng.below(16) {
             0..5 => self.save(file),
             5..8 => {
                 let offset = self.rng.below(200);
-                self.script.text("write ")?;
-                self.add_path(file)?;
-                self.add_contents(offset)
+                self.script.text("write ");
+                self.add_path(file);
+                self.add_contents(offset);
             }
             8 => self.add_simple("truncate ", file, " 16\n"),
             9 => self.shift(file),
             10 | 11 => {
                 self.note(file, false);
-                self.add_simple("unlink ", file, "\n")
+                self.add_simple("unlink ", file, "\n");
             }
             12 | 13 => self.add_simple("stat ", file, "\n"),
             14 => self.add_simple("cat ", file, " 0 48\n"),
             _ => {
-                self.script.text("list ")?;
-                self.add_leaf(file.leaf)?;
-                self.script.text("\n")
+                self.script.text("list ");
+                self.add_leaf(file.leaf);
+                self.script.text("\n");
             }
         }
     }
 
     /// One roll of an editor, and now and then a read by who watches.
-    fn roll(&mut self) -> Result<(), AllocError> {
+    fn roll(&mut self) {
         let file = self.any_file();
         if self.is_there(file) {
-            self.change(file)?;
+            self.change(file);
         } else {
-            self.make(file)?;
+            self.make(file);
         }
         match self.rng.below(12) {
             0 | 1 => self.script.text("read 1 4096\n"),
             2 => self.script.text("read 2 65536\n"),
-            _ => Ok(()),
+            _ => (),
         }
     }
 }
 
 /// A script of this seed.
-fn script_of(alloc: Global, seed: u64) -> Result<Script, AllocError> {
+fn script_of(alloc: Global, seed: u64) -> Script {
+    let mut script = Script::new(alloc);
     let mut there = Vec::new(alloc);
     for _ in 0..LEAVES * FILES {
-        there.push(false)?;
+        script.need(there.push(false).is_ok());
     }
     let mut folders = Vec::new(alloc);
     for leaf in 0..LEAVES {
         let mut path = Script::new(alloc);
-        add_folder(&mut path, leaf, 3)?;
-        folders.push(path)?;
+        add_folder(&mut path, leaf, 3);
+        script.need(path.is_whole());
+        script.need(folders.push(path).is_ok());
     }
     let mut project = Project {
-        script: Script::new(alloc),
+        script,
         rng: Rng::new(seed),
         folders,
         there,
     };
-    project.begin()?;
+    project.begin();
     for _ in 0..100_000 {
         if project.script.len() > FULL {
             break;
         }
-        project.roll()?;
+        project.roll();
     }
     let Project {
         script,
@@ -295,7 +291,7 @@ fn script_of(alloc: Global, seed: u64) -> Result<Script, AllocError> {
         folders: _,
         there: _,
     } = project;
-    Ok(script)
+    script
 }
 
 /// Runs a script each round, each of other numbers.
@@ -303,7 +299,7 @@ pub(crate) fn run(alloc: Global, seed: u64, rounds: u64) -> Result<Digest, Bench
     let mut seeds = Rng::new(seed);
     let mut digest = Digest::new();
     for _ in 0..rounds {
-        let script = script_of(alloc, seeds.bits())?;
+        let script = script_of(alloc, seeds.bits());
         digest = script.run(alloc, digest)?;
     }
     Ok(digest)
