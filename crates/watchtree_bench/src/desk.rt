@@ -127,6 +127,7 @@ impl Desk {
     }
 
     /// A path that was read, or the root.
+    #[inline(always)]
     fn path_or_root(&mut self, read: Result<Path, BenchFault>) -> Path {
         match read {
             Ok(path) => path,
@@ -149,11 +150,13 @@ impl Desk {
     }
 
     /// The path of the text that a script has.
+    #[inline(always)]
     pub(crate) fn path_of(&mut self, text: &Script) -> Path {
         self.path_or_root(text.path(self.alloc))
     }
 
     /// The path of the text in the buffer.
+    #[inline(always)]
     pub(crate) fn written(&mut self) -> Path {
         let read = self.text.path(self.alloc);
         self.path_or_root(read)
@@ -203,6 +206,7 @@ impl Desk {
     }
 
     /// Makes a call, and adds its sequence number and its entry.
+    #[inline(always)]
     pub(crate) fn call(&mut self, state: &mut State, call: Call) {
         if self.is_well() {
             if let Err(refusal) = make(state, &mut self.digest, call) {
@@ -212,11 +216,13 @@ impl Desk {
     }
 
     /// Makes a call on files, and adds its sequence number and its entry.
+    #[inline(always)]
     pub(crate) fn file(&mut self, state: &mut State, call: FileCall) {
         self.call(state, Call::File(call));
     }
 
     /// Makes a call for its receipt, and adds that.
+    #[inline(always)]
     pub(crate) fn apply(&mut self, state: &mut State, call: Call) {
         if self.is_well() {
             self.take(state.apply(CALLER, call));
@@ -224,6 +230,7 @@ impl Desk {
     }
 
     /// Adds the receipt of a call, unless it failed.
+    #[inline(always)]
     pub(crate) fn take(&mut self, answered: Result<Receipt, Refusal>) {
         match answered {
             Ok(receipt) => add_receipt(&mut self.digest, &receipt),

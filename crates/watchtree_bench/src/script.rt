@@ -13,8 +13,8 @@ use watchtree_script::run_script;
 /// The limit of instances that name none.
 const QUEUE: u32 = 16_384;
 
-/// The text of a script. Where memory runs out as it is written, nothing more is added, and the script can neither be
-/// run nor be read as a path.
+/// The text of a script. Once memory ran out as it was written, it is not whole, and can neither be run nor be read as
+/// a path.
 #[derive(Drop)]
 pub(crate) struct Script {
     text: Vec<u8>,
@@ -57,9 +57,10 @@ impl Script {
     }
 
     /// Adds bytes as they are.
+    #[inline(always)]
     pub(crate) fn bytes(&mut self, bytes: &[u8]) {
-        if self.is_whole {
-            self.is_whole = self.text.extend_from_slice(bytes).is_ok();
+        if self.text.extend_from_slice(bytes).is_err() {
+            self.is_whole = false;
         }
     }
 
@@ -84,6 +85,7 @@ impl Script {
     }
 
     /// The path of its text.
+    #[inline(always)]
     pub(crate) fn path(&self, alloc: Global) -> Result<Path, BenchFault> {
         if !self.is_whole {
             return Err(BenchFault::Memory);
