@@ -128,19 +128,8 @@ impl Desk {
 
     /// A path that was read, or the root.
     #[inline(always)]
-    fn path_or_root(&mut self, read: Result<Path, BenchFault>) -> Path {
+    fn path_or_root(&mut self, read: Result<Path, Refusal>) -> Path {
         match read {
-            Ok(path) => path,
-            Err(fault) => {
-                self.fail(fault);
-                Path::root()
-            }
-        }
-    }
-
-    /// The path of a text.
-    pub(crate) fn path(&mut self, text: &str) -> Path {
-        match Path::parse(self.alloc, text.as_bytes()) {
             Ok(path) => path,
             Err(refusal) => {
                 self.fail(BenchFault::Refused(refusal));
@@ -149,16 +138,24 @@ impl Desk {
         }
     }
 
+    /// The path of a text.
+    pub(crate) fn path(&mut self, text: &str) -> Path {
+        self.path_or_root(Path::parse(self.alloc, text.as_bytes()))
+    }
+
     /// The path of the text that a script has.
     #[inline(always)]
     pub(crate) fn path_of(&mut self, text: &Script) -> Path {
-        self.path_or_root(text.path(self.alloc))
+        self.need(text.is_whole());
+        self.path_or_root(Path::parse(self.alloc, text.as_slice()))
     }
 
     /// The path of the text in the buffer.
     #[inline(always)]
     pub(crate) fn written(&mut self) -> Path {
-        let read = self.text.path(self.alloc);
+        let is_whole = self.text.is_whole();
+        self.need(is_whole);
+        let read = Path::parse(self.alloc, self.text.as_slice());
         self.path_or_root(read)
     }
 

@@ -7,14 +7,12 @@ use record_codec::Port;
 use std::alloc::Global;
 use std::io;
 use std::io::Read;
-use tree_paths::Path;
 use watchtree_script::run_script;
 
 /// The limit of instances that name none.
 const QUEUE: u32 = 16_384;
 
-/// The text of a script. Once memory ran out as it was written, it is not whole, and can neither be run nor be read as
-/// a path.
+/// The text of a script. Once memory ran out as it was written, it is not whole, and can't be run.
 #[derive(Drop)]
 pub(crate) struct Script {
     text: Vec<u8>,
@@ -81,18 +79,6 @@ impl Script {
         for _ in 0..count {
             self.bytes(pair_of(left));
             left = left.rotate_right(5);
-        }
-    }
-
-    /// The path of its text.
-    #[inline(always)]
-    pub(crate) fn path(&self, alloc: Global) -> Result<Path, BenchFault> {
-        if !self.is_whole {
-            return Err(BenchFault::Memory);
-        }
-        match Path::parse(alloc, self.text.as_slice()) {
-            Ok(path) => Ok(path),
-            Err(refusal) => Err(BenchFault::Refused(refusal)),
         }
     }
 
