@@ -1,4 +1,4 @@
-use Rattle.std.proofs.Common.{◌≡◌, ◌≤◌, ℕ, zero, suc, true, eqb, List, [], ◌∷◌, ◌++◌, length, drop, refl, ap, arith}
+use Rattle.std.proofs.Common.{◌≡◌, ◌≤◌, ℕ, zero, suc, true, eqb, List, [], ◌∷◌, ◌++◌, length, drop, refl, ap, ◌∙◌, arith}
 use Rattle.std.specs.Prelude.{slice_index}
 use Rattle.std.specs.List.{list_all}
 use Rattle.std.proofs.lemmas.Bool.{eqb-true}
@@ -24,6 +24,6 @@ zero-behind (x ∷ front) zs (suc i) h past = zero-behind front zs i h (omega ar
 pub returns-clause-sound : goal.returns-clause-sound
 returns-clause-sound c = (
   omega arith,
-  λ i past. zero-behind c.copy_from_slice-2.new.self _ i (zeros-behind (length c.args.bytes.now) _ refl)
-      (omega (arith, ap (λ (t : List ℕ). length t) c.copy_from_slice-2.ensures.after)),
+  λ i past. ap (λ (t : List ℕ). slice_index t i) (c.in_registers.ensures ∙ c.put_short.ensures)
+      ∙ zero-behind c.args.bytes.now _ i (zeros-behind (length c.args.bytes.now) _ refl) past,
 )
