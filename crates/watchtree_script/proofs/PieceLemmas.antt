@@ -1,16 +1,15 @@
 -- How bytes are cut into pieces.
-use Rattle.std.proofs.Common.{All, ◌≡◌, ◌≢◌, ◌==◌, ◌&&◌, ℕ, zero, suc, ◌+◌, ◌-◌, ◌≤◌, ◌<◌, Bool, true, false, not, cond}
+use Rattle.std.proofs.Common.{◌≡◌, ◌≢◌, ◌==◌, ℕ, ◌+◌, ◌-◌, ◌≤◌, ◌<◌, Bool, true, false, not, cond}
 use Rattle.std.proofs.Common.{lt-ltb, ltb}
-use Rattle.std.proofs.Common.{List, [], ◌∷◌, ◌++◌, Option, Some, None, is_some, refl, sym, ap, subst, ◌∙◌, length, take, drop, get_or, arith, length-drop}
-use Rattle.std.proofs.Math.Seq.{take-add}
-use Rattle.std.specs.List.{list_all, list_any, position, position_or_len, prefix_len}
+use Rattle.std.proofs.Common.{List, [], ◌∷◌, Option, Some, None, is_some, refl, sym, ap, subst, ◌∙◌, length, take, drop, get_or, arith, length-drop}
+use Rattle.std.specs.List.{list_any, position, position_or_len, prefix_len}
 use Rattle.std.proofs.lemmas.Bool.Decides.{nat_tests}
-use Rattle.std.proofs.lemmas.Bool.{and_parts, eqb-true, false≢true}
-use Rattle.std.proofs.lemmas.List.{drop_more, length-take-le, take-append-drop, take_all}
+use Rattle.std.proofs.lemmas.Bool.{false≢true}
+use Rattle.std.proofs.lemmas.List.{length-take-le, take_all}
 use Rattle.std.proofs.lemmas.List.Elements.{All-from_get_or}
-use Rattle.std.proofs.lemmas.List.Folds.{list_all-append, list_any_at, list_any_none}
+use Rattle.std.proofs.lemmas.List.Folds.{list_any_at, list_any_none}
 use Rattle.std.proofs.lemmas.List.Quantifiers.{position-Some}
-use Rattle.std.proofs.lemmas.List.Splits.{length-slice_split, slice_split_at, slice_split_first, slice_split_none}
+use Rattle.std.proofs.lemmas.List.Splits.{length-slice_split, slice_split_first, slice_split_none}
 use Rattle.std.proofs.lemmas.List.Sums.{count_by-le-length, fails_before_first, position_or_len_is}
 use Rattle.std.proofs.lemmas.Simd.{run_in_chunk_fails, run_in_chunk_le, run_in_chunk_stops, trailing_mask_l}
 use lib.Count.{count_trailing_zeros}
@@ -18,7 +17,6 @@ use lib.Lanes.{chunk}
 use Rattle.memchr.specs.Find.{IsFirstByte, is_byte}
 use Rattle.tree_paths.specs.Pieces.{pieces}
 use Rattle.tree_paths.proofs.MaskLemmas.{none-set}
-use Rattle.watchtree_script.specs.Lines.{is_line_byte}
 use Rattle.watchtree_script.specs.Reading.{separators_in}
 
 -- what a slice from an index on is
@@ -106,38 +104,3 @@ first-any s bs None h =
     fails true never = absurd (never refl)
     fails false _ = refl
 first-any s bs (Some k) h = sym (list_any_at (λ b. b == s) bs k 0 h.0.high h.1)
-
--- ---- a line of printable bytes
-
--- a front of which all pass a test, and a front of the rest of which all do, are one such front
-pub longer-front : (p : ℕ → Bool) (bs : List ℕ) (a b : ℕ) → list_all p (take a bs) ≡ true → list_all p (take b (drop a bs)) ≡ true
-    → list_all p (take (a + b) bs) ≡ true
-longer-front p bs a b front behind =
-    ap (list_all p) (take-add a b bs) ∙ list_all-append p (take a bs) (take b (drop a bs))
-    ∙ ap (λ (t : Bool). t && list_all p (take b (drop a bs))) front ∙ behind
-
-no_feed : (b : ℕ) → is_line_byte b ≡ true → (b == 10) ≡ false
-no_feed b h = not_feed (b == 10) refl
-  where
-    not_feed : (t : Bool) → (b == 10) ≡ t → t ≡ false
-    not_feed false e = refl
-    not_feed true e = let is : b ≡ 10 = eqb-true b 10 e in absurd (let off : is_line_byte 10 ≡ true = ap is_line_byte (sym is) ∙ h in cc)
-
-pub no_feeds : (bs : List ℕ) → list_all is_line_byte bs ≡ true → All (λ b. (b == 10) ≡ false) bs
-no_feeds [] h k d lt = absurd (omega (arith, lt))
-no_feeds (b ∷ bs) h zero d lt = no_feed b (and_parts (is_line_byte b) (list_all is_line_byte bs) h).0
-no_feeds (b ∷ bs) h (suc k) d lt = no_feeds bs (and_parts (is_line_byte b) (list_all is_line_byte bs) h).1 k d (omega (arith, lt))
-
--- it ends at the line feed behind it
-pub line-cut : (bs : List ℕ) (n : ℕ) → n < length bs → list_all is_line_byte (take n bs) ≡ true → get_or bs n 0 ≡ 10
-    → pieces 10 bs ≡ take n bs ∷ pieces 10 (drop (n + 1) bs)
-line-cut bs n lt h e =
-    let parts : bs ≡ take n bs ++ 10 ∷ drop (n + 1) bs =
-    sym (take-append-drop n bs) ∙ ap (λ (t : List ℕ). take n bs ++ t) (drop_more bs n 0 lt) ∙ ap (λ (b : ℕ). take n bs ++ b ∷ drop (n + 1) bs) e in
-    ap (pieces 10) parts ∙ slice_split_at (λ b. b == 10) (take n bs) 10 (drop (n + 1) bs) (no_feeds (take n bs) h) refl
-
--- and where nothing stands behind it, it is all
-pub line-end : (bs : List ℕ) (n : ℕ) → n ≡ length bs → list_all is_line_byte (take n bs) ≡ true → pieces 10 bs ≡ bs ∷ []
-line-end bs n e h =
-    let whole : take n bs ≡ bs = take_all n bs (omega (arith, e)) in
-    slice_split_none (λ b. b == 10) bs (no_feeds bs (ap (list_all is_line_byte) (sym whole) ∙ h))

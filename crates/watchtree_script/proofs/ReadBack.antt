@@ -28,7 +28,7 @@ use Rattle.watchtree_script.specs.Commands.{write_call, cat_call, truncate_call,
 use Rattle.watchtree_script.specs.Laws.{CallsAreReadBack}
 use Rattle.watchtree_script.specs.Lines.{is_line_byte, is_silent, lines_of, words_of}
 use Rattle.watchtree_script.specs.Replies.{hexadecimal}
-use Rattle.watchtree_script.proofs.PieceLemmas.{no_feeds}
+use Rattle.watchtree_script.proofs.LineLemmas.{no_feeds}
 use Rattle.watchtree_script.proofs.ReadWords.{IsWord, word-decimal, word-hexadecimal, word-mask, word-mode, word-path, word-signed}
 use Rattle.watchtree_script.proofs.ReadWords.{mode-read, mask-read, u32-read, u64-read, i32-read, hex-read, path-read}
 

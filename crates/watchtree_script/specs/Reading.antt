@@ -1,11 +1,12 @@
 -- What the functions that read lines and words say to one another. No public clause cites this module.
-use Rattle.std.specs.Prelude.{◌≡◌, ◌==◌, ◌⊎◌, ⊤, ℕ, List, [], map, Option, Some, None, Result, Ok, Err}
+use Rattle.std.specs.Prelude.{◌≡◌, ◌==◌, ◌⊎◌, ⊤, ℕ, List, [], map, not, Option, Some, None, Result, Ok, Err}
 use Rattle.std.specs.Simd.Lanes.{mask_l}
 use Rattle.tree_paths.specs.Pieces.{pieces}
 use Rattle.watchtree_script.specs.declared.line.Line.{Line}
 use Rattle.watchtree_script.specs.declared.line.Line.TheVariants.{Silent, Cut, Run}
 use Rattle.watchtree_script.specs.declared.line.LineError.{LineError}
 use Rattle.watchtree_script.specs.declared.line.LineError.TheVariants.{Fault, Refused, PathMemory, Memory}
+use Rattle.watchtree_script.specs.Lines.{is_line_byte}
 use Rattle.watchtree_script.specs.Script.{HasPath}
 
 -- the pieces of what stands behind a separator, of which there may be none
@@ -16,6 +17,10 @@ pieces_in separator (Some bytes) = pieces separator bytes
 -- bit k says whether byte k is a separator
 abbrev pub separators_in : ℕ → List ℕ → ℕ
 separators_in separator bytes = mask_l (map (λ b. b == separator) bytes)
+
+-- bit k says whether byte k is not printable
+abbrev pub unprintable_in : List ℕ → ℕ
+unprintable_in bytes = mask_l (map (λ b. not (is_line_byte b)) bytes)
 
 -- what the code gives for a word is this, unless memory ran out
 abbrev pub Gives : {A : Type 0} → Result A LineError → Result A LineError → Type 0

@@ -4,7 +4,7 @@ ghost use Rattle.std.specs.Prelude.{◌≡◌};
 ghost use Rattle.std.specs.List.{list_all};
 ghost use Rattle.watchtree_script.specs.Lines.{is_blank_or_comment, is_line_byte, is_silent};
 ghost use Rattle.watchtree_script.specs.Commands.{command_of, file_command_of, path_command_of, instance_command_of};
-ghost use Rattle.watchtree_script.specs.Commands.{words_line, line_of};
+ghost use Rattle.watchtree_script.specs.Commands.{line_of};
 ghost use Rattle.watchtree_script.specs.Reading.{GivesLine};
 
 use crate::fault::ScriptFault;
@@ -96,7 +96,7 @@ pub enum LineError {
 }
 
 /// What the line asks for, or the first reason why it asks for no call.
-#[tactic(auto, unfolding(crate::specs::Commands::line_of))]
+#[tactic(auto, unfolding(crate::specs::Commands::line_of, crate::specs::Commands::words_line))]
 pub(crate) fn read_line(alloc: Global, queue: u32, line: ScriptLine<'_>) -> Result<Line, LineError>
     requires { line.is_printable ≡ list_all is_line_byte line.bytes.now }
     ensures { GivesLine result (line_of queue line.entry.bytes.now) }
@@ -107,7 +107,11 @@ pub(crate) fn read_line(alloc: Global, queue: u32, line: ScriptLine<'_>) -> Resu
     if !line.is_printable {
         return Err(LineError::Fault(ScriptFault::BadByte));
     }
-    read_words(alloc, queue, Words::new(b' ', line.bytes))
+    let mut words = Words::new(b' ', line.bytes);
+    let Some(command) = words.next_word().and_then(command_named) else {
+        return Err(LineError::Fault(ScriptFault::UnknownCommand));
+    };
+    Parser::new(alloc, queue, words).line_asked(command)
 }
 
 /// Whether a line asks for nothing.
@@ -127,17 +131,6 @@ fn is_blank_or_comment(line: &[u8]) -> bool
         }
     }
     true
-}
-
-/// What a command's word and the words behind it ask for.
-#[tactic(auto, unfolding(crate::specs::Commands::words_line))]
-fn read_words(alloc: Global, queue: u32, mut words: Words<'_>) -> Result<Line, LineError>
-    ensures { GivesLine result (words_line queue words.entry) }
-{
-    let Some(command) = words.next_word().and_then(command_named) else {
-        return Err(LineError::Fault(ScriptFault::UnknownCommand));
-    };
-    Parser::new(alloc, queue, words).line_asked(command)
 }
 
 /// The command that a word names.

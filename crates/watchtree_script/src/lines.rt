@@ -1,20 +1,21 @@
 //! The lines of a script.
 
 ghost use Rattle.std.specs.Prelude.{◌≡◌, ◌≤◌, ◌<◌, ◌∷◌, [], MatchOption, IfSome, length, slice_index, take, true};
-ghost use Rattle.std.specs.List.{list_all};
+ghost use Rattle.std.specs.List.{list_all, prefix_len};
 ghost use Rattle.std.specs.Option.{option_copied};
 ghost use Rattle.std.specs.Str.{byte};
 ghost use Rattle.tree_paths.specs.Pieces.{pieces};
 ghost use Rattle.watchtree_script.specs.Lines.{is_line_byte, lines_of};
-ghost use Rattle.watchtree_script.specs.Reading.{pieces_in};
+ghost use Rattle.watchtree_script.specs.Reading.{pieces_in, unprintable_in};
 
 use crate::pieces::split_first;
 use std::marker::Model;
+use std::simd::prelude::*;
 
 const LINE_FEED: u8 = b'\n';
 
 /// How many bytes are tested at once.
-const BLOCK: usize = 8;
+const BLOCK: usize = 16;
 
 /// A line of a script.
 #[derive(Clone, Copy)]
@@ -32,7 +33,7 @@ impl<'a> ScriptLine<'a> {
     {
         ScriptLine {
             bytes,
-            is_printable: bytes.iter().all(|b| is_line_byte(*b)),
+            is_printable: printable_len(bytes) == bytes.len(),
         }
     }
 }
@@ -91,35 +92,36 @@ fn is_line_byte(byte: u8) -> bool
     byte == b' ' || byte.is_ascii_graphic()
 }
 
-/// How many bytes stand before one that is not printable, in whole blocks and then byte by byte.
+/// How many bytes stand before the first that is not printable.
 fn printable_len(bytes: &[u8]) -> usize
     ensures within { result ≤ length bytes.now }
-    ensures front { list_all is_line_byte (take result bytes.now) ≡ true }
+    ensures front { result ≡ prefix_len is_line_byte bytes.now }
 {
     let mut len = 0;
-    while let Some((block, _)) = bytes[len..].split_first_chunk::<BLOCK>()
-        && are_line_bytes(block)
-    {
+    while BLOCK <= bytes.len() - len {
+        let unprintable = unprintable_in(&bytes[len..]);
+        if unprintable != 0 {
+            return len + unprintable.trailing_zeros() as usize;
+        }
         len += BLOCK;
     }
     len + printable_front(&bytes[len..])
 }
 
-/// Whether all bytes of a block are printable. No test waits for another one, so that one instruction can do several.
-fn are_line_bytes(block: &[u8; BLOCK]) -> bool
-    ensures { result ≡ list_all is_line_byte block.now }
+/// Bit k says whether byte k of the first block is not printable.
+#[inline(always)]
+fn unprintable_in(bytes: &[u8]) -> u64
+    requires { BLOCK ≤ length bytes.now }
+    ensures { result ≡ unprintable_in (take BLOCK bytes.now) }
 {
-    let mut are = true;
-    for byte in block {
-        are &= is_line_byte(*byte);
-    }
-    are
+    let block = u8x16::from_slice(bytes);
+    (block.simd_lt(u8x16::splat(b' ')) | block.simd_gt(u8x16::splat(b'~'))).to_bitmask()
 }
 
-/// How many bytes stand before the first that is not printable.
+/// How many bytes stand before the first that is not printable, byte by byte.
 fn printable_front(bytes: &[u8]) -> usize
     ensures within { result ≤ length bytes.now }
-    ensures front { list_all is_line_byte (take result bytes.now) ≡ true }
+    ensures front { result ≡ prefix_len is_line_byte bytes.now }
 {
     for (i, b) in bytes.iter().enumerate() {
         if !is_line_byte(*b) {

@@ -1,6 +1,6 @@
 //! The rows of the table of commands: the words behind a command, and the call that they ask for.
 
-ghost use Rattle.std.specs.Prelude.{◌≡◌, ◌==◌, ◌∷◌, [], length, false, Err, MatchResult};
+ghost use Rattle.std.specs.Prelude.{◌≡◌, ◌==◌, ◌∷◌, [], length, false, Err, IfErr, IfOk, MatchResult, Ok};
 ghost use Rattle.watchtree_script.specs.Commands.{one, two, three, path_of, paths_of, a_path, old_and_new};
 ghost use Rattle.watchtree_script.specs.Commands.{path_and_mode, id_and_bytes, write_call, cat_call, truncate_call};
 ghost use Rattle.watchtree_script.specs.Commands.{rename2_call, watch_call, unwatch_call, asking, line_asked};
@@ -132,10 +132,17 @@ impl<'a> Parser<'a> {
         Ok(plain(Call::File(FileCall::Chmod { path, mode })))
     }
 
+    #[tactic(auto, using(crate::proofs::WordLemmas::plain_paths), unfolding(crate::specs::Commands::paths_of))]
     fn link(&self) -> Result<Line, LineError>
         ensures { GivesLine result (line_asked self.now.queue Command.Link self.now.words) }
     {
-        let (old, new) = self.old_and_new()?;
+        let (old, new) = self.two()?;
+        if has_escape(old) || has_escape(new) {
+            let (old, new) = escaped_paths(self.alloc, old, new)?;
+            return Ok(plain(Call::File(FileCall::Link { old, new })));
+        }
+        let old = old_path_of(self.alloc, old, new)?;
+        let new = path_of(self.alloc, new)?;
         Ok(plain(Call::File(FileCall::Link { old, new })))
     }
 
@@ -153,10 +160,17 @@ impl<'a> Parser<'a> {
         Ok(plain(Call::File(FileCall::Rmdir { path })))
     }
 
+    #[tactic(auto, using(crate::proofs::WordLemmas::plain_paths), unfolding(crate::specs::Commands::paths_of))]
     fn rename(&self) -> Result<Line, LineError>
         ensures { GivesLine result (line_asked self.now.queue Command.Rename self.now.words) }
     {
-        let (old, new) = self.old_and_new()?;
+        let (old, new) = self.two()?;
+        if has_escape(old) || has_escape(new) {
+            let (old, new) = escaped_paths(self.alloc, old, new)?;
+            return Ok(plain(Call::File(FileCall::Rename { old, new })));
+        }
+        let old = old_path_of(self.alloc, old, new)?;
+        let new = path_of(self.alloc, new)?;
         Ok(plain(Call::File(FileCall::Rename { old, new })))
     }
 
@@ -285,19 +299,6 @@ impl<'a> Parser<'a> {
         Ok((path, mode))
     }
 
-    /// OLD NEW
-    #[tactic(auto, using(crate::proofs::WordLemmas::plain_word), unfolding(crate::specs::Commands::old_and_new))]
-    #[inline(always)]
-    fn old_and_new(&self) -> Result<(Path, Path), LineError>
-        ensures { GivesPath result (two self.now.words old_and_new) }
-    {
-        let (old, new) = self.two()?;
-        if has_escape(old) || has_escape(new) {
-            return escaped_paths(self.alloc, old, new);
-        }
-        paths_of(self.alloc, old, new)
-    }
-
     /// The only word.
     fn one(&self) -> Result<&'a [u8], LineError>
         ensures { MatchResult result (λ word. self.now.words ≡ word.now ∷ [])
@@ -383,20 +384,30 @@ fn path_of(alloc: Global, text: &[u8]) -> Result<Path, LineError>
     }
 }
 
-/// The paths of two texts, of which the old one is read first. A text that is no path is refused as such even where
-/// there is no memory for the other one.
+/// The paths of two texts, of which the old one is read first.
 #[tactic(auto, unfolding(crate::specs::Commands::paths_of))]
 #[inline(always)]
 fn paths_of(alloc: Global, old: &[u8], new: &[u8]) -> Result<(Path, Path), LineError>
     ensures { GivesPath result (paths_of old.now new.now) }
 {
-    let old = match path_of(alloc, old) {
-        Ok(path) => path,
-        Err(LineError::PathMemory) => return Err(error_behind(alloc, new)),
-        Err(error) => return Err(error),
-    };
+    let old = old_path_of(alloc, old, new)?;
     let new = path_of(alloc, new)?;
     Ok((old, new))
+}
+
+/// The path of the first of two texts. Where there is no memory for it, the second is refused as such even so, if it is
+/// no path.
+#[tactic(auto, unfolding(crate::specs::Commands::paths_of))]
+#[inline(always)]
+fn old_path_of(alloc: Global, old: &[u8], new: &[u8]) -> Result<Path, LineError>
+    ensures ok { IfOk result (λ path. path_of old.now ≡ Ok path) }
+    ensures err { IfErr result (λ error. GivesPath (Err error) (paths_of old.now new.now)) }
+{
+    match path_of(alloc, old) {
+        Ok(path) => Ok(path),
+        Err(LineError::PathMemory) => Err(error_behind(alloc, new)),
+        Err(error) => Err(error),
+    }
 }
 
 /// Why a text is no path, or that there is no memory for the one before it.

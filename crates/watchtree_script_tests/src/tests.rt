@@ -132,11 +132,14 @@ fn five_lines(rt: HostRuntime) {
 }
 
 /// The third line of a script, and its fault.
-const FAULTS: [(&[u8], ScriptFault); 30] = [
+const FAULTS: [(&[u8], ScriptFault); 33] = [
     (b"frob\x01", ScriptFault::BadByte),
     (b"\tmkdir /b 755", ScriptFault::BadByte),
     (b"mkdir /b 755\r", ScriptFault::BadByte),
     (b"stat /\x7f", ScriptFault::BadByte),
+    (b"stat /name-of-9\x1f", ScriptFault::BadByte),
+    (b"stat /name-of-10\x7f/b", ScriptFault::BadByte),
+    (b"stat /name/with/more/than-two-blocks\xff", ScriptFault::BadByte),
     (b"frob", ScriptFault::UnknownCommand),
     (b"rm %zz", ScriptFault::UnknownCommand),
     (b"Mkdir /b 755", ScriptFault::UnknownCommand),

@@ -1,6 +1,7 @@
 use Rattle.std.proofs.Common.{◌<◌, length, arith}
 use Rattle.std.proofs.lemmas.List.{drop-drop}
-use Rattle.watchtree_script.proofs.PieceLemmas.{from-index, line-cut, line-end}
+use Rattle.watchtree_script.proofs.LineLemmas.{line-cut, line-end}
+use Rattle.watchtree_script.proofs.PieceLemmas.{from-index}
 use Rattle.watchtree_script.proofs.lines.cut_printable.Goals as goal
 
 pub returns-then-len-bytes-clause-pieces : goal.returns-then-len-bytes-clause-pieces

@@ -1,25 +1,48 @@
-use Rattle.std.proofs.Common.{◌≡◌, ◌∙◌, ◌-◌, sym, ap, length, take, drop, arith, length-drop}
-use Rattle.std.specs.List.{list_all}
-use Rattle.watchtree_script.specs.Lines.{is_line_byte}
-use Rattle.watchtree_script.proofs.PieceLemmas.{from-index, longer-front}
+use Rattle.std.proofs.Common.{◌≡◌, ◌≤◌, ◌<◌, ◌∙◌, ◌-◌, ℕ, List, ap, subst, sym, length, take, drop, arith, length-drop}
+use Rattle.std.proofs.lemmas.List.{drop-drop}
+use lib.Count.{count_trailing_zeros}
+use Rattle.watchtree_script.specs.Reading.{unprintable_in}
+use Rattle.watchtree_script.proofs.LineLemmas.{block-passes, block-stops, front_len, front-within}
+use Rattle.watchtree_script.proofs.PieceLemmas.{from-index}
 use Rattle.watchtree_script.proofs.lines.printable_len.Goals as goal
 
-pub loop-block-preserved : goal.loop-block-preserved
-loop-block-preserved c =
+stopped : (bs : List ℕ) (n found : ℕ) → 16 ≤ length (drop n bs) → found ≡ unprintable_in (take 16 (take (length bs - n) (drop n bs))) → 0 < found
+    → front_len (drop n bs) ≡ count_trailing_zeros 64 found
+stopped bs n found long is some =
+    let whole = is ∙ ap (λ t. unprintable_in (take 16 t)) (from-index n bs) in
+    block-stops (drop n bs) long (subst (λ m. 0 < m) whole some) ∙ ap (count_trailing_zeros 64) (sym whole)
+
+pub returns-then-unprintable-ne0-clause-within : goal.returns-then-unprintable-ne0-clause-within
+returns-then-unprintable-ne0-clause-within c =
     let bs = c.args.bytes.now in
-    let n = c.loop-block.len in
-    let cases = c.in-Some.ensures.cases in
-    let whole : take (length bs - n) (drop n bs) ≡ drop n bs = from-index n bs in
-    let block : c.in-Some.block.now ≡ take 8 (drop n bs) = cases.0 ∙ ap (take 8) whole in (
-      omega (arith, cases.2, ap length whole, length-drop n bs, c.loop-block.invariant.0),
-      longer-front is_line_byte bs n 8 c.loop-block.invariant.1
-          (ap (list_all is_line_byte) (sym block) ∙ sym c.are_line_bytes.ensures ∙ c.if-are_line_bytes.true),
+    let n = c.loop-len.len in
+    let long : 16 ≤ length (drop n bs) = omega (arith, c.loop-len-test.true, length-drop n bs) in
+    let here = stopped bs n c.unprintable_in-unprintable.result long c.unprintable_in-unprintable.ensures (omega (arith, c.if-unprintable-ne0.true)) in
+    omega (arith, here, front-within (drop n bs), length-drop n bs, c.loop-len.invariant.0)
+
+pub returns-then-unprintable-ne0-clause-front : goal.returns-then-unprintable-ne0-clause-front
+returns-then-unprintable-ne0-clause-front c =
+    let bs = c.args.bytes.now in
+    let n = c.loop-len.len in
+    let long : 16 ≤ length (drop n bs) = omega (arith, c.loop-len-test.true, length-drop n bs) in
+    let here = stopped bs n c.unprintable_in-unprintable.result long c.unprintable_in-unprintable.ensures (omega (arith, c.if-unprintable-ne0.true)) in
+    omega (arith, c.loop-len.invariant.1, here)
+
+pub loop-len-preserved : goal.loop-len-preserved
+loop-len-preserved c =
+    let bs = c.args.bytes.now in
+    let n = c.loop-len.len in
+    let long : 16 ≤ length (drop n bs) = omega (arith, c.loop-len-test.true, length-drop n bs) in
+    let whole = c.unprintable_in-unprintable.ensures ∙ ap (λ t. unprintable_in (take 16 t)) (from-index n bs) in
+    let none : unprintable_in (take 16 (drop n bs)) ≡ 0 = sym whole ∙ omega (arith, c.if-unprintable-ne0.false) in
+    let step = block-passes (drop n bs) long none in
+    let behind = ap front_len (drop-drop 16 n bs) in (
+      omega (arith, long, length-drop n bs),
+      omega (arith, c.loop-len.invariant.1, step, behind),
     )
 
 pub returns-clause-front : goal.returns-clause-front
 returns-clause-front c =
     let bs = c.args.bytes.now in
-    let n = c.loop-block.len in
-    let r = c.printable_front.result in
-    longer-front is_line_byte bs n r c.loop-block.invariant.1
-    (ap (λ t. list_all is_line_byte (take r t)) (sym (from-index n bs)) ∙ c.printable_front.ensures.front)
+    let here = c.printable_front.ensures.front ∙ ap front_len (from-index c.loop-len.len bs) in
+    omega (arith, c.loop-len.invariant.1, here)

@@ -1,10 +1,11 @@
-use Rattle.std.proofs.Common.{◌≡◌, ◌≤◌, ◌-◌, true, length, take}
-use Rattle.std.specs.List.{list_all}
+use Rattle.std.proofs.Common.{◌≡◌, ◌≤◌, ◌+◌, ◌-◌, length, drop}
+use Rattle.std.specs.List.{prefix_len}
 use Rattle.watchtree_script.specs.Lines.{is_line_byte}
 use Rattle.watchtree_script.proofs.lines.printable_len.Given as goal
 
-abbrev pub invariant-loop-block : goal.invariant-loop-block
-invariant-loop-block l = (l.len ≤ length l.bytes) × (list_all is_line_byte (take l.len l.bytes) ≡ true)
+abbrev pub invariant-loop-len : goal.invariant-loop-len
+invariant-loop-len l =
+    (l.len ≤ length l.bytes) × (prefix_len is_line_byte l.bytes ≡ l.len + prefix_len is_line_byte (drop l.len l.bytes))
 
-abbrev pub decreases-loop-block : goal.decreases-loop-block
-decreases-loop-block l = length l.bytes - l.len
+abbrev pub decreases-loop-len : goal.decreases-loop-len
+decreases-loop-len l = length l.bytes - l.len
