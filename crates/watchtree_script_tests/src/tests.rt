@@ -139,7 +139,10 @@ const FAULTS: [(&[u8], ScriptFault); 33] = [
     (b"stat /\x7f", ScriptFault::BadByte),
     (b"stat /name-of-9\x1f", ScriptFault::BadByte),
     (b"stat /name-of-10\x7f/b", ScriptFault::BadByte),
-    (b"stat /name/with/more/than-two-blocks\xff", ScriptFault::BadByte),
+    (
+        b"stat /name/with/more/than-two-blocks\xff",
+        ScriptFault::BadByte,
+    ),
     (b"frob", ScriptFault::UnknownCommand),
     (b"rm %zz", ScriptFault::UnknownCommand),
     (b"Mkdir /b 755", ScriptFault::UnknownCommand),
