@@ -137,19 +137,22 @@ static bool is_stalled(void) {
 static bool is_at_rest(int64_t *wait_us) {
     static struct tasks last;
     static uint64_t counted_time, last_work;
+    static int64_t same_since;
     struct tasks now = look_at_tasks(CLIENT);
     if (now.time < counted_time) counted_time = now.time;   /* a task ended */
     if (now.time > counted_time + QUIET_NS || now.set != last.set) {
         worked_at = clock_ms();
         counted_time = now.time;
     }
-    bool is_unchanged = now.runs == last.runs && work_count == last_work, is_same = last.all_sleep && is_unchanged;
+    bool is_unchanged = now.runs == last.runs && work_count == last_work;
+    bool is_same = last.all_sleep && now.all_sleep && is_unchanged, may_go_on = last.queued;
     if (!is_unchanged || !now.none_runs || now.all_sleep) blocked_since = clock_ms();
+    if (!is_same) same_since = clock_ms();
     last = now;
     last_work = work_count;
     if (!now.all_sleep) *wait_us = *wait_us < REST_US ? REST_US : *wait_us * 2 < LONGEST_US ? *wait_us * 2 : LONGEST_US;
-    else if (!is_same) *wait_us = 0;
-    return now.all_sleep && is_same;
+    else *wait_us = is_same ? REST_US : 0;
+    return is_same && (!may_go_on || clock_ms() - same_since >= IDLE_MS);
 }
 
 /* The client waits for a lock, such as that of a directory, which the second program has during a call that waits here. Then the

@@ -114,6 +114,15 @@ static uint64_t mix(uint64_t sum, uint64_t number) {
     return sum;
 }
 
+/* Whether a task that seems to sleep is on its way to sleep or back. It says so before it leaves its CPU, and may lose that in
+ * between, or find that there is nothing to wait for. Only of a task that has left it the kernel names the function in which it
+ * waits. */
+static bool is_queued(pid_t pid, const char *task) {
+    char name[400], text[128];
+    snprintf(name, sizeof name, "%d/task/%s/wchan", pid, task);
+    return read_proc_file(name, text, sizeof text) && !strcmp(text, "0");
+}
+
 static void look_at_task(pid_t pid, const char *task, struct tasks *all) {
     char name[400], text[128];
     struct state state;
@@ -126,6 +135,7 @@ static void look_at_task(pid_t pid, const char *task, struct tasks *all) {
     if (!is_known || !strchr("STtI", state.letter)) all->all_sleep = false;
     if (!is_known || !strchr("STtID", state.letter)) all->none_runs = false;
     all->blocked += state.letter == 'D';
+    all->queued += state.letter == 'S' && is_queued(pid, task);
     uint64_t number = strtoull(task, NULL, 10);
     all->runs = mix(mix(all->runs, number), count);
     if (is_supervisor(pid)) return;

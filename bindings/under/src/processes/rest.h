@@ -3,8 +3,9 @@
 #define REST_H
 #include "under.h"
 
-/* Who waits for a lock of the other program waits for long; who waits for a disk does not. */
-enum { BLOCKED_MS = 200 };
+/* Who waits for a lock of the other program waits for long; who waits for a disk does not. Who lost its CPU on its way to sleep
+ * gets it back soon. */
+enum { BLOCKED_MS = 200, IDLE_MS = 20 };
 
 /* The two programs of a run: that of the command line, and that of --and. */
 enum side { CLIENT, SECOND, SIDES };
@@ -14,11 +15,13 @@ struct tasks {
     bool all_sleep;
     bool none_runs;     /* those that do not sleep wait for a lock, a disk or the supervisor */
     uint64_t blocked;   /* how many these are */
+    uint64_t queued;    /* how many seem to sleep, and have a CPU or wait for one; or the kernel does not tell */
     uint64_t runs;      /* changes whenever one of them ran */
     uint64_t set;       /* changes whenever one started or ended */
     uint64_t time;      /* the CPU time of the program, in nanoseconds */
 };
-/* All tasks slept at one moment if two looks in a row say that all sleep, with the same `runs`. */
+/* All tasks slept at one moment if two looks in a row say that all sleep and none is queued, with the same `runs`. Where some are
+ * queued this holds for IDLE_MS. */
 struct tasks look_at_tasks(enum side side);
 /* Where a task stands: itself first, and then its ancestors up to the program, each with the time at which it started. */
 enum { MOST_ANCESTORS = 64 };

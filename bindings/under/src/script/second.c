@@ -15,7 +15,7 @@
 enum { MOST_LOOKS = 10000, MOST_CALLS = 100 };
 /* After a request more may come soon. And how long a program works at most in a turn without a request, and how long it is
  * waited for. */
-enum { FIRST_WAIT_US = 50, LONGEST_WAIT_US = 2000, LONGEST_NS = 1000000000, LONGEST_MS = 10000, IDLE_MS = 20 };
+enum { FIRST_WAIT_US = 50, LONGEST_WAIT_US = 2000, LONGEST_NS = 1000000000, LONGEST_MS = 10000 };
 
 static enum second how;
 static int status;
@@ -47,9 +47,9 @@ static bool has_ended(void) {
     return how != SECOND_GOES_ON;
 }
 
-/* Waits until it is at rest: all its tasks slept at one moment, and one of them with a request, or for a while, as a task that
- * lost its CPU on its way to sleep seems to sleep too; or some of them wait for a lock, which the client has. It counts as at
- * rest too if it works for long without a request, or wakes again and again for long. */
+/* Waits until it is at rest: all its tasks slept at one moment, and one of them with a request, or for a while; or some of them
+ * wait for a lock, which the client has. It counts as at rest too if it works for long without a request, or wakes again and
+ * again for long. */
 static void await_rest(uint64_t looks) {
     struct tasks last = { 0 }, now;
     uint64_t worked = UINT64_MAX;
@@ -62,10 +62,11 @@ static void await_rest(uint64_t looks) {
             continue;
         }
         now = look_at_tasks(SECOND);
-        bool is_same = now.runs == last.runs && now.none_runs, all_wait = now.none_runs && now.blocked <= supervised();
+        bool is_same = last.none_runs && now.none_runs && now.runs == last.runs, may_go_on = last.queued;
+        bool all_wait = now.none_runs && now.blocked <= supervised();
         if (!is_same) same_since = clock_ms();
         last = now;
-        int64_t least_ms = !all_wait ? BLOCKED_MS : second_waits() || has_ended() ? 0 : IDLE_MS;
+        int64_t least_ms = !all_wait ? BLOCKED_MS : may_go_on || !(second_waits() || has_ended()) ? IDLE_MS : 0;
         if (is_same && clock_ms() - same_since >= least_ms && !take_and_look(&looks)) break;
         if (has_worked_long(&now, &worked)) break;
         wait_us = is_same || !all_wait ? (wait_us * 2 < LONGEST_WAIT_US ? wait_us * 2 + 1 : LONGEST_WAIT_US) : 0;
