@@ -52,6 +52,15 @@ echo 'mkdir /d 755' >script
         "$(printf '/wt/d/ CREATE %s\n' 1 2)"
 }
 
+# ---- who is on its way to sleep is not at rest
+if compile 'who is on its way to sleep' "$tests/drowsy.c" ./drowsy; then
+    printf '%s\n' 'mkdir /d 755' -- 'create /d/1 644' 'create /d/2 644' 'create /d/3 644' 'create /d/4 644' >lines
+    same 'on its way to sleep: a client' "$("$under" lines -- ./drowsy --count /wt/d 4 2>&1)" "$(seq 0 4)"
+    # shellcheck disable=SC2016
+    same 'on its way to sleep: one of two processes' "$("$under" script -- inotifywait -q -m -e create /wt/d \
+        --and sh -c '"$here"/drowsy 60 touch /wt/d/1 & touch /wt/d/2; wait' 2>&1)" "$(printf '/wt/d/ CREATE %s\n' 1 2)"
+fi
+
 # ---- how runs end
 # shellcheck disable=SC2016
 watch='inotifywait -q -m -e create /wt/d'

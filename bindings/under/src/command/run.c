@@ -152,7 +152,7 @@ static bool is_at_rest(int64_t *wait_us) {
     last_work = work_count;
     if (!now.all_sleep) *wait_us = *wait_us < REST_US ? REST_US : *wait_us * 2 < LONGEST_US ? *wait_us * 2 : LONGEST_US;
     else *wait_us = is_same ? REST_US : 0;
-    return is_same && (!may_go_on || clock_ms() - same_since >= IDLE_MS);
+    return is_same && (!may_go_on || clock_ms() - same_since >= QUEUED_MS);
 }
 
 /* The client waits for a lock, such as that of a directory, which the second program has during a call that waits here. Then the

@@ -3,9 +3,9 @@
 #define REST_H
 #include "under.h"
 
-/* Who waits for a lock of the other program waits for long; who waits for a disk does not. Who lost its CPU on its way to sleep
- * gets it back soon. */
-enum { BLOCKED_MS = 200, IDLE_MS = 20 };
+/* Who waits for a lock of the other program waits for long; who waits for a disk does not. Who is on its way to sleep is there
+ * soon. */
+enum { BLOCKED_MS = 200, QUEUED_MS = 100 };
 
 /* The two programs of a run: that of the command line, and that of --and. */
 enum side { CLIENT, SECOND, SIDES };
@@ -21,7 +21,7 @@ struct tasks {
     uint64_t time;      /* the CPU time of the program, in nanoseconds */
 };
 /* All tasks slept at one moment if two looks in a row say that all sleep and none is queued, with the same `runs`. Where some are
- * queued this holds for IDLE_MS. */
+ * queued, if this holds for QUEUED_MS. */
 struct tasks look_at_tasks(enum side side);
 /* Where a task stands: itself first, and then its ancestors up to the program, each with the time at which it started. */
 enum { MOST_ANCESTORS = 64 };

@@ -15,7 +15,7 @@
 enum { MOST_LOOKS = 10000, MOST_CALLS = 100 };
 /* After a request more may come soon. And how long a program works at most in a turn without a request, and how long it is
  * waited for. */
-enum { FIRST_WAIT_US = 50, LONGEST_WAIT_US = 2000, LONGEST_NS = 1000000000, LONGEST_MS = 10000 };
+enum { FIRST_WAIT_US = 50, LONGEST_WAIT_US = 2000, LONGEST_NS = 1000000000, LONGEST_MS = 10000, IDLE_MS = 20 };
 
 static enum second how;
 static int status;
@@ -66,7 +66,7 @@ static void await_rest(uint64_t looks) {
         bool all_wait = now.none_runs && now.blocked <= supervised();
         if (!is_same) same_since = clock_ms();
         last = now;
-        int64_t least_ms = !all_wait ? BLOCKED_MS : may_go_on || !(second_waits() || has_ended()) ? IDLE_MS : 0;
+        int64_t least_ms = !all_wait ? BLOCKED_MS : may_go_on ? QUEUED_MS : second_waits() || has_ended() ? 0 : IDLE_MS;
         if (is_same && clock_ms() - same_since >= least_ms && !take_and_look(&looks)) break;
         if (has_worked_long(&now, &worked)) break;
         wait_us = is_same || !all_wait ? (wait_us * 2 < LONGEST_WAIT_US ? wait_us * 2 + 1 : LONGEST_WAIT_US) : 0;
