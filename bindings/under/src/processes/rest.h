@@ -15,7 +15,7 @@ struct tasks {
     bool all_sleep;
     bool none_runs;     /* those that do not sleep wait for a lock, a disk or the supervisor */
     uint64_t blocked;   /* how many these are */
-    uint64_t queued;    /* how many seem to sleep, and have a CPU or wait for one; or the kernel does not tell */
+    uint64_t queued;    /* how many seem to sleep, and may have a CPU or wait for one */
     uint64_t runs;      /* changes whenever one of them ran */
     uint64_t set;       /* changes whenever one started or ended */
     uint64_t time;      /* the CPU time of the program, in nanoseconds */
