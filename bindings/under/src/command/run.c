@@ -150,8 +150,8 @@ static bool is_at_rest(int64_t *wait_us) {
     if (!is_same) same_since = clock_ms();
     last = now;
     last_work = work_count;
-    if (!now.all_sleep) *wait_us = *wait_us < REST_US ? REST_US : *wait_us * 2 < LONGEST_US ? *wait_us * 2 : LONGEST_US;
-    else *wait_us = is_same ? REST_US : 0;
+    if (now.all_sleep && !is_same) *wait_us = 0;
+    else *wait_us = *wait_us < REST_US ? REST_US : *wait_us * 2 < LONGEST_US ? *wait_us * 2 : LONGEST_US;
     return is_same && (!may_go_on || clock_ms() - same_since >= QUEUED_MS);
 }
 
