@@ -17,14 +17,14 @@ use tree_paths::Path;
 // The object at a path of a call, and the directory of the path's last name, each looked up once; and who knows whether
 // they may be watched.
 #[derive(Drop)]
-pub(crate) struct Subject<'a, A: Audience> {
+pub(crate) struct Subject<'t, 'p, 'a, A: Audience> {
     audience: &'a A,
-    path: Lookup<'a>,
+    path: Lookup<'t, 'p>,
     object: Option<Seen>,
     directory: Option<Seen>,
 }
 
-impl<'a, A: Audience> Model for Subject<'a, A> {
+impl<'t, 'p, 'a, A: Audience> Model for Subject<'t, 'p, 'a, A> {
     ghost use Rattle.event_rules.specs.Subjects.{IsSubjectOf, SubjectValue};
 
     ghost Value = { SubjectValue A };
@@ -34,9 +34,9 @@ impl<'a, A: Audience> Model for Subject<'a, A> {
     ghost invariant = { λ s. IsSubjectOf s.path s.object s.directory };
 }
 
-impl<'a, A: Audience> Subject<'a, A> {
+impl<'t, 'p, 'a, A: Audience> Subject<'t, 'p, 'a, A> {
     #[inline(always)]
-    fn new(path: Lookup<'a>, audience: &'a A) -> Subject<'a, A>
+    fn new(path: Lookup<'t, 'p>, audience: &'a A) -> Subject<'t, 'p, 'a, A>
         ensures at { result.at ≡ path.entry }
         ensures audience { result.audience ≡ audience.now }
     {
@@ -52,7 +52,7 @@ impl<'a, A: Audience> Subject<'a, A> {
 
     /// The subject at the call's path: the old one, if it has two.
     #[inline(always)]
-    pub(crate) fn at_path(ready: &'a Ready, audience: &'a A) -> Subject<'a, A>
+    pub(crate) fn at_path<'r>(ready: &Ready<'r, 't, 'p>, audience: &'a A) -> Subject<'t, 'p, 'a, A>
         ensures tree { result.at.tree ≡ ready.now.tree }
         ensures names { result.at.path.names ≡ path_of ready.now.plan.call }
         ensures audience { result.audience ≡ audience.now }
@@ -62,7 +62,10 @@ impl<'a, A: Audience> Subject<'a, A> {
 
     /// That of the new path.
     #[inline(always)]
-    pub(crate) fn at_other_path(ready: &'a Ready, audience: &'a A) -> Subject<'a, A>
+    pub(crate) fn at_other_path<'r>(
+        ready: &Ready<'r, 't, 'p>,
+        audience: &'a A,
+    ) -> Subject<'t, 'p, 'a, A>
         ensures tree { result.at.tree ≡ ready.now.tree }
         ensures names { result.at.path.names ≡ other_path_of ready.now.plan.call }
         ensures audience { result.audience ≡ audience.now }
@@ -70,7 +73,7 @@ impl<'a, A: Audience> Subject<'a, A> {
         Subject::new(ready.other_path(), audience)
     }
 
-    pub(crate) fn as_path(&self) -> &'a Path
+    pub(crate) fn as_path(&self) -> &'p Path
         ensures { result.now ≡ self.now.at.path.names }
     {
         self.path.as_path()
@@ -101,7 +104,7 @@ impl<'a, A: Audience> Subject<'a, A> {
     }
 
     /// The bytes of a file that is there.
-    pub(crate) fn content(&self) -> &'a [u8]
+    pub(crate) fn content(&self) -> &'t [u8]
         requires { IsSome (look (world_of self.now.at.tree) self.now.at.path.names) }
         ensures { result.now ≡ bytes_at (world_of self.now.at.tree) self.now.at.path.names }
     {

@@ -14,7 +14,8 @@ use std::alloc::Global;
 use std::marker::Model;
 use std::process::Abort;
 use tree_ops::{
-    Counts, FileCall, Paths, Plan, RENAME_EXCHANGE, Ready, carry_out, check, opening_table,
+    CallPaths, Counts, FileCall, Paths, Plan, RENAME_EXCHANGE, Ready, carry_out, check,
+    opening_table,
 };
 use tree_paths::{Limits, Path, Refusal};
 use watch_table::{Mask, Watches};
@@ -251,7 +252,8 @@ impl Calls {
     }
 
     fn make(&mut self, call: &FileCall) -> Result<(), Refusal> {
-        let paths = Paths::resolve(&self.table, call);
+        let found = CallPaths::resolve(&self.table, call);
+        let paths = Paths::on(&self.table, call, &found);
         let ready = check(&paths, &self.counts, &Limits::full())?;
         let next_number = next_number(&ready, &self.counts)?;
         let plan = ready.into_plan();
@@ -266,7 +268,8 @@ impl Calls {
 
     /// The notices that a call would have.
     fn noticed<A: Audience>(&self, call: &FileCall, audience: &A) -> Result<Notices, Refusal> {
-        let paths = Paths::resolve(&self.table, call);
+        let found = CallPaths::resolve(&self.table, call);
+        let paths = Paths::on(&self.table, call, &found);
         let ready = check(&paths, &self.counts, &Limits::full())?;
         let next_cookie = self.counts.next_cookie;
         if next_cookie.checked_add(ready.cookies()).is_none() {

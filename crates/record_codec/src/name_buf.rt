@@ -1,13 +1,14 @@
 //! Where a name keeps its bytes.
 
 ghost use Rattle.std.specs.Prelude.{◌≡◌, ◌≤◌, ◌<◌, ◌-◌, ◌++◌, IfOk, IfSome, IsOk, OnSome, length, replicate};
-ghost use Rattle.std.specs.Prelude.{◌+◌, drop, take};
+ghost use Rattle.std.specs.Prelude.{◌+◌, take};
 ghost use Rattle.record_codec.specs.declared.name.TheConstants.{NAME_IN_PLACE};
 ghost use Rattle.std.specs.Cmp.Lexicographic.{slice_cmp};
 ghost use Rattle.std.specs.Ordering.{nat_cmp};
 ghost use Rattle.record_codec.specs.NameBuf.{IsKept, IsKeptName, front_of, kept_bytes};
 
 use crate::name::NAME_IN_PLACE;
+use crate::padded::zero_padded;
 use byteorder::{BigEndian, ByteOrder};
 use std::alloc::{AllocError, Global};
 use std::cmp::Ordering;
@@ -71,11 +72,9 @@ impl NameBuf {
             full.copy_from_slice(bytes);
             return NameBuf::Full(full);
         }
-        let mut short = [0; NAME_IN_PLACE - 1];
-        put_short(&mut short, bytes);
         NameBuf::Short {
             len: len as u8,
-            bytes: in_registers(&short),
+            bytes: in_registers(&zero_padded(bytes)),
         }
     }
 
@@ -167,43 +166,6 @@ impl NameBuf {
             NameBuf::Long(bytes) => in_memory(*bytes.allocator(), bytes.as_slice()),
         }
     }
-}
-
-/// Writes fewer than [`NAME_IN_PLACE`] bytes at the front of a buffer: two blocks of a constant size, for which LLVM
-/// calls no `memcpy`.
-#[inline(always)]
-fn put_short(buffer: &mut [u8; NAME_IN_PLACE - 1], bytes: &[u8])
-    requires { length bytes.now < NAME_IN_PLACE }
-    ensures { buffer.new ≡ bytes.now ++ drop (length bytes.now) buffer.old }
-{
-    let len = bytes.len();
-    if len < 2 {
-        if len == 1 {
-            buffer[0] = bytes[0];
-        }
-    } else if len < 4 {
-        put_ends::<2>(buffer, bytes);
-    } else if len < 8 {
-        put_ends::<4>(buffer, bytes);
-    } else if len < 16 {
-        put_ends::<8>(buffer, bytes);
-    } else {
-        put_ends::<16>(buffer, bytes);
-    }
-}
-
-/// Writes `N` to `2 * N` bytes at the front of a buffer: the first `N`, and then the last `N`, some of which may be
-/// the same ones.
-#[inline(always)]
-fn put_ends<const N: usize>(buffer: &mut [u8; NAME_IN_PLACE - 1], bytes: &[u8])
-    requires short { length bytes.now < NAME_IN_PLACE }
-    requires enough { N ≤ length bytes.now }
-    requires few { length bytes.now ≤ N + N }
-    ensures { buffer.new ≡ bytes.now ++ drop (length bytes.now) buffer.old }
-{
-    let last = bytes.len() - N;
-    buffer[..N].copy_from_slice(&bytes[..N]);
-    buffer[last..last + N].copy_from_slice(&bytes[last..]);
 }
 
 /// The same bytes, copied in parts that each fit in a register. LLVM then writes them where they are to be, with no

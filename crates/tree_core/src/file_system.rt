@@ -248,8 +248,8 @@ impl FileSystem {
         ensures { Attempts self.old (Call.File call.now) result self.new }
     {
         let counts = self.counts();
-        let found = CallPaths::resolve(&mut self.table, call);
-        let paths = Paths::on(&self.table, call, found);
+        let found = CallPaths::resolve_recent(&mut self.table, call);
+        let paths = Paths::on(&self.table, call, &found);
         let ready = check(&paths, &counts, &self.limits)?;
         let is_staged = stage_notices(
             &self.instances,

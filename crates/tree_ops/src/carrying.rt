@@ -149,14 +149,16 @@ pub(crate) fn front(bytes: &[u8], count: usize) -> &[u8]
     }
 }
 
-/// The bytes of a file from an offset on, up to a count.
-fn read(alloc: Global, path: &Lookup, offset: usize, count: usize) -> Result<Bytes, AllocError>
+/// Answers the bytes of a file from an offset on, up to a count.
+#[inline(never)]
+fn read(alloc: Global, path: &Lookup, offset: usize, count: usize) -> Result<Answer, Refusal>
     requires { IsSome (look (world_of path.now.tree) path.now.path.names) }
-    ensures { IfOk result (λ bytes. bytes ≡ take count
-        (drop offset (bytes_at (world_of path.now.tree) path.now.path.names))) }
+    ensures answer { IfOk result (λ answer. answer ≡ Answer.Bytes (take count
+        (drop offset (bytes_at (world_of path.now.tree) path.now.path.names)))) }
+    ensures memory { IfErr result (λ refusal. refusal ≡ Refusal.Enomem) }
 {
     let bytes = Vec::from_slice(alloc, front(rest(path.content(), offset), count))?;
-    Ok(Bytes::from_vec(bytes))
+    Ok(Answer::Bytes(Bytes::from_vec(bytes)))
 }
 
 /// The names in a directory, in the order of their bytes.
@@ -173,6 +175,18 @@ pub(crate) fn list(alloc: Global, path: &Lookup) -> Result<Names, AllocError>
     Ok(Names::from_vec(names))
 }
 
+/// Answers the names in a directory.
+#[inline(never)]
+fn list_names(alloc: Global, path: &Lookup) -> Result<Answer, Refusal>
+    requires there { IsSome (look (world_of path.now.tree) path.now.path.names) }
+    requires directory { is_directory_seen (look (world_of path.now.tree) path.now.path.names) ≡ true }
+    ensures answer { IfOk result (λ answer. answer
+        ≡ Answer.Names (names_in (world_of path.now.tree) path.now.path.names)) }
+    ensures memory { IfErr result (λ refusal. refusal ≡ Refusal.Enomem) }
+{
+    Ok(Answer::Names(list(alloc, path)?))
+}
+
 /// Does what a call that moves nothing says.
 fn perform(alloc: Global, table: &mut Table, plan: &Plan) -> Result<Answer, Refusal>
     requires ready { IsReady table.old plan.now }
@@ -184,7 +198,7 @@ fn perform(alloc: Global, table: &mut Table, plan: &Plan) -> Result<Answer, Refu
 {
     table.law();
     let number = plan.counts.next_number;
-    let path = &plan.path;
+    let path = plan.path;
     match plan.call {
         FileCall::Create { mode, .. } => make(table, path, number, *mode, Kind::Regular),
         FileCall::Mkdir { mode, .. } => make(table, path, number, *mode, Kind::Directory),
@@ -193,8 +207,7 @@ fn perform(alloc: Global, table: &mut Table, plan: &Plan) -> Result<Answer, Refu
         }
         FileCall::ReadFile { offset, count, .. } => {
             let path = Lookup::new(table, path);
-            let bytes = read(alloc, &path, *offset as usize, *count as usize)?;
-            Ok(Answer::Bytes(bytes))
+            read(alloc, &path, *offset as usize, *count as usize)
         }
         FileCall::Truncate { len, .. } => truncate(table, path, *len as usize),
         FileCall::Chmod { mode, .. } => {
@@ -212,7 +225,7 @@ fn perform(alloc: Global, table: &mut Table, plan: &Plan) -> Result<Answer, Refu
         }
         FileCall::Rename { .. } | FileCall::Rename2 { .. } => Ok(Answer::Done),
         FileCall::Stat { .. } => Ok(stat(&Lookup::new(table, path))),
-        FileCall::List { .. } => Ok(Answer::Names(list(alloc, &Lookup::new(table, path))?)),
+        FileCall::List { .. } => list_names(alloc, &Lookup::new(table, path)),
     }
 }
 
@@ -228,11 +241,11 @@ fn apply(alloc: Global, table: &mut Table, plan: &Plan) -> Result<Answer, Refusa
     match plan.moves {
         Moves::Nothing => perform(alloc, table, plan),
         Moves::Move => {
-            table.replace_name(&plan.path, plan.other_path())?;
+            table.replace_name(plan.path, plan.other_path())?;
             Ok(Answer::Done)
         }
         Moves::Exchange => {
-            table.swap_names(&plan.path, plan.other_path());
+            table.swap_names(plan.path, plan.other_path());
             Ok(Answer::Done)
         }
     }

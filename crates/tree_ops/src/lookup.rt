@@ -15,12 +15,12 @@ use tree_paths::{Path, Refusal};
 
 /// A path on the table that it is resolved on.
 #[derive(Drop)]
-pub struct Lookup<'a> {
-    table: &'a Table,
+pub struct Lookup<'t, 'a> {
+    table: &'t Table,
     path: &'a Resolved<'a>,
 }
 
-impl<'a> Model for Lookup<'a> {
+impl<'t, 'a> Model for Lookup<'t, 'a> {
     ghost use Rattle.tree_ops.specs.CallPaths.{LookupValue};
     ghost use Rattle.inode_table.specs.Resolution.{IsResolved};
 
@@ -31,10 +31,10 @@ impl<'a> Model for Lookup<'a> {
     ghost invariant = { λ lookup. IsResolved lookup.table.now lookup.path.now };
 }
 
-impl<'a> Lookup<'a> {
+impl<'t, 'a> Lookup<'t, 'a> {
     /// A path that is resolved on this table.
     #[inline(always)]
-    pub(crate) fn new(table: &'a Table, path: &'a Resolved<'a>) -> Lookup<'a>
+    pub(crate) fn new(table: &'t Table, path: &'a Resolved<'a>) -> Lookup<'t, 'a>
         requires { IsResolved table.now path.now }
         ensures tree { result.tree ≡ table.now }
         ensures path { result.path ≡ path.now }
@@ -44,7 +44,7 @@ impl<'a> Lookup<'a> {
 
     /// The table.
     #[inline(always)]
-    pub(crate) fn table(&self) -> &'a Table
+    pub(crate) fn table(&self) -> &'t Table
         ensures { result.now ≡ self.now.tree }
     {
         self.table
@@ -94,7 +94,7 @@ impl<'a> Lookup<'a> {
     }
 
     /// The bytes of the file that is there. A directory has none.
-    pub fn content(&self) -> &'a [u8]
+    pub fn content(&self) -> &'t [u8]
         requires { IsSome (look (world_of self.now.tree) self.now.path.names) }
         ensures { result.now ≡ bytes_at (world_of self.now.tree) self.now.path.names }
     {

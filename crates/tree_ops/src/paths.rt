@@ -28,9 +28,21 @@ impl<'a> Model for CallPaths<'a> {
 }
 
 impl<'a> CallPaths<'a> {
-    /// Resolves the paths of a call on a table, which remembers their directories ([`Table::resolve_recent`]).
+    /// Resolves the paths of a call on a table. It does not allocate.
+    pub fn resolve(table: &Table, call: &'a FileCall) -> CallPaths<'a>
+        ensures { ArePathsOf table.now call.now result }
+    {
+        let path = table.resolve(call.path());
+        let other_path = match call.other_path() {
+            Some(other_path) => table.resolve(other_path),
+            None => path.copied(),
+        };
+        CallPaths { path, other_path }
+    }
+
+    /// The same as [`CallPaths::resolve`], on a table that remembers their directories ([`Table::resolve_recent`]).
     #[inline(always)]
-    pub fn resolve(table: &mut Table, call: &'a FileCall) -> CallPaths<'a>
+    pub fn resolve_recent(table: &mut Table, call: &'a FileCall) -> CallPaths<'a>
         ensures same { table.new ≡ table.old }
         ensures paths { ArePathsOf table.old call.now result }
     {
@@ -48,7 +60,7 @@ impl<'a> CallPaths<'a> {
 pub struct Paths<'t, 'a> {
     table: &'t Table,
     call: &'a FileCall,
-    paths: CallPaths<'a>,
+    resolved: &'a CallPaths<'a>,
 }
 
 impl<'t, 'a> Model for Paths<'t, 'a> {
@@ -56,33 +68,24 @@ impl<'t, 'a> Model for Paths<'t, 'a> {
 
     ghost Value = { PathsValue };
 
-    ghost view = { λ p. record { tree = p.table.now; call = p.call.now; paths = p.paths } };
+    ghost view = { λ p. record { tree = p.table.now; call = p.call.now; paths = p.resolved.now } };
 
-    ghost invariant = { λ p. ArePathsOf p.table.now p.call.now p.paths };
+    ghost invariant = { λ p. ArePathsOf p.table.now p.call.now p.resolved.now };
 }
 
 impl<'t, 'a> Paths<'t, 'a> {
-    /// Resolves the paths of a call on a table. It does not allocate.
-    pub fn resolve(table: &'t Table, call: &'a FileCall) -> Paths<'t, 'a>
-        ensures tree { result.tree ≡ table.now }
-        ensures call { result.call ≡ call.now }
-    {
-        let path = table.resolve(call.path());
-        let other_path = match call.other_path() {
-            Some(other_path) => table.resolve(other_path),
-            None => path.copied(),
-        };
-        Paths::on(table, call, CallPaths { path, other_path })
-    }
-
     /// The paths of a call that are resolved on this table.
     #[inline(always)]
-    pub fn on(table: &'t Table, call: &'a FileCall, paths: CallPaths<'a>) -> Paths<'t, 'a>
-        requires { ArePathsOf table.now call.now paths }
+    pub fn on(table: &'t Table, call: &'a FileCall, resolved: &'a CallPaths<'a>) -> Paths<'t, 'a>
+        requires { ArePathsOf table.now call.now resolved.now }
         ensures tree { result.tree ≡ table.now }
         ensures call { result.call ≡ call.now }
     {
-        Paths { table, call, paths }
+        Paths {
+            table,
+            call,
+            resolved,
+        }
     }
 
     /// What is true of the paths of every call, for a caller's proof.
@@ -103,22 +106,24 @@ impl<'t, 'a> Paths<'t, 'a> {
 
     /// The path of the call, and the old one where it has two.
     #[inline(always)]
-    pub fn path(&self) -> Lookup<'_>
+    pub fn path(&self) -> Lookup<'t, 'a>
         ensures tree { result.tree ≡ self.now.tree }
         ensures path { result.path ≡ self.now.paths.path }
         ensures names { result.path.names ≡ path_of self.now.call }
     {
-        Lookup::new(self.table, &self.paths.path)
+        let resolved = self.resolved;
+        Lookup::new(self.table, &resolved.path)
     }
 
     /// The new path of the call, and its path where it has but one.
     #[inline(always)]
-    pub fn other_path(&self) -> Lookup<'_>
+    pub fn other_path(&self) -> Lookup<'t, 'a>
         ensures tree { result.tree ≡ self.now.tree }
         ensures path { result.path ≡ self.now.paths.other_path }
         ensures names { result.path.names ≡ other_path_of self.now.call }
     {
-        Lookup::new(self.table, &self.paths.other_path)
+        let resolved = self.resolved;
+        Lookup::new(self.table, &resolved.other_path)
     }
 
     /// The plan of the call, which borrows no table.
@@ -127,11 +132,12 @@ impl<'t, 'a> Paths<'t, 'a> {
         ensures plan { result ≡ plan_with self.now counts moves }
         ensures paths { ArePathsOf self.now.tree self.now.call self.now.paths }
     {
+        let resolved = self.resolved;
         Plan {
             call: self.call,
             counts,
-            path: self.paths.path.copied(),
-            other_path: self.paths.other_path.copied(),
+            path: &resolved.path,
+            other_path: &resolved.other_path,
             moves,
         }
     }

@@ -33,14 +33,15 @@ impl<'p, 't, 'a> Model for Ready<'p, 't, 'a> {
     ghost invariant = { λ r. IsReady r.paths.now.tree (plan_with r.paths.now r.counts r.moves) };
 }
 
-/// What [`crate::carry_out`] does: a call, its paths, and what it moves. It borrows the call and no table.
+/// What [`crate::carry_out`] does: a call, its paths, and what it moves. It borrows the call and the paths, and no
+/// table.
 #[derive(Drop)]
 pub struct Plan<'a> {
     pub(crate) call: &'a FileCall,
     pub(crate) counts: Counts,
-    pub(crate) path: Resolved<'a>,
+    pub(crate) path: &'a Resolved<'a>,
     /// The new path of a call that has two, else the path.
-    pub(crate) other_path: Resolved<'a>,
+    pub(crate) other_path: &'a Resolved<'a>,
     pub(crate) moves: Moves,
 }
 
@@ -52,8 +53,8 @@ impl<'a> Model for Plan<'a> {
     ghost view = { λ p. record {
       call = p.call.now;
       counts = p.counts;
-      path = p.path;
-      other_path = p.other_path;
+      path = p.path.now;
+      other_path = p.other_path.now;
       moves = p.moves;
     } };
 }
@@ -68,7 +69,7 @@ impl<'p, 't, 'a> Ready<'p, 't, 'a> {
 
     /// The path of the call, and the old one where it has two.
     #[inline(always)]
-    pub fn path(&self) -> Lookup<'_>
+    pub fn path(&self) -> Lookup<'t, 'a>
         ensures tree { result.tree ≡ self.now.tree }
         ensures names { result.path.names ≡ path_of self.now.plan.call }
     {
@@ -77,7 +78,7 @@ impl<'p, 't, 'a> Ready<'p, 't, 'a> {
 
     /// The new path of the call, and its path where it has but one.
     #[inline(always)]
-    pub fn other_path(&self) -> Lookup<'_>
+    pub fn other_path(&self) -> Lookup<'t, 'a>
         ensures tree { result.tree ≡ self.now.tree }
         ensures names { result.path.names ≡ other_path_of self.now.plan.call }
     {
@@ -125,9 +126,9 @@ impl<'p, 't, 'a> Ready<'p, 't, 'a> {
 impl<'a> Plan<'a> {
     /// The new path of the call, and its path where it has but one.
     #[inline(always)]
-    pub(crate) fn other_path(&self) -> &Resolved<'a>
+    pub(crate) fn other_path(&self) -> &'a Resolved<'a>
         ensures { result.now ≡ self.now.other_path }
     {
-        &self.other_path
+        self.other_path
     }
 }

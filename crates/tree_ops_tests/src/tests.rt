@@ -287,7 +287,8 @@ impl Calls {
     }
 
     fn made(&mut self, call: &FileCall) -> Result<Answer, Refusal> {
-        let paths = Paths::resolve(&self.table, call);
+        let found = CallPaths::resolve(&self.table, call);
+        let paths = Paths::on(&self.table, call, &found);
         let ready = check(&paths, &self.counts, &self.limits)?;
         let next = next_counts(&ready, &self.counts)?;
         let plan = ready.into_plan();
@@ -521,7 +522,8 @@ fn call_takes(calls: &Calls, call: &FileCall, counts: (u32, u32)) -> Result<bool
 }
 
 fn is_copy(calls: &Calls, call: &FileCall, copy: &FileCall, counts: (u32, u32)) -> bool {
-    let paths = Paths::resolve(&calls.table, call);
+    let found = CallPaths::resolve(&calls.table, call);
+    let paths = Paths::on(&calls.table, call, &found);
     match check(&paths, &calls.counts, &calls.limits) {
         Ok(ready) => { ready.call().is_same(copy) && (ready.numbers(), ready.cookies()) == counts }
         Err(_) => false,

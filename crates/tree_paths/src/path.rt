@@ -1,6 +1,6 @@
 //! Paths from the root.
 
-ghost use Rattle.std.specs.Prelude.{◌≡◌, ◌⊎◌, ◌∷◌, ◌++◌, [], MatchOption, IsSome, IfOk, IfErr, IsTrue};
+ghost use Rattle.std.specs.Prelude.{◌≡◌, ◌⊎◌, ◌∷◌, ◌++◌, [], MatchOption, IsSome, IfOk, IfErr, IfSome, IsTrue};
 ghost use Rattle.std.specs.Prelude.{◌-◌, ◌<◌, ◌↔◌};
 ghost use Rattle.std.specs.Prelude.{false, take, length};
 ghost use Rattle.std.specs.Prelude.{nat_eq};
@@ -130,17 +130,19 @@ impl Path {
         Some(whole)
     }
 
-    /// The text of the directory of the last name: a slash before each of its names, so that the root's is empty.
+    /// The text of the directory of the last name, and a reference to that name. The text has a slash before each name,
+    /// so that the root's is empty.
     ///
     /// `None` exactly for the root's path, and for a path with a name of more than [`record_codec::NAME_IN_PLACE`]
     /// bytes.
     #[inline(always)]
-    pub fn parent_text(&self) -> Option<&[u8]>
+    pub fn split_last(&self) -> Option<(&[u8], NameRef<'_>)>
         ensures text { MatchOption result ((self.now ≡ []) ⊎ (list_all is_in_place self.now ≡ false))
-            (λ text. IsParentText self.now text.now) }
+            (λ split. IsParentText self.now split.0.now) }
+        ensures last { IfSome result (λ split. self.now ≡ take (length self.now - 1) self.now ++ split.1 ∷ []) }
         ensures some { IsSome result ↔ ((0 < length self.now) × IsTrue (list_all is_in_place self.now)) }
     {
-        self.kept.parent_text()
+        self.kept.split_last()
     }
 
     /// The last name. `None` for the root.

@@ -14,7 +14,7 @@ use crate::left::{Left, PathNames};
 use crate::parse::{SEPARATOR, Shape, names_in, put_name, squeeze};
 use crate::path_name::NameRef;
 use crate::stops::BLOCK;
-use record_codec::{NAME_IN_PLACE, Name};
+use record_codec::{NAME_IN_PLACE, Name, zero_padded};
 use std::alloc::{AllocError, Global};
 use std::simd::prelude::*;
 
@@ -63,11 +63,9 @@ impl PathText {
         ensures kept { kept_names result ≡ names_of text.now }
         ensures sound { IsKept result }
     {
-        let mut short = [0; SHORT_MAX];
-        short[..text.len()].copy_from_slice(text);
         PathText::Short {
             len: text.len() as u8,
-            text: short,
+            text: zero_padded(text),
         }
     }
 
@@ -157,18 +155,21 @@ impl PathText {
         }
     }
 
-    /// The text of the names before the last one. `None` exactly if there is no name, or one that needs an allocation.
+    /// The text of the names before the last one, and the last one. `None` exactly if there is no name, or one that
+    /// needs an allocation.
     #[inline(always)]
-    pub(crate) fn parent_text(&self) -> Option<&[u8]>
+    pub(crate) fn split_last(&self) -> Option<(&[u8], NameRef<'_>)>
         requires { IsKept self.now }
         ensures text { MatchOption result
             ((kept_names self.now ≡ []) ⊎ (list_all is_in_place (kept_names self.now) ≡ false))
-            (λ text. IsParentText (kept_names self.now) text.now) }
+            (λ split. IsParentText (kept_names self.now) split.0.now) }
+        ensures last { IfSome result (λ split.
+            kept_names self.now ≡ take (length (kept_names self.now) - 1) (kept_names self.now) ++ split.1 ∷ []) }
         ensures in_place { IsSome result → IsTrue (list_all is_in_place (kept_names self.now)) }
     {
         match self {
-            PathText::Short { len, text } => parent_in(&text[..*len as usize]),
-            PathText::Text(text) => parent_in(text),
+            PathText::Short { len, text } => split_last_in(&text[..*len as usize]),
+            PathText::Text(text) => split_last_in(text),
             PathText::Names(_) => None,
         }
     }
@@ -243,16 +244,20 @@ fn last_in(text: &[u8]) -> Option<NameRef<'_>>
     Some(NameRef::in_text(&text[last_start(text)..]))
 }
 
-/// The text before the last name's slash, if there is a name.
+/// The text before the last name's slash, and the last name, if there is one.
 #[inline(always)]
-fn parent_in(text: &[u8]) -> Option<&[u8]>
+fn split_last_in(text: &[u8]) -> Option<(&[u8], NameRef<'_>)>
     requires { IsSlashed text.now }
-    ensures { MatchOption result (names_of text.now ≡ []) (λ parent. IsParentText (names_of text.now) parent.now) }
+    ensures text { MatchOption result (names_of text.now ≡ [])
+        (λ split. IsParentText (names_of text.now) split.0.now) }
+    ensures last { IfSome result (λ split.
+        names_of text.now ≡ take (length (names_of text.now) - 1) (names_of text.now) ++ split.1 ∷ []) }
 {
     if text.is_empty() {
         return None;
     }
-    Some(&text[..last_start(text) - 1])
+    let start = last_start(text);
+    Some((&text[..start - 1], NameRef::in_text(&text[start..])))
 }
 
 /// Where the last name of a text begins.

@@ -83,7 +83,14 @@ fn parses(rt: &impl Abort, alloc: Global, text: &[u8], names: &[&[u8]]) {
     let has_parent = has_text && !path.is_root();
     let parent = whole.get(..parent_len).unwrap_or_default();
     equal(rt, path.text(), has_text.then_some(whole.as_slice()));
-    equal(rt, path.parent_text(), has_parent.then_some(parent));
+    equal(rt, path.split_last().is_some(), has_parent);
+    if let Some((above, last)) = path.split_last() {
+        equal(
+            rt,
+            (above, Some(last.name().as_name().bytes())),
+            (parent, names.last().copied()),
+        );
+    }
 }
 
 /// Texts of paths, and their names.

@@ -40,7 +40,7 @@ impl<'a> Parser<'a> {
     }
 
     /// What a command asks for with the words behind it, as the table of commands says.
-    #[inline(never)]
+    #[inline(always)]
     pub fn line_asked(&self, command: Command) -> Result<Line, LineError>
         ensures { GivesLine result (line_asked self.now.queue command self.now.words) }
     {

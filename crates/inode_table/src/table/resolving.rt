@@ -1,6 +1,6 @@
 //! The resolution of a path: one walk for all that a call wants to know of it (POSIX.1-2017, 4.13).
 
-ghost use Rattle.std.specs.Prelude.{◌≡◌, ◌∷◌, ◌++◌, ◌≢◌, ◌≤◌, List, [], Some, None, IsSome, IfSome, IfOk, IfErr};
+ghost use Rattle.std.specs.Prelude.{◌≡◌, ◌∷◌, ◌++◌, ◌≤◌, List, [], Some, None, IsSome, IfSome, IfOk, IfErr};
 ghost use Rattle.std.specs.Prelude.{length};
 ghost use Rattle.std.specs.FinMap as finmap;
 ghost use Rattle.inode_table.specs.Rows.{Label};
@@ -87,47 +87,45 @@ impl Table {
         ensures names { result.names ≡ path.now }
         ensures resolved { IsResolved self.old result }
     {
-        let Some(text) = self.short_parent_text(path) else {
+        let Some((text, name)) = self.short_split(path) else {
             return self.resolve(path);
         };
         if text.is_empty() {
-            return self.resolve_last(ROOT, path);
+            return self.resolve_last(ROOT, path, name);
         }
         let at = self.recent.index_of(text);
         match self.recent.find(at, text) {
-            Some(directory) => self.resolve_last(directory, path),
+            Some(directory) => self.resolve_last(directory, path, name),
             None => self.resolve_anew(path, at, text),
         }
     }
 
-    /// The text of the path of the directory of the last name, if that is the root or may be remembered.
+    /// The text of the path of the directory of the last name, if that is the root or may be remembered, and that name.
     #[inline(always)]
-    fn short_parent_text<'a>(&self, path: &'a Path) -> Option<&'a [u8]>
-        ensures text { IfSome result (λ text. IsParentText path.now text.now) }
-        ensures len { IfSome result (λ text. length text.now ≤ TEXT_MAX) }
+    fn short_split<'a>(&self, path: &'a Path) -> Option<(&'a [u8], NameRef<'a>)>
+        ensures text { IfSome result (λ split. IsParentText path.now split.0.now) }
+        ensures len { IfSome result (λ split. length split.0.now ≤ TEXT_MAX) }
+        ensures last { IfSome result (λ split. path.now ≡ parent_of path.now ++ split.1 ∷ []) }
     {
         if self.recent.is_empty() {
             return None;
         }
-        let text = path.parent_text()?;
+        let (text, name) = path.split_last()?;
         if !text.is_empty() && (text.len() < TEXT_MIN || TEXT_MAX < text.len()) {
             return None;
         }
-        Some(text)
+        Some((text, name))
     }
 
-    /// What is found at a path by the directory of its last name.
+    /// What is found at a path by the directory of its last name, and this name.
     #[inline(always)]
-    fn resolve_last<'a>(&self, directory: usize, path: &'a Path) -> Resolved<'a>
-        requires some { path.now ≢ [] }
+    fn resolve_last<'a>(&self, directory: usize, path: &'a Path, name: NameRef<'a>) -> Resolved<'a>
+        requires last { path.now ≡ parent_of path.now ++ name ∷ [] }
         requires there { at self.now (parent_of path.now) ≡ Some directory }
         ensures names { result.names ≡ path.now }
         ensures resolved { IsResolved self.now result }
     {
         self.rows_law();
-        let Some(name) = path.last_name_ref() else {
-            unreachable!()
-        };
         Resolved {
             path,
             directory: Found::at(Key::of(directory)),

@@ -126,8 +126,8 @@ fn is_as_walked(table: &mut Table, path: &Path) -> bool
 
 /// The same call, whose paths are resolved by what is remembered.
 fn made_recent(calls: &mut Calls, call: &FileCall) -> Result<Answer, Refusal> {
-    let paths = CallPaths::resolve(&mut calls.table, call);
-    let paths = Paths::on(&calls.table, call, paths);
+    let found = CallPaths::resolve_recent(&mut calls.table, call);
+    let paths = Paths::on(&calls.table, call, &found);
     let ready = check(&paths, &calls.counts, &calls.limits)?;
     let next = next_counts(&ready, &calls.counts)?;
     let plan = ready.into_plan();

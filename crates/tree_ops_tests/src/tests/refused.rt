@@ -80,7 +80,8 @@ fn refused_in_turn(alloc: Global, call: &FileCall) -> Result<Option<u32>, Refusa
 
 /// Whether the call is let through, or refused as it should be.
 fn is_checked(calls: &Calls, call: &FileCall, wanted: Option<Refusal>) -> bool {
-    let paths = Paths::resolve(&calls.table, call);
+    let found = CallPaths::resolve(&calls.table, call);
+    let paths = Paths::on(&calls.table, call, &found);
     check(&paths, &calls.counts, &calls.limits).err() == wanted
 }
 

@@ -74,12 +74,16 @@ fn are_answered(above: &Path, below: &Path) -> bool {
         Some(name) => name.as_name().bytes() == b"c".as_slice(),
         None => false,
     };
+    let parent = match below.split_last() {
+        Some((text, _)) => Some(text),
+        None => None,
+    };
     is_last
         && below.is_below(above)
         && !above.is_below(below)
         && above != below
         && below.text() == Some(b"/a/b/c".as_slice())
-        && below.parent_text() == above.text()
+        && parent == above.text()
 }
 
 #[test]

@@ -46,7 +46,7 @@ nameless (Some s) e = e
 pub replace_name-requires : goal.replace_name-requires
 replace_name-requires c =
     let at = look (world_of c.args.table.now) in
-    let old = c.plan.inside.path.names in
+    let old = c.plan.inside.path.now.names in
     let new = c.other_path.result.now.names in
     let m = move-at c.args.table.now c.args.plan.now c.requires.ready (moves-by c.requires.ready c.plan.view_is c.in-Move.is)
     old new (old-name c.requires.ready c.plan.view_is) (new-name c.requires.ready c.other_path.ensures) in
@@ -65,7 +65,7 @@ replace_name-requires c =
 pub swap_names-requires : goal.swap_names-requires
 swap_names-requires c =
     let at = look (world_of c.args.table.now) in
-    let old = c.plan.inside.path.names in
+    let old = c.plan.inside.path.now.names in
     let new = c.other_path-in-Exchange.result.now.names in
     let m = swap-at c.args.table.now c.args.plan.now c.requires.ready (moves-by c.requires.ready c.plan.view_is c.in-Exchange.is) old new
     (old-name c.requires.ready c.plan.view_is) (new-name c.requires.ready c.other_path-in-Exchange.ensures) in

@@ -1,7 +1,7 @@
 use Rattle.std.proofs.Common.{◌≡◌, ℕ, ◌+◌, ◌<◌, ◌^◌, Option, Some, None, IsSome, IfSome}
 use Rattle.std.proofs.Common.{take, drop, true, false, nat_lt, length, ◌&&◌, ◌≤◌, List, refl, sym, ap, subst, ◌∙◌, inl}
 use Rattle.std.proofs.Common.{inr, arith}
-use Rattle.std.proofs.lemmas.Result.{on_ok_weaker}
+use Rattle.std.proofs.lemmas.Result.{on_ok_weaker, IfOk-weaker}
 use borrow.Author.Tests.{ltb-true, ltb-false}
 use Rattle.inode_table.specs.declared.seen.Seen.{Seen}
 use Rattle.std.specs.FinMap as finmap
@@ -96,49 +96,49 @@ there-at tree path there = subst (λ (x : TableValue × ResolvedPath). IsSome (l
 
 pub make-requires-clause-directory : goal.make-requires-clause-directory
 make-requires-clause-directory c =
-    (make-known (look (world_of c.args.table.now)) c.requires.ready.limits c.args.plan.now.counts c.plan.inside.path.names c.in-Create.mode
+    (make-known (look (world_of c.args.table.now)) c.requires.ready.limits c.args.plan.now.counts c.plan.inside.path.now.names c.in-Create.mode
     (known c.args.table.now c.args.plan.now _ _ c.requires.ready c.plan.view_is
     (one-path c.requires.ready c.plan.view_is (λ p. Create p c.in-Create.mode) refl c.in-Create.is))).directory
 
 pub make-requires-clause-free : goal.make-requires-clause-free
 make-requires-clause-free c =
-    (make-known (look (world_of c.args.table.now)) c.requires.ready.limits c.args.plan.now.counts c.plan.inside.path.names c.in-Create.mode
+    (make-known (look (world_of c.args.table.now)) c.requires.ready.limits c.args.plan.now.counts c.plan.inside.path.now.names c.in-Create.mode
     (known c.args.table.now c.args.plan.now _ _ c.requires.ready c.plan.view_is
     (one-path c.requires.ready c.plan.view_is (λ p. Create p c.in-Create.mode) refl c.in-Create.is))).free
 
 pub make-requires-clause-named : goal.make-requires-clause-named
 make-requires-clause-named c =
-    (make-known (look (world_of c.args.table.now)) c.requires.ready.limits c.args.plan.now.counts c.plan.inside.path.names c.in-Create.mode
+    (make-known (look (world_of c.args.table.now)) c.requires.ready.limits c.args.plan.now.counts c.plan.inside.path.now.names c.in-Create.mode
     (known c.args.table.now c.args.plan.now _ _ c.requires.ready c.plan.view_is
     (one-path c.requires.ready c.plan.view_is (λ p. Create p c.in-Create.mode) refl c.in-Create.is))).named
 
 pub make-requires-in-Mkdir-clause-directory : goal.make-requires-in-Mkdir-clause-directory
 make-requires-in-Mkdir-clause-directory c =
-    (make-known (look (world_of c.args.table.now)) c.requires.ready.limits c.args.plan.now.counts c.plan.inside.path.names c.in-Mkdir.mode
+    (make-known (look (world_of c.args.table.now)) c.requires.ready.limits c.args.plan.now.counts c.plan.inside.path.now.names c.in-Mkdir.mode
     (known c.args.table.now c.args.plan.now _ _ c.requires.ready c.plan.view_is
     (one-path c.requires.ready c.plan.view_is (λ p. Mkdir p c.in-Mkdir.mode) refl c.in-Mkdir.is))).directory
 
 pub make-requires-in-Mkdir-clause-free : goal.make-requires-in-Mkdir-clause-free
 make-requires-in-Mkdir-clause-free c =
-    (make-known (look (world_of c.args.table.now)) c.requires.ready.limits c.args.plan.now.counts c.plan.inside.path.names c.in-Mkdir.mode
+    (make-known (look (world_of c.args.table.now)) c.requires.ready.limits c.args.plan.now.counts c.plan.inside.path.now.names c.in-Mkdir.mode
     (known c.args.table.now c.args.plan.now _ _ c.requires.ready c.plan.view_is
     (one-path c.requires.ready c.plan.view_is (λ p. Mkdir p c.in-Mkdir.mode) refl c.in-Mkdir.is))).free
 
 pub make-requires-in-Mkdir-clause-named : goal.make-requires-in-Mkdir-clause-named
 make-requires-in-Mkdir-clause-named c =
-    (make-known (look (world_of c.args.table.now)) c.requires.ready.limits c.args.plan.now.counts c.plan.inside.path.names c.in-Mkdir.mode
+    (make-known (look (world_of c.args.table.now)) c.requires.ready.limits c.args.plan.now.counts c.plan.inside.path.now.names c.in-Mkdir.mode
     (known c.args.table.now c.args.plan.now _ _ c.requires.ready c.plan.view_is
     (one-path c.requires.ready c.plan.view_is (λ p. Mkdir p c.in-Mkdir.mode) refl c.in-Mkdir.is))).named
 
 pub write-requires-clause-there : goal.write-requires-clause-there
 write-requires-clause-there c =
-    (write-known (look (world_of c.args.table.now)) c.requires.ready.limits c.plan.inside.path.names c.in-Write.offset (length c.in-Write.bytes)
+    (write-known (look (world_of c.args.table.now)) c.requires.ready.limits c.plan.inside.path.now.names c.in-Write.offset (length c.in-Write.bytes)
     (known c.args.table.now c.args.plan.now _ _ c.requires.ready c.plan.view_is
     (one-path c.requires.ready c.plan.view_is (λ p. Write p c.in-Write.offset c.in-Write.bytes) refl c.in-Write.is))).0.there
 
 pub write-requires-clause-regular : goal.write-requires-clause-regular
 write-requires-clause-regular c =
-    (write-known (look (world_of c.args.table.now)) c.requires.ready.limits c.plan.inside.path.names c.in-Write.offset (length c.in-Write.bytes)
+    (write-known (look (world_of c.args.table.now)) c.requires.ready.limits c.plan.inside.path.now.names c.in-Write.offset (length c.in-Write.bytes)
     (known c.args.table.now c.args.plan.now _ _ c.requires.ready c.plan.view_is
     (one-path c.requires.ready c.plan.view_is (λ p. Write p c.in-Write.offset c.in-Write.bytes) refl c.in-Write.is))).0.regular
 
@@ -146,7 +146,7 @@ pub write-requires-clause-range : goal.write-requires-clause-range
 write-requires-clause-range c some =
     small c.in-Write.offset (length c.as_slice.result.now) c.requires.ready.limits.file_bytes
     (ap (λ (b : List ℕ). nat_lt 0 (length b) && nat_lt c.requires.ready.limits.file_bytes (c.in-Write.offset + length b)) c.as_slice.ensures
-    ∙ (write-known (look (world_of c.args.table.now)) c.requires.ready.limits c.plan.inside.path.names c.in-Write.offset (length c.in-Write.bytes)
+    ∙ (write-known (look (world_of c.args.table.now)) c.requires.ready.limits c.plan.inside.path.now.names c.in-Write.offset (length c.in-Write.bytes)
     (known c.args.table.now c.args.plan.now _ _ c.requires.ready c.plan.view_is
     (one-path c.requires.ready c.plan.view_is (λ p. Write p c.in-Write.offset c.in-Write.bytes) refl c.in-Write.is))).1)
     some c.requires.ready.limits.file_bytes_in.1
@@ -154,19 +154,19 @@ write-requires-clause-range c some =
 pub read-requires : goal.read-requires
 read-requires c =
     there-at c.new-path.ensures.tree c.new-path.ensures.path
-    (read-known (look (world_of c.args.table.now)) c.plan.inside.path.names
+    (read-known (look (world_of c.args.table.now)) c.plan.inside.path.now.names
     (known c.args.table.now c.args.plan.now _ _ c.requires.ready c.plan.view_is
     (one-path c.requires.ready c.plan.view_is (λ p. ReadFile p c.in-ReadFile.offset c.in-ReadFile.count) refl c.in-ReadFile.is))).there
 
 pub truncate-requires-clause-there : goal.truncate-requires-clause-there
 truncate-requires-clause-there c =
-    (truncate-known (look (world_of c.args.table.now)) c.requires.ready.limits c.plan.inside.path.names c.in-Truncate.len
+    (truncate-known (look (world_of c.args.table.now)) c.requires.ready.limits c.plan.inside.path.now.names c.in-Truncate.len
     (known c.args.table.now c.args.plan.now _ _ c.requires.ready c.plan.view_is
     (one-path c.requires.ready c.plan.view_is (λ p. Truncate p c.in-Truncate.len) refl c.in-Truncate.is))).there
 
 pub truncate-requires-clause-regular : goal.truncate-requires-clause-regular
 truncate-requires-clause-regular c =
-    (truncate-known (look (world_of c.args.table.now)) c.requires.ready.limits c.plan.inside.path.names c.in-Truncate.len
+    (truncate-known (look (world_of c.args.table.now)) c.requires.ready.limits c.plan.inside.path.now.names c.in-Truncate.len
     (known c.args.table.now c.args.plan.now _ _ c.requires.ready c.plan.view_is
     (one-path c.requires.ready c.plan.view_is (λ p. Truncate p c.in-Truncate.len) refl c.in-Truncate.is))).regular
 
@@ -174,7 +174,7 @@ pub set_mode-requires : goal.set_mode-requires
 set_mode-requires c =
     record {
       resolved = resolved c.requires.ready c.plan.view_is;
-      there = chmod-known (look (world_of c.args.table.now)) c.plan.inside.path.names c.in-Chmod.mode
+      there = chmod-known (look (world_of c.args.table.now)) c.plan.inside.path.now.names c.in-Chmod.mode
           (known c.args.table.now c.args.plan.now _ _ c.requires.ready c.plan.view_is
           (one-path c.requires.ready c.plan.view_is (λ p. Chmod p c.in-Chmod.mode) refl c.in-Chmod.is));
     }
@@ -189,7 +189,7 @@ add_name-requires-clause-regular c =
 
 pub add_name-requires-clause-links : goal.add_name-requires-clause-links
 add_name-requires-clause-links c =
-    few (look (world_of c.args.table.now) c.plan.inside.path.names) c.requires.ready.limits.links
+    few (look (world_of c.args.table.now) c.plan.inside.path.now.names) c.requires.ready.limits.links
     (link-at c.args.table.now c.args.plan.now _ c.requires.ready c.plan.view_is _ _ _ c.in-Link.is c.other_path.ensures).links
     c.requires.ready.limits.links_in.1
 
@@ -205,33 +205,33 @@ add_name-requires-clause-named c = (link-at c.args.table.now c.args.plan.now _ c
 
 pub unlink-requires-clause-there : goal.unlink-requires-clause-there
 unlink-requires-clause-there c =
-    (unlink-known (look (world_of c.args.table.now)) c.plan.inside.path.names
+    (unlink-known (look (world_of c.args.table.now)) c.plan.inside.path.now.names
     (known c.args.table.now c.args.plan.now _ _ c.requires.ready c.plan.view_is
     (one-path c.requires.ready c.plan.view_is (λ p. Unlink p) refl c.in-Unlink.is))).there
 
 pub unlink-requires-clause-regular : goal.unlink-requires-clause-regular
 unlink-requires-clause-regular c =
-    (unlink-known (look (world_of c.args.table.now)) c.plan.inside.path.names
+    (unlink-known (look (world_of c.args.table.now)) c.plan.inside.path.now.names
     (known c.args.table.now c.args.plan.now _ _ c.requires.ready c.plan.view_is
     (one-path c.requires.ready c.plan.view_is (λ p. Unlink p) refl c.in-Unlink.is))).regular
 
 pub drop_name-requires-clause-there : goal.drop_name-requires-clause-there
 drop_name-requires-clause-there c =
-    let known = (rmdir-known (look (world_of c.args.table.now)) c.plan.inside.path.names
+    let known = (rmdir-known (look (world_of c.args.table.now)) c.plan.inside.path.now.names
     (known c.args.table.now c.args.plan.now _ _ c.requires.ready c.plan.view_is
     (one-path c.requires.ready c.plan.view_is (λ p. Rmdir p) refl c.in-Rmdir.is))) in
-    empty-seen (look (world_of c.args.table.now) c.plan.inside.path.names) known.there known.empty
+    empty-seen (look (world_of c.args.table.now) c.plan.inside.path.now.names) known.there known.empty
 
 pub drop_name-requires-clause-named : goal.drop_name-requires-clause-named
 drop_name-requires-clause-named c =
-    (rmdir-known (look (world_of c.args.table.now)) c.plan.inside.path.names
+    (rmdir-known (look (world_of c.args.table.now)) c.plan.inside.path.now.names
     (known c.args.table.now c.args.plan.now _ _ c.requires.ready c.plan.view_is
     (one-path c.requires.ready c.plan.view_is (λ p. Rmdir p) refl c.in-Rmdir.is))).named
 
 pub stat-requires : goal.stat-requires
 stat-requires c =
     there-at c.new.ensures.tree c.new.ensures.path
-    (find-known (look (world_of c.args.table.now)) c.plan.inside.path.names
+    (find-known (look (world_of c.args.table.now)) c.plan.inside.path.now.names
     (known c.args.table.now c.args.plan.now _ _ c.requires.ready c.plan.view_is
     (one-path c.requires.ready c.plan.view_is (λ p. Stat p) refl c.in-Stat.is)))
 
@@ -266,7 +266,7 @@ returns-in_ok-add_name-in-Link-clause-world c =
     after-at _ (world_of c.args.table.now) _ _ _ c.plan.view_is (two-paths c.requires.ready c.plan.view_is (λ p q. Link p q) refl refl c.in-Link.is)
     (c.in_ok-add_name-in-Link.ensures.world
     ∙ (λ i. option_map_or (with_path (world_of c.args.table.now) (other-name c.plan.view_is c.other_path.ensures i))
-    (finmap.get (world_of c.args.table.now).paths c.plan.inside.path.names) (world_of c.args.table.now)))
+    (finmap.get (world_of c.args.table.now).paths c.plan.inside.path.now.names) (world_of c.args.table.now)))
 
 pub returns-in-Unlink-clause-world : goal.returns-in-Unlink-clause-world
 returns-in-Unlink-clause-world c =
@@ -284,36 +284,40 @@ returns-in-Write-clause-world c =
     (λ e. after-at _ (world_of c.args.table.now) _ _ _ c.plan.view_is
     (one-path c.requires.ready c.plan.view_is (λ p. Write p c.in-Write.offset c.in-Write.bytes) refl c.in-Write.is)
     (e
-    ∙ ap (λ x. changed_at (world_of c.args.table.now) c.plan.inside.path.names (λ f. record f { bytes = written c.in-Write.offset x f.bytes }))
+    ∙ ap (λ x. changed_at (world_of c.args.table.now) c.plan.inside.path.now.names (λ f. record f { bytes = written c.in-Write.offset x f.bytes }))
     c.as_slice.ensures))
     c.write.ensures.world
 
-pub returns-in_ok-bytes-in-ReadFile-clause-answer : goal.returns-in_ok-bytes-in-ReadFile-clause-answer
-returns-in_ok-bytes-in-ReadFile-clause-answer c =
-    answer-at _ (world_of c.args.table.now) _ _ _ c.plan.view_is
+pub returns-in-ReadFile-clause-answer : goal.returns-in-ReadFile-clause-answer
+returns-in-ReadFile-clause-answer c =
+    IfOk-weaker c.read.result _ _
+    (λ a is. answer-at a (world_of c.args.table.now) _ _ _ c.plan.view_is
     (one-path c.requires.ready c.plan.view_is (λ p. ReadFile p c.in-ReadFile.offset c.in-ReadFile.count) refl c.in-ReadFile.is)
-    (ap Bytes (c.in_ok-bytes-in-ReadFile.ensures
-    ∙ (λ i. take c.in-ReadFile.count (drop c.in-ReadFile.offset (bytes_at (world_of (c.new-path.ensures.tree i)) (c.new-path.ensures.path i).names)))))
+    (is
+    ∙ (λ i. Bytes (take c.in-ReadFile.count (drop c.in-ReadFile.offset (bytes_at (world_of (c.new-path.ensures.tree i)) (c.new-path.ensures.path i).names))))))
+    c.read.ensures.answer
 
 -- what is known of the path of a list
 list-at : (t : TableValue) (plan view : PlanValue) (r : IsReady t plan) → view ≡ plan → (p : List (List ℕ)) → view.call ≡ Listed p
     → ListKnown (look (world_of t)) view.path.names
 list-at t plan view r view_is p is = list-known (look (world_of t)) view.path.names (known t plan view _ r view_is (one-path r view_is (λ q. Listed q) refl is))
 
-pub list-requires-clause-there : goal.list-requires-clause-there
-list-requires-clause-there c =
+pub list_names-requires-clause-there : goal.list_names-requires-clause-there
+list_names-requires-clause-there c =
     there-at c.new-in-List.ensures.tree c.new-in-List.ensures.path
     (list-at c.args.table.now c.args.plan.now _ c.requires.ready c.plan.view_is _ c.in-List.is).there
 
-pub list-requires-clause-directory : goal.list-requires-clause-directory
-list-requires-clause-directory c =
+pub list_names-requires-clause-directory : goal.list_names-requires-clause-directory
+list_names-requires-clause-directory c =
     (λ i. is_directory_seen (look (world_of (c.new-in-List.ensures.tree i)) (c.new-in-List.ensures.path i).names))
     ∙ (list-at c.args.table.now c.args.plan.now _ c.requires.ready c.plan.view_is _ c.in-List.is).directory
 
-pub returns-in_ok-list-in-List-clause-answer : goal.returns-in_ok-list-in-List-clause-answer
-returns-in_ok-list-in-List-clause-answer c =
-    answer-at _ (world_of c.args.table.now) _ _ _ c.plan.view_is (one-path c.requires.ready c.plan.view_is (λ p. Listed p) refl c.in-List.is)
-    (ap Names (c.in_ok-list-in-List.ensures ∙ (λ i. names_in (world_of (c.new-in-List.ensures.tree i)) (c.new-in-List.ensures.path i).names)))
+pub returns-in-List-clause-answer : goal.returns-in-List-clause-answer
+returns-in-List-clause-answer c =
+    IfOk-weaker c.list_names.result _ _
+    (λ a is. answer-at a (world_of c.args.table.now) _ _ _ c.plan.view_is (one-path c.requires.ready c.plan.view_is (λ p. Listed p) refl c.in-List.is)
+    (is ∙ (λ i. Names (names_in (world_of (c.new-in-List.ensures.tree i)) (c.new-in-List.ensures.path i).names))))
+    c.list_names.ensures.answer
 
 pub make-requires-clause-unused : goal.make-requires-clause-unused
 make-requires-clause-unused c =

@@ -16,7 +16,7 @@ returns-clause-resolved c =
     let parent = parent_of c.args.path.now in
     record {
       here =
-          subst (λ p. IsFound t p (found_of c.resolve_in.result)) (sym c.in-Some.ensures.parts) (c.resolve_in.ensures parent c.requires.there);
+          subst (λ p. IsFound t p (found_of c.resolve_in.result)) (sym c.requires.last) (c.resolve_in.ensures parent c.requires.there);
       directory =
           subst (IsFound t parent) (sym c.at.ensures)
           (found-at t c.rows_law.ensures.table parent c.args.directory c.of.result c.requires.there c.of.ensures);

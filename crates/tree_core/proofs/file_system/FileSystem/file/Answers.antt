@@ -29,18 +29,19 @@ passed t paths f limits counts now same tree call o e = sym (λ i. refused (worl
 pub check-requires : goal.check-requires
 check-requires c =
     let w = world_of c.args.self.now.table in
-    subst (λ (t : TableValue). HasNumbersBelow (world_of t) c.counts-counts.result.next_number) (sym (c.on-paths.ensures.tree ∙ c.resolve-found.ensures.same))
+    subst (λ (t : TableValue). HasNumbersBelow (world_of t) c.counts-counts.result.next_number)
+    (sym (c.on-paths.ensures.tree ∙ c.resolve_recent-found.ensures.same))
     (subst (λ (x : Counts). HasNumbersBelow w x.next_number) (sym c.counts-counts.ensures) c.requires.given)
 
 pub returns-in_err-ready : goal.returns-in_err-ready
 returns-in_err-ready c =
     let m = c.args.self.now in
     let f = c.args.call.now in
-    let u = c.resolve-found.new.table in
+    let u = c.resolve_recent-found.new.table in
     failed-attempts m (record m { table = u }) (call.File f) c.from_residual.result c.in_err-ready.field-0.0 c.from_residual.ensures.1
     (inl (passed m.table c.on-paths.result f m.limits c.counts-counts.result (counts_of (tree_in m)) c.counts-counts.ensures
-    (c.on-paths.ensures.tree ∙ c.resolve-found.ensures.same) c.on-paths.ensures.call _ c.in_err-ready.ensures.refused))
-    (tree_in-table m u (ap world_of c.resolve-found.ensures.same))
+    (c.on-paths.ensures.tree ∙ c.resolve_recent-found.ensures.same) c.on-paths.ensures.call _ c.in_err-ready.ensures.refused))
+    (tree_in-table m u (ap world_of c.resolve_recent-found.ensures.same))
 
 pub returns-in_err-answer : goal.returns-in_err-answer
 returns-in_err-answer c =
@@ -49,7 +50,7 @@ returns-in_err-answer c =
     let u = c.carry_out.new.table in
     failed-attempts m (record s { table = u }) (call.File c.args.call.now) c.from_residual-in_err-answer.result
     c.in_err-answer.field-0.0 c.from_residual-in_err-answer.ensures.1 (inr c.in_err-answer.ensures.memory)
-    (tree_in-table s u (c.in_err-answer.ensures.err_world ∙ ap world_of c.resolve-found.ensures.same))
+    (tree_in-table s u (c.in_err-answer.ensures.err_world ∙ ap world_of c.resolve_recent-found.ensures.same))
 
 pub returns : goal.returns
 returns c =
@@ -71,8 +72,8 @@ returns c =
       staging = c.stage_notices.new.staging;
     } in
     let call : ready.plan.call ≡ f = c.in_ok-ready.ensures.call ∙ c.on-paths.ensures.call in
-    let tree : ready.tree ≡ m.table = c.in_ok-ready.ensures.tree ∙ (c.on-paths.ensures.tree ∙ c.resolve-found.ensures.same) in
-    let same = c.resolve-found.ensures.same in
+    let tree : ready.tree ≡ m.table = c.in_ok-ready.ensures.tree ∙ (c.on-paths.ensures.tree ∙ c.resolve_recent-found.ensures.same) in
+    let same = c.resolve_recent-found.ensures.same in
     let plan = c.into_plan-plan.result in
     let done : IsCarriedOut (tree_in m) f u said = IsCarriedOut-checked (tree_in m) f plan u said
     (ap (λ (p : PlanValue). p.call) c.into_plan-plan.ensures.plan ∙ call)
@@ -81,7 +82,7 @@ returns c =
     (c.in_ok-answer.ensures.answer ∙ (λ i. answer_of (world_of (same i)) plan.counts plan.call)) in
     let passes : refused w m.limits (counts_of (tree_in m)) f ≡ None =
     passed m.table c.on-paths.result f m.limits c.counts-counts.result (counts_of (tree_in m)) c.counts-counts.ensures
-    (c.on-paths.ensures.tree ∙ c.resolve-found.ensures.same) c.on-paths.ensures.call None c.in_ok-ready.ensures.accepted in
+    (c.on-paths.ensures.tree ∙ c.resolve_recent-found.ensures.same) c.on-paths.ensures.call None c.in_ok-ready.ensures.accepted in
     filed-attempts m n f said done passes c.requires refl
     (ap (λ x. m.next_number + x) (c.numbers-numbers.ensures ∙ ap numbers_of call))
     (ap (λ x. m.next_cookie + x) (c.from.ensures ∙ c.cookies-cookies.ensures ∙ (λ i. cookies_of (world_of (tree i)) (call i))))
@@ -97,9 +98,9 @@ stage_notices-requires c =
     let w = world_of m.table in
     let now : c.counts-counts.result.next_cookie ≡ cookie_now m.next_cookie = ap (λ (x : Counts). x.next_cookie) c.counts-counts.ensures in
     let call : c.in_ok-ready.ready.plan.call ≡ c.args.call.now = c.in_ok-ready.ensures.call ∙ c.on-paths.ensures.call in
-    let tree : c.in_ok-ready.ready.tree ≡ m.table = c.in_ok-ready.ensures.tree ∙ (c.on-paths.ensures.tree ∙ c.resolve-found.ensures.same) in
+    let tree : c.in_ok-ready.ready.tree ≡ m.table = c.in_ok-ready.ensures.tree ∙ (c.on-paths.ensures.tree ∙ c.resolve_recent-found.ensures.same) in
     let accepted = passed m.table c.on-paths.result c.args.call.now m.limits c.counts-counts.result c.counts-counts.result
-    refl (c.on-paths.ensures.tree ∙ c.resolve-found.ensures.same) c.on-paths.ensures.call None c.in_ok-ready.ensures.accepted in
+    refl (c.on-paths.ensures.tree ∙ c.resolve_recent-found.ensures.same) c.on-paths.ensures.call None c.in_ok-ready.ensures.accepted in
     let room = cookies-there w m.limits c.counts-counts.result m.next_cookie now c.args.call.now accepted in
     let fits = cookies-fit m.limits m.next_cookie (cookies_of w c.args.call.now) room in
     let same : cookies_of (world_of c.in_ok-ready.ready.tree) c.in_ok-ready.ready.plan.call ≡ cookies_of w c.args.call.now =

@@ -3,7 +3,7 @@ use Rattle.std.specs.List.{list_all}
 use Rattle.tree_paths.specs.PathText.{kept_names, IsKept}
 use Rattle.tree_paths.specs.Paths.{is_in_place}
 use Rattle.tree_paths.proofs.SlashedLemmas.{text-in-place}
-use Rattle.tree_paths.proofs.path_text.PathText.parent_text.Goals as goal
+use Rattle.tree_paths.proofs.path_text.PathText.split_last.Goals as goal
 
 pub returns-in-Short-clause-in_place : goal.returns-in-Short-clause-in_place
 returns-in-Short-clause-in_place c some =

@@ -2,7 +2,7 @@ use Rattle.std.proofs.Common.{◌≡◌, ◌≤◌, ◌+◌, ◌-◌, ◌++◌, 
 use Rattle.std.proofs.lemmas.List.{drop-drop, length-take-le, take-append-drop, take-append-le, take-take, take_rest}
 use Rattle.std.proofs.lemmas.Slice.{drop-put_mid}
 use borrow.Rule.Slice.PartMut.{put_mid}
-use Rattle.record_codec.proofs.name_buf.put_ends.Goals as goal
+use Rattle.record_codec.proofs.padded.put_ends.Goals as goal
 
 -- the first n bytes, and then the last n over them, are all bytes
 both-ends : (n last : ℕ) (buffer bytes : List ℕ) → last + n ≡ length bytes → last ≤ n → length bytes ≤ length buffer
