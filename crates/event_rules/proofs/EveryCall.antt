@@ -1,5 +1,6 @@
 -- What is true of each notice of every call.
-use Rattle.std.proofs.Common.{ℕ, ◌+◌, Bool, true, false, ◌==◌, ◌||◌, nat_lt, length, if◌then◌else◌, List, [], ◌∷◌, ◌++◌, Option, Some, None, refl, lit<}
+use Rattle.std.proofs.Common.{ℕ, ◌+◌, Bool, true, false, ◌==◌, ◌||◌, nat_lt, length, take, drop, if◌then◌else◌, List, [], ◌∷◌, ◌++◌}
+use Rattle.std.proofs.Common.{Option, Some, None, refl, lit<}
 use Rattle.std.specs.Prelude.{All, Contains}
 use Rattle.std.specs.List.{last_or}
 use Rattle.std.proofs.lemmas.List.Elements.{All-nil, All-cons, All-append}
@@ -16,15 +17,13 @@ use Rattle.tree_ops.specs.declared.call.TheConstants.{RENAME_EXCHANGE}
 use Rattle.tree_ops.specs.declared.call.FileCall.{FileCall}
 use Rattle.tree_ops.specs.declared.call.FileCall.TheVariants.{Create, Write, ReadFile, Truncate, Chmod, Mkdir, Link}
 use Rattle.tree_ops.specs.declared.call.FileCall.TheVariants.{Unlink, Rmdir, Rename, Rename2, Stat, List as Listed}
-use Rattle.tree_ops.specs.After.{answer_of}
+use Rattle.tree_ops.specs.After.{bytes_at}
 use Rattle.tree_ops.specs.Refused.{are_same_seen}
 use Rattle.event_rules.specs.declared.notice.TheConstants.{NO_COOKIE}
 use Rattle.event_rules.specs.declared.notice.Notice.{Notice}
 use Rattle.event_rules.specs.declared.notice.Notice.TheVariants.{Told, Gone}
-use Rattle.event_rules.specs.Table.{about, answers_byte, chmod_told, create_told}
-use Rattle.event_rules.specs.Table.{kind_seen, link_told, mkdir_told, move_told, no_counts, notices_of}
-use Rattle.event_rules.specs.Table.{path_lost, read_told, rename_told, rmdir_told, swap_told, to_both, to_dir, to_self}
-use Rattle.event_rules.specs.Table.{told_in, truncate_told, unlink_told, write_told}
+use Rattle.event_rules.specs.Table.{about, create_told, kind_seen, move_told, notices_of}
+use Rattle.event_rules.specs.Table.{path_lost, read_told, rename_told, swap_told, to_both, to_dir, to_self, told_in, write_told}
 use Rattle.event_rules.specs.Raised.{event_bit}
 use Rattle.event_rules.specs.Laws.{HasOneEvent}
 
@@ -120,8 +119,7 @@ module _ (P : Notice → Type 0) (holds : HoldsOfLines P) where
       (dir at p Regular IN_CREATE NO_COOKIE holds.create) (dir at p Regular IN_OPEN NO_COOKIE holds.opened))
       (dir at p Regular IN_CLOSE_WRITE NO_COOKIE holds.close_write)
 
-  pub mkdir : (at : Look) (p : List (List ℕ)) → All P (mkdir_told at p)
-  unfolding mkdir_told
+  pub mkdir : (at : Look) (p : List (List ℕ)) → All P (to_dir at p Directory IN_CREATE NO_COOKIE)
   mkdir at p = dir at p Directory IN_CREATE NO_COOKIE holds.create
 
   pub write : (at : Look) (p : List (List ℕ)) (b : Bool) → All P (write_told at p b)
@@ -138,26 +136,21 @@ module _ (P : Notice → Type 0) (holds : HoldsOfLines P) where
       (both (to_both at p IN_OPEN) (if b then to_both at p IN_ACCESS else []) (both_told at p IN_OPEN holds.opened) (used at p b IN_ACCESS holds.access))
       (both_told at p IN_CLOSE_NOWRITE holds.close_nowrite)
 
-  pub truncate : (at : Look) (p : List (List ℕ)) → All P (truncate_told at p)
-  unfolding truncate_told
+  pub truncate : (at : Look) (p : List (List ℕ)) → All P (to_both at p IN_MODIFY)
   truncate at p = both_told at p IN_MODIFY holds.modify
 
-  pub chmod : (at : Look) (p : List (List ℕ)) → All P (chmod_told at p)
-  unfolding chmod_told
+  pub chmod : (at : Look) (p : List (List ℕ)) → All P (to_both at p IN_ATTRIB)
   chmod at p = both_told at p IN_ATTRIB holds.attrib
 
-  pub link : (at : Look) (old new : List (List ℕ)) → All P (link_told at old new)
-  unfolding link_told
+  pub link : (at : Look) (old new : List (List ℕ)) → All P (to_self (at old) IN_ATTRIB ++ to_dir at new Regular IN_CREATE NO_COOKIE)
   link at old new =
       both (to_self (at old) IN_ATTRIB) (to_dir at new Regular IN_CREATE NO_COOKIE)
       (self (at old) Regular IN_ATTRIB holds.attrib) (dir at new Regular IN_CREATE NO_COOKIE holds.create)
 
-  pub unlink : (at : Look) (p : List (List ℕ)) → All P (unlink_told at p)
-  unfolding unlink_told
+  pub unlink : (at : Look) (p : List (List ℕ)) → All P (path_lost (at p) ++ to_dir at p Regular IN_DELETE NO_COOKIE)
   unlink at p = both (path_lost (at p)) (to_dir at p Regular IN_DELETE NO_COOKIE) (lost (at p)) (dir at p Regular IN_DELETE NO_COOKIE holds.delete)
 
-  pub rmdir : (at : Look) (p : List (List ℕ)) → All P (rmdir_told at p)
-  unfolding rmdir_told
+  pub rmdir : (at : Look) (p : List (List ℕ)) → All P (path_lost (at p) ++ to_dir at p Directory IN_DELETE NO_COOKIE)
   rmdir at p = both (path_lost (at p)) (to_dir at p Directory IN_DELETE NO_COOKIE) (lost (at p)) (dir at p Directory IN_DELETE NO_COOKIE holds.delete)
 
   module _ (from : (cookie : ℕ) → Holds P cookie IN_MOVED_FROM) (to : (cookie : ℕ) → Holds P cookie IN_MOVED_TO) (cookie : ℕ) where
@@ -216,7 +209,7 @@ module _ (P : Notice → Type 0) (holds : HoldsOfLines P) where
     of_every_call w (Create p mode) = create (look w) p
     of_every_call w (Mkdir p mode) = mkdir (look w) p
     of_every_call w (Write p offset bytes) = write (look w) p (has_byte bytes)
-    of_every_call w (ReadFile p offset count) = read (look w) p (answers_byte (answer_of w no_counts (ReadFile p offset count)))
+    of_every_call w (ReadFile p offset count) = read (look w) p (has_byte (take count (drop offset (bytes_at w p))))
     of_every_call w (Truncate p len) = truncate (look w) p
     of_every_call w (Chmod p mode) = chmod (look w) p
     of_every_call w (Link old new) = link (look w) old new

@@ -2,7 +2,6 @@
 use Rattle.std.proofs.Common.{◌≡◌, ℕ, ◌+◌, ◌++◌, Bool, List, [], ◌∷◌, Option, Some, None, refl, sym, ap, ◌∙◌}
 use Rattle.std.specs.List.{last_or}
 use Rattle.inode_table.specs.declared.seen.Kind.{Kind}
-use Rattle.inode_table.specs.declared.seen.Kind.TheVariants.{Regular, Directory}
 use Rattle.inode_table.specs.declared.seen.Seen.{Seen}
 use Rattle.inode_table.specs.Refusals.{Look, parent_of}
 use Rattle.record_codec.specs.declared.bits.TheConstants.{IN_DELETE, IN_MOVED_FROM, IN_MOVED_TO, IN_MOVE_SELF}
@@ -11,7 +10,7 @@ use Rattle.event_rules.specs.declared.notice.Notice.TheVariants.{Told}
 use Rattle.event_rules.specs.declared.notice.TheConstants.{NO_COOKIE}
 use Rattle.event_rules.specs.Raised.{heard}
 use Rattle.event_rules.specs.Subjects.{seen_watched}
-use Rattle.event_rules.specs.Table.{about, kind_seen, swap_told, move_told, path_lost, rmdir_told, told_in, to_dir, to_self, unlink_told}
+use Rattle.event_rules.specs.Table.{about, kind_seen, swap_told, move_told, path_lost, told_in, to_dir, to_self}
 use Rattle.event_rules.proofs.Hearing.{heard-first, heard-more, heard-path_lost, heard-to_dir, heard-to_self}
 
 last_or-append : {A : Type 0} (o : Option A) (xs : List A) (x : A) → last_or o (xs ++ x ∷ []) ≡ Some x
@@ -39,16 +38,10 @@ module _ (watches : ℕ → Bool) where
 
   module _ (at : Look) (p : List (List ℕ)) (none lost all : List Notice) (seen : Option Seen) (opens : none ≡ [])
       (loses : lost ≡ none ++ path_lost seen) (is : seen ≡ seen_watched watches (at p)) where
-    pub unlink_told-lines : all ≡ lost ++ heard watches (to_dir at p Regular IN_DELETE NO_COOKIE) → all ≡ heard watches (unlink_told at p)
-    unfolding unlink_told
-    unlink_told-lines ends =
-        heard-more watches lost all (path_lost (at p)) (to_dir at p Regular IN_DELETE NO_COOKIE)
-        (heard-first watches none lost (path_lost (at p)) opens (lost-told lost none seen (at p) loses is)) ends
-
-    pub rmdir_told-lines : all ≡ lost ++ heard watches (to_dir at p Directory IN_DELETE NO_COOKIE) → all ≡ heard watches (rmdir_told at p)
-    unfolding rmdir_told
-    rmdir_told-lines ends =
-        heard-more watches lost all (path_lost (at p)) (to_dir at p Directory IN_DELETE NO_COOKIE)
+    pub lost-lines : (kind : Kind) → all ≡ lost ++ heard watches (to_dir at p kind IN_DELETE NO_COOKIE)
+        → all ≡ heard watches (path_lost (at p) ++ to_dir at p kind IN_DELETE NO_COOKIE)
+    lost-lines kind ends =
+        heard-more watches lost all (path_lost (at p)) (to_dir at p kind IN_DELETE NO_COOKIE)
         (heard-first watches none lost (path_lost (at p)) opens (lost-told lost none seen (at p) loses is)) ends
 
 -- the lists after each line of a rename that moves something

@@ -18,7 +18,7 @@ use Rattle.event_rules.specs.declared.notice.TheConstants.{NO_COOKIE}
 use Rattle.event_rules.specs.declared.notice.Notice.{Notice}
 use Rattle.event_rules.specs.declared.notice.Notice.TheVariants.{Told, Gone}
 use Rattle.event_rules.specs.Table.{kind_seen, move_told, notices_of, path_lost}
-use Rattle.event_rules.specs.Table.{rename_told, rmdir_told, to_dir, to_self, unlink_told}
+use Rattle.event_rules.specs.Table.{rename_told, to_dir, to_self}
 use Rattle.event_rules.proofs.EveryCall.{deleted_told, exchange_told, lost_told}
 use Rattle.event_rules.specs.Raised.{left, watches_after}
 use Rattle.event_rules.proofs.Removals.{left_by, dropped-here, some_none}
@@ -51,7 +51,7 @@ moved-told w old new cookie n h is =
     (Contains-append_right dirs (path_lost (look w new)) (Gone n) (path-lost w new n h is))
 
 pub gone-told : (w : World) (call : FileCall) (cookie n : ℕ) → IsThere w n → Goes w call n → Contains (notices_of w call cookie) (Gone n)
-unfolding unlink_told rmdir_told rename_told
+unfolding rename_told
 gone-told w (Create p mode) cookie n h goes = absurd goes
 gone-told w (Mkdir p mode) cookie n h goes = absurd goes
 gone-told w (Write p offset bytes) cookie n h goes = absurd goes

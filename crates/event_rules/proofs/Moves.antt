@@ -1,5 +1,6 @@
 -- The cookies of the notices of calls.
-use Rattle.std.proofs.Common.{◌≡◌, inl, inr, ℕ, ◌+◌, Bool, true, false, ◌==◌, if◌then◌else◌, List, [], ◌∷◌, ◌++◌, Option, Some, None, refl, sym, ap, ◌∙◌, subst}
+use Rattle.std.proofs.Common.{◌≡◌, inl, inr, ℕ, ◌+◌, Bool, true, false, ◌==◌, take, drop, if◌then◌else◌, List, [], ◌∷◌, ◌++◌, Option, Some, None}
+use Rattle.std.proofs.Common.{refl, sym, ap, ◌∙◌, subst}
 use Rattle.std.specs.Prelude.{All}
 use Rattle.std.specs.List.{last_or}
 use Rattle.std.proofs.lemmas.List.Elements.{All-nil, All-cons, All-append, All-head, All-tail}
@@ -13,14 +14,14 @@ use Rattle.tree_ops.specs.declared.call.TheConstants.{RENAME_EXCHANGE}
 use Rattle.tree_ops.specs.declared.call.FileCall.{FileCall}
 use Rattle.tree_ops.specs.declared.call.FileCall.TheVariants.{Create, Write, ReadFile, Truncate, Chmod, Mkdir, Link}
 use Rattle.tree_ops.specs.declared.call.FileCall.TheVariants.{Unlink, Rmdir, Rename, Rename2, Stat, List as Listed}
-use Rattle.tree_ops.specs.After.{answer_of}
+use Rattle.tree_ops.specs.After.{bytes_at}
 use Rattle.tree_ops.specs.declared.moves.Moves.TheVariants.{Nothing, Move, Exchange}
 use Rattle.tree_ops.specs.Moves.{cookies_for, cookies_of}
 use Rattle.tree_ops.specs.Refused.{are_same_seen}
 use Rattle.event_rules.specs.declared.notice.TheConstants.{NO_COOKIE}
 use Rattle.event_rules.specs.declared.notice.Notice.{Notice}
 use Rattle.event_rules.specs.declared.notice.Notice.TheVariants.{Told, Gone}
-use Rattle.event_rules.specs.Table.{about, answers_byte, kind_seen, move_told, no_counts}
+use Rattle.event_rules.specs.Table.{about, kind_seen, move_told}
 use Rattle.event_rules.specs.Table.{notices_of, path_lost, rename_told, swap_told, to_dir, to_self, told_in}
 use Rattle.event_rules.proofs.EveryCall.{exchange_told, has_byte}
 use Rattle.event_rules.specs.Raised.{event_bit}
@@ -223,7 +224,7 @@ notices-tied w (Create p mode) cookie = tied-still _ (every.create IsStill still
 notices-tied w (Mkdir p mode) cookie = tied-still _ (every.mkdir IsStill still_lines (look w) p)
 notices-tied w (Write p offset bytes) cookie = tied-still _ (every.write IsStill still_lines (look w) p (has_byte bytes))
 notices-tied w (ReadFile p offset count) cookie =
-    tied-still _ (every.read IsStill still_lines (look w) p (answers_byte (answer_of w no_counts (ReadFile p offset count))))
+    tied-still _ (every.read IsStill still_lines (look w) p (has_byte (take count (drop offset (bytes_at w p)))))
 notices-tied w (Truncate p len) cookie = tied-still _ (every.truncate IsStill still_lines (look w) p)
 notices-tied w (Chmod p mode) cookie = tied-still _ (every.chmod IsStill still_lines (look w) p)
 notices-tied w (Link old new) cookie = tied-still _ (every.link IsStill still_lines (look w) old new)

@@ -1,19 +1,16 @@
 -- The notices of a call, by what it moves.
-use Rattle.std.proofs.Common.{◌≡◌, ◌==◌, ◌≤◌, ◌<◌, ◌+◌, ◌^◌, ◌++◌, ℕ, List, [], Bool, true, false, refl, subst, sym, ap, ◌∙◌, if◌then◌else◌, arith}
+use Rattle.std.proofs.Common.{◌≡◌, ◌==◌, ◌≤◌, ◌<◌, ◌+◌, ◌^◌, ℕ, List, [], Bool, true, false, ap, ◌∙◌, if◌then◌else◌, arith}
 use Rattle.inode_table.specs.World.{World, look}
 use Rattle.tree_ops.specs.declared.call.TheConstants.{RENAME_EXCHANGE}
 use Rattle.tree_ops.specs.declared.call.FileCall.{FileCall}
-use Rattle.tree_ops.specs.declared.call.FileCall.TheVariants.{Link, Rename, Rename2}
+use Rattle.tree_ops.specs.declared.call.FileCall.TheVariants.{Rename, Rename2}
 use Rattle.tree_ops.specs.declared.moves.Moves.TheVariants.{Nothing, Move, Exchange}
 use Rattle.tree_ops.specs.CallPaths.{path_of, other_path_of}
 use Rattle.tree_ops.specs.Moves.{moves_of, cookies_of, cookies_for}
 use Rattle.tree_ops.specs.Refused.{are_same_seen}
 use Rattle.tree_ops.proofs.Moving.{moved, exchanged, stays}
-use Rattle.event_rules.specs.Table.{link_told, notices_of, rename_told, move_told, swap_told, to_dir, to_self}
+use Rattle.event_rules.specs.Table.{notices_of, rename_told, move_told, swap_told}
 use Rattle.event_rules.proofs.EveryCall.{exchange_told}
-use Rattle.inode_table.specs.declared.seen.Kind.TheVariants.{Regular}
-use Rattle.record_codec.specs.declared.bits.TheConstants.{IN_ATTRIB, IN_CREATE}
-use Rattle.event_rules.specs.declared.notice.TheConstants.{NO_COOKIE}
 
 rename-by : (w : World) (old new : List (List ℕ)) (cookie : ℕ) (b : Bool) → are_same_seen (look w old) (look w new) ≡ b
     → rename_told (look w) old new cookie ≡ (if b then [] else move_told (look w) old new cookie)

@@ -1,7 +1,7 @@
 -- The notices of an accepted call: inotify(7), "inotify events". That page does not say in which order one call raises
 -- several events, nor which of them have IN_ISDIR; here the lines of the table say so.
-use Rattle.std.specs.Prelude.{ℕ, ◌+◌, Bool, false, List, [], ◌∷◌, ◌++◌, Option, Some, None, bit_or, ◌==◌}
-use Rattle.std.specs.Prelude.{◌||◌, nat_lt, length, if◌then◌else◌}
+use Rattle.std.specs.Prelude.{ℕ, ◌+◌, Bool, List, [], ◌∷◌, ◌++◌, Option, Some, None, bit_or, ◌==◌}
+use Rattle.std.specs.Prelude.{◌||◌, nat_lt, length, take, drop, if◌then◌else◌}
 use Rattle.std.specs.List.{last_or}
 use Rattle.record_codec.specs.declared.bits.TheConstants.{IN_ACCESS, IN_MODIFY, IN_ATTRIB, IN_CLOSE_WRITE}
 use Rattle.record_codec.specs.declared.bits.TheConstants.{IN_CLOSE_NOWRITE, IN_OPEN, IN_MOVED_FROM, IN_MOVED_TO}
@@ -12,14 +12,11 @@ use Rattle.inode_table.specs.declared.seen.Seen.{Seen}
 use Rattle.inode_table.specs.Rows.{Label}
 use Rattle.inode_table.specs.Refusals.{Look, is_directory_kind, parent_of}
 use Rattle.inode_table.specs.World.{World, look}
-use Rattle.tree_ops.specs.declared.answer.Answer.{Answer}
-use Rattle.tree_ops.specs.declared.answer.Answer.TheVariants.{Bytes}
-use Rattle.tree_ops.specs.declared.call.Counts.{Counts}
 use Rattle.tree_ops.specs.declared.call.TheConstants.{RENAME_EXCHANGE}
 use Rattle.tree_ops.specs.declared.call.FileCall.{FileCall}
 use Rattle.tree_ops.specs.declared.call.FileCall.TheVariants.{Create, Write, ReadFile, Truncate, Chmod, Mkdir, Link}
 use Rattle.tree_ops.specs.declared.call.FileCall.TheVariants.{Unlink, Rmdir, Rename, Rename2, Stat, List as Listed}
-use Rattle.tree_ops.specs.After.{answer_of}
+use Rattle.tree_ops.specs.After.{bytes_at}
 use Rattle.tree_ops.specs.Refused.{are_same_seen}
 use Rattle.event_rules.specs.declared.notice.TheConstants.{NO_COOKIE}
 use Rattle.event_rules.specs.declared.notice.Notice.{Notice}
@@ -75,9 +72,6 @@ unfoldable pub create_told : Look → List Label → List Notice
 create_told seen_at p = to_dir seen_at p Regular IN_CREATE NO_COOKIE ++ to_dir seen_at p Regular IN_OPEN NO_COOKIE
     ++ to_dir seen_at p Regular IN_CLOSE_WRITE NO_COOKIE
 
-unfoldable pub mkdir_told : Look → List Label → List Notice
-mkdir_told seen_at p = to_dir seen_at p Directory IN_CREATE NO_COOKIE
-
 -- where a byte was given
 unfoldable pub write_told : Look → List Label → Bool → List Notice
 write_told seen_at p given =
@@ -87,23 +81,6 @@ write_told seen_at p given =
 unfoldable pub read_told : Look → List Label → Bool → List Notice
 read_told seen_at p answered = to_both seen_at p IN_OPEN ++ (if answered then to_both seen_at p IN_ACCESS else [])
     ++ to_both seen_at p IN_CLOSE_NOWRITE
-
--- also where the length stays
-unfoldable pub truncate_told : Look → List Label → List Notice
-truncate_told seen_at p = to_both seen_at p IN_MODIFY
-
--- also where the mode stays
-unfoldable pub chmod_told : Look → List Label → List Notice
-chmod_told seen_at p = to_both seen_at p IN_ATTRIB
-
-unfoldable pub link_told : Look → List Label → List Label → List Notice
-link_told seen_at old new = to_self (seen_at old) IN_ATTRIB ++ to_dir seen_at new Regular IN_CREATE NO_COOKIE
-
-unfoldable pub unlink_told : Look → List Label → List Notice
-unlink_told seen_at p = path_lost (seen_at p) ++ to_dir seen_at p Regular IN_DELETE NO_COOKIE
-
-unfoldable pub rmdir_told : Look → List Label → List Notice
-rmdir_told seen_at p = path_lost (seen_at p) ++ to_dir seen_at p Directory IN_DELETE NO_COOKIE
 
 -- the name that was replaced raises no IN_DELETE, though the object that had it may raise IN_DELETE_SELF
 unfoldable pub move_told : Look → List Label → List Label → ℕ → List Notice
@@ -129,27 +106,23 @@ swap_told seen_at old new cookie =
     ++ to_dir seen_at old (kind_seen (seen_at new)) IN_MOVED_TO (cookie + 1)
     ++ to_self (seen_at new) IN_MOVE_SELF
 
-abbrev pub answers_byte : Answer → Bool
-answers_byte (Bytes bytes) = nat_lt 0 (length bytes)
-answers_byte _ = false
-
--- what a read answers does not depend on the counts
-abbrev pub no_counts : Counts
-no_counts = record { next_number = 0; next_cookie = 0 }
-
 -- the notices of an accepted call, in the world before it. A rename that moves something has the cookie, and an
 -- exchange the next one too. Where both paths are of one file nothing is moved
 abbrev pub notices_of : World → FileCall → ℕ → List Notice
 notices_of w (Create p mode) cookie = create_told (look w) p
-notices_of w (Mkdir p mode) cookie = mkdir_told (look w) p
+notices_of w (Mkdir p mode) cookie = to_dir (look w) p Directory IN_CREATE NO_COOKIE
 notices_of w (Write p offset bytes) cookie = write_told (look w) p (nat_lt 0 (length bytes))
+-- the bytes are those that the read answers
 notices_of w (ReadFile p offset count) cookie =
-    read_told (look w) p (answers_byte (answer_of w no_counts (ReadFile p offset count)))
-notices_of w (Truncate p len) cookie = truncate_told (look w) p
-notices_of w (Chmod p mode) cookie = chmod_told (look w) p
-notices_of w (Link old new) cookie = link_told (look w) old new
-notices_of w (Unlink p) cookie = unlink_told (look w) p
-notices_of w (Rmdir p) cookie = rmdir_told (look w) p
+    read_told (look w) p (nat_lt 0 (length (take count (drop offset (bytes_at w p)))))
+-- also where the length stays
+notices_of w (Truncate p len) cookie = to_both (look w) p IN_MODIFY
+-- also where the mode stays
+notices_of w (Chmod p mode) cookie = to_both (look w) p IN_ATTRIB
+notices_of w (Link old new) cookie =
+    to_self (look w old) IN_ATTRIB ++ to_dir (look w) new Regular IN_CREATE NO_COOKIE
+notices_of w (Unlink p) cookie = path_lost (look w p) ++ to_dir (look w) p Regular IN_DELETE NO_COOKIE
+notices_of w (Rmdir p) cookie = path_lost (look w p) ++ to_dir (look w) p Directory IN_DELETE NO_COOKIE
 notices_of w (Rename old new) cookie = rename_told (look w) old new cookie
 notices_of w (Rename2 old new flags) cookie =
     if flags == RENAME_EXCHANGE

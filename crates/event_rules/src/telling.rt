@@ -1,17 +1,15 @@
 //! The notices of calls on files.
 
-ghost use Rattle.std.specs.Prelude.{◌≡◌, ◌++◌, ◌+◌, ◌≤◌, ◌<◌, ◌^◌, [], IfErr, OnOk};
+ghost use Rattle.std.specs.Prelude.{◌≡◌, ◌++◌, ◌+◌, ◌≤◌, ◌<◌, ◌^◌, [], nat_lt, length, take, drop, IfErr, OnOk};
 ghost use Rattle.inode_table.specs.World.{look};
 ghost use Rattle.inode_table.specs.TableWorld.{world_of};
-ghost use Rattle.record_codec.specs.declared.bits.TheConstants.{IN_ATTRIB, IN_CREATE};
-ghost use Rattle.tree_ops.specs.After.{answer_of};
+ghost use Rattle.record_codec.specs.declared.bits.TheConstants.{IN_ATTRIB, IN_CREATE, IN_DELETE, IN_MODIFY};
+ghost use Rattle.tree_ops.specs.After.{bytes_at};
 ghost use Rattle.tree_ops.specs.Moves.{cookies_of, moves_of};
-ghost use Rattle.tree_ops.specs.declared.call.FileCall.TheVariants.{ReadFile};
 ghost use Rattle.event_rules.specs.Raised.{heard};
-ghost use Rattle.event_rules.specs.Table.{about, answers_byte, chmod_told, create_told, kind_seen, mkdir_told};
-ghost use Rattle.event_rules.specs.Table.{link_told, move_told, no_counts, notices_of, path_lost, read_told};
-ghost use Rattle.event_rules.specs.Table.{rmdir_told, swap_told, to_both, to_dir, to_self, truncate_told, unlink_told};
-ghost use Rattle.event_rules.specs.Table.{write_told};
+ghost use Rattle.event_rules.specs.declared.notice.TheConstants.{NO_COOKIE};
+ghost use Rattle.event_rules.specs.Table.{about, create_told, kind_seen, move_told, notices_of, path_lost, read_told};
+ghost use Rattle.event_rules.specs.Table.{swap_told, to_both, to_dir, to_self, write_told};
 
 use crate::audience::Audience;
 use crate::notice::{NO_COOKIE, Notice, Notices};
@@ -127,11 +125,10 @@ fn create<A: Audience>(told: &mut Notices, at: &Subject<A>) -> Result<(), AllocE
     Ok(())
 }
 
-#[tactic(auto, unfolding(crate::specs::Table::mkdir_told))]
 fn mkdir<A: Audience>(told: &mut Notices, at: &Subject<A>) -> Result<(), AllocError>
     requires { told.old ≡ [] }
-    ensures { OnOk result (told.new
-        ≡ heard (A.may_watch at.now.audience) (mkdir_told (look (world_of at.now.at.tree)) at.now.at.path.names)) }
+    ensures { OnOk result (told.new ≡ heard (A.may_watch at.now.audience)
+        (to_dir (look (world_of at.now.at.tree)) at.now.at.path.names Kind.Directory IN_CREATE NO_COOKIE)) }
 {
     told.notify_directory(at, Kind::Directory, bits::IN_CREATE, NO_COOKIE)?;
     Ok(())
@@ -153,8 +150,8 @@ fn write<A: Audience>(told: &mut Notices, at: &Subject<A>, is_given: bool) -> Re
 
 /// Whether a read answers a byte.
 fn is_answered<A: Audience>(at: &Subject<A>, offset: u64, count: u32) -> bool
-    ensures { result ≡ answers_byte
-        (answer_of (world_of at.now.at.tree) no_counts (ReadFile at.now.at.path.names offset count)) }
+    ensures { result
+        ≡ nat_lt 0 (length (take count (drop offset (bytes_at (world_of at.now.at.tree) at.now.at.path.names)))) }
 {
     match at.object() {
         Some(_) => count > 0 && offset < at.content().len() as u64,
@@ -180,27 +177,24 @@ fn read<A: Audience>(
     Ok(())
 }
 
-#[tactic(auto, unfolding(crate::specs::Table::truncate_told))]
 fn truncate<A: Audience>(told: &mut Notices, at: &Subject<A>) -> Result<(), AllocError>
     requires { told.old ≡ [] }
-    ensures { OnOk result (told.new
-        ≡ heard (A.may_watch at.now.audience) (truncate_told (look (world_of at.now.at.tree)) at.now.at.path.names)) }
+    ensures { OnOk result (told.new ≡ heard (A.may_watch at.now.audience)
+        (to_both (look (world_of at.now.at.tree)) at.now.at.path.names IN_MODIFY)) }
 {
     told.notify_both(at, bits::IN_MODIFY)?;
     Ok(())
 }
 
-#[tactic(auto, unfolding(crate::specs::Table::chmod_told))]
 fn chmod<A: Audience>(told: &mut Notices, at: &Subject<A>) -> Result<(), AllocError>
     requires { told.old ≡ [] }
-    ensures { OnOk result (told.new
-        ≡ heard (A.may_watch at.now.audience) (chmod_told (look (world_of at.now.at.tree)) at.now.at.path.names)) }
+    ensures { OnOk result (told.new ≡ heard (A.may_watch at.now.audience)
+        (to_both (look (world_of at.now.at.tree)) at.now.at.path.names IN_ATTRIB)) }
 {
     told.notify_both(at, bits::IN_ATTRIB)?;
     Ok(())
 }
 
-#[tactic(auto, unfolding(crate::specs::Table::link_told))]
 fn link<A: Audience>(
     told: &mut Notices,
     old: &Subject<A>,
@@ -210,29 +204,30 @@ fn link<A: Audience>(
     requires same { new.now.at.tree ≡ old.now.at.tree }
     requires audience { new.now.audience ≡ old.now.audience }
     ensures { OnOk result (told.new ≡ heard (A.may_watch old.now.audience)
-        (link_told (look (world_of old.now.at.tree)) old.now.at.path.names new.now.at.path.names)) }
+        (to_self (look (world_of old.now.at.tree) old.now.at.path.names) IN_ATTRIB
+        ++ to_dir (look (world_of old.now.at.tree)) new.now.at.path.names Kind.Regular IN_CREATE NO_COOKIE)) }
 {
     told.notify_file(old.watched(), bits::IN_ATTRIB)?;
     told.notify_directory(new, Kind::Regular, bits::IN_CREATE, NO_COOKIE)?;
     Ok(())
 }
 
-#[tactic(auto, unfolding(crate::specs::Table::unlink_told))]
 fn unlink<A: Audience>(told: &mut Notices, at: &Subject<A>) -> Result<(), AllocError>
     requires { told.old ≡ [] }
-    ensures { OnOk result (told.new
-        ≡ heard (A.may_watch at.now.audience) (unlink_told (look (world_of at.now.at.tree)) at.now.at.path.names)) }
+    ensures { OnOk result (told.new ≡ heard (A.may_watch at.now.audience)
+        (path_lost (look (world_of at.now.at.tree) at.now.at.path.names)
+        ++ to_dir (look (world_of at.now.at.tree)) at.now.at.path.names Kind.Regular IN_DELETE NO_COOKIE)) }
 {
     told.notify_path_lost(at.watched())?;
     told.notify_directory(at, Kind::Regular, bits::IN_DELETE, NO_COOKIE)?;
     Ok(())
 }
 
-#[tactic(auto, unfolding(crate::specs::Table::rmdir_told))]
 fn rmdir<A: Audience>(told: &mut Notices, at: &Subject<A>) -> Result<(), AllocError>
     requires { told.old ≡ [] }
-    ensures { OnOk result (told.new
-        ≡ heard (A.may_watch at.now.audience) (rmdir_told (look (world_of at.now.at.tree)) at.now.at.path.names)) }
+    ensures { OnOk result (told.new ≡ heard (A.may_watch at.now.audience)
+        (path_lost (look (world_of at.now.at.tree) at.now.at.path.names)
+        ++ to_dir (look (world_of at.now.at.tree)) at.now.at.path.names Kind.Directory IN_DELETE NO_COOKIE)) }
 {
     told.notify_path_lost(at.watched())?;
     told.notify_directory(at, Kind::Directory, bits::IN_DELETE, NO_COOKIE)?;

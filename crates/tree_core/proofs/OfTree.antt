@@ -5,7 +5,7 @@ use Rattle.std.proofs.Common.{is_some, not, ◌&&◌, ◌==◌, length, refl, sy
 use Rattle.tree_paths.specs.Rows.{row, first_row}
 use Rattle.tree_paths.specs.declared.limits.Limits.{Limits}
 use Rattle.tree_paths.specs.declared.refusal.Refusal.{Refusal}
-use Rattle.tree_paths.specs.declared.refusal.Refusal.TheVariants.{Eexist, Einval, Enoent, Enospc, Enotdir, Enomem, JournalFull, PipeFull}
+use Rattle.tree_paths.specs.declared.refusal.Refusal.TheVariants.{Ebadf, Eexist, Einval, Enoent, Enospc, Enotdir, Enomem, JournalFull, PipeFull}
 use Rattle.inode_table.specs.declared.seen.Seen.{Seen}
 use Rattle.inode_table.specs.World.{look}
 use Rattle.inode_table.specs.Refusals.{Look, find, is_directory_kind, is_directory_seen, longest_there, parent, parent_of}
@@ -23,7 +23,7 @@ use Rattle.instance_table.specs.declared.instance.Instance.{Instance}
 use Rattle.instance_table.specs.Instances.{instance_of}
 use Rattle.tree_core.specs.declared.call.Call.{Call}
 use Rattle.tree_core.specs.declared.call.Call.TheVariants as call
-use Rattle.tree_core.specs.Tree.{Tree, add_watch_rows, close_rows, counts_of, init_rows, read_rows, refusal_of, rm_watch_rows}
+use Rattle.tree_core.specs.Tree.{Tree, add_watch_rows, counts_of, init_rows, read_rows, refusal_of, rm_watch_rows}
 use Rattle.tree_core.specs.TurnLaws.{IsOfTree}
 use Rattle.tree_core.proofs.Parts.{seen_fault}
 
@@ -166,9 +166,8 @@ init-fits : (t : Tree) (limit : ℕ) → Fits (first_row (init_rows t.limits t.i
 unfolding init_rows
 init-fits t limit = first (init_rows t.limits t.instances t.next_id limit) (one _ _ refl, (one _ _ refl, (one _ _ refl, tt)))
 
-close-fits : (o : Option Instance) → Fits (first_row (close_rows o))
-unfolding close_rows
-close-fits o = first (close_rows o) (one _ _ refl, tt)
+close-fits : (o : Option Instance) → Fits (first_row (row (is_none o) Ebadf ∷ []))
+close-fits o = first (row (is_none o) Ebadf ∷ []) (one _ _ refl, tt)
 
 refusal-fits : (t : Tree) (c : Call) → Fits (refusal_of t c)
 unfolding ops.refusal_seen

@@ -1,8 +1,8 @@
 -- What a reply says about the tree that gave it.
-use Rattle.std.proofs.Common.{◌≡◌, ℕ, Bool, true, false, not, ◌&&◌, IsTrue, List, [], Option, Some, None, refl, sym, ap, ◌∙◌}
-use Rattle.tree_paths.specs.Rows.{first_row}
+use Rattle.std.proofs.Common.{◌≡◌, ℕ, Bool, true, false, not, ◌&&◌, IsTrue, List, [], ◌∷◌, Option, Some, None, is_none, refl, sym, ap, ◌∙◌}
+use Rattle.tree_paths.specs.Rows.{first_row, row}
 use Rattle.tree_paths.specs.declared.refusal.Refusal.{Refusal}
-use Rattle.tree_paths.specs.declared.refusal.Refusal.TheVariants.{NotPiped, Piped}
+use Rattle.tree_paths.specs.declared.refusal.Refusal.TheVariants.{Ebadf, NotPiped, Piped}
 use Rattle.inode_table.specs.Refusals.{Look}
 use Rattle.inode_table.specs.World.{look}
 use Rattle.watch_table.specs.Masks.{known}
@@ -11,7 +11,7 @@ use Rattle.instance_table.specs.Instances.{instance_of}
 use Rattle.tree_core.specs.declared.call.Call.{Call}
 use Rattle.tree_core.specs.declared.call.Call.TheVariants as call
 use Rattle.tree_core.specs.declared.reply.Reply.TheVariants as reply
-use Rattle.tree_core.specs.Tree.{Tree, refusal_of, add_watch_rows, read_rows, close_rows, accepted}
+use Rattle.tree_core.specs.Tree.{Tree, refusal_of, add_watch_rows, read_rows, accepted}
 use Rattle.tree_core.specs.Tree.{accepted_reply, reply_of}
 use Rattle.tree_core.specs.TurnLaws.{RepliesTell}
 use Rattle.tree_core.specs.Histories.{events_for, raised_by, raised_to, read_by, records_for, where_open}
@@ -44,8 +44,8 @@ given-open pumps count bytes (Some i) None passes e =
 piped-not : {o : Option Instance} → (i : Instance) × (o ≡ Some i) × (i.is_piped ≡ false) → (i : Instance) × (o ≡ Some i) × IsTrue (not i.is_piped)
 piped-not w = (w.0, w.1, ap not w.2)
 
-closed-open : (o : Option Instance) (r : Option Refusal) → first_row (close_rows o) ≡ r → reply_by r reply.Done ≡ reply.Done → (i : Instance) × (o ≡ Some i)
-unfolding close_rows
+closed-open : (o : Option Instance) (r : Option Refusal) → first_row (row (is_none o) Ebadf ∷ []) ≡ r → reply_by r reply.Done ≡ reply.Done
+    → (i : Instance) × (o ≡ Some i)
 closed-open o (Some r) passes e = absurd (cc)
 closed-open None None passes e = absurd (cc)
 closed-open (Some i) None passes e = (i, refl)

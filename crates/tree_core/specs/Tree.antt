@@ -92,10 +92,6 @@ read_rows pumps bytes (Some i) =
     ∷ row (fitting bytes i.queue.waiting == 0) Einval
     ∷ []
 
--- why no instance is closed
-unfoldable pub close_rows : Option Instance → List (Option Refusal)
-close_rows o = row (is_none o) Ebadf ∷ []
-
 -- the refusal of a call, if it is refused: the first row that holds
 abbrev pub refusal_of : Tree → Call → Option Refusal
 refusal_of t (call.File f) = ops.refused t.world t.limits (counts_of t) f
@@ -105,7 +101,7 @@ refusal_of t (call.AddWatch id p mask) =
 refusal_of t (call.RmWatch id wd) = first_row (rm_watch_rows wd (instance_of t.instances id))
 refusal_of t (call.Read id bytes) = first_row (read_rows false bytes (instance_of t.instances id))
 refusal_of t (call.Pump id bytes) = first_row (read_rows true bytes (instance_of t.instances id))
-refusal_of t (call.Close id) = first_row (close_rows (instance_of t.instances id))
+refusal_of t (call.Close id) = first_row (row (is_none (instance_of t.instances id)) Ebadf ∷ [])
 
 -- ---- what an accepted call does
 

@@ -1,11 +1,11 @@
 //! The files and the instances: what they answer to each call.
 ghost use Rattle.std.specs.Prelude.{◌≡◌, ◌≢◌, ◌⊎◌, ◌≤◌, ◌+◌, ◌^◌, None, Some, Ok, Err, IfOk, IfErr, OnOk, OnErr};
-ghost use Rattle.std.specs.Prelude.{length, option_map, take};
+ghost use Rattle.std.specs.Prelude.{[], ◌∷◌, is_none, length, option_map, take};
 ghost use Rattle.tree_core.specs.Snapshots.{IsSnapshotOf};
 ghost use Rattle.std.specs.Option.{option_copied};
 ghost use Rattle.record_codec.specs.Records.{AreEvents, spelling};
-ghost use Rattle.tree_paths.specs.Rows.{first_row};
-ghost use Rattle.tree_paths.specs.declared.refusal.Refusal.TheVariants.{Enomem};
+ghost use Rattle.tree_paths.specs.Rows.{first_row, row};
+ghost use Rattle.tree_paths.specs.declared.refusal.Refusal.TheVariants.{Ebadf, Enomem};
 ghost use Rattle.inode_table.specs.TableWorld.{world_of};
 ghost use Rattle.tree_ops.specs.Moves.{cookies_of};
 ghost use Rattle.event_rules.specs.Table.{notices_of};
@@ -13,7 +13,7 @@ ghost use Rattle.instance_table.specs.Instances.{all_changed, instance_of, told}
 ghost use Rattle.tree_core.specs.Histories.{pumped};
 ghost use Rattle.tree_core.specs.FileSystems.{tree_in, Attempts, Begins, CanFinish, IsNumbered, finished, reading};
 ghost use Rattle.tree_core.specs.FileSystems.{LeadsTo, rest_of, taken};
-ghost use Rattle.tree_core.specs.Tree.{opening, counts_of, init_rows, rm_watch_rows, read_rows, close_rows, oldest};
+ghost use Rattle.tree_core.specs.Tree.{opening, counts_of, init_rows, rm_watch_rows, read_rows, oldest};
 
 use crate::call::Call;
 use crate::reply::Reply;
@@ -463,10 +463,9 @@ fn check_read(instance: Option<&Instance>, bytes: u32, pumps: bool) -> Result<&I
 }
 
 /// Why no instance is closed.
-#[tactic(auto, unfolding(crate::specs::Tree::close_rows))]
 fn check_close(instance: Option<&Instance>) -> Result<(), Refusal>
-    ensures passes { OnOk result (first_row (close_rows (option_copied instance.entry)) ≡ None) }
-    ensures refused { IfErr result (λ r. first_row (close_rows (option_copied instance.entry)) ≡ Some r) }
+    ensures passes { OnOk result (first_row (row (is_none (option_copied instance.entry)) Ebadf ∷ []) ≡ None) }
+    ensures refused { IfErr result (λ r. first_row (row (is_none (option_copied instance.entry)) Ebadf ∷ []) ≡ Some r) }
 {
     match instance {
         Some(_) => Ok(()),

@@ -1,4 +1,4 @@
-use Rattle.std.proofs.Common.{◌≡◌, true, ◌==◌, ◌&&◌, ◌||◌, sym, ap, ◌∙◌}
+use Rattle.std.proofs.Common.{ap, rules, sym, true, ◌&&◌, ◌==◌, ◌||◌, ◌∙◌, ◌≡◌}
 use Rattle.std.proofs.lemmas.Bool.{eq-eqb}
 use Rattle.event_rules.specs.Raised.{ends_watch, told_number}
 use Rattle.event_rules.specs.Staging.{is_ended}
@@ -13,3 +13,6 @@ returns-in-Told c watch =
     ended-told e c.in-Told.number c.in-Told.bits c.in-Told.cookie c.in-Told.name watch
     ∙ ap (λ m. is_ended e watch || ends_watch m watch) (sym c.in-Told.is)
     ∙ ap (λ b. is_ended e watch || (b && ends_watch n watch)) (sym here)
+
+pub returns-in-Gone : goal.returns-in-Gone
+returns-in-Gone c = search rules
