@@ -1,4 +1,4 @@
-use Rattle.std.proofs.Common.{◌+◌, ◌<◌, ◌≤◌, ◌++◌, ◌∷◌, [], length, take, Fits, w64, sym, subst, arith, length-append}
+use Rattle.std.proofs.Common.{Fits, [], arith, length, length-append, rules, subst, sym, take, w64, ◌++◌, ◌+◌, ◌<◌, ◌∷◌, ◌≤◌}
 use Rattle.std.proofs.lemmas.List.{length-take-le}
 use Rattle.tree_paths.proofs.StopLemmas.{block-joined, last-joined, end-joined, marked-whole, stops-fit}
 use Rattle.tree_paths.proofs.stops.stops_by.Goals as goal
@@ -57,3 +57,6 @@ returns g c =
     last-joined text seen g.row.N c.loop-seen.stops c.block_stops-2.result inv.within c.requires.long c.if-len-seen-2.false (omega (arith, few)) inv.is
     c.block_stops-2.ensures in
     marked-whole text _ few (end-joined text _ few e)
+
+pub loop-seen-init : goal.loop-seen-init
+loop-seen-init c = search rules

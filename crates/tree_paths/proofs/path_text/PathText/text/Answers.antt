@@ -1,4 +1,4 @@
-use Rattle.std.proofs.Common.{take, sym, ap, subst, ◌∙◌}
+use Rattle.std.proofs.Common.{ap, rules, subst, sym, take, ◌∙◌}
 use Rattle.std.specs.List.{list_all}
 use Rattle.tree_paths.specs.PathText.{kept_names, IsKept}
 use Rattle.tree_paths.specs.Paths.{is_in_place}
@@ -13,3 +13,6 @@ returns-in-Short-clause-some c =
 pub returns-in-Text-clause-some : goal.returns-in-Text-clause-some
 returns-in-Text-clause-some c =
     sym (ap (λ k. list_all is_in_place (kept_names k)) c.in-Text.is ∙ text-in-place c.in-Text.text.items (subst IsKept c.in-Text.is c.requires))
+
+pub returns-in-Text-clause-names : goal.returns-in-Text-clause-names
+returns-in-Text-clause-names c = search rules
