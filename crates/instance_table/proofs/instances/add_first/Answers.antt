@@ -47,3 +47,6 @@ returns-in-Ok-clause-noted c n q =
     ∙ ap (λ b. Some (record { wd = to_z w32 c.next_wd.result; mask = b })) (sym c.stored-bits.ensures) in
     c.in_ok-put.ensures.ok n q
     ∙ ap (λ (o : Option Watch). cond (eqb n c.args.number && eqb q c.args.id) o (watch_noted c.args.index.now n q)) (sym there)
+
+pub returns-in-Err-add_new-clause-err_noted : goal.returns-in-Err-add_new-clause-err_noted
+returns-in-Err-add_new-clause-err_noted c = search rules

@@ -21,3 +21,6 @@ returns-in-Ok-clause-noted c n q =
     ∙ ap (λ z. cond (eqb n c.args.number && eqb q c.args.id) (Some (record { wd = z; mask = bits })) (watch_noted c.args.index.now n q))
     (to_z-of_z w32 before.wd fits)
     ∙ ap (λ (o : Option Watch). cond (eqb n c.args.number && eqb q c.args.id) o (watch_noted c.args.index.now n q)) (sym there)
+
+pub returns-in-Err-clause-refused : goal.returns-in-Err-clause-refused
+returns-in-Err-clause-refused c = search rules

@@ -1,4 +1,4 @@
-use Rattle.std.proofs.Common.{◌≡◌, ℕ, zero, suc, ◌-◌, List, [], ◌∷◌, length, drop, refl, sym, subst, ◌∙◌, arith}
+use Rattle.std.proofs.Common.{List, [], arith, drop, length, refl, rules, subst, suc, sym, zero, ℕ, ◌-◌, ◌∙◌, ◌∷◌, ◌≡◌}
 use Rattle.std.proofs.lemmas.List.{length-drop}
 use Rattle.record_codec.specs.declared.event.Event.{Event}
 use Rattle.circular_buffer.specs.Buffer.{Buffer, buffer, keep_last}
@@ -35,3 +35,6 @@ invariant_of-self-then-self-eq0 c =
     let q : Inside = c.self.inside in
     subst (λ (r : Buffer Event). IsRing (record { limit = q.limit; marks = q.marks; records = r })) (sym c.truncate_front.ensures)
     (kept-last q _ c.self.invariant c.if-self-eq0.true)
+
+pub returns-then-self-eq0 : goal.returns-then-self-eq0
+returns-then-self-eq0 c = search rules

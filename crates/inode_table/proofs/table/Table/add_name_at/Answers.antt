@@ -1,5 +1,6 @@
-use Rattle.std.proofs.Common.{◌≡◌, Some, sym, ap, subst, ◌∙◌}
+use Rattle.std.proofs.Common.{◌≡◌, Some, sym, ap, subst, ◌∙◌, rules, arith}
 use Rattle.std.specs.Option.{option_map}
+use Rattle.std.proofs.lemmas.Grind.{common_steps}
 use Rattle.inode_table.specs.Kept.{rows_of, row_of, IsTable}
 use Rattle.inode_table.specs.Rows.{child, what, shown}
 use Rattle.inode_table.specs.Changes.{SetsChild}
@@ -48,3 +49,15 @@ returns-clause-path c = link-AddsPath (linked c)
 pub returns-clause-world : goal.returns-clause-world
 returns-clause-world c w p v stands there was =
     Stands-with_path (SameFiles-more _ _ _ (linked c).links) stands (IsTable-link (linked c) p there) _ _ v was (link-AddsPath (linked c) p there)
+
+pub set_child-requires : goal.set_child-requires
+set_child-requires c = search rules
+
+pub invariant_of-self : goal.invariant_of-self
+invariant_of-self c = search rules
+
+pub returns-in_err-set_child-clause-err : goal.returns-in_err-set_child-clause-err
+returns-in_err-set_child-clause-err c = search rules
+
+pub returns-clause-links : goal.returns-clause-links
+returns-clause-links c = grind (arith, common_steps)

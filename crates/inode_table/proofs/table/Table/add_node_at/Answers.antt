@@ -1,5 +1,6 @@
-use Rattle.std.proofs.Common.{◌≡◌, Some, None, refl, sym, ap, subst, ◌∙◌}
+use Rattle.std.proofs.Common.{◌≡◌, Some, None, refl, sym, ap, subst, ◌∙◌, arith}
 use Rattle.std.specs.Option.{option_map}
+use Rattle.std.proofs.lemmas.Grind.{common_steps}
 use Rattle.inode_table.specs.Kept.{rows_of, row_of, IsTable}
 use Rattle.inode_table.specs.Rows.{row_under, shown}
 use Rattle.inode_table.specs.Changes.{SetsChild}
@@ -57,3 +58,6 @@ returns-clause-world c w p stands there =
   where
     vacant : (c : After-insert_reserved) → what_at c.args.self.now c.vacant_key-key.result ≡ None
     vacant c = ap (option_map shown) (added c).vacant
+
+pub returns-clause-node : goal.returns-clause-node
+returns-clause-node c = grind (arith, common_steps)

@@ -1,4 +1,4 @@
-use Rattle.std.proofs.Common.{ℕ, List, ap, subst, sym, IfSome}
+use Rattle.std.proofs.Common.{IfSome, List, ap, rules, subst, sym, ℕ}
 use Rattle.inode_table.specs.Rows.{Label}
 use Rattle.inode_table.specs.Kept.{rows_of, IsTable}
 use Rattle.inode_table.specs.Recent.{IsKnown}
@@ -13,3 +13,6 @@ invariant_of-self-in-Some c =
           Remembers-none (rows_of c.reserve.new.self) c.in-Some.recent
           (subst (λ o. IfSome o (λ r. (p : List Label) (k : ℕ) → IsKnown r p k → ⊥)) c.in-Some.is c.in_ok-grown.ensures.none);
     }
+
+pub returns-in-Some-clause-room : goal.returns-in-Some-clause-room
+returns-in-Some-clause-room c = search rules

@@ -1,4 +1,4 @@
-use Rattle.std.proofs.Common.{◌≡◌, Some, sym, ap, subst, ◌∙◌}
+use Rattle.std.proofs.Common.{◌≡◌, Some, sym, ap, subst, ◌∙◌, rules}
 use Rattle.inode_table.specs.Kept.{rows_of, is_directory, IsTable}
 use Rattle.inode_table.specs.Changes.{SetsChild}
 use Rattle.inode_table.proofs.ChangeLemmas.{SwapsRow, SwapsRow-from, IsTable-swap, swap-SwapsPaths}
@@ -57,3 +57,15 @@ returns-clause-world c w p q stands to_p to_q =
     let above = c.requires.above p q to_p to_q in
     Stands-with_swap _ _ below above (λ s. apart_below _ _ below above s) (record { same = λ k. ap (option_map named) ((swapped c).nodes k) }) stands
     (IsTable-swap (swapped c) p q to_p to_q below above) (swap-SwapsPaths (swapped c) p q to_p to_q below above)
+
+pub point_child-requires-2-clause-directory : goal.point_child-requires-2-clause-directory
+point_child-requires-2-clause-directory c = search rules
+
+pub point_child-requires-2-clause-there : goal.point_child-requires-2-clause-there
+point_child-requires-2-clause-there c = search rules
+
+pub returns-clause-nodes : goal.returns-clause-nodes
+returns-clause-nodes c = search rules
+
+pub returns-clause-room : goal.returns-clause-room
+returns-clause-room c = search rules

@@ -1,4 +1,4 @@
-use Rattle.std.proofs.Common.{ap, ◌∙◌, length, arith}
+use Rattle.std.proofs.Common.{ap, arith, length, rules, ◌∙◌}
 use Rattle.std.specs.FinMap as finmap
 use Rattle.instance_table.specs.Watchers.{WatchMap}
 use Rattle.instance_table.proofs.Zipped.{watchers-keys}
@@ -10,3 +10,6 @@ unreachable-requires g c =
     let same = ap length (ap (λ (m : WatchMap). finmap.keys m) c.of-few.ensures ∙ watchers-keys c.args.ids.now c.args.watches.now c.requires.watchers) in
     let count = c.requires.count in
     omega (arith, full, same, count)
+
+pub returns : goal.returns
+returns c = search rules

@@ -35,3 +35,6 @@ returns-else-not-is_put-clause-ok c =
           ap (λ (a : Inside). row_map a.row) w.self-inside-is ∙ w.put-is_put-in-Sixteen.ensures.put (sym w.is_put-is ∙ put)
           ∙ ap (λ (m : WatchMap). finmap.insert m c.args.id c.args.watch) was
     ]
+
+pub returns-in_ok-self-inside-clause-ok : goal.returns-in_ok-self-inside-clause-ok
+returns-in_ok-self-inside-clause-ok c = search rules
