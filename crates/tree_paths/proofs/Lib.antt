@@ -5,6 +5,5 @@ pub mod MaskLemmas
 mod PathLemmas
 mod PathnameLemmas
 mod PieceLemmas
-mod PlainLemmas
 mod SlashedLemmas
 mod StopLemmas

@@ -1,6 +1,6 @@
 -- Where a path keeps its names. No public clause cites this module.
 use Rattle.std.specs.Prelude.{◌≡◌, ℕ, ◌<◌, ◌≤◌, ◌-◌, ◌==◌, Bool, true, false, not, List, ◌∷◌, length, take, drop}
-use Rattle.std.specs.Prelude.{[], ◌++◌, ◌+◌, map, slice_index, IsTrue, ◌&&◌, ◌||◌}
+use Rattle.std.specs.Prelude.{[], ◌++◌, ◌+◌, map, slice_index, IsTrue}
 use Rattle.std.specs.List.{list_all}
 use Rattle.record_codec.specs.declared.name.TheConstants.{NAME_IN_PLACE}
 use Rattle.std.specs.Simd.Lanes.{mask_l}
@@ -45,16 +45,6 @@ abbrev pub IsKept : PathText → Type 0
 IsKept (Short len text) = (len ≤ SHORT_MAX) × IsSlashed (take len text)
 IsKept (Text text) = IsSlashed text.items
 IsKept (Names names) = list_all is_in_place names.items ≡ false
-
--- a zero byte, or a slash or a dot where a name has to begin
-abbrev pub is_special : Bool → ℕ → Bool
-is_special begins b = b == 0 || begins && (b == slash || b == 46)
-
--- whether bytes are names with one slash between them, no zero byte, and no name that begins with a dot. The first
--- argument says whether a name has to begin there
-abbrev pub are_plain : Bool → List ℕ → Bool
-are_plain begins [] = not begins
-are_plain begins (b ∷ bs) = not (is_special begins b) && are_plain (b == slash) bs
 
 -- a slash or a zero byte: no name goes on there
 abbrev pub is_stop : ℕ → Bool

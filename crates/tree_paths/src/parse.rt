@@ -1,12 +1,11 @@
 //! Pathnames as texts.
 
 ghost use Rattle.std.specs.Prelude.{◌≡◌, ◌+◌, ◌++◌, ◌∷◌, [], ◌≤◌, filter, ◌<◌, true, false, IfOk, MatchResult};
-ghost use Rattle.std.specs.Prelude.{if◌then◌else◌, length, take, slice_index, IsTrue, Ok};
+ghost use Rattle.std.specs.Prelude.{if◌then◌else◌, length, take, slice_index};
 ghost use Rattle.std.specs.List.{list_any, list_all};
 ghost use Rattle.record_codec.specs.Names.{is_name_byte};
 ghost use Rattle.tree_paths.specs.declared.refusal.Refusal.TheVariants.{Einval, Enametoolong};
-ghost use Rattle.tree_paths.specs.PathText.{shape_of, are_plain, is_special, IsSlashed};
-ghost use Rattle.tree_paths.specs.declared.path_text.TheConstants.{SHORT_MAX};
+ghost use Rattle.tree_paths.specs.PathText.{shape_of};
 ghost use Rattle.tree_paths.specs.Pieces.{is_nonempty};
 ghost use Rattle.tree_paths.specs.Paths.{parsed, names_of, is_null, is_dots, is_long, slash, slashed};
 
@@ -20,8 +19,6 @@ const PATH_MAX: usize = 4096;
 
 /// What stands between names.
 pub(crate) const SEPARATOR: u8 = b'/';
-
-const DOT: u8 = b'.';
 
 /// What is asked of a path's text before its names are kept.
 #[derive(Clone, Copy)]
@@ -54,46 +51,6 @@ pub(crate) fn shape_of_text(text: &[u8]) -> Result<Shape, Refusal>
         return Err(Refusal::Einval);
     }
     shape_between(&text[1..])
-}
-
-/// Whether a text of fewer bytes than a block has one slash before each name, no zero byte, and no name that begins
-/// with a dot. Most paths are such, and are kept as they are.
-#[inline(always)]
-pub(crate) fn is_plain(text: &[u8]) -> bool
-    ensures path { IsTrue result → parsed text.now ≡ Ok (names_of text.now) }
-    ensures slashed { IsTrue result → IsSlashed text.now }
-    ensures short { IsTrue result → length text.now ≤ SHORT_MAX }
-{
-    if BLOCK <= text.len() {
-        return false;
-    }
-    match text {
-        [first, names @ ..] => *first == SEPARATOR && are_plain(names),
-        [] => false,
-    }
-}
-
-/// Whether bytes behind a slash are names with one slash between them, none of which begins with a dot.
-fn are_plain(text: &[u8]) -> bool
-    ensures { result ≡ are_plain true text.now }
-{
-    let mut begins = true;
-    for b in text {
-        if is_special(begins, *b) {
-            return false;
-        }
-        begins = *b == SEPARATOR;
-    }
-    !begins
-}
-
-/// Whether a byte is none of a plain text: a zero byte, or a slash or a dot where a name has to begin.
-#[inline(always)]
-fn is_special(begins: bool, byte: u8) -> bool
-    ensures { result ≡ is_special begins byte }
-{
-    // The first test alone passes over most bytes of a name.
-    byte <= SEPARATOR && (byte == 0 || (begins && (byte == SEPARATOR || byte == DOT)))
 }
 
 /// The shape of names between slashes, or why they are no path's.

@@ -13,7 +13,7 @@ ghost use Rattle.tree_paths.specs.Paths.{is_below, is_in_place, names_of, slashe
 
 use crate::Refusal;
 use crate::left::PathNames;
-use crate::parse::{SEPARATOR, is_plain, shape_of_text};
+use crate::parse::{SEPARATOR, shape_of_text};
 use crate::path_name::{NameRef, PathName};
 use crate::path_text::{PathText, SHORT_MAX};
 use record_codec::Name;
@@ -76,11 +76,6 @@ impl Path {
         ensures err { IfErr result (λ refusal. (refusal ≡ Enomem) ⊎ (parsed text.now ≡ Err refusal)) }
         ensures refused { IfErr (parsed text.now) (λ refusal. result ≡ Err refusal) }
     {
-        if is_plain(text) {
-            return Ok(Path {
-                kept: PathText::short(text),
-            });
-        }
         let shape = shape_of_text(text)?;
         if !shape.fits || shape.len != text.len() {
             return Ok(Path {

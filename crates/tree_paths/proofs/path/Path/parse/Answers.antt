@@ -12,8 +12,8 @@ invariant_of-result-then-text-gt-SHORT_MAX c =
     (IsSlashed-plain c.args.text.now c.in_ok-shape.ensures.answer (sym (shape-fits names shape c.in_ok-shape.ensures.shape) ∙ c.if-not-shape.false)
     (sym (shape-len names shape c.in_ok-shape.ensures.shape) ∙ c.if-shape-text.false))
 
-pub short-requires-2-clause-slashed : goal.short-requires-2-clause-slashed
-short-requires-2-clause-slashed c =
+pub short-requires-clause-slashed : goal.short-requires-clause-slashed
+short-requires-clause-slashed c =
     let names = names_of c.args.text.now in
     let shape = c.in_ok-shape.shape in
     IsSlashed-plain c.args.text.now c.in_ok-shape.ensures.answer (sym (shape-fits names shape c.in_ok-shape.ensures.shape) ∙ c.if-not-shape.false)
