@@ -1,4 +1,4 @@
-use Rattle.std.proofs.Common.{Option, ap, rules, sym, ◌++◌, ◌∙◌}
+use Rattle.std.proofs.Common.{◌++◌, Option, sym, ap, ◌∙◌}
 use Rattle.std.specs.FinMap as finmap
 use Rattle.std.specs.FinMap.{get-empty}
 use Rattle.std.specs.Option.{option_copied}

@@ -1,4 +1,4 @@
-use Rattle.std.proofs.Common.{ap, arith, length, refl, rules, sym, take, ◌∙◌}
+use Rattle.std.proofs.Common.{refl, ap, sym, ◌∙◌, length, take, arith}
 use Rattle.std.proofs.lemmas.List.{length-set}
 use Rattle.std.specs.FinMap as finmap
 use Rattle.instance_table.specs.Watchers.{WatchMap}

@@ -1,4 +1,4 @@
-use Rattle.std.proofs.Common.{ap, arith, refl, rules, ◌∙◌}
+use Rattle.std.proofs.Common.{refl, ap, ◌∙◌, arith}
 use Rattle.tree_core.specs.Journal.{cut_off}
 use Rattle.tree_core.proofs.Keeping.{IsKept-cut, shown-of}
 use Rattle.tree_core.proofs.state.State.cut.Goals as goal

@@ -1,4 +1,4 @@
-use Rattle.std.proofs.Common.{List, None, ap, length, rules, ◌-◌, ◌∙◌}
+use Rattle.std.proofs.Common.{List, None, ap, ◌-◌, ◌∙◌, length}
 use Rattle.std.specs.List.{last_or, slice_get}
 use Rattle.tree_core.specs.declared.reply.Entry.{Entry}
 use Rattle.tree_core.specs.Journal.{Journaled}
