@@ -22,7 +22,7 @@ use Rattle.watchtree_script.specs.declared.line.Line.TheVariants.{Run}
 use Rattle.watchtree_script.specs.declared.line.OutputFormat.TheVariants as format
 use Rattle.watchtree_script.specs.CallLines.{IsScriptCall, IsScriptFileCall, IsScriptPath, call_line, call_text, call_words, format_of, has_line}
 use Rattle.watchtree_script.specs.CallLines.{is_short, is_mode, mode_digits_of, mask_text, path_text}
-use Rattle.watchtree_script.specs.Commands.{command_of, file_command_of, path_command_of, instance_command_of, line_asked, line_of, words_line}
+use Rattle.watchtree_script.specs.Commands.{command_of, line_asked, line_of, words_line}
 use Rattle.watchtree_script.specs.Commands.{refused, path_of, paths_of, a_path, old_and_new, path_and_mode, id_and_bytes, asking}
 use Rattle.watchtree_script.specs.Commands.{write_call, cat_call, truncate_call, rename2_call, watch_call, unwatch_call}
 use Rattle.watchtree_script.specs.Laws.{CallsAreReadBack}
@@ -96,75 +96,75 @@ made queue c k word words is loud h hs named asked =
 -- ---- the words of each command
 
 named-create : command_of (codes "create") ≡ Some command.Create
-unfolding command_of file_command_of path_command_of instance_command_of
+unfolding command_of
 named-create = refl
 
 named-mkdir : command_of (codes "mkdir") ≡ Some command.Mkdir
-unfolding command_of file_command_of path_command_of instance_command_of
+unfolding command_of
 named-mkdir = refl
 
 named-write : command_of (codes "write") ≡ Some command.Write
-unfolding command_of file_command_of path_command_of instance_command_of
+unfolding command_of
 named-write = refl
 
 named-cat : command_of (codes "cat") ≡ Some command.Cat
-unfolding command_of file_command_of path_command_of instance_command_of
+unfolding command_of
 named-cat = refl
 
 named-truncate : command_of (codes "truncate") ≡ Some command.Truncate
-unfolding command_of file_command_of path_command_of instance_command_of
+unfolding command_of
 named-truncate = refl
 
 named-chmod : command_of (codes "chmod") ≡ Some command.Chmod
-unfolding command_of file_command_of path_command_of instance_command_of
+unfolding command_of
 named-chmod = refl
 
 named-link : command_of (codes "link") ≡ Some command.Link
-unfolding command_of file_command_of path_command_of instance_command_of
+unfolding command_of
 named-link = refl
 
 named-unlink : command_of (codes "unlink") ≡ Some command.Unlink
-unfolding command_of file_command_of path_command_of instance_command_of
+unfolding command_of
 named-unlink = refl
 
 named-rmdir : command_of (codes "rmdir") ≡ Some command.Rmdir
-unfolding command_of file_command_of path_command_of instance_command_of
+unfolding command_of
 named-rmdir = refl
 
 named-rename : command_of (codes "rename") ≡ Some command.Rename
-unfolding command_of file_command_of path_command_of instance_command_of
+unfolding command_of
 named-rename = refl
 
 named-rename2 : command_of (codes "rename2") ≡ Some command.Rename2
-unfolding command_of file_command_of path_command_of instance_command_of
+unfolding command_of
 named-rename2 = refl
 
 named-stat : command_of (codes "stat") ≡ Some command.Stat
-unfolding command_of file_command_of path_command_of instance_command_of
+unfolding command_of
 named-stat = refl
 
 named-list : command_of (codes "list") ≡ Some command.List
-unfolding command_of file_command_of path_command_of instance_command_of
+unfolding command_of
 named-list = refl
 
 named-init : command_of (codes "init") ≡ Some command.Init
-unfolding command_of file_command_of path_command_of instance_command_of
+unfolding command_of
 named-init = refl
 
 named-watch : command_of (codes "watch") ≡ Some command.Watch
-unfolding command_of file_command_of path_command_of instance_command_of
+unfolding command_of
 named-watch = refl
 
 named-unwatch : command_of (codes "unwatch") ≡ Some command.Unwatch
-unfolding command_of file_command_of path_command_of instance_command_of
+unfolding command_of
 named-unwatch = refl
 
 named-read : command_of (codes "read") ≡ Some command.Read
-unfolding command_of file_command_of path_command_of instance_command_of
+unfolding command_of
 named-read = refl
 
 named-close : command_of (codes "close") ≡ Some command.Close
-unfolding command_of file_command_of path_command_of instance_command_of
+unfolding command_of
 named-close = refl
 
 -- each list of names that is not too long has a text, which stands for it

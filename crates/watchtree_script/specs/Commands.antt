@@ -2,7 +2,6 @@
 use Rattle.std.specs.Prelude.{ℕ, false, not, ◌==◌, List, [], ◌∷◌, length, codes, Option, Some, None, Result, Ok}
 use Rattle.std.specs.Prelude.{Err, if◌then◌else◌}
 use Rattle.std.specs.List.{list_all, slice_index_or}
-use Rattle.std.specs.Option.{option_or}
 use Rattle.std.specs.Str.{bytes_eq}
 use Rattle.tree_paths.specs.declared.refusal.Refusal.{Refusal}
 use Rattle.tree_paths.specs.Paths.{parsed}
@@ -35,33 +34,23 @@ refused (Err refusal) = Err (Refused refusal)
 unfoldable pub path_of : List ℕ → Result (List (List ℕ)) LineError
 path_of text = refused (parsed text)
 
--- the word of each command that makes or changes a file
-unfoldable pub file_command_of : List ℕ → Option Command
-file_command_of word =
+-- the word of each command
+unfoldable pub command_of : List ℕ → Option Command
+command_of word =
     if bytes_eq word (codes "mkdir") then Some command.Mkdir
     else if bytes_eq word (codes "create") then Some command.Create
     else if bytes_eq word (codes "write") then Some command.Write
     else if bytes_eq word (codes "cat") then Some command.Cat
     else if bytes_eq word (codes "truncate") then Some command.Truncate
     else if bytes_eq word (codes "chmod") then Some command.Chmod
-    else None
-
--- the word of each command on paths
-unfoldable pub path_command_of : List ℕ → Option Command
-path_command_of word =
-    if bytes_eq word (codes "link") then Some command.Link
+    else if bytes_eq word (codes "link") then Some command.Link
     else if bytes_eq word (codes "unlink") then Some command.Unlink
     else if bytes_eq word (codes "rmdir") then Some command.Rmdir
     else if bytes_eq word (codes "rename") then Some command.Rename
     else if bytes_eq word (codes "rename2") then Some command.Rename2
     else if bytes_eq word (codes "stat") then Some command.Stat
     else if bytes_eq word (codes "list") then Some command.List
-    else None
-
--- the word of each command on an instance, and that of the cut
-unfoldable pub instance_command_of : List ℕ → Option Command
-instance_command_of word =
-    if bytes_eq word (codes "init") then Some command.Init
+    else if bytes_eq word (codes "init") then Some command.Init
     else if bytes_eq word (codes "watch") then Some command.Watch
     else if bytes_eq word (codes "unwatch") then Some command.Unwatch
     else if bytes_eq word (codes "read") then Some command.Read
@@ -69,10 +58,6 @@ instance_command_of word =
     else if bytes_eq word (codes "close") then Some command.Close
     else if bytes_eq word (codes "cut") then Some command.Cut
     else None
-
--- the word of each command
-unfoldable pub command_of : List ℕ → Option Command
-command_of word = option_or (file_command_of word) (option_or (path_command_of word) (instance_command_of word))
 
 -- words by their number, of which a command takes one, none or one, two, or three
 abbrev pub nth : List (List ℕ) → ℕ → List ℕ

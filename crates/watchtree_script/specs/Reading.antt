@@ -1,5 +1,5 @@
 -- What the functions that read lines and words say to one another. No public clause cites this module.
-use Rattle.std.specs.Prelude.{◌≡◌, ◌==◌, ◌⊎◌, ⊤, ℕ, List, [], map, not, Option, Some, None, Result, Ok, Err}
+use Rattle.std.specs.Prelude.{◌≡◌, ◌==◌, ◌&&◌, ◌⊎◌, ⊤, ℕ, Bool, List, [], map, not, Option, Some, None, Result, Ok, Err}
 use Rattle.std.specs.Simd.Lanes.{mask_l}
 use Rattle.tree_paths.specs.Pieces.{pieces}
 use Rattle.watchtree_script.specs.declared.line.Line.{Line}
@@ -18,9 +18,13 @@ pieces_in separator (Some bytes) = pieces separator bytes
 abbrev pub separators_in : ℕ → List ℕ → ℕ
 separators_in separator bytes = mask_l (map (λ b. b == separator) bytes)
 
--- bit k says whether byte k is not printable
-abbrev pub unprintable_in : List ℕ → ℕ
-unprintable_in bytes = mask_l (map (λ b. not (is_line_byte b)) bytes)
+-- a space or a byte of a word, but not this one
+abbrev pub is_before : ℕ → ℕ → Bool
+is_before stop b = is_line_byte b && not (b == stop)
+
+-- bit k says whether byte k is this one, or neither a space nor a byte of a word
+abbrev pub stops_in : ℕ → List ℕ → ℕ
+stops_in stop bytes = mask_l (map (λ b. not (is_before stop b)) bytes)
 
 -- what the code gives for a word is this, unless memory ran out
 abbrev pub Gives : {A : Type 0} → Result A LineError → Result A LineError → Type 0

@@ -1,7 +1,8 @@
 -- What the words behind a command stand for, by their kinds.
-use Rattle.std.specs.Prelude.{ℕ, ℤ, pos, neg_ℤ, ◌-◌, ◌^◌, ◌&&◌, ◌==◌, nat_lt, nat_le, List, [], ◌∷◌, length, take, drop}
-use Rattle.std.specs.Prelude.{codes, Option, Some, None, option_map, option_and_then, Result, Ok, Err, if◌then◌else◌}
-use Rattle.std.specs.List.{list_all}
+use Rattle.std.specs.Prelude.{ℕ, Bool, ℤ, pos, neg_ℤ, ◌-◌, ◌^◌, ◌&&◌, ◌==◌, nat_lt, nat_le, List, [], ◌∷◌, length}
+use Rattle.std.specs.Prelude.{take, drop, codes, Option, Some, None, option_map, option_and_then, Result, Ok, Err}
+use Rattle.std.specs.Prelude.{if◌then◌else◌}
+use Rattle.std.specs.List.{list_all, list_any}
 use Rattle.std.specs.Char.{is_digit}
 use Rattle.std.specs.Str.{byte, bytes_eq}
 use Rattle.std.specs.Str.Parse.{digits_value}
@@ -17,6 +18,10 @@ use Rattle.watchtree_script.specs.declared.line.LineError.TheVariants.{Fault}
 abbrev pub or_fault : {A : Type 0} → ScriptFault → Option A → Result A LineError
 or_fault fault None = Err (Fault fault)
 or_fault fault (Some x) = Ok x
+
+-- whether a byte is escaped: there is a percent sign
+abbrev pub is_escaped : List ℕ → Bool
+is_escaped bytes = list_any (λ b. b == byte "%") bytes
 
 -- the radices of numbers
 abbrev pub octal : ℕ

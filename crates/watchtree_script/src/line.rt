@@ -3,9 +3,9 @@
 ghost use Rattle.std.specs.Prelude.{◌≡◌};
 ghost use Rattle.std.specs.List.{list_all};
 ghost use Rattle.watchtree_script.specs.Lines.{is_blank_or_comment, is_line_byte, is_silent};
-ghost use Rattle.watchtree_script.specs.Commands.{command_of, file_command_of, path_command_of, instance_command_of};
-ghost use Rattle.watchtree_script.specs.Commands.{line_of};
+ghost use Rattle.watchtree_script.specs.Commands.{command_of, line_of};
 ghost use Rattle.watchtree_script.specs.Reading.{GivesLine};
+ghost use Rattle.watchtree_script.specs.Words.{is_escaped};
 
 use crate::fault::ScriptFault;
 use crate::lines::ScriptLine;
@@ -98,7 +98,8 @@ pub enum LineError {
 /// What the line asks for, or the first reason why it asks for no call.
 #[tactic(auto, unfolding(crate::specs::Commands::line_of, crate::specs::Commands::words_line))]
 pub(crate) fn read_line(alloc: Global, queue: u32, line: ScriptLine<'_>) -> Result<Line, LineError>
-    requires { line.is_printable ≡ list_all is_line_byte line.bytes.now }
+    requires printable { line.is_printable ≡ list_all is_line_byte line.bytes.now }
+    requires escape { line.has_escape ≡ is_escaped line.bytes.now }
     ensures { GivesLine result (line_of queue line.entry.bytes.now) }
 {
     if is_silent(line.bytes) {
@@ -111,7 +112,7 @@ pub(crate) fn read_line(alloc: Global, queue: u32, line: ScriptLine<'_>) -> Resu
     let Some(command) = words.next_word().and_then(command_named) else {
         return Err(LineError::Fault(ScriptFault::UnknownCommand));
     };
-    Parser::new(alloc, queue, words).line_asked(command)
+    Parser::new(alloc, queue, words, line.has_escape).line_asked(command)
 }
 
 /// Whether a line asks for nothing.
@@ -138,81 +139,27 @@ fn is_blank_or_comment(line: &[u8]) -> bool
 fn command_named(word: &[u8]) -> Option<Command>
     ensures { result ≡ command_of word.now }
 {
-    if let Some(command) = file_command(word) {
-        return Some(command);
-    }
-    if let Some(command) = path_command(word) {
-        return Some(command);
-    }
-    instance_command(word)
-}
-
-/// A command that makes or changes a file.
-#[tactic(auto, unfolding(crate::specs::Commands::file_command_of))]
-fn file_command(word: &[u8]) -> Option<Command>
-    ensures { result ≡ file_command_of word.now }
-{
-    if word == b"mkdir".as_slice() {
-        Some(Command::Mkdir)
-    } else if word == b"create".as_slice() {
-        Some(Command::Create)
-    } else if word == b"write".as_slice() {
-        Some(Command::Write)
-    } else if word == b"cat".as_slice() {
-        Some(Command::Cat)
-    } else if word == b"truncate".as_slice() {
-        Some(Command::Truncate)
-    } else if word == b"chmod".as_slice() {
-        Some(Command::Chmod)
-    } else {
-        None
-    }
-}
-
-/// A command on paths.
-#[tactic(auto, unfolding(crate::specs::Commands::path_command_of))]
-fn path_command(word: &[u8]) -> Option<Command>
-    ensures { result ≡ path_command_of word.now }
-{
-    if word == b"link".as_slice() {
-        Some(Command::Link)
-    } else if word == b"unlink".as_slice() {
-        Some(Command::Unlink)
-    } else if word == b"rmdir".as_slice() {
-        Some(Command::Rmdir)
-    } else if word == b"rename".as_slice() {
-        Some(Command::Rename)
-    } else if word == b"rename2".as_slice() {
-        Some(Command::Rename2)
-    } else if word == b"stat".as_slice() {
-        Some(Command::Stat)
-    } else if word == b"list".as_slice() {
-        Some(Command::List)
-    } else {
-        None
-    }
-}
-
-/// A command on an instance, or the cut.
-#[tactic(auto, unfolding(crate::specs::Commands::instance_command_of))]
-fn instance_command(word: &[u8]) -> Option<Command>
-    ensures { result ≡ instance_command_of word.now }
-{
-    if word == b"init".as_slice() {
-        Some(Command::Init)
-    } else if word == b"watch".as_slice() {
-        Some(Command::Watch)
-    } else if word == b"unwatch".as_slice() {
-        Some(Command::Unwatch)
-    } else if word == b"read".as_slice() {
-        Some(Command::Read)
-    } else if word == b"hex".as_slice() {
-        Some(Command::Hex)
-    } else if word == b"close".as_slice() {
-        Some(Command::Close)
-    } else if word == b"cut".as_slice() {
-        Some(Command::Cut)
-    } else {
-        None
+    match word {
+        b"mkdir" => Some(Command::Mkdir),
+        b"create" => Some(Command::Create),
+        b"write" => Some(Command::Write),
+        b"cat" => Some(Command::Cat),
+        b"truncate" => Some(Command::Truncate),
+        b"chmod" => Some(Command::Chmod),
+        b"link" => Some(Command::Link),
+        b"unlink" => Some(Command::Unlink),
+        b"rmdir" => Some(Command::Rmdir),
+        b"rename" => Some(Command::Rename),
+        b"rename2" => Some(Command::Rename2),
+        b"stat" => Some(Command::Stat),
+        b"list" => Some(Command::List),
+        b"init" => Some(Command::Init),
+        b"watch" => Some(Command::Watch),
+        b"unwatch" => Some(Command::Unwatch),
+        b"read" => Some(Command::Read),
+        b"hex" => Some(Command::Hex),
+        b"close" => Some(Command::Close),
+        b"cut" => Some(Command::Cut),
+        _ => None,
     }
 }

@@ -1,18 +1,18 @@
 //! The rows of the table of commands: the words behind a command, and the call that they ask for.
 
 ghost use Rattle.std.specs.Prelude.{◌≡◌, ◌==◌, ◌∷◌, [], length, false, Err, IfErr, IfOk, MatchResult, Ok};
+ghost use Rattle.std.specs.List.{list_any};
 ghost use Rattle.watchtree_script.specs.Commands.{one, two, three, path_of, paths_of, a_path, old_and_new};
 ghost use Rattle.watchtree_script.specs.Commands.{path_and_mode, id_and_bytes, write_call, cat_call, truncate_call};
 ghost use Rattle.watchtree_script.specs.Commands.{rename2_call, watch_call, unwatch_call, asking, line_asked};
 ghost use Rattle.watchtree_script.specs.Reading.{GivesPath, GivesLine};
+ghost use Rattle.watchtree_script.specs.Words.{is_escaped};
 ghost use Rattle.tree_core.specs.declared.call.Call.TheVariants as call;
 
 use crate::fault::ScriptFault;
 use crate::line::{Command, Line, LineError, OutputFormat};
 use crate::pieces::Words;
-use crate::words::{
-    has_escape, hex_word, i32_word, mask_word, mode_word, path_word, u32_word, u64_word,
-};
+use crate::words::{hex_word, i32_word, mask_word, mode_word, path_word, u32_word, u64_word};
 use std::alloc::Global;
 use tree_core::Call;
 use tree_ops::FileCall;
@@ -24,17 +24,23 @@ pub(crate) struct Parser<'a> {
     alloc: Global,
     /// The limit of an instance that names none.
     queue: u32,
+    /// Whether a byte of a word may be escaped.
+    may_escape: bool,
     words: Words<'a>,
+    ghost plain: { may_escape ≡ false → list_any is_escaped words ≡ false },
 }
 
 impl<'a> Parser<'a> {
-    pub fn new(alloc: Global, queue: u32, words: Words<'a>) -> Parser<'a>
+    pub fn new(alloc: Global, queue: u32, words: Words<'a>, may_escape: bool) -> Parser<'a>
+        requires { may_escape ≡ false → list_any is_escaped words ≡ false }
         ensures queue { result.queue ≡ queue }
         ensures words { result.words ≡ words.entry }
+        ensures escape { result.may_escape ≡ may_escape }
     {
         Parser {
             alloc,
             queue,
+            may_escape,
             words,
         }
     }
@@ -87,7 +93,7 @@ impl<'a> Parser<'a> {
         ensures { GivesLine result (line_asked self.now.queue Command.Write self.now.words) }
     {
         let (path, offset, bytes) = self.three()?;
-        let text = path_word(self.alloc, path)?;
+        let text = path_word(self.alloc, path, self.may_escape)?;
         let offset = u64_word(offset)?;
         let bytes = hex_word(self.alloc, bytes)?;
         let path = path_of(self.alloc, text.as_slice())?;
@@ -103,7 +109,7 @@ impl<'a> Parser<'a> {
         ensures { GivesLine result (line_asked self.now.queue Command.Cat self.now.words) }
     {
         let (path, offset, count) = self.three()?;
-        let text = path_word(self.alloc, path)?;
+        let text = path_word(self.alloc, path, self.may_escape)?;
         let offset = u64_word(offset)?;
         let count = u32_word(count)?;
         let path = path_of(self.alloc, text.as_slice())?;
@@ -119,7 +125,7 @@ impl<'a> Parser<'a> {
         ensures { GivesLine result (line_asked self.now.queue Command.Truncate self.now.words) }
     {
         let (path, len) = self.two()?;
-        let text = path_word(self.alloc, path)?;
+        let text = path_word(self.alloc, path, self.may_escape)?;
         let len = u64_word(len)?;
         let path = path_of(self.alloc, text.as_slice())?;
         Ok(plain(Call::File(FileCall::Truncate { path, len })))
@@ -137,7 +143,7 @@ impl<'a> Parser<'a> {
         ensures { GivesLine result (line_asked self.now.queue Command.Link self.now.words) }
     {
         let (old, new) = self.two()?;
-        if has_escape(old) || has_escape(new) {
+        if self.may_escape {
             let (old, new) = escaped_paths(self.alloc, old, new)?;
             return Ok(plain(Call::File(FileCall::Link { old, new })));
         }
@@ -165,7 +171,7 @@ impl<'a> Parser<'a> {
         ensures { GivesLine result (line_asked self.now.queue Command.Rename self.now.words) }
     {
         let (old, new) = self.two()?;
-        if has_escape(old) || has_escape(new) {
+        if self.may_escape {
             let (old, new) = escaped_paths(self.alloc, old, new)?;
             return Ok(plain(Call::File(FileCall::Rename { old, new })));
         }
@@ -179,8 +185,8 @@ impl<'a> Parser<'a> {
         ensures { GivesLine result (line_asked self.now.queue Command.Rename2 self.now.words) }
     {
         let (old, new, flags) = self.three()?;
-        let old_text = path_word(self.alloc, old)?;
-        let new_text = path_word(self.alloc, new)?;
+        let old_text = path_word(self.alloc, old, self.may_escape)?;
+        let new_text = path_word(self.alloc, new, self.may_escape)?;
         let flags = u32_word(flags)?;
         let (old, new) = paths_of(self.alloc, old_text.as_slice(), new_text.as_slice())?;
         Ok(plain(Call::File(FileCall::Rename2 { old, new, flags })))
@@ -220,7 +226,7 @@ impl<'a> Parser<'a> {
     {
         let (id, path, mask) = self.three()?;
         let instance = u32_word(id)?;
-        let text = path_word(self.alloc, path)?;
+        let text = path_word(self.alloc, path, self.may_escape)?;
         let mask = mask_word(mask)?;
         let path = path_of(self.alloc, text.as_slice())?;
         Ok(plain(Call::AddWatch {
@@ -272,26 +278,26 @@ impl<'a> Parser<'a> {
     }
 
     /// PATH
-    #[tactic(auto, using(crate::proofs::WordLemmas::plain_word), unfolding(crate::specs::Commands::a_path))]
+    #[tactic(auto, using(crate::proofs::WordLemmas::plain_only), unfolding(crate::specs::Commands::a_path))]
     #[inline(always)]
     fn a_path(&self) -> Result<Path, LineError>
         ensures { GivesPath result (one self.now.words a_path) }
     {
         let word = self.one()?;
-        if has_escape(word) {
+        if self.may_escape {
             return escaped_path(self.alloc, word);
         }
         path_of(self.alloc, word)
     }
 
     /// PATH MODE
-    #[tactic(auto, using(crate::proofs::WordLemmas::plain_word), unfolding(crate::specs::Commands::path_and_mode))]
+    #[tactic(auto, using(crate::proofs::WordLemmas::plain_first), unfolding(crate::specs::Commands::path_and_mode))]
     #[inline(always)]
     fn path_and_mode(&self) -> Result<(Path, u32), LineError>
         ensures { GivesPath result (two self.now.words path_and_mode) }
     {
         let (path, mode) = self.two()?;
-        if has_escape(path) {
+        if self.may_escape {
             return escaped_and_mode(self.alloc, path, mode);
         }
         let mode = mode_word(mode)?;
@@ -335,39 +341,39 @@ impl<'a> Parser<'a> {
     }
 }
 
-/// PATH, where a byte of it is escaped.
+/// PATH, where a byte of it may be escaped.
 #[tactic(auto, unfolding(crate::specs::Commands::a_path))]
 #[cold]
 #[inline(never)]
 fn escaped_path(alloc: Global, word: &[u8]) -> Result<Path, LineError>
     ensures { GivesPath result (a_path word.now) }
 {
-    let text = path_word(alloc, word)?;
+    let text = path_word(alloc, word, true)?;
     path_of(alloc, text.as_slice())
 }
 
-/// PATH MODE, where a byte of the path is escaped.
+/// PATH MODE, where a byte of the path may be escaped.
 #[tactic(auto, unfolding(crate::specs::Commands::path_and_mode))]
 #[cold]
 #[inline(never)]
 fn escaped_and_mode(alloc: Global, path: &[u8], mode: &[u8]) -> Result<(Path, u32), LineError>
     ensures { GivesPath result (path_and_mode path.now mode.now) }
 {
-    let text = path_word(alloc, path)?;
+    let text = path_word(alloc, path, true)?;
     let mode = mode_word(mode)?;
     let path = path_of(alloc, text.as_slice())?;
     Ok((path, mode))
 }
 
-/// OLD NEW, where a byte of either is escaped.
+/// OLD NEW, where a byte of either may be escaped.
 #[tactic(auto, unfolding(crate::specs::Commands::old_and_new))]
 #[cold]
 #[inline(never)]
 fn escaped_paths(alloc: Global, old: &[u8], new: &[u8]) -> Result<(Path, Path), LineError>
     ensures { GivesPath result (old_and_new old.now new.now) }
 {
-    let old = path_word(alloc, old)?;
-    let new = path_word(alloc, new)?;
+    let old = path_word(alloc, old, true)?;
+    let new = path_word(alloc, new, true)?;
     paths_of(alloc, old.as_slice(), new.as_slice())
 }
 

@@ -12,6 +12,7 @@ ghost use Rattle.watchtree_script.specs.Replies.{IsReplyText};
 ghost use Rattle.watchtree_script.specs.Script.{PrintsLine, MayHaveRun, FaultTells, IsShort, Adds, IsText, Replies};
 ghost use Rattle.watchtree_script.specs.Script.{write_faults, read_faults, PrintsNothing, LeavesLine};
 ghost use Rattle.watchtree_script.specs.Running.{LineTells, ReadTells, IsRunFault, Passes};
+ghost use Rattle.watchtree_script.specs.Words.{is_escaped};
 
 use crate::fault::RunFault;
 use crate::line::{Line, LineError, OutputFormat, read_line};
@@ -123,7 +124,8 @@ fn run_line<W: Write>(
     page: &mut Page,
     output: &mut Port<W>,
 ) -> Result<(), RunFault>
-    requires { line.is_printable ≡ list_all is_line_byte line.bytes.now }
+    requires printable { line.is_printable ≡ list_all is_line_byte line.bytes.now }
+    requires escape { line.has_escape ≡ is_escaped line.bytes.now }
     ensures ok { OnOk result ((printed : List ℕ)
         × PrintsLine state.old (line_of queue line.entry.bytes.now) printed state.new
         × Passes page.old.text.items printed page.new.text.items
@@ -171,7 +173,8 @@ fn print_script_line(
     number: u64,
     line: ScriptLine<'_>,
 ) -> Result<(), RunFault>
-    requires { line.is_printable ≡ list_all is_line_byte line.bytes.now }
+    requires printable { line.is_printable ≡ list_all is_line_byte line.bytes.now }
+    requires escape { line.has_escape ≡ is_escaped line.bytes.now }
     ensures ok { OnOk result (PrintsLine state.old (line_of queue line.entry.bytes.now) text.new.items state.new) }
     ensures err { IfErr result (PrintsNothing queue number line.entry.bytes.now) }
     ensures left { IfErr result (λ fault. LeavesLine fault state.old (line_of queue line.entry.bytes.now) state.new) }

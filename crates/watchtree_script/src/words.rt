@@ -1,10 +1,11 @@
 //! What the words behind a command stand for.
 
-ghost use Rattle.std.specs.Prelude.{◌≡◌, ◌==◌, ◌<◌, ◌≤◌, length, IfOk, MatchOption, None, Some, option_map};
+ghost use Rattle.std.specs.Prelude.{◌≡◌, ◌==◌, ◌<◌, ◌≤◌, length, IfOk, MatchOption, None, Some, false, option_map};
 ghost use Rattle.std.specs.List.{list_any};
 ghost use Rattle.std.specs.Str.{byte};
 ghost use Rattle.std.specs.Cow.{cow_slice_items};
 ghost use Rattle.watchtree_script.specs.Words.{byte_of, before, unescaped, behind, number_spelled, below_zero};
+ghost use Rattle.watchtree_script.specs.Words.{is_escaped};
 ghost use Rattle.watchtree_script.specs.Words.{from_zero, path_word, mode_word, mask_word, u32_word, u64_word};
 ghost use Rattle.watchtree_script.specs.Words.{i32_word, hex_word, u32_max};
 ghost use Rattle.watchtree_script.specs.Reading.{Gives};
@@ -24,6 +25,9 @@ const OCTAL: u32 = 8;
 const DECIMAL: u32 = 10;
 
 const HEXADECIMAL: u32 = 16;
+
+/// What begins an escape.
+pub(crate) const ESCAPE: u8 = b'%';
 
 /// The digits of an escape, behind its percent sign.
 const ESCAPE_DIGITS: usize = 2;
@@ -57,7 +61,7 @@ fn first_byte(word: &[u8]) -> Option<(u8, &[u8])>
         (λ first. (unescaped word.entry.now ≡ before (Some first.0) (unescaped first.1.now))
         × (length first.1.now < length word.entry.now)) }
 {
-    if word[0] != b'%' {
+    if word[0] != ESCAPE {
         return Some((word[0], &word[1..]));
     }
     if word.len() < 3 {
@@ -85,14 +89,14 @@ fn unescape(alloc: Global, word: &[u8]) -> Result<Option<Vec<u8>>, AllocError>
     Ok(Some(bytes))
 }
 
-/// Whether a byte of a word is escaped.
+/// Whether a byte is escaped.
 pub(crate) fn has_escape(word: &[u8]) -> bool
-    ensures { result ≡ list_any (λ b. b == byte "%") word.now }
+    ensures { result ≡ is_escaped word.now }
 {
     if word.len() <= FEW {
-        return word.iter().any(|b| *b == b'%');
+        return word.iter().any(|b| *b == ESCAPE);
     }
-    memchr(b'%', word).is_some()
+    memchr(ESCAPE, word).is_some()
 }
 
 /// What the word of a path stands for.
@@ -119,13 +123,18 @@ impl<'a> PathText<'a> {
     }
 }
 
-/// PATH: the bytes that it stands for.
+/// PATH: the bytes that it stands for. Unless one may be escaped, none is looked for.
 #[tactic(auto, using(crate::proofs::WordLemmas::unescaped_plain), unfolding(crate::specs::Words::path_word))]
 #[inline(always)]
-pub(crate) fn path_word<'a>(alloc: Global, word: &'a [u8]) -> Result<PathText<'a>, LineError>
+pub(crate) fn path_word<'a>(
+    alloc: Global,
+    word: &'a [u8],
+    may_escape: bool,
+) -> Result<PathText<'a>, LineError>
+    requires { may_escape ≡ false → is_escaped word.now ≡ false }
     ensures { Gives result (path_word word.entry.now) }
 {
-    if !has_escape(word) {
+    if !may_escape || !has_escape(word) {
         return Ok(PathText {
             bytes: CowSlice::Borrowed(word),
         });
