@@ -1,14 +1,13 @@
 //! Where a name keeps its bytes.
 
 ghost use Rattle.std.specs.Prelude.{◌≡◌, ◌≤◌, ◌<◌, ◌-◌, ◌++◌, IfOk, IfSome, IsOk, OnSome, length, replicate};
-ghost use Rattle.std.specs.Prelude.{◌+◌, take};
 ghost use Rattle.record_codec.specs.declared.name.TheConstants.{NAME_IN_PLACE};
 ghost use Rattle.std.specs.Cmp.Lexicographic.{slice_cmp};
 ghost use Rattle.std.specs.Ordering.{nat_cmp};
 ghost use Rattle.record_codec.specs.NameBuf.{IsKept, IsKeptName, front_of, kept_bytes};
 
 use crate::name::NAME_IN_PLACE;
-use crate::padded::zero_padded;
+use crate::padded::zero_padded_in_registers;
 use byteorder::{BigEndian, ByteOrder};
 use std::alloc::{AllocError, Global};
 use std::cmp::Ordering;
@@ -74,7 +73,7 @@ impl NameBuf {
         }
         NameBuf::Short {
             len: len as u8,
-            bytes: in_registers(&zero_padded(bytes)),
+            bytes: zero_padded_in_registers(bytes),
         }
     }
 
@@ -166,35 +165,6 @@ impl NameBuf {
             NameBuf::Long(bytes) => in_memory(*bytes.allocator(), bytes.as_slice()),
         }
     }
-}
-
-/// The same bytes, copied in parts that each fit in a register. LLVM then writes them where they are to be, with no
-/// copy in memory on the way.
-#[inline(always)]
-fn in_registers(from: &[u8; NAME_IN_PLACE - 1]) -> [u8; NAME_IN_PLACE - 1]
-    ensures { result ≡ from.now }
-{
-    let mut bytes = [0; NAME_IN_PLACE - 1];
-    copy_part::<8>(&mut bytes, from, 0);
-    copy_part::<8>(&mut bytes, from, 8);
-    copy_part::<8>(&mut bytes, from, 16);
-    copy_part::<4>(&mut bytes, from, 24);
-    copy_part::<2>(&mut bytes, from, 28);
-    bytes
-}
-
-/// Copies `N` bytes from an index on, where those before it are the same already.
-#[inline(always)]
-fn copy_part<const N: usize>(
-    bytes: &mut [u8; NAME_IN_PLACE - 1],
-    from: &[u8; NAME_IN_PLACE - 1],
-    at: usize,
-)
-    requires within { at + N ≤ NAME_IN_PLACE - 1 }
-    requires front { take at bytes.old ≡ take at from.now }
-    ensures { take (at + N) bytes.new ≡ take (at + N) from.now }
-{
-    bytes[at..at + N].copy_from_slice(&from[at..at + N]);
 }
 
 /// These bytes in memory.

@@ -1,11 +1,14 @@
 -- A text cut at its first slash: what is asked of its names.
-use Rattle.std.proofs.Common.{◌≡◌, ◌≢◌, ℕ, ◌+◌, ◌-◌, ◌<◌, ◌≤◌, Bool, true, false, not, ◌&&◌, ◌||◌, cond, eqb, ltb, leb}
+use Rattle.std.proofs.Common.{◌≡◌, ◌≢◌, ℕ, ◌+◌, ◌-◌, ◌<◌, ◌≤◌, Bool, true, false, not, ◌&&◌, ◌||◌, cond, eqb, ltb}
+use Rattle.std.proofs.Common.{leb, inl, inr, ◌⊎◌, nat_cmp, is_lt, Less, Equal, Greater}
 use Rattle.std.proofs.Common.{List, [], ◌∷◌, ◌++◌, length, take, drop, get_or, zero, suc, Result, Ok, Err, refl, sym}
 use Rattle.std.proofs.Common.{ap, ◌∙◌, arith, take_all, append_assoc, length-append}
 use Rattle.std.specs.Prelude.{filter, MatchResult, IfOk}
+use Rattle.std.specs.Cmp.{nat_cmp_is}
 use Rattle.std.specs.Int.{from_bool}
+use Rattle.std.specs.Ordering.{ord_max}
 use Rattle.std.specs.List.{list_any, list_all}
-use Rattle.std.proofs.lemmas.Bool.{and_parts, and_right, le-ltb, lt-ltb, lt-leb, ltb-true, ltb-false, eqb-true, eqb-false, ne_eqb}
+use Rattle.std.proofs.lemmas.Bool.{and_parts, and_right, cases_lt, le-leb, leb-true, le-ltb, lt-ltb, lt-leb, ltb-true, ltb-false, eqb-true, eqb-false, ne_eqb}
 use Rattle.std.proofs.lemmas.List.{take-append-drop, drop_more, length-drop, length-take-le}
 use Rattle.std.proofs.lemmas.List.Folds.{list_any-append}
 use Rattle.std.proofs.lemmas.List.Splits.{slice_split_at, slice_split_none}
@@ -188,6 +191,58 @@ fits_end w n c fits =
     ap (λ (b : Bool). fits && b)
     (ap (list_all is_in_place) (names_end w n c.all c.front) ∙ fits_front (take n w) []
     ∙ ap (λ (k : ℕ). leb k 31 && true) (length-take-le n w (omega (arith, c.all))) ∙ and_true (leb n 31))
+
+-- the greater of two numbers is one of them
+max_is : (a b : ℕ) → ((ord_max nat_cmp a b ≡ a) × (b ≤ a)) ⊎ ((ord_max nat_cmp a b ≡ b) × (a ≤ b))
+max_is a b = elim (cases_lt b a) [
+  | inl lt ↦ inl (ap (λ o. cond (is_lt o) a b) (sym (nat_cmp_is b a Less lt)), omega (arith, lt))
+  | inr le ↦ inr (
+    elim (cases_lt a b) [
+      | inl lt ↦ ap (λ o. cond (is_lt o) a b) (sym (nat_cmp_is b a Greater lt))
+      | inr ge ↦ ap (λ o. cond (is_lt o) a b) (sym (nat_cmp_is b a Equal (omega (arith, ge, le))))
+    ],
+    le,
+  )
+]
+
+-- the longer of two names is long if one of them is
+pub long_max : (a b m : ℕ) → m ≡ ord_max nat_cmp a b → ltb 255 m ≡ (ltb 255 a || ltb 255 b)
+long_max a b m is = elim (max_is a b) [
+  | inl first ↦ ap (ltb 255) (is ∙ first.0) ∙ more (ltb 255 a) (ltb 255 b) (λ h. lt-ltb 255 a (omega (arith, first.1, ltb-true 255 b h)))
+  | inr second ↦
+      ap (ltb 255) (is ∙ second.0) ∙ more (ltb 255 b) (ltb 255 a) (λ h. lt-ltb 255 b (omega (arith, second.1, ltb-true 255 a h)))
+      ∙ swap (ltb 255 b) (ltb 255 a)
+]
+  where
+    more : (t u : Bool) → (u ≡ true → t ≡ true) → t ≡ (t || u)
+    more true u h = refl
+    more false true h = h refl
+    more false false h = refl
+
+    swap : (t u : Bool) → (t || u) ≡ (u || t)
+    swap true true = refl
+    swap true false = refl
+    swap false true = refl
+    swap false false = refl
+
+-- and is kept in itself where both are
+pub fits_max : (a b m : ℕ) → m ≡ ord_max nat_cmp a b → leb m 31 ≡ (leb a 31 && leb b 31)
+fits_max a b m is = elim (max_is a b) [
+  | inl first ↦ ap (λ n. leb n 31) (is ∙ first.0) ∙ both (leb a 31) (leb b 31) (λ h. le-leb b 31 (omega (arith, first.1, leb-true a 31 h)))
+  | inr second ↦
+      ap (λ n. leb n 31) (is ∙ second.0) ∙ both (leb b 31) (leb a 31) (λ h. le-leb a 31 (omega (arith, second.1, leb-true b 31 h)))
+      ∙ swap (leb b 31) (leb a 31)
+]
+  where
+    both : (t u : Bool) → (t ≡ true → u ≡ true) → t ≡ (t && u)
+    both true u h = sym (h refl)
+    both false u h = refl
+
+    swap : (t u : Bool) → (t && u) ≡ (u && t)
+    swap true true = refl
+    swap true false = refl
+    swap false true = refl
+    swap false false = refl
 
 -- the shape of names, by its parts
 pub shape_by : (names : List (List ℕ)) (count len : ℕ) (fits : Bool) → length names ≡ count → length (slashed names) ≡ len → list_all is_in_place names ≡ fits

@@ -5,5 +5,6 @@ pub mod MaskLemmas
 mod PathLemmas
 mod PathnameLemmas
 mod PieceLemmas
+mod PlainLemmas
 mod SlashedLemmas
 mod StopLemmas

@@ -122,7 +122,7 @@ none_long (x ∷ xs) h = rw (le-ltb 255 (length x) h.0.short) (none_long xs h.1)
 
 -- ---- all rows
 
-pathname-parsed_some : (x : List ℕ) (xs : List (List ℕ)) → NameIs x → AreNames xs → length (47 ∷ (x ++ behind xs)) < 4096
+pub pathname-parsed_some : (x : List ℕ) (xs : List (List ℕ)) → NameIs x → AreNames xs → length (47 ∷ (x ++ behind xs)) < 4096
     → parsed (47 ∷ (x ++ behind xs)) ≡ Ok (x ∷ xs)
 unfolding parsed
 pathname-parsed_some x xs f fs short =

@@ -80,7 +80,7 @@ pieces-name_bytes (b ∷ bs) h =
 
 -- ---- names
 
-piece_is_name : (x : List ℕ) → is_dots x ≡ false → is_long x ≡ false → list_all is_name_byte x ≡ true → is_name x ≡ is_nonempty x
+pub piece_is_name : (x : List ℕ) → is_dots x ≡ false → is_long x ≡ false → list_all is_name_byte x ≡ true → is_name x ≡ is_nonempty x
 unfolding is_name
 piece_is_name [] d l a = refl
 piece_is_name (b ∷ bs) d l a =

@@ -278,7 +278,7 @@ onto-slashed : (b : ℕ) (ps : List (List ℕ)) (w : List ℕ) → slashed ps �
 onto-slashed b [] w e = absurd (cc)
 onto-slashed b (p ∷ ps) w e = let tail : p ++ slashed ps ≡ w = cc in ap (λ (t : List ℕ). 47 ∷ b ∷ t) tail
 
-slashed-pieces : (w : List ℕ) → slashed (pieces 47 w) ≡ 47 ∷ w
+pub slashed-pieces : (w : List ℕ) → slashed (pieces 47 w) ≡ 47 ∷ w
 slashed-pieces [] = refl
 slashed-pieces (b ∷ bs) = by (eqb b 47) (slashed-pieces bs) refl
   where

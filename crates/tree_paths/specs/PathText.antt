@@ -1,6 +1,6 @@
 -- Where a path keeps its names. No public clause cites this module.
 use Rattle.std.specs.Prelude.{◌≡◌, ℕ, ◌<◌, ◌≤◌, ◌-◌, ◌==◌, Bool, true, false, not, List, ◌∷◌, length, take, drop}
-use Rattle.std.specs.Prelude.{[], ◌++◌, ◌+◌, map, slice_index, IsTrue}
+use Rattle.std.specs.Prelude.{[], ◌++◌, ◌+◌, map, slice_index, IsTrue, ◌&&◌, ◌||◌, nat_lt}
 use Rattle.std.specs.List.{list_all}
 use Rattle.record_codec.specs.declared.name.TheConstants.{NAME_IN_PLACE}
 use Rattle.std.specs.Simd.Lanes.{mask_l}
@@ -15,7 +15,13 @@ use Rattle.tree_paths.specs.declared.path_name.Found.{Found}
 use Rattle.tree_paths.specs.declared.path_name.Found.TheVariants.{InPlace, Lent}
 use Rattle.tree_paths.specs.declared.path_name.Source.{Source}
 use Rattle.tree_paths.specs.declared.path_name.Source.TheVariants as source
+use Rattle.tree_paths.specs.declared.stops.TheConstants.{BLOCK}
 use Rattle.tree_paths.specs.Paths.{names_of, is_in_place, slash, slashed}
+use Rattle.tree_paths.specs.Pieces.{is_nonempty, pieces}
+
+-- what no plain name begins with
+abbrev pub dot : ℕ
+dot = 46
 
 -- how many names there are, how long their text is, and whether none needs an allocation
 unfoldable pub shape_of : List (List ℕ) → Shape
@@ -45,6 +51,20 @@ abbrev pub IsKept : PathText → Type 0
 IsKept (Short len text) = (len ≤ SHORT_MAX) × IsSlashed (take len text)
 IsKept (Text text) = IsSlashed text.items
 IsKept (Names names) = list_all is_in_place names.items ≡ false
+
+-- a name that begins with no dot, of any length
+abbrev pub is_plain_name : List ℕ → Bool
+is_plain_name name = is_nonempty name && not (slice_index name 0 == dot) && list_all is_name_byte name
+
+-- fewer bytes than a block, with one slash before each name, and no name that begins with a dot
+unfoldable pub is_plain : List ℕ → Bool
+is_plain text =
+    nat_lt (length text) BLOCK && (slice_index text 0 == slash)
+    && list_all is_plain_name (pieces slash (drop 1 text))
+
+-- a zero byte, or a slash or a dot where a name has to begin
+abbrev pub is_special : Bool → ℕ → Bool
+is_special begins b = b == 0 || begins && (b == slash || b == dot)
 
 -- a slash or a zero byte: no name goes on there
 abbrev pub is_stop : ℕ → Bool

@@ -1,12 +1,12 @@
 //! Pathnames as texts.
 
 ghost use Rattle.std.specs.Prelude.{◌≡◌, ◌+◌, ◌++◌, ◌∷◌, [], ◌≤◌, filter, ◌<◌, true, false, IfOk, MatchResult};
-ghost use Rattle.std.specs.Prelude.{if◌then◌else◌, length, take, slice_index};
+ghost use Rattle.std.specs.Prelude.{if◌then◌else◌, length, take, slice_index, Ok};
 ghost use Rattle.std.specs.List.{list_any, list_all};
 ghost use Rattle.record_codec.specs.Names.{is_name_byte};
 ghost use Rattle.tree_paths.specs.declared.refusal.Refusal.TheVariants.{Einval, Enametoolong};
-ghost use Rattle.tree_paths.specs.PathText.{shape_of};
-ghost use Rattle.tree_paths.specs.Pieces.{is_nonempty};
+ghost use Rattle.tree_paths.specs.PathText.{shape_of, is_plain, is_plain_name, is_special};
+ghost use Rattle.tree_paths.specs.Pieces.{is_nonempty, pieces};
 ghost use Rattle.tree_paths.specs.Paths.{parsed, names_of, is_null, is_dots, is_long, slash, slashed};
 
 use crate::Refusal;
@@ -19,6 +19,8 @@ const PATH_MAX: usize = 4096;
 
 /// What stands between names.
 pub(crate) const SEPARATOR: u8 = b'/';
+
+const DOT: u8 = b'.';
 
 /// What is asked of a path's text before its names are kept.
 #[derive(Clone, Copy)]
@@ -53,6 +55,46 @@ pub(crate) fn shape_of_text(text: &[u8]) -> Result<Shape, Refusal>
     shape_between(&text[1..])
 }
 
+/// Whether a text of fewer bytes than a block has one slash before each name, and no name that begins with a dot. Most
+/// paths are such, and are kept as they are.
+#[tactic(auto, unfolding(crate::specs::PathText::is_plain))]
+#[inline(always)]
+pub(crate) fn is_plain(text: &[u8]) -> bool
+    ensures { result ≡ is_plain text.now }
+{
+    if BLOCK <= text.len() {
+        return false;
+    }
+    match text {
+        [first, names @ ..] => *first == SEPARATOR && are_plain(names),
+        [] => false,
+    }
+}
+
+/// Whether the bytes between slashes are names, none of which begins with a dot.
+#[inline(always)]
+fn are_plain(text: &[u8]) -> bool
+    ensures { result ≡ list_all is_plain_name (pieces slash text.now) }
+{
+    let mut begins = true;
+    for b in text {
+        if is_special(begins, *b) {
+            return false;
+        }
+        begins = *b == SEPARATOR;
+    }
+    !begins
+}
+
+/// Whether a byte is none of a plain text: a zero byte, or a slash or a dot where a name has to begin.
+#[inline(always)]
+fn is_special(begins: bool, byte: u8) -> bool
+    ensures { result ≡ is_special begins byte }
+{
+    // The first test alone passes over most bytes of a name.
+    byte <= SEPARATOR && (byte == 0 || (begins && (byte == SEPARATOR || byte == DOT)))
+}
+
 /// The shape of names between slashes, or why they are no path's.
 fn shape_between(text: &[u8]) -> Result<Shape, Refusal>
     ensures { result ≡ (if list_any is_null text.now then Err Einval
@@ -64,8 +106,7 @@ fn shape_between(text: &[u8]) -> Result<Shape, Refusal>
     let mut stops = stops_of(text);
     let mut count = 0;
     let mut bytes = 0;
-    let mut has_long = false;
-    let mut fits = true;
+    let mut longest = 0;
     loop {
         let (len, behind) = next_stop(rest, stops);
         let front = &rest[..len];
@@ -74,14 +115,16 @@ fn shape_between(text: &[u8]) -> Result<Shape, Refusal>
         }
         count += usize::from(0 < len);
         bytes += len;
-        has_long |= NAME_MAX < len;
-        fits &= len <= NAME_IN_PLACE;
+        longest = longest.max(len);
         if len == rest.len() {
-            if has_long {
+            if NAME_MAX < longest {
                 return Err(Refusal::Enametoolong);
             }
-            let len = count + bytes;
-            return Ok(Shape { count, len, fits });
+            return Ok(Shape {
+                count,
+                len: count + bytes,
+                fits: longest <= NAME_IN_PLACE,
+            });
         }
         if rest[len] != SEPARATOR {
             return Err(Refusal::Einval);

@@ -13,7 +13,7 @@ ghost use Rattle.tree_paths.specs.Paths.{is_below, is_in_place, names_of, slashe
 
 use crate::Refusal;
 use crate::left::PathNames;
-use crate::parse::{SEPARATOR, shape_of_text};
+use crate::parse::{SEPARATOR, is_plain, shape_of_text};
 use crate::path_name::{NameRef, PathName};
 use crate::path_text::{PathText, SHORT_MAX};
 use record_codec::Name;
@@ -71,7 +71,24 @@ impl Path {
     /// The path of a text. Several slashes together count as one.
     ///
     /// A text that is no path is refused without memory.
+    #[inline(always)]
     pub fn parse(alloc: Global, text: &[u8]) -> Result<Path, Refusal>
+        ensures ok { IfOk result (λ path. parsed text.now ≡ Ok path) }
+        ensures err { IfErr result (λ refusal. (refusal ≡ Enomem) ⊎ (parsed text.now ≡ Err refusal)) }
+        ensures refused { IfErr (parsed text.now) (λ refusal. result ≡ Err refusal) }
+    {
+        if is_plain(text) {
+            return Ok(Path {
+                kept: PathText::few(text),
+            });
+        }
+        Path::parse_any(alloc, text)
+    }
+
+    /// The path of a text that need not be a plain one. A function of its own, so that a plain text pays for none of
+    /// its locals.
+    #[inline(never)]
+    fn parse_any(alloc: Global, text: &[u8]) -> Result<Path, Refusal>
         ensures ok { IfOk result (λ path. parsed text.now ≡ Ok path) }
         ensures err { IfErr result (λ refusal. (refusal ≡ Enomem) ⊎ (parsed text.now ≡ Err refusal)) }
         ensures refused { IfErr (parsed text.now) (λ refusal. result ≡ Err refusal) }

@@ -14,7 +14,7 @@ use crate::left::{Left, PathNames};
 use crate::parse::{SEPARATOR, Shape, names_in, put_name, squeeze};
 use crate::path_name::NameRef;
 use crate::stops::BLOCK;
-use record_codec::{NAME_IN_PLACE, Name, zero_padded};
+use record_codec::{NAME_IN_PLACE, Name, zero_padded, zero_padded_in_registers};
 use std::alloc::{AllocError, Global};
 use std::simd::prelude::*;
 
@@ -66,6 +66,21 @@ impl PathText {
         PathText::Short {
             len: text.len() as u8,
             text: zero_padded(text),
+        }
+    }
+
+    /// The same as [`PathText::short`], with no copy in memory where it is called.
+    #[inline(always)]
+    pub(crate) fn few(text: &[u8]) -> PathText
+        requires slashed { IsSlashed text.now }
+        requires short { length text.now ≤ SHORT_MAX }
+        ensures kept { kept_names result ≡ names_of text.now }
+        ensures sound { IsKept result }
+    {
+        let len = text.len() as u8;
+        PathText::Short {
+            len,
+            text: zero_padded_in_registers(text),
         }
     }
 

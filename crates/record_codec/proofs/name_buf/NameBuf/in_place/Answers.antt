@@ -16,6 +16,6 @@ zero-behind (x ∷ front) n (suc i) past = zero-behind front n i (omega arith)
 pub returns-clause-sound : goal.returns-clause-sound
 returns-clause-sound c = (
   omega arith,
-  λ i past. ap (λ (t : List ℕ). slice_index t i) (c.in_registers.ensures ∙ c.zero_padded.ensures)
+  λ i past. ap (λ (t : List ℕ). slice_index t i) c.zero_padded_in_registers.ensures
       ∙ zero-behind c.args.bytes.now _ i past,
 )

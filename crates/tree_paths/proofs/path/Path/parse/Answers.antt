@@ -1,20 +1,17 @@
-use Rattle.std.proofs.Common.{◌∙◌, subst, sym}
-use Rattle.tree_paths.specs.PathText.{IsSlashed}
-use Rattle.tree_paths.specs.Paths.{names_of}
-use Rattle.tree_paths.proofs.SlashedLemmas.{IsSlashed-plain, shape-fits, shape-len}
+use Rattle.std.proofs.Common.{Ok, ap, sym, ◌∙◌}
+use Rattle.tree_paths.proofs.PlainLemmas.{plain-path}
 use Rattle.tree_paths.proofs.path.Path.parse.Goals as goal
 
-pub invariant_of-result-then-text-gt-SHORT_MAX : goal.invariant_of-result-then-text-gt-SHORT_MAX
-invariant_of-result-then-text-gt-SHORT_MAX c =
-    let names = names_of c.args.text.now in
-    let shape = c.in_ok-shape.shape in
-    subst IsSlashed (sym c.in_ok-from_slice.ensures.items)
-    (IsSlashed-plain c.args.text.now c.in_ok-shape.ensures.answer (sym (shape-fits names shape c.in_ok-shape.ensures.shape) ∙ c.if-not-shape.false)
-    (sym (shape-len names shape c.in_ok-shape.ensures.shape) ∙ c.if-shape-text.false))
+pub few-requires-clause-slashed : goal.few-requires-clause-slashed
+few-requires-clause-slashed c = (plain-path c.args.text.now (sym c.is_plain.ensures ∙ c.if-is_plain.true)).slashed
 
-pub short-requires-clause-slashed : goal.short-requires-clause-slashed
-short-requires-clause-slashed c =
-    let names = names_of c.args.text.now in
-    let shape = c.in_ok-shape.shape in
-    IsSlashed-plain c.args.text.now c.in_ok-shape.ensures.answer (sym (shape-fits names shape c.in_ok-shape.ensures.shape) ∙ c.if-not-shape.false)
-    (sym (shape-len names shape c.in_ok-shape.ensures.shape) ∙ c.if-shape-text.false)
+pub few-requires-clause-short : goal.few-requires-clause-short
+few-requires-clause-short c = (plain-path c.args.text.now (sym c.is_plain.ensures ∙ c.if-is_plain.true)).short
+
+pub returns-then-is_plain-clause-ok : goal.returns-then-is_plain-clause-ok
+returns-then-is_plain-clause-ok c =
+    (plain-path c.args.text.now (sym c.is_plain.ensures ∙ c.if-is_plain.true)).path ∙ ap Ok (sym c.few.ensures.kept)
+
+pub returns-then-is_plain-clause-refused : goal.returns-then-is_plain-clause-refused
+returns-then-is_plain-clause-refused c =
+    rw ((plain-path c.args.text.now (sym c.is_plain.ensures ∙ c.if-is_plain.true)).path) tt

@@ -2,7 +2,7 @@ use Rattle.std.proofs.Common.{◌≡◌, ◌≤◌, ◌+◌, ◌-◌, ◌++◌, 
 use Rattle.std.proofs.lemmas.List.{drop-take, length-take-le, length-drop, take-append-drop, take-take}
 use Rattle.std.proofs.lemmas.Slice.{take-put_mid}
 use borrow.Rule.Slice.PartMut.{put_mid}
-use Rattle.record_codec.proofs.name_buf.copy_part.Goals as goal
+use Rattle.record_codec.proofs.padded.copy_part.Goals as goal
 
 -- the bytes up to the end of a part that was copied
 part-copied : (n at k : ℕ) (bytes from part : List ℕ) → part ≡ take n (drop at from) → k ≡ n → at + n ≤ length from → at ≤ length bytes
