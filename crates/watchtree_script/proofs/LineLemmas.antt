@@ -123,6 +123,13 @@ behind-escape (b ∷ bs) =
     by true false e h more = absurd (let never = h refl in cc)
     by false u e h more = let same = ap (λ t. cond t (1 + printable) 0) e in omega (arith, same)
 
+-- where the bytes before an escape are counted, and then those from it to a line feed, these are the printable front
+pub escaped-front : (bs : List ℕ) (n rest : ℕ) → n ≡ front_len 37 bs → rest ≡ front_len 10 (drop n bs)
+    → n + rest ≡ prefix_len is_line_byte bs
+escaped-front bs n rest front len =
+    let at = ap (λ m. prefix_len is_line_byte (drop m bs)) front in
+    omega (arith, len ∙ printable-len (drop n bs), at, front, behind-escape bs)
+
 -- no byte before it is escaped
 pub unescaped-front : (bs : List ℕ) → is_escaped (take (front_len 37 bs) bs) ≡ false
 unescaped-front [] = refl

@@ -1,9 +1,7 @@
-use Rattle.std.proofs.Common.{◌≡◌, ◌<◌, ◌+◌, ◌==◌, ◌∙◌, ap, sym, length, take, drop, get_or, arith}
-use Rattle.std.specs.List.{prefix_len}
+use Rattle.std.proofs.Common.{◌≡◌, ◌<◌, ◌==◌, ◌∙◌, ap, sym, length, take, get_or, arith}
 use Rattle.std.proofs.lemmas.Bool.{ne_eqb}
-use Rattle.watchtree_script.specs.Lines.{is_line_byte}
 use Rattle.watchtree_script.specs.Words.{is_escaped}
-use Rattle.watchtree_script.proofs.LineLemmas.{behind-escape, ends-escaped, ends-unescaped, front_len, front-within, printable-len, unescaped-front}
+use Rattle.watchtree_script.proofs.LineLemmas.{ends-escaped, ends-unescaped, escaped-front, front_len, front-within, unescaped-front}
 use Rattle.watchtree_script.proofs.PieceLemmas.{from-index}
 use Rattle.watchtree_script.proofs.lines.printable_front.Goals as goal
 use Rattle.watchtree_script.proofs.lines.printable_front.Goals.{Then-plain-bytes}
@@ -31,21 +29,14 @@ pub returns-clause-front : goal.returns-clause-front
 returns-clause-front c =
     let bs = c.args.bytes.now in
     let n = c.args.plain in
-    let front : n ≡ front_len 37 bs = c.requires in
-    let rest : c.front_len.result ≡ prefix_len is_line_byte (drop n bs) =
-    c.front_len.ensures.front ∙ ap (front_len 10) (from-index n bs) ∙ printable-len (drop n bs) in
-    let at = ap (λ m. prefix_len is_line_byte (drop m bs)) front in
-    omega (arith, rest, at, front, behind-escape bs)
+    escaped-front bs n c.front_len.result c.requires (c.front_len.ensures.front ∙ ap (front_len 10) (from-index n bs))
 
 pub returns-clause-escape : goal.returns-clause-escape
 returns-clause-escape c =
     let bs = c.args.bytes.now in
     let n = c.args.plain in
     let front : n ≡ front_len 37 bs = c.requires in
-    let rest : c.front_len.result ≡ prefix_len is_line_byte (drop n bs) =
-    c.front_len.ensures.front ∙ ap (front_len 10) (from-index n bs) ∙ printable-len (drop n bs) in
-    let at = ap (λ m. prefix_len is_line_byte (drop m bs)) front in
-    let whole : n + c.front_len.result ≡ prefix_len is_line_byte bs = omega (arith, rest, at, front, behind-escape bs) in
+    let whole = escaped-front bs n c.front_len.result front (c.front_len.ensures.front ∙ ap (front_len 10) (from-index n bs)) in
     let inside : front_len 37 bs < length bs = omega (arith, front, front-within 37 bs, c.if-plain-bytes.false) in
     let there : get_or bs (front_len 37 bs) 0 ≡ 37 = ap (λ m. get_or bs m 0) (sym front) ∙ c.if-bytes-plain-ne-ESCAPE.false in
     sym (ap (λ m. is_escaped (take m bs)) whole ∙ ends-escaped bs inside there)
