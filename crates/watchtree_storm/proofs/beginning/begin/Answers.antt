@@ -27,3 +27,6 @@ returns-clause-listeners g c =
       begins-at list is_open 1 (next c.call.new.self.state) 1 slots c.args.one c.in_ok-one.one first c.in_ok-one.ensures.begins,
       begins-at list is_open 2 (next c.listen.new.held.state) 2 slots c.args.other c.in_ok-other.other second c.in_ok-other.ensures.begins,
     )
+
+pub returns-clause-seats : goal.returns-clause-seats
+returns-clause-seats g c = search rules
