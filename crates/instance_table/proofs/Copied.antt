@@ -8,7 +8,8 @@ use Rattle.std.specs.Ordering.{nat_cmp}
 use Rattle.std.proofs.lemmas.Map.Entries.{entries_from_clone}
 use Rattle.instance_table.specs.declared.index.Index.{Index}
 use Rattle.instance_table.specs.declared.instances.Instances.TheInside.{Inside}
-use Rattle.instance_table.specs.Watchers.{WatchMap, row_or_none, watch_at}
+use Rattle.file_watchers.specs.Watchers.{WatchMap}
+use Rattle.instance_table.specs.Watchers.{row_or_none, watch_at}
 use Rattle.instance_table.specs.Index.{HasSoundRows, watch_noted}
 use Rattle.instance_table.specs.Filters.{passes}
 use Rattle.instance_table.specs.Instances.{WaitingAreEvents, instance_of}

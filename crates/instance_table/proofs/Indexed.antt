@@ -24,12 +24,12 @@ use Rattle.instance_table.specs.declared.instances.Instances.TheInside.{Inside}
 use Rattle.instance_table.specs.Index.{HasSoundRows, watch_noted}
 use Rattle.instance_table.specs.Instances.{Instances, WaitingAreEvents, instance_of, changed, waiting_of}
 use Rattle.instance_table.specs.declared.opened.Opened.{Opened}
-use Rattle.instance_table.specs.Ids.{IsIndex}
+use Rattle.file_watchers.specs.Ids.{IsIndex}
 use Rattle.instance_table.specs.Opened.{by_number, ids_of}
 use Rattle.instance_table.specs.Views.{instances_of, NotesEveryWatch}
 use Rattle.instance_table.specs.Watchers.{watch_at}
-use Rattle.instance_table.proofs.Rising.{entries-rising, get-absent, get-at, length-keys, cut-absent, map-cut, map-put}
-use Rattle.instance_table.proofs.Rising.{map-set, rises-cut, rises-put, rises-set}
+use Rattle.file_watchers.proofs.Rising.{entries-rising, get-absent, get-at, length-keys, cut-absent, map-cut, map-put}
+use Rattle.file_watchers.proofs.Rising.{map-set, rises-cut, rises-put, rises-set}
 use Rattle.std.proofs.lemmas.List.{get_or-map}
 use Rattle.std.proofs.lemmas.Bool.{false≢true, ltb-false}
 use Rattle.std.specs.List.Sorted.{IsStrictlySortedBy}

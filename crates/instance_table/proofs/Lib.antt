@@ -1,14 +1,10 @@
 mod Heard
 mod Indexed
 mod Noted
-mod Rising
 mod Staged
 mod Waiting
 mod WhoWatches
 mod Readied
 mod Copied
-mod Zipped
-mod Alone
 mod Kept
-mod Arrays
-mod Fews
+mod IdSets

@@ -11,7 +11,9 @@ use Rattle.std.specs.Cmp.{nat_cmp_total, unsigned_tied, eq_by_cmp_equiv}
 use Rattle.instance_table.specs.declared.index.Index.{Index}
 use Rattle.instance_table.specs.declared.filter.WatchFilter.{WatchFilter}
 use Rattle.watch_table.specs.declared.watch.Watch.{Watch}
-use Rattle.instance_table.specs.Watchers.{WatchMap, row_or_none}
+use Rattle.file_watchers.specs.Watchers.{WatchMap}
+use Rattle.file_watchers.proofs.Alone.{put-not-empty}
+use Rattle.instance_table.specs.Watchers.{row_or_none}
 use Rattle.instance_table.specs.Index.{HasSoundRows, row_under, watch_noted}
 use Rattle.instance_table.specs.Filters.{passes}
 
@@ -86,13 +88,6 @@ noted-off a b number id h same n q =
     off : (b : Bool) (x : Option Watch) → x ≡ None → x ≡ cond b None x
     off true x e = e
     off false x e = refl
-
--- a row with an instance in it is not empty
-pub put-not-empty : (row : WatchMap) (id : ℕ) (watch : Watch) → map.insert row id watch ≢ map.empty
-put-not-empty row id watch e =
-    Rattle.std.proofs.lemmas.Bool.false≢true
-    (ap is_some (sym (get-empty nat_cmp id) ∙ ap (λ (m : WatchMap). map.get m id) (sym e) ∙ get-insert nat_cmp_total row id watch id
-    ∙ ap (λ b. cond b (Some watch) (map.get row id)) (unsigned_tied id id ∙ Rattle.std.proofs.lemmas.Bool.eq-eqb id id refl)))
 
 -- a row that is this one
 pub row-is : (seen : WatchMap) → seen ≢ map.empty → (row : WatchMap) → Some seen ≡ Some row → row ≢ map.empty

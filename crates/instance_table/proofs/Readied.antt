@@ -16,7 +16,7 @@ use Rattle.instance_table.specs.Opened.{ids_of, ready_rows, written_over}
 use Rattle.instance_table.specs.Ready.{ready_in}
 use Rattle.instance_table.specs.Views.{instances_of, NotesEveryWatch}
 use Rattle.instance_table.proofs.Indexed.{entries-opened}
-use Rattle.instance_table.proofs.Rising.{get-at, length-keys}
+use Rattle.file_watchers.proofs.Rising.{get-at, length-keys}
 
 abbrev has_record : Opened → Bool
 has_record o = nat_lt 0 (length o.instance.queue.waiting)

@@ -12,10 +12,10 @@ use Rattle.std.specs.declared.cmp.Ordering.TheVariants.{Less}
 use Rattle.std.proofs.lemmas.List.{append-nil, take_all}
 use Rattle.std.proofs.lemmas.List.Folds.{list_any_more}
 use Rattle.watch_table.specs.declared.watch.Watch.{Watch}
-use Rattle.instance_table.specs.Watchers.{AreWatchers, watchers_map}
+use Rattle.file_watchers.specs.Watchers.{AreWatchers, watchers_map}
 use Rattle.instance_table.proofs.Indexed.{is-same}
 use Rattle.instance_table.proofs.WhoWatches.{same-tests}
-use Rattle.instance_table.proofs.Zipped.{watchers-at, watchers-keys}
+use Rattle.file_watchers.proofs.Zipped.{watchers-at, watchers-keys}
 
 -- ---- what is for one of several
 

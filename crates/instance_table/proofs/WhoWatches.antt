@@ -14,14 +14,16 @@ use Rattle.std.specs.Cmp.{unsigned_tied}
 use Rattle.std.proofs.lemmas.List.Kept.{IsStrictlySortedBy-filter}
 use Rattle.instance_table.specs.declared.instance.Instance.{Instance}
 use Rattle.instance_table.specs.declared.instances.Instances.TheInside.{Inside}
-use Rattle.instance_table.specs.Ids.{IdSet, set_of}
+use Rattle.instance_table.proofs.IdSets.{IdSet, set_of}
 use Rattle.instance_table.specs.Index.{row_under, watch_noted}
 use Rattle.instance_table.specs.Filters.{passes}
 use Rattle.instance_table.specs.Instances.{instance_of, watchers_of, watches_file}
 use Rattle.instance_table.specs.Views.{instances_of, NotesEveryWatch}
-use Rattle.instance_table.specs.Watchers.{WatchMap, watch_at}
+use Rattle.file_watchers.specs.Watchers.{WatchMap}
+use Rattle.instance_table.specs.Watchers.{watch_at}
 use Rattle.instance_table.proofs.Noted.{none-noted}
-use Rattle.instance_table.proofs.Rising.{get-set, mark, same-set, items-rising, is-same}
+use Rattle.instance_table.proofs.IdSets.{get-set, mark, same-set, items-rising}
+use Rattle.file_watchers.proofs.Rising.{is-same}
 
 first : (a b : Bool) → T (a && b) → T a
 first true b p = tt

@@ -6,7 +6,8 @@ use Rattle.std.specs.Ordering.{nat_cmp}
 use Rattle.watch_table.specs.declared.watch.Watch.{Watch}
 use Rattle.instance_table.specs.declared.index.Index.{Index}
 use Rattle.instance_table.specs.Filters.{passes}
-use Rattle.instance_table.specs.Watchers.{WatchMap, row_or_none}
+use Rattle.file_watchers.specs.Watchers.{WatchMap}
+use Rattle.instance_table.specs.Watchers.{row_or_none}
 
 -- the instances that are noted for a file, with their watches
 abbrev pub row_under : Index → ℕ → WatchMap

@@ -1,6 +1,4 @@
-pub mod Ids
 pub mod Watchers
-pub mod WatcherRow
 pub mod Filters
 pub mod Index
 pub mod Instances

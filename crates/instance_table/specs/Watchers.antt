@@ -1,39 +1,18 @@
 -- The instances that watch a file, each with its watch. No public clause cites this module.
-use Rattle.std.specs.Prelude.{◌≡◌, ◌≤◌, ℕ, List, Option, Some, None, length, take, if◌then◌else◌}
+use Rattle.std.specs.Prelude.{◌≡◌, ℕ, Option, Some, None, if◌then◌else◌}
 use Rattle.std.specs.Option.{unwrap_or}
 use Rattle.std.specs.FinMap as map
-use Rattle.std.specs.FinMap.{FinMap, from_entries}
-use Rattle.std.specs.List.{zip}
-use Rattle.std.specs.List.Sorted.{IsStrictlySortedBy}
-use Rattle.std.specs.Ordering.{nat_cmp}
 use Rattle.watch_table.specs.declared.watch.Watch.{Watch}
 use Rattle.watch_table.specs.Watching.{watch_of}
 use Rattle.event_rules.specs.declared.ended.EndedWatches.{EndedWatches}
 use Rattle.event_rules.specs.Staging.{is_ended}
+use Rattle.file_watchers.specs.Watchers.{WatchMap}
 use Rattle.instance_table.specs.declared.instance.Instance.{Instance}
 use Rattle.instance_table.specs.Instances.{Instances, instance_of}
-
--- watches by the numbers of the instances
-abbrev pub WatchMap : Type 0
-WatchMap = FinMap nat_cmp Watch
-
--- each number with the watch at its index
-abbrev pub watchers_map : List ℕ → List Watch → WatchMap
-watchers_map ids watches = from_entries (zip ids watches)
 
 -- those of a file that may have no row
 abbrev pub row_or_none : Option WatchMap → WatchMap
 row_or_none row = unwrap_or row map.empty
-
--- the numbers rise, and each has a watch
-pub record AreWatchers (ids : List ℕ) (watches : List Watch) : Type 0 where
-  pub rising : IsStrictlySortedBy nat_cmp ids
-  pub same : length watches ≡ length ids
-
--- the first `n` elements of two arrays of a size are watchers: their numbers, and their watches
-abbrev pub AreFew : ℕ → ℕ → List ℕ → List Watch → Type 0
-AreFew size n ids watches = (n ≤ size) × (length ids ≡ size) × (length watches ≡ size)
-    × AreWatchers (take n ids) (take n watches)
 
 -- a watch that may be there, if it has not ended
 abbrev pub unless_ended : EndedWatches → Option Watch → Option Watch

@@ -8,7 +8,7 @@ ghost use Rattle.std.specs.Ordering.{nat_cmp};
 ghost use Rattle.instance_table.specs.Index.{HasSoundRows, watch_noted, row_under};
 
 use crate::filter::WatchFilter;
-use crate::watchers::Watchers;
+use file_watchers::Watchers;
 use std::alloc::{AllocError, Global};
 use std::collections::BTreeMap;
 use watch_table::Watch;

@@ -1,9 +1,7 @@
 //! The open instances of inotify(7): what each watches, what waits in its queue, and who watches a file.
 #![tactic(auto)]
 
-mod few;
 mod filter;
-mod ids;
 mod index;
 mod instance;
 mod instances;
@@ -12,9 +10,7 @@ mod opened;
 mod recent_row;
 mod row;
 mod rows;
-mod several;
 mod staging;
-mod watchers;
 
 pub use filter::WatchFilter;
 pub use instance::Instance;

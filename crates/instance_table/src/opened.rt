@@ -1,7 +1,7 @@
 //! Open instances in the order of their numbers.
 ghost use Rattle.std.specs.List.Sorted.{IsStrictlySortedBy};
 ghost use Rattle.std.specs.Ordering.{nat_cmp};
-ghost use Rattle.instance_table.specs.Ids.{IsIndex};
+ghost use Rattle.file_watchers.specs.Ids.{IsIndex};
 ghost use Rattle.instance_table.specs.Opened.{ids_of};
 
 use crate::instance::Instance;

@@ -4,7 +4,7 @@ ghost use Rattle.instance_table.specs.Recent.{AreFound};
 ghost use Rattle.instance_table.specs.Watchers.{IsRowOf, row_or_none};
 
 use crate::instances::Instances;
-use crate::watchers::Watchers;
+use file_watchers::Watchers;
 
 /// A file, and the instances that watch it.
 #[derive(Clone, Copy)]

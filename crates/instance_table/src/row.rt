@@ -6,10 +6,11 @@ ghost use Rattle.tree_paths.specs.declared.refusal.Refusal.TheVariants.{Enomem};
 ghost use Rattle.event_rules.specs.Raised.{ended_by, raised_at, told_number};
 ghost use Rattle.event_rules.specs.Staging.{left_before, staged_end, staged_event};
 ghost use Rattle.instance_table.specs.Staging.{events_to, wds_to};
-ghost use Rattle.instance_table.specs.Watchers.{AreWatchers, row_or_none, unless_ended, watchers_map};
+ghost use Rattle.file_watchers.specs.Watchers.{AreWatchers, watchers_map};
+ghost use Rattle.instance_table.specs.Watchers.{row_or_none, unless_ended};
 
-use crate::watchers::Watchers;
 use event_rules::{EndedWatches, Notice, Staged, stage_watch};
+use file_watchers::Watchers;
 use tree_paths::Refusal;
 use watch_table::Watch;
 

@@ -5,9 +5,9 @@ use Rattle.std.proofs.lemmas.List.{get_or-map}
 use Rattle.std.proofs.lemmas.List.Sorted.{answers_always}
 use Rattle.std.proofs.lemmas.Option.{get_or_from_slice_get}
 use Rattle.instance_table.specs.declared.opened.Opened.{Opened}
-use Rattle.instance_table.specs.Ids.{IsIndex}
+use Rattle.file_watchers.specs.Ids.{IsIndex}
 use Rattle.instance_table.specs.Opened.{ids_of}
-use Rattle.instance_table.proofs.Rising.{found-row, length-keys, index-last}
+use Rattle.file_watchers.proofs.Rising.{found-row, length-keys, index-last}
 use Rattle.instance_table.proofs.opened.find_row.Goals as goal
 
 pub returns-in-Some : goal.returns-in-Some

@@ -2,7 +2,8 @@ use Rattle.std.proofs.Common.{◌≡◌, ℕ, cond, [], ◌++◌}
 use Rattle.std.specs.FinMap as finmap
 use Rattle.event_rules.specs.Raised.{ended_by, raised_at}
 use Rattle.instance_table.specs.Staging.{events_to, wds_to}
-use Rattle.instance_table.specs.Watchers.{unless_ended, watchers_map}
+use Rattle.file_watchers.specs.Watchers.{watchers_map}
+use Rattle.instance_table.specs.Watchers.{unless_ended}
 use Rattle.instance_table.proofs.Staged.{is_among}
 use Rattle.instance_table.proofs.row.stage_rest.Given as goal
 

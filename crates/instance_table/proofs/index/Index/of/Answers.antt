@@ -1,8 +1,8 @@
 use Rattle.std.proofs.Common.{ap, sym, ◌∙◌, []}
 use Rattle.std.specs.FinMap as map
-use Rattle.instance_table.specs.Watchers.{WatchMap}
+use Rattle.file_watchers.specs.Watchers.{WatchMap}
 use Rattle.instance_table.proofs.Noted.{row-none}
-use Rattle.instance_table.proofs.Zipped.{none-watch, watchers-keys}
+use Rattle.file_watchers.proofs.Zipped.{none-watch, watchers-keys}
 use Rattle.instance_table.proofs.index.Index.of.Goals as goal
 
 pub returns-in-None : goal.returns-in-None

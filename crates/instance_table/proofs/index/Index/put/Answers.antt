@@ -3,7 +3,8 @@ use Rattle.std.specs.BTreeMap as tree
 use Rattle.std.proofs.lemmas.Result.{on_ok_weaker}
 use Rattle.std.specs.FinMap as map
 use Rattle.std.specs.Ordering.{nat_cmp, eq_by_cmp}
-use Rattle.instance_table.proofs.Noted.{noted-put, put-not-empty, row-added, row-is, row-none, row-some, rows-kept}
+use Rattle.file_watchers.proofs.Alone.{put-not-empty}
+use Rattle.instance_table.proofs.Noted.{noted-put, row-added, row-is, row-none, row-some, rows-kept}
 use Rattle.instance_table.proofs.index.Index.put.Goals as goal
 
 pub returns-in-Some-clause-ok : goal.returns-in-Some-clause-ok

@@ -3,7 +3,7 @@ use Rattle.std.proofs.lemmas.Bool.{false≢true}
 use Rattle.std.specs.BTreeMap as tree
 use Rattle.std.specs.FinMap as map
 use Rattle.std.specs.Ordering.{nat_cmp, eq_by_cmp}
-use Rattle.instance_table.specs.Watchers.{WatchMap}
+use Rattle.file_watchers.specs.Watchers.{WatchMap}
 use Rattle.instance_table.specs.Index.{HasSoundRows, watch_noted}
 use Rattle.instance_table.proofs.Noted.{none-added, noted-cut, noted-off, no-row, row-is, row-some, rows-kept}
 use Rattle.instance_table.proofs.index.Index.remove.Goals as goal

@@ -3,7 +3,8 @@ use Rattle.std.proofs.lemmas.Bool.{false≢true}
 use Rattle.std.specs.BTreeMap as tree
 use Rattle.std.specs.FinMap as map
 use Rattle.std.specs.Ordering.{nat_cmp}
-use Rattle.instance_table.proofs.Noted.{none-noted, noted-put, put-not-empty, row-is, row-some, rows-kept}
+use Rattle.file_watchers.proofs.Alone.{put-not-empty}
+use Rattle.instance_table.proofs.Noted.{none-noted, noted-put, row-is, row-some, rows-kept}
 use Rattle.instance_table.proofs.index.Index.set.Goals as goal
 
 pub unreachable-requires : goal.unreachable-requires

@@ -6,7 +6,7 @@ use Rattle.record_codec.specs.Records.{AreEvents}
 use Rattle.instance_table.specs.Instances.{instance_of, waiting_of}
 use Rattle.instance_table.specs.Watchers.{watch_at}
 use Rattle.instance_table.specs.Opened.{by_number, ids_of}
-use Rattle.instance_table.proofs.Rising.{rises-none}
+use Rattle.file_watchers.proofs.Rising.{rises-none}
 use Rattle.instance_table.proofs.instances.Instances.new.Goals as goal
 
 pub invariant_of-result : goal.invariant_of-result

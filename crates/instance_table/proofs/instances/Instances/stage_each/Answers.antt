@@ -8,7 +8,8 @@ use Rattle.event_rules.specs.Staging.{left_before}
 use Rattle.instance_table.specs.declared.instance.Instance.{Instance}
 use Rattle.instance_table.specs.Instances.{instance_of}
 use Rattle.instance_table.specs.Staging.{events_to, wds_to}
-use Rattle.instance_table.specs.Watchers.{WatchMap, row_or_none, watch_at}
+use Rattle.file_watchers.specs.Watchers.{WatchMap}
+use Rattle.instance_table.specs.Watchers.{row_or_none, watch_at}
 use Rattle.instance_table.proofs.Kept.{all-left, events-more, wds-more}
 use Rattle.instance_table.proofs.instances.Instances.stage_each.Goals as goal
 

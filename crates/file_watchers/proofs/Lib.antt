@@ -1,0 +1,5 @@
+pub mod Rising
+pub mod Zipped
+pub mod Alone
+mod Arrays
+mod Fews
