@@ -25,6 +25,13 @@ class Quiet(ToolTest):
             self.assertEqual(said.returncode, 0, said.stderr)
             self.assertEqual(self.read(f"{way}/stdout"), "late\n", way)
 
+    def test_a_time_that_is_over_during_a_look_is_waited_for(self) -> None:
+        script = self.write("script", "mkdir /d 755", "--", "create /d/a 644")
+        for way in ("many", "turns"):
+            said = self.under(way, [script], [self.built("timers"), way, "/wt/d"], "--settle", "5000")
+            self.assertEqual(said.returncode, 0, said.stderr)
+            self.assertEqual(self.read(f"{way}/stdout"), "late\n", way)
+
     def test_what_was_a_timer_is_none_any_more(self) -> None:
         script = self.write("script", "mkdir /d 755", "--", "create /d/a 644")
         for way in ("poll", "timerfd"):

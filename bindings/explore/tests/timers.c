@@ -3,6 +3,7 @@
 #define _GNU_SOURCE
 #include <poll.h>
 #include <pthread.h>
+#include <semaphore.h>
 #include <signal.h>
 #include <stdint.h>
 #include <stdio.h>
@@ -14,7 +15,7 @@
 #include <time.h>
 #include <unistd.h>
 
-enum { TIME_MS = 300 };
+enum { TIME_MS = 300, SHORT_TIMES = 500 };
 static const struct timespec some_time = { .tv_nsec = TIME_MS * 1000000 };
 static int fd;
 
@@ -94,6 +95,59 @@ static void wait_by_timerfd(void) {
     wait_by_epoll(timer, -1);
 }
 
+/* A time of 3 to 6.3 ms, so that it ends at any moment of the runner's looks. */
+static struct timespec short_time(int i) { return (struct timespec){ .tv_nsec = 3000000 + i % 10 * 370000 }; }
+
+/* One timer after another: each wakes the program, which arms the next. */
+static void wait_by_many(void) {
+    int timer = timerfd_create(CLOCK_MONOTONIC, 0);
+    struct pollfd both[] = { { fd, POLLIN, 0 }, { timer, POLLIN, 0 } };
+    char bytes[4096];
+    for (int i = 0; i < SHORT_TIMES; i++) {
+        struct itimerspec when = { .it_value = short_time(i) };
+        timerfd_settime(timer, 0, &when, NULL);
+        while (poll(both, 2, -1) > 0 && !both[1].revents) if (read(fd, bytes, sizeof bytes) < 0) return;
+        if (read(timer, bytes, sizeof bytes) < 0) return;
+    }
+    say_late();
+}
+
+static sem_t first_turn, second_turn;
+
+static void *read_in_thread(void *nothing) {
+    read_forever();
+    return nothing;
+}
+
+static void *take_second_turns(void *nothing) {
+    for (int i = 0; i < SHORT_TIMES; i++) {
+        struct timespec some = short_time(i);
+        nanosleep(&some, NULL);
+        sem_post(&first_turn);
+        sem_wait(&second_turn);
+    }
+    return nothing;
+}
+
+static void work(void) {
+    for (volatile int i = 0; i < 20000; i++) {}
+}
+
+/* A thread sleeps for a time, wakes the first one, and waits until it has worked. */
+static void wait_by_turns(void) {
+    pthread_t thread;
+    sem_init(&first_turn, 0, 0);
+    sem_init(&second_turn, 0, 0);
+    pthread_create(&thread, NULL, read_in_thread, NULL);
+    pthread_create(&thread, NULL, take_second_turns, NULL);
+    for (int i = 0; i < SHORT_TIMES; i++) {
+        sem_wait(&first_turn);
+        work();
+        sem_post(&second_turn);
+    }
+    say_late();
+}
+
 static void on_alarm(union sigval nothing) {
     (void)nothing;
     say_late();
@@ -117,6 +171,8 @@ int main(int count, char **words) {
     if (!strcmp(words[1], "select")) wait_by_select();
     if (!strcmp(words[1], "epoll")) wait_by_epoll(-1, TIME_MS);
     if (!strcmp(words[1], "timerfd")) wait_by_timerfd();
+    if (!strcmp(words[1], "many")) wait_by_many();
+    if (!strcmp(words[1], "turns")) wait_by_turns();
     if (!strcmp(words[1], "timer")) wait_by_timer();
     read_forever();
     return 1;

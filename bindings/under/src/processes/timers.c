@@ -1,6 +1,7 @@
 /* Does a task of the program wait with a time limit? The kernel shows in which system call a task sleeps, with its
  * arguments. A call that is not known here counts as one with a limit. */
 #include "processes/timers.h"
+#include "command/options.h"
 #include "processes/proc.h"
 #include "processes/program.h"
 #include "processes/rest.h"
@@ -51,7 +52,12 @@ static bool is_limited(pid_t pid, const char *task) {
     return is_number ? (int)a[at] >= 0 : a[at] != 0;
 }
 
-/* Whether a descriptor is a timer that is armed. */
+/* A timer that is due shows no time left before it has woken its task, and that may take a while on a virtual machine. So one
+ * that was armed so short ago still counts. */
+enum { LATE_MS = 100 };
+static int64_t armed_at = -LATE_MS;     /* when a timer was last seen armed */
+
+/* Whether a descriptor is a timer that is armed, or was not long ago. */
 static bool is_armed(pid_t pid, const char *descriptor) {
     char name[400], text[1024];
     unsigned long long seconds, nanoseconds;
@@ -61,7 +67,8 @@ static bool is_armed(pid_t pid, const char *descriptor) {
     if (!read_proc_file(name, text, sizeof text)) return true;
     const char *value = strstr(text, "it_value: (");
     if (!value || sscanf(value, "it_value: (%llu, %llu)", &seconds, &nanoseconds) != 2) return true;
-    return seconds || nanoseconds;
+    if (seconds || nanoseconds) armed_at = clock_ms();
+    return clock_ms() - armed_at < LATE_MS;
 }
 
 static bool process_has_timer(pid_t pid) {
@@ -83,4 +90,20 @@ static bool task_has_timer(pid_t pid, const char *task) {
     return is_limited(pid, task) || (is_first && process_has_timer(pid));
 }
 
-bool has_timer(void) { return any_task(task_has_timer); }
+/* Whether no task of a side ran since an earlier look, and none is about to. */
+static bool slept_on(enum side side, const struct tasks *before) {
+    struct tasks now = look_at_tasks(side);
+    return now.all_sleep && now.runs == before->runs;
+}
+
+/* Tasks are looked at one after another: a task that wakes by its limit may wake one that was looked at before, and wait
+ * without a limit by the time it is looked at itself. So nothing may have run meanwhile. */
+bool has_timer(void) {
+    int sides = options.second ? SIDES : CLIENT + 1;
+    struct tasks before[SIDES];
+    for (int side = 0; side < sides; side++) before[side] = look_at_tasks((enum side)side);
+    if (any_task(task_has_timer)) return true;
+    for (int side = 0; side < sides; side++)
+        if (!slept_on((enum side)side, before + side)) return true;
+    return false;
+}
